@@ -1,0 +1,37 @@
+"""What the benchmark scripts share: running the program once, with its time and its greatest memory."""
+import os
+import pathlib
+import resource
+import subprocess
+import sys
+import time
+
+ROOT = pathlib.Path(__file__).resolve().parent.parent
+
+
+def program():
+    """The built program; the script at the root builds it first."""
+    subprocess.run([str(ROOT / "planner")], stdout=subprocess.DEVNULL)
+    return ROOT / "crates" / "planner_cli" / "out" / "planner_cli"
+
+
+def run(title, words, folder, shown=70):
+    """Runs the program with these words in the folder and prints status, seconds, MB and the begin of its text."""
+    before = time.monotonic()
+    child = subprocess.Popen([str(program_path), *words], cwd=folder, stdout=subprocess.PIPE)
+    text = child.stdout.read()
+    _, status, usage = os.wait4(child.pid, 0)
+    child.returncode = os.waitstatus_to_exitcode(status)
+    seconds = time.monotonic() - before
+    line = text[:shown].decode().split("\n")[0]
+    print(f"{title}: status {child.returncode}, {seconds:.2f} s, {usage.ru_maxrss / 1024:.0f} MB, {len(text)} bytes: {line}")
+    sys.stdout.flush()
+    return text
+
+
+def sizes(folder, *names):
+    """Prints the sizes of files."""
+    print(", ".join(f"{name} {(folder / name).stat().st_size / 2**20:.2f} MiB" for name in names))
+
+
+program_path = program()

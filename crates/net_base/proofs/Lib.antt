@@ -1,0 +1,12 @@
+pub mod WalkLaws
+pub mod MemberLaws
+pub mod ListLaws
+pub mod NameLaws
+pub mod Decimals
+pub mod Cuts
+pub mod Trees
+pub mod Turns
+pub mod Prefixes
+pub mod LineEnd
+pub mod Pieces
+pub mod Shelves

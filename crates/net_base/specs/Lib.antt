@@ -1,0 +1,14 @@
+pub mod Blocks
+pub mod Walks
+pub mod Members
+pub mod Places
+pub mod Text
+pub mod Tree
+pub mod Reading
+pub mod Causes
+pub mod Outside
+pub mod Shelf
+pub mod Stored
+pub mod Drawer
+pub mod Filled
+pub mod Fields

@@ -1,0 +1,31 @@
+// Numbers of switches and ports, VLANs, and the places of a packet.
+
+/// A switch, by its number from 0 in file order.
+#[derive(Clone, Copy, Debug, PartialEq, Eq, PartialOrd, Ord, Hash)]
+pub struct SwitchId(pub u32);
+
+/// A port number of a switch, 1 to 65279 where it is in use (OpenFlow 1.0.0, section 5.2.1).
+#[derive(Clone, Copy, Debug, PartialEq, Eq, PartialOrd, Ord, Hash)]
+pub struct Port(pub u16);
+
+/// The VLAN of a packet: no tag, or the id of its tag, 1 to 4094.
+#[derive(Clone, Copy, Debug, PartialEq, Eq, PartialOrd, Ord, Hash)]
+pub enum Vlan {
+    Untagged,
+    Id(u16),
+}
+
+/// Where a packet is before a lookup: a switch, the ingress port there, and its VLAN.
+#[derive(Clone, Copy, Debug, PartialEq, Eq, PartialOrd, Ord, Hash)]
+pub struct Place {
+    pub switch: SwitchId,
+    pub port: Port,
+    pub vlan: Vlan,
+}
+
+/// A stop of a packet's trace: a switch and the ingress port there.
+#[derive(Clone, Copy, Debug, PartialEq, Eq, PartialOrd, Ord, Hash)]
+pub struct Stop {
+    pub switch: SwitchId,
+    pub port: Port,
+}
