@@ -1,0 +1,55 @@
+-- The switches as the code holds them, by name.
+use Rattle.std.proofs.Common.{◌≡◌, ℕ, ◌+◌, Bool, false, cond, not, List, [], ◌∷◌, ◌++◌, map, Option, Some, None, is_some, position, String, string_bytes, Global, refl, sym, ap, ◌∙◌}
+use Rattle.std.specs.Prelude.{string_eq}
+use Rattle.std.specs.Str.{bytes_eq}
+use Rattle.std.specs.List.{position_or_len}
+use Rattle.std.specs.Map.{lookup}
+use Rattle.std.proofs.lemmas.List.{length-map, map_push}
+use Rattle.indexmap.specs.IndexMap.{IndexMap, keys, get, insert_entry}
+use Rattle.indexmap.proofs.MapLemmas.{some_index}
+use Rattle.indexmap.proofs.CallerLemmas.{insert_entry-new}
+use Rattle.std.specs.declared.hash.FoldHasher.{FoldHasher}
+use Rattle.std.specs.declared.hash.BuildHasherDefault.{BuildHasherDefault}
+use Rattle.topology.specs.Named.{Named, named}
+use Rattle.topology.specs.Networks.{switch_named}
+
+position_or_len-map : {X Y : Type 0} (p : Y → Bool) (f : X → Y) (xs : List X) → position_or_len p (map f xs) ≡ position_or_len (λ x. p (f x)) xs
+position_or_len-map p f [] = refl
+position_or_len-map p f (x ∷ xs) = ap (λ n. cond (not (p (f x))) (1 + n) 0) (position_or_len-map p f xs)
+
+position-map : {X Y : Type 0} (p : Y → Bool) (f : X → Y) (xs : List X) → position p (map f xs) ≡ position (λ x. p (f x)) xs
+position-map p f xs = rw (position_or_len-map p f xs, length-map) refl
+
+abbrev Switches : Type 0
+Switches = IndexMap (String Global) ℕ (BuildHasherDefault FoldHasher)
+
+abbrev Entry : Type 0
+Entry = String Global × ℕ
+
+abbrev is_named : List ℕ → String Global → Bool
+is_named name k = bytes_eq name (string_bytes k)
+
+-- what a look-up of the index gives
+pub found_named : (m : Switches) (name : List ℕ) → position (is_named name) (keys m) ≡ switch_named (named m).names name
+found_named m name = position-map (is_named name) (λ (e : Entry). e.0) m.entries ∙ sym (position-map (λ n. bytes_eq name n) (λ (e : Entry). string_bytes e.0) m.entries)
+
+none_from : {A : Type 0} (o : Option A) → is_some o ≡ false → o ≡ None
+none_from None e = refl
+none_from (Some x) e = absurd cc
+
+-- with one switch more
+abbrev grown : Named → List ℕ → ℕ → Named
+grown n name capacity = record { names = n.names ++ name ∷ []; capacities = n.capacities ++ capacity ∷ [] }
+
+-- a new name goes last
+pub added_named : (m n : Switches) (k : String Global) (v : ℕ) (name : List ℕ) → string_bytes k ≡ name → switch_named (named m).names name ≡ None
+    → n.entries ≡ insert_entry string_eq m.entries k v → named n ≡ grown (named m) name v
+added_named m n k v name same new e =
+    let nowhere : position (is_named name) (keys m) ≡ None = found_named m name ∙ new in
+    let absent : lookup (is_named name) m.entries ≡ None = none_from (lookup (is_named name) m.entries) (sym (some_index (is_named name) m.entries) ∙ ap is_some nowhere) in
+    let absent_key : get string_eq m k ≡ None = rw (← same) at absent in
+    let entries : n.entries ≡ m.entries ++ (k, v) ∷ [] = e ∙ insert_entry-new string_eq m k v absent_key in
+    let names : (named n).names ≡ (named m).names ++ string_bytes k ∷ [] = ap (map (λ (e : Entry). string_bytes e.0)) entries ∙ map_push _ m.entries (k, v) in
+    let capacities : (named n).capacities ≡ (named m).capacities ++ v ∷ [] = ap (map (λ (e : Entry). e.1)) entries ∙ map_push _ m.entries (k, v) in
+    ap (λ (xs : List (List ℕ)). let r : Named = record { names = xs; capacities = (named n).capacities } in r) (names ∙ ap (λ (b : List ℕ). (named m).names ++ b ∷ []) same)
+    ∙ ap (λ (xs : List ℕ). let r : Named = record { names = (named m).names ++ name ∷ []; capacities = xs } in r) capacities

@@ -1,0 +1,216 @@
+-- The used ports as the code holds them.
+use Rattle.std.proofs.Common.{◌≡◌, ◌≢◌, ◌↔◌, ◌+◌, ◌≤◌, ◌||◌, Bool, true, false, cond, IsTrue, List, [], ◌∷◌, ◌++◌, map, length, Option, Some, None, is_some, refl, sym, ◌∙◌, ap, subst, inl, inr, arith, length-append}
+use Rattle.std.specs.Prelude.{count_by, filter, unwrap_or}
+use Rattle.std.specs.List.{list_any}
+use Rattle.std.specs.Map.{lookup}
+use Rattle.std.proofs.lemmas.Bool.{false≢true, cond-false, false_from_ne_true}
+use Rattle.std.proofs.lemmas.List.Folds.{list_any-append}
+use Rattle.std.proofs.lemmas.List.Sums.{length-filter}
+use Rattle.std.proofs.lemmas.List.Elements.{filter-append}
+use Rattle.std.proofs.lemmas.Map.Made.{is_some-lookup}
+use Rattle.indexmap.specs.IndexMap.{IndexMap, insert_entry}
+use Rattle.indexmap.proofs.CallerLemmas.{insert_entry-new}
+use Rattle.net_base.specs.Members.{IsIn}
+use Rattle.net_base.proofs.MemberLaws.{in_append_left, in_append_right, in_append_cases, map-push}
+use Rattle.net_base.specs.declared.ids.SwitchId.{SwitchId}
+use Rattle.net_base.specs.declared.ids.Stop.{Stop}
+use Rattle.topology.proofs.LinkLaws.{stop_eq-refl, stop_ne, any_from_in, in_from_any, ends_of, not_both}
+use Rattle.topology.specs.Networks.{Network, IsNetwork, IsUsed, stop_eq, far_end, end_at, used_ports, is_used, is_host}
+use Rattle.topology.specs.Topology.{is_on}
+use Rattle.topology.specs.Ends.{port_ends, is_host_end}
+use Rattle.topology.specs.declared.net.Link.{Link}
+use Rattle.topology.specs.declared.net.End.{End}
+use Rattle.topology.specs.declared.net.End.TheVariants as at
+
+abbrev Entry : Type 0
+Entry = Stop × End
+
+abbrev port_of : Entry → Stop
+port_of p = p.0
+
+hosts_named : (hosts : List Stop) → map port_of (map (λ h. (h, at.Host)) hosts) ≡ hosts
+hosts_named [] = refl
+hosts_named (h ∷ hosts) = ap (λ (xs : List Stop). h ∷ xs) (hosts_named hosts)
+
+-- the ports of the links and hosts
+pub ports_named : (links : List Link) (hosts : List Stop) → map port_of (port_ends links hosts) ≡ ends_of links ++ hosts
+ports_named [] hosts = hosts_named hosts
+ports_named (l ∷ links) hosts = ap (λ (xs : List Stop). l.one ∷ l.other ∷ xs) (ports_named links hosts)
+
+or_turned : (a b : Bool) → (a || b) ≡ (b || a)
+or_turned true true = refl
+or_turned true false = refl
+or_turned false true = refl
+or_turned false false = refl
+
+-- a test of the used ports, in either order
+pub any_turned : (p : Stop → Bool) (xs ys : List Stop) → list_any p (xs ++ ys) ≡ list_any p (ys ++ xs)
+any_turned p xs ys = list_any-append p xs ys ∙ or_turned (list_any p xs) (list_any p ys) ∙ sym (list_any-append p ys xs)
+
+pub count_append : {A : Type 0} (p : A → Bool) (xs ys : List A) → count_by p (xs ++ ys) ≡ count_by p xs + count_by p ys
+count_append p xs ys =
+    let a = length-filter p xs in
+    let b = length-filter p ys in
+    let c = length-filter p (xs ++ ys) in
+    let d = ap length (filter-append p xs ys) ∙ length-append (filter p xs) (filter p ys) in
+    omega arith
+
+pub count_turned : (p : Stop → Bool) (xs ys : List Stop) → count_by p (xs ++ ys) ≡ count_by p (ys ++ xs)
+count_turned p xs ys = let a = count_append p xs ys in let b = count_append p ys xs in omega arith
+
+module _ (stop : Stop) where
+  abbrev looked : List Entry → Option End
+  looked es = lookup (stop_eq stop) es
+
+  host_looked : (hosts : List Stop) → list_any (stop_eq stop) hosts ≡ true → looked (map (λ h. (h, at.Host)) hosts) ≡ Some at.Host
+  host_looked [] h = absurd (false≢true h)
+  host_looked (x ∷ hosts) h =
+      elim (stop_eq stop x) as (λ b. (b || list_any (stop_eq stop) hosts) ≡ true → cond b (Some at.Host) (looked (map (λ h. (h, at.Host)) hosts)) ≡ Some at.Host) [
+        | true ↦ λ _. refl
+        | false ↦ λ f. host_looked hosts f
+      ] h
+
+  no_host_looked : (hosts : List Stop) → list_any (stop_eq stop) hosts ≡ false → looked (map (λ h. (h, at.Host)) hosts) ≡ None
+  no_host_looked [] h = refl
+  no_host_looked (x ∷ hosts) h =
+      elim (stop_eq stop x) as (λ b. (b || list_any (stop_eq stop) hosts) ≡ false → cond b (Some at.Host) (looked (map (λ h. (h, at.Host)) hosts)) ≡ None) [
+        | true ↦ λ f. absurd (false≢true (sym f))
+        | false ↦ λ f. no_host_looked hosts f
+      ] h
+
+  -- a port that no link has is looked up among the hosts
+  past_links : (links : List Link) (hosts : List Stop) → ¬ IsIn stop (ends_of links) → looked (port_ends links hosts) ≡ looked (map (λ h. (h, at.Host)) hosts)
+  past_links [] hosts out = refl
+  past_links (l ∷ links) hosts out =
+      cond-false (stop_eq stop l.one) _ _ (stop_ne stop l.one (λ e. out (inl e)))
+      ∙ cond-false (stop_eq stop l.other) _ _ (stop_ne stop l.other (λ e. out (inr (inl e))))
+      ∙ past_links links hosts (λ i. out (inr (inr i)))
+
+  -- a port that no host has is looked up among the links
+  links_looked : (links : List Link) (hosts : List Stop) → list_any (stop_eq stop) hosts ≡ false → unwrap_or (looked (port_ends links hosts)) at.Nothing ≡ far_end stop links
+  links_looked [] hosts h = ap (λ o. unwrap_or o at.Nothing) (no_host_looked hosts h)
+  links_looked (l ∷ links) hosts h =
+      elim (stop_eq stop l.one) as (λ b. unwrap_or (cond b (Some (at.Link l.other.switch l.other.port)) (cond (stop_eq stop l.other) (Some (at.Link l.one.switch l.one.port)) (looked (port_ends links hosts)))) at.Nothing
+      ≡ cond b (at.Link l.other.switch l.other.port) (cond (stop_eq stop l.other) (at.Link l.one.switch l.one.port) (far_end stop links))) [
+        | true ↦ refl
+        | false ↦ elim (stop_eq stop l.other) as (λ b. unwrap_or (cond b (Some (at.Link l.one.switch l.one.port)) (looked (port_ends links hosts))) at.Nothing
+            ≡ cond b (at.Link l.one.switch l.one.port) (far_end stop links)) [
+              | true ↦ refl
+              | false ↦ links_looked links hosts h
+            ]
+      ]
+
+  -- what the look-up gives is what is at the port
+  pub end_looked : (net : Network) → IsNetwork net → unwrap_or (looked (port_ends net.links net.hosts)) at.Nothing ≡ end_at net stop
+  end_looked net is =
+      elim (list_any (stop_eq stop) net.hosts) as (λ b. list_any (stop_eq stop) net.hosts ≡ b → unwrap_or (looked (port_ends net.links net.hosts)) at.Nothing ≡ cond b at.Host (far_end stop net.links)) [
+        | true ↦ λ h.
+            let out = not_both stop net.hosts (ends_of net.links) is.ports_once (in_from_any stop net.hosts h) in
+            ap (λ o. unwrap_or o at.Nothing) (past_links net.links net.hosts out ∙ host_looked net.hosts h)
+        | false ↦ λ h. links_looked net.links net.hosts h
+      ] refl
+
+  far_is_no_host : (links : List Link) → is_host_end (far_end stop links) ≡ false
+  far_is_no_host [] = refl
+  far_is_no_host (l ∷ links) =
+      elim (stop_eq stop l.one) as (λ b. is_host_end (cond b (at.Link l.other.switch l.other.port) (cond (stop_eq stop l.other) (at.Link l.one.switch l.one.port) (far_end stop links))) ≡ false) [
+        | true ↦ refl
+        | false ↦ elim (stop_eq stop l.other) as (λ b. is_host_end (cond b (at.Link l.one.switch l.one.port) (far_end stop links)) ≡ false) [
+          | true ↦ refl
+          | false ↦ far_is_no_host links
+        ]
+      ]
+
+  -- a host is at the host ports
+  pub host_end : (net : Network) → is_host_end (end_at net stop) ≡ is_host net stop
+  host_end net =
+      elim (list_any (stop_eq stop) net.hosts) as (λ b. is_host_end (cond b at.Host (far_end stop net.links)) ≡ b) [ true ↦ refl | false ↦ far_is_no_host net.links ]
+
+  host_from_end : (e : End) → is_host_end e ≡ true → e ≡ at.Host
+  host_from_end at.Host h = refl
+  host_from_end (at.Link s p) h = absurd (false≢true h)
+  host_from_end at.Nothing h = absurd (false≢true h)
+
+  pub host_exactly : (net : Network) → IsTrue (is_host net stop) ↔ (end_at net stop ≡ at.Host)
+  host_exactly net = (λ h. host_from_end (end_at net stop) (host_end net ∙ h), λ e. sym (host_end net) ∙ ap is_host_end e)
+
+  nothing_far : (links : List Link) → ¬ IsIn stop (ends_of links) → far_end stop links ≡ at.Nothing
+  nothing_far [] out = refl
+  nothing_far (l ∷ links) out =
+      cond-false (stop_eq stop l.one) _ _ (stop_ne stop l.one (λ e. out (inl e)))
+      ∙ cond-false (stop_eq stop l.other) _ _ (stop_ne stop l.other (λ e. out (inr (inl e))))
+      ∙ nothing_far links (λ i. out (inr (inr i)))
+
+  something_far : (links : List Link) → far_end stop links ≡ at.Nothing → ¬ IsIn stop (ends_of links)
+  something_far [] e i = absurd i
+  something_far (l ∷ links) e i =
+      elim (stop_eq stop l.one) as (λ b. stop_eq stop l.one ≡ b → cond b (at.Link l.other.switch l.other.port) (cond (stop_eq stop l.other) (at.Link l.one.switch l.one.port) (far_end stop links)) ≡ at.Nothing → ⊥) [
+        | true ↦ λ _ f. absurd (let g : at.Link l.other.switch l.other.port ≡ at.Nothing = f in cc)
+        | false ↦ λ one f. elim (stop_eq stop l.other) as (λ b. stop_eq stop l.other ≡ b → cond b (at.Link l.one.switch l.one.port) (far_end stop links) ≡ at.Nothing → ⊥) [
+          | true ↦ λ _ g. absurd (let h : at.Link l.one.switch l.one.port ≡ at.Nothing = g in cc)
+          | false ↦ λ other g. elim i [
+            | inl same ↦ false≢true (sym one ∙ subst (λ x. stop_eq stop x ≡ true) same (stop_eq-refl stop))
+            | inr j ↦ elim j [
+              | inl same ↦ false≢true (sym other ∙ subst (λ x. stop_eq stop x ≡ true) same (stop_eq-refl stop))
+              | inr k ↦ something_far links g k
+            ]
+          ]
+        ] refl f
+      ] refl e
+
+  -- something is exactly at the used ports
+  pub used_end : (net : Network) → end_at net stop ≢ at.Nothing ↔ IsUsed net stop
+  used_end net = (
+    λ some. in_from_any stop (used_ports net) (elim (list_any (stop_eq stop) (used_ports net)) as (λ b. list_any (stop_eq stop) (used_ports net) ≡ b → b ≡ true) [
+      | true ↦ λ _. refl
+      | false ↦ λ h. absurd (some (
+          let out : ¬ IsIn stop (used_ports net) = λ i. false≢true (sym h ∙ any_from_in stop (used_ports net) i) in
+          cond-false (list_any (stop_eq stop) net.hosts) at.Host (far_end stop net.links)
+          (false_from_ne_true (list_any (stop_eq stop) net.hosts) (λ t. out (in_append_left stop net.hosts (ends_of net.links) (in_from_any stop net.hosts t))))
+          ∙ nothing_far net.links (λ i. out (in_append_right stop net.hosts (ends_of net.links) i))))
+    ] refl),
+    λ used nothing. elim (list_any (stop_eq stop) net.hosts) as (λ b. list_any (stop_eq stop) net.hosts ≡ b → cond b at.Host (far_end stop net.links) ≡ at.Nothing → ⊥) [
+      | true ↦ λ _ e. absurd (let f : at.Host ≡ at.Nothing = e in cc)
+      | false ↦ λ h e. elim (in_append_cases stop net.hosts (ends_of net.links) used) [
+        | inl i ↦ false≢true (sym h ∙ any_from_in stop net.hosts i)
+        | inr i ↦ something_far net.links e i
+      ]
+    ] refl nothing,
+  )
+
+  pub used_exactly : (net : Network) → IsTrue (is_used net stop) ↔ IsUsed net stop
+  used_exactly net = (λ h. in_from_any stop (used_ports net) h, λ i. any_from_in stop (used_ports net) i)
+
+none_from : {A : Type 0} (o : Option A) → is_some o ≡ false → o ≡ None
+none_from None e = refl
+none_from (Some x) e = absurd cc
+
+-- a port that isn't used goes last
+pub added : {S : Type 0} (m : IndexMap Stop End S) (a : Stop) (e : End) → list_any (stop_eq a) (map port_of m.entries) ≡ false → insert_entry stop_eq m.entries a e ≡ m.entries ++ (a, e) ∷ []
+added m a e free = insert_entry-new stop_eq m a e (none_from (lookup (stop_eq a) m.entries) (is_some-lookup (stop_eq a) m.entries ∙ free))
+
+module _ (net : Network) (ends : List Entry) (kept : ends ≡ port_ends net.links net.hosts) where
+  same_ports : map port_of ends ≡ ends_of net.links ++ net.hosts
+  same_ports = ap (map port_of) kept ∙ ports_named net.links net.hosts
+
+  pub used_test : (stop : Stop) → list_any (stop_eq stop) (map port_of ends) ≡ is_used net stop
+  used_test stop = ap (list_any (stop_eq stop)) same_ports ∙ any_turned (stop_eq stop) (ends_of net.links) net.hosts
+
+  -- the same with one port more
+  pub beside_test : (more : List Entry) (a : Stop) (e : End) (b : Stop) → more ≡ ends ++ (a, e) ∷ [] → list_any (stop_eq b) (map port_of more) ≡ list_any (stop_eq b) (used_ports net ++ a ∷ [])
+  beside_test more a e b is =
+      ap (λ es. list_any (stop_eq b) (map port_of es)) is
+      ∙ ap (list_any (stop_eq b)) (map-push port_of ends (a, e))
+      ∙ list_any-append (stop_eq b) (map port_of ends) (a ∷ [])
+      ∙ ap (λ x. x || list_any (stop_eq b) (a ∷ [])) (used_test b)
+      ∙ sym (list_any-append (stop_eq b) (used_ports net) (a ∷ []))
+
+  pub used_count : (s : SwitchId) → count_by (is_on s) (map port_of ends) ≡ count_by (is_on s) (used_ports net)
+  used_count s = ap (count_by (is_on s)) same_ports ∙ count_turned (is_on s) (ends_of net.links) net.hosts
+
+  pub end_test : IsNetwork net → (stop : Stop) → unwrap_or (lookup (stop_eq stop) ends) at.Nothing ≡ end_at net stop
+  end_test is stop = ap (λ es. unwrap_or (lookup (stop_eq stop) es) at.Nothing) kept ∙ end_looked stop net is
+
+-- no switch has more than 64 used ports
+pub count_few : (net : Network) → IsNetwork net → (s : SwitchId) → count_by (is_on s) (used_ports net) ≤ 64
+count_few net is s = let a = length-filter (is_on s) (used_ports net) in let b = is.few_ports s in omega arith

@@ -1,0 +1,32 @@
+use Rattle.std.proofs.Common.{List, [], ◌∷◌, ◌++◌, sym, ap, subst, ◌∙◌}
+use Rattle.net_base.specs.declared.ids.Stop.{Stop}
+use Rattle.topology.proofs.GrowthLaws.{link_kept, link_ends}
+use Rattle.topology.proofs.PortLaws.{used_test, beside_test}
+use Rattle.topology.specs.Ends.{port_ends}
+use Rattle.topology.specs.Networks.{IsNetwork}
+use Rattle.topology.specs.Seen.{network_of}
+use Rattle.topology.specs.declared.net.Link.{Link}
+use Rattle.topology.specs.declared.net.End.{End}
+use Rattle.topology.specs.declared.net.End.TheVariants as at
+use Rattle.topology.proofs.net.Net.with_link.Goals as goal
+
+pub add-requires : goal.add-requires
+add-requires c = used_test (network_of c.self.inside) c.self.inside.ends c.self.invariant.ends c.args.a ∙ (rw (← c.self.view_is) at c.requires.a_free)
+
+pub add-requires-2 : goal.add-requires-2
+add-requires-2 c =
+    beside_test (network_of c.self.inside) c.self.inside.ends c.self.invariant.ends c.add.new.self c.args.a (at.Link c.args.b.switch c.args.b.port) c.args.b c.in_ok-add.ensures
+    ∙ (rw (← c.self.view_is) at c.requires.b_free)
+
+pub invariant_of-result : goal.invariant_of-result
+invariant_of-result c = record {
+  network =
+      subst (λ (ls : List Link). IsNetwork (record (network_of c.self.inside) { links = ls })) (sym c.in_ok-push.ensures.items)
+      (link_kept (network_of c.self.inside) c.self.invariant.network c.args.a c.args.b (rw (← c.self.view_is) at c.requires.a_port) (rw (← c.self.view_is) at c.requires.b_port)
+      (rw (← c.self.view_is) at c.requires.a_free) (rw (← c.self.view_is) at c.requires.b_free) (rw (← c.self.view_is) at c.requires.a_room) (rw (← c.self.view_is) at c.requires.b_room));
+  ends =
+      c.in_ok-add-2.ensures
+      ∙ ap (λ (es : List (Stop × End)). es ++ (c.args.b, at.Link c.args.a.switch c.args.a.port) ∷ []) (c.in_ok-add.ensures ∙ ap (λ (es : List (Stop × End)). es ++ (c.args.a, at.Link c.args.b.switch c.args.b.port) ∷ []) c.self.invariant.ends)
+      ∙ link_ends c.self.inside.links.items c.self.inside.hosts.items c.args.a c.args.b (rw (← c.self.view_is) at c.requires.first)
+      ∙ ap (λ (ls : List Link). port_ends ls c.self.inside.hosts.items) (sym c.in_ok-push.ensures.items);
+}

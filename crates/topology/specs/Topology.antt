@@ -1,0 +1,211 @@
+-- The reading of a topology, by the table of its members.
+use Rattle.std.specs.Prelude.{ℕ, ◌&&◌, ◌==◌, List, [], ◌∷◌, ◌++◌, length, count_by, Bool, true, not, nat_lt, nat_le, is_none, Option, None, Some, option_and_then, option_map, Result, Ok, codes, if◌then◌else◌}
+use Rattle.std.specs.List.{list_all, list_any}
+use Rattle.std.specs.Option.{option_or}
+use Rattle.std.specs.Str.{bytes_eq}
+use Rattle.serde_json.specs.Data.{Data}
+use Rattle.serde_json.specs.Find.{as_str}
+use Rattle.net_base.specs.declared.ids.SwitchId.{SwitchId}
+use Rattle.net_base.specs.declared.ids.Stop.{Stop}
+use Rattle.net_base.specs.declared.ids.Vlan.{Vlan}
+use Rattle.net_base.specs.declared.ids.Vlan.TheVariants.{Untagged, Id}
+use Rattle.net_base.specs.declared.field.Field.{Field}
+use Rattle.net_base.specs.declared.field.Field.TheVariants.{Top, Switches, Name, Capacity, Links, Hosts, Vlans, Tags}
+use Rattle.net_base.specs.Reading.{◌>>=◌, check, need, in_turn}
+use Rattle.net_base.specs.Tree.{is_object, text_at, whole_at, whole_in, list_in, list_at, tree_in}
+use Rattle.topology.specs.declared.fault.NetFault.{NetFault}
+use Rattle.topology.specs.declared.fault.NetFault.TheVariants.{NotJson, Shape, BadName, DoubleName, UnknownSwitch, BadPort, PortTwice, BadVlan, VlanTwice, BadTags, BadCapacity, TooMany}
+use Rattle.topology.specs.Networks.{Network, TagRange, switch_named, used_ports, stop_eq, vlan_eq, is_name_byte}
+use Rattle.topology.specs.References.{reference_parts}
+
+-- no switch, link, host port, VLAN or tag
+abbrev pub no_network : Network
+no_network = record { names = []; capacities = []; links = []; hosts = []; vlans = []; tags = None }
+
+-- ---- switches
+
+-- 1 to 32 letters, digits, - and _
+abbrev pub is_name : List ℕ → Bool
+is_name name = nat_le 1 (length name) && nat_le (length name) 32 && list_all is_name_byte name
+
+-- a capacity that a switch may have
+abbrev pub is_capacity : ℕ → Bool
+is_capacity n = nat_le 1 n && nat_le n 8192
+
+-- with one switch more
+abbrev pub with_switch : Network → List ℕ → ℕ → Network
+with_switch net name capacity = record net { names = net.names ++ name ∷ []; capacities = net.capacities ++ capacity ∷ [] }
+
+-- the name of one item of `switches`
+unfoldable pub name_at : ℕ → Network → Data → Result (List ℕ) NetFault
+name_at place net d = do
+  _ ← check (is_object d) (Shape Switches place)
+  name ← need (text_at (codes "name") d) (Shape Name place)
+  _ ← check (is_name name) (BadName place)
+  _ ← check (is_none (switch_named net.names name)) (DoubleName place)
+  Ok name
+
+-- one item of `switches`
+unfoldable pub switch_at : ℕ → Network → Data → Result Network NetFault
+switch_at place net d = do
+  _ ← check (nat_lt (length net.names) 128) (TooMany Switches place)
+  name ← name_at place net d
+  capacity ← need (whole_at (codes "capacity") d) (Shape Capacity place)
+  _ ← check (is_capacity capacity) (BadCapacity place)
+  Ok (with_switch net name capacity)
+
+unfoldable pub switches_in : Network → Data → Result Network NetFault
+switches_in net top = do
+  items ← need (list_at (codes "switches") top) (Shape Switches 0)
+  in_turn switch_at 0 net items
+
+-- ---- ports
+
+-- a port number that a network may use
+abbrev pub is_port_number : ℕ → Bool
+is_port_number n = nat_le 1 n && nat_le n 65279
+
+-- whether the port is one of the switch
+abbrev pub is_on : SwitchId → Stop → Bool
+is_on switch stop = stop.switch.0 == switch.0
+
+-- a port reference
+unfoldable pub reference : Network → Field → ℕ → List ℕ → Result Stop NetFault
+reference net field place text = do
+  parts ← need (reference_parts text) (Shape field place)
+  switch ← need (switch_named net.names parts.0) (UnknownSwitch place)
+  _ ← check (is_port_number parts.1) (BadPort place)
+  Ok (record { switch = record { 0 = switch }; port = record { 0 = parts.1 } })
+
+-- a reference to a port that isn't one of these
+unfoldable pub free_port : Network → Field → ℕ → List Stop → List ℕ → Result Stop NetFault
+free_port net field place used text = do
+  stop ← reference net field place text
+  _ ← check (not (list_any (stop_eq stop) used)) (PortTwice place)
+  _ ← check (nat_lt (count_by (is_on stop.switch) used) 64) (TooMany field place)
+  Ok stop
+
+-- ---- links
+
+-- two texts
+abbrev pub two_texts : List Data → Option (List ℕ × List ℕ)
+two_texts (a ∷ b ∷ []) = option_and_then (λ s. option_map (λ t. (s, t)) (as_str b)) (as_str a)
+two_texts other = None
+
+-- with one link more
+abbrev pub with_link : Network → Stop → Stop → Network
+with_link net a b = record net { links = net.links ++ record { one = a; other = b } ∷ [] }
+
+-- one item of `links`
+unfoldable pub link_at : ℕ → Network → Data → Result Network NetFault
+link_at place net d = do
+  texts ← need (option_and_then two_texts (list_in d)) (Shape Links place)
+  a ← free_port net Links place (used_ports net) texts.0
+  b ← free_port net Links place (used_ports net ++ a ∷ []) texts.1
+  Ok (with_link net a b)
+
+unfoldable pub links_in : Network → Data → Result Network NetFault
+links_in net top = do
+  items ← need (list_at (codes "links") top) (Shape Links 0)
+  in_turn link_at 0 net items
+
+-- ---- host ports
+
+-- with one host port more
+abbrev pub with_host : Network → Stop → Network
+with_host net stop = record net { hosts = net.hosts ++ stop ∷ [] }
+
+-- one item of `hosts`
+unfoldable pub host_at : ℕ → Network → Data → Result Network NetFault
+host_at place net d = do
+  text ← need (as_str d) (Shape Hosts place)
+  stop ← free_port net Hosts place (used_ports net) text
+  Ok (with_host net stop)
+
+unfoldable pub hosts_in : Network → Data → Result Network NetFault
+hosts_in net top = do
+  items ← need (list_at (codes "hosts") top) (Shape Hosts 0)
+  in_turn host_at 0 net items
+
+-- ---- VLANs
+
+-- an id that a VLAN may have
+abbrev pub is_vlan_id : ℕ → Bool
+is_vlan_id id = nat_le 1 id && nat_le id 4094
+
+-- the text `untagged`, or a whole number
+abbrev pub vlan_id : Data → Option (Option ℕ)
+vlan_id d = option_or (option_and_then (λ text. if bytes_eq text (codes "untagged") then Some None else None) (as_str d)) (option_map Some (whole_in d))
+
+-- untagged, or the id where a VLAN may have it
+abbrev pub vlan_with : Option ℕ → Option Vlan
+vlan_with None = Some Untagged
+vlan_with (Some id) = if is_vlan_id id then Some (Id id) else None
+
+-- with one declared VLAN more
+abbrev pub with_vlan : Network → Vlan → Network
+with_vlan net v = record net { vlans = net.vlans ++ v ∷ [] }
+
+-- one item of `vlans`
+unfoldable pub vlan_at : ℕ → Network → Data → Result Network NetFault
+vlan_at place net d = do
+  _ ← check (nat_lt (length net.vlans) 64) (TooMany Vlans place)
+  id ← need (vlan_id d) (Shape Vlans place)
+  v ← need (vlan_with id) (BadVlan place)
+  _ ← check (not (list_any (vlan_eq v) net.vlans)) (VlanTwice place)
+  Ok (with_vlan net v)
+
+unfoldable pub vlans_in : Network → Data → Result Network NetFault
+vlans_in net top = do
+  items ← need (list_at (codes "vlans") top) (Shape Vlans 0)
+  in_turn vlan_at 0 net items
+
+-- ---- tags
+
+-- two whole numbers as a range
+abbrev pub pair_of : Option ℕ → Option ℕ → Option (Option TagRange)
+pair_of a b = option_and_then (λ m. option_map (λ n. Some (record { first = m; last = n })) b) a
+
+-- `[]`, or two whole numbers
+abbrev pub range_of : List Data → Option (Option TagRange)
+range_of [] = Some None
+range_of (a ∷ b ∷ []) = pair_of (whole_in a) (whole_in b)
+range_of other = None
+
+-- no range, or one of ids in their order
+abbrev pub is_range : Option TagRange → Bool
+is_range None = true
+is_range (Some t) = is_vlan_id t.first && is_vlan_id t.last && nat_le t.first t.last
+
+-- with this tag range
+abbrev pub with_tags : Network → Option TagRange → Network
+with_tags net range = record net { tags = range }
+
+unfoldable pub tags_in : Network → Data → Result Network NetFault
+tags_in net top = do
+  range ← need (option_and_then range_of (list_at (codes "tags") top)) (Shape Tags 0)
+  _ ← check (is_range range) BadTags
+  Ok (with_tags net range)
+
+-- ---- the file
+
+-- the switches and their ports
+unfoldable pub ports_in : Data → Result Network NetFault
+ports_in top = do
+  switches ← switches_in no_network top
+  links ← links_in switches top
+  hosts_in links top
+
+-- the members in their order
+unfoldable pub members_in : Data → Result Network NetFault
+members_in top = do
+  _ ← check (is_object top) (Shape Top 0)
+  ports ← ports_in top
+  vlans ← vlans_in ports top
+  tags_in vlans top
+
+-- the network that the bytes describe, or the first refusal
+unfoldable pub network_in : List ℕ → Result Network NetFault
+network_in bytes = do
+  top ← need (tree_in bytes) NotJson
+  members_in top

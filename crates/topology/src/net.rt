@@ -1,0 +1,370 @@
+// The network that contracts see, and what is at a port.
+
+ghost use Rattle.std.specs.Prelude.{◌≡◌, ◌≢◌, ◌↔◌, ◌<◌, ◌≤◌, ◌++◌, ◌∷◌, [], IsTrue, ◌&&◌, not, length, count_by, option_map, slice_get, IfSome, IfOk, None, Some, true, false};
+ghost use Rattle.std.specs.List.{list_any};
+ghost use Rattle.topology.specs.Networks.{IsNetwork, IsVlan, IsVlanId, IsUsed, IsAvailableTag, stop_eq, end_at, vlan_eq, IsEntry, switch_count, switch_named, capacity_of, used_ports, is_used, is_host, is_tag, in_range};
+ghost use Rattle.topology.specs.Topology.{no_network, is_name, is_capacity, is_on, is_vlan_id, with_switch, with_link, with_host, with_vlan, with_tags};
+ghost use Rattle.topology.specs.Ends.{IsPort};
+ghost use Rattle.topology.specs.Ends as seen;
+ghost use Rattle.topology.specs.declared.net.End.TheVariants as at;
+
+use crate::ports::Ports;
+use crate::switches::Switches;
+use net_base::{Place, Port, Stop, SwitchId, Vlan};
+use std::alloc::{AllocError, Global};
+use std::marker::Model;
+
+/// What is at a port.
+#[derive(Clone, Copy, Debug, PartialEq, Eq)]
+pub enum End {
+    Host,
+    Link(SwitchId, Port),
+    Nothing,
+}
+
+/// A two-way link between two ports.
+#[derive(Clone, Copy, Debug, PartialEq, Eq)]
+pub struct Link {
+    pub one: Stop,
+    pub other: Stop,
+}
+
+/// A network: switches with their names and capacities, two-way links, host ports, declared VLANs and the tag range.
+#[derive(Drop)]
+pub struct Net {
+    switches: Switches,
+    ends: Ports,
+    links: Vec<Link>,
+    hosts: Vec<Stop>,
+    vlans: Vec<Vlan>,
+    tags: Option<(u16, u16)>,
+}
+
+impl Model for Net {
+    ghost use Rattle.topology.specs.Networks.{Network};
+
+    ghost Value = { Network };
+
+    ghost use Rattle.topology.specs.Seen.{network_of, IsKept};
+
+    ghost view = { network_of };
+
+    ghost invariant = { IsKept };
+}
+
+/// Whether two VLANs are the same.
+fn is_same_vlan(a: Vlan, b: Vlan) -> bool
+    ensures { result ≡ vlan_eq a b }
+{
+    match (a, b) {
+        (Vlan::Untagged, Vlan::Untagged) => true,
+        (Vlan::Id(m), Vlan::Id(n)) => m == n,
+        _ => false,
+    }
+}
+
+/// Whether a VLAN is among the declared ones.
+fn is_declared(vlans: &[Vlan], vlan: Vlan) -> bool
+    ensures { result ≡ list_any (vlan_eq vlan) vlans.now }
+{
+    vlans.iter().any(|declared| is_same_vlan(vlan, *declared))
+}
+
+/// Whether a host is there.
+fn is_host_end(end: End) -> bool
+    ensures { result ≡ seen.is_host_end end }
+{
+    match end {
+        End::Host => true,
+        _ => false,
+    }
+}
+
+impl Net {
+    /// Does nothing: its contract says what every network keeps, for crates that do not see its fields.
+    pub fn keeps_rules(&self)
+        ensures { IsNetwork self.now }
+    {
+        let _ = &self.links;
+    }
+
+    /// How many switches there are, at most 128.
+    pub fn switches(&self) -> u32
+        ensures value { result ≡ switch_count self.now }
+        ensures few { result ≤ 128 }
+    {
+        self.switches.len()
+    }
+
+    /// The most table entries of a switch, 1 to 8192.
+    pub fn capacity(&self, s: SwitchId) -> u32
+        requires { s.0 < switch_count self.now }
+        ensures value { result ≡ capacity_of self.now s }
+        ensures within { (1 ≤ result) × (result ≤ 8192) }
+    {
+        self.switches.capacity(s)
+    }
+
+    /// The name of a switch, 1 to 32 ASCII letters, digits, `-` and `_`.
+    pub fn name(&self, s: SwitchId) -> &str
+        requires { s.0 < switch_count self.now }
+        ensures { slice_get self.now.names s.0 ≡ Some result.now }
+    {
+        self.switches.name(s)
+    }
+
+    /// The switch of that name.
+    pub fn find(&self, name: &str) -> Option<SwitchId>
+        ensures value { option_map (λ s. s.0) result ≡ switch_named self.now.names name.now }
+        ensures within { IfSome result (λ s. s.0 < switch_count self.now) }
+    {
+        self.switches.find(name)
+    }
+
+    /// What is at a port. The cost is that of a look-up in a hash table.
+    pub fn end(&self, s: SwitchId, p: Port) -> End
+        ensures { result ≡ end_at self.now (record { switch = s; port = p }) }
+    {
+        self.ends.end(Stop { switch: s, port: p })
+    }
+
+    /// Whether the port is a host port or one end of a link. That is where its end isn't nothing.
+    pub fn is_used(&self, s: SwitchId, p: Port) -> bool
+        ensures value { result ≡ is_used self.now (record { switch = s; port = p }) }
+        ensures meaning { IsTrue result ↔ IsUsed self.now (record { switch = s; port = p }) }
+        ensures ends { end_at self.now (record { switch = s; port = p }) ≢ at.Nothing
+            ↔ IsUsed self.now (record { switch = s; port = p }) }
+    {
+        self.ends.contains(Stop { switch: s, port: p })
+    }
+
+    /// Whether the port is a host port. That is where its end is a host.
+    pub fn is_host(&self, stop: Stop) -> bool
+        ensures value { result ≡ is_host self.now stop }
+        ensures ends { IsTrue result ↔ (end_at self.now stop ≡ at.Host) }
+    {
+        is_host_end(self.ends.end(stop))
+    }
+
+    /// The host ports in the order of the file.
+    pub fn hosts(&self) -> &[Stop]
+        ensures { result.now ≡ self.now.hosts }
+    {
+        &self.hosts
+    }
+
+    /// The declared VLANs in the order of the file, at most 64.
+    pub fn vlans(&self) -> &[Vlan]
+        ensures { result.now ≡ self.now.vlans }
+    {
+        &self.vlans
+    }
+
+    /// The first and the last id of the tag range, where there is one.
+    pub fn tags(&self) -> Option<(u16, u16)>
+        ensures { option_map (λ t. record { first = t.0; last = t.1 }) result ≡ self.now.tags }
+    {
+        self.tags
+    }
+
+    /// Whether a VLAN is declared.
+    pub fn is_declared(&self, vlan: Vlan) -> bool
+        ensures { result ≡ list_any (vlan_eq vlan) self.now.vlans }
+    {
+        is_declared(&self.vlans, vlan)
+    }
+
+    /// Whether the id lies in the tag range.
+    fn is_in_range(&self, id: u16) -> bool
+        ensures { result ≡ in_range self.now.tags id }
+    {
+        match self.tags {
+            None => false,
+            Some((first, last)) => first <= id && id <= last,
+        }
+    }
+
+    /// Whether the id lies in the tag range and no declared VLAN has it.
+    fn is_available(&self, id: u16) -> bool
+        ensures { result ≡ is_tag self.now id }
+    {
+        self.is_in_range(id) && !self.is_declared(Vlan::Id(id))
+    }
+
+    /// Whether the port is a host port and the VLAN is declared.
+    fn takes_in(&self, stop: Stop, vlan: Vlan) -> bool
+        ensures { result ≡ (is_host self.now stop && list_any (vlan_eq vlan) self.now.vlans) }
+    {
+        self.is_host(stop) && self.is_declared(vlan)
+    }
+
+    /// Whether the id is an available tag: of the tag range, and of no declared VLAN.
+    pub fn is_tag(&self, id: u16) -> bool
+        ensures value { result ≡ is_tag self.now id }
+        ensures meaning { IsTrue result ↔ IsAvailableTag self.now id }
+    {
+        self.is_available(id)
+    }
+
+    /// Whether a packet may enter at the place: a host port with a declared VLAN.
+    pub fn is_entry(&self, place: Place) -> bool
+        ensures { IsTrue result ↔ IsEntry self.now place }
+    {
+        let stop = Stop {
+            switch: place.switch,
+            port: place.port,
+        };
+        self.takes_in(stop, place.vlan)
+    }
+}
+
+impl Net {
+    /// No switch, link, host port, VLAN or tag.
+    pub(crate) fn empty(alloc: Global) -> Self
+        ensures { result ≡ no_network }
+    {
+        Net {
+            switches: Switches::new(alloc),
+            ends: Ports::new(alloc),
+            links: Vec::new(alloc),
+            hosts: Vec::new(alloc),
+            vlans: Vec::new(alloc),
+            tags: None,
+        }
+    }
+
+    /// How many ports of the switch are used.
+    pub(crate) fn count_on(&self, switch: SwitchId) -> usize
+        ensures value { result ≡ count_by (is_on switch) (used_ports self.now) }
+        ensures few { result ≤ 64 }
+    {
+        self.ends.count_on(switch)
+    }
+
+    /// With one switch more.
+    pub(crate) fn with_switch(
+        self,
+        alloc: Global,
+        name: &str,
+        capacity: u32,
+    ) -> Result<Net, AllocError>
+        requires room { length self.names < 128 }
+        requires form { is_name name.now ≡ true }
+        requires new { switch_named self.names name.now ≡ None }
+        requires capacity { is_capacity capacity ≡ true }
+        ensures { IfOk result (λ net. net ≡ with_switch self name.now capacity) }
+    {
+        let Net {
+            mut switches,
+            ends,
+            links,
+            hosts,
+            vlans,
+            tags,
+        } = self;
+        switches.add(alloc, name, capacity)?;
+        Ok(Net {
+            switches,
+            ends,
+            links,
+            hosts,
+            vlans,
+            tags,
+        })
+    }
+
+    /// With one link more between ports that aren't used. No host port stands yet.
+    pub(crate) fn with_link(self, a: Stop, b: Stop) -> Result<Net, AllocError>
+        requires first { self.hosts ≡ [] }
+        requires a_port { IsPort self a }
+        requires b_port { IsPort self b }
+        requires a_free { list_any (stop_eq a) (used_ports self) ≡ false }
+        requires b_free { list_any (stop_eq b) (used_ports self ++ a ∷ []) ≡ false }
+        requires a_room { count_by (is_on a.switch) (used_ports self) < 64 }
+        requires b_room { count_by (is_on b.switch) (used_ports self ++ a ∷ []) < 64 }
+        ensures { IfOk result (λ net. net ≡ with_link self a b) }
+    {
+        let Net {
+            switches,
+            mut ends,
+            mut links,
+            hosts,
+            vlans,
+            tags,
+        } = self;
+        ends.add(a, End::Link(b.switch, b.port))?;
+        ends.add(b, End::Link(a.switch, a.port))?;
+        links.push(Link { one: a, other: b })?;
+        Ok(Net {
+            switches,
+            ends,
+            links,
+            hosts,
+            vlans,
+            tags,
+        })
+    }
+
+    /// With one host port more, which isn't used.
+    pub(crate) fn with_host(self, stop: Stop) -> Result<Net, AllocError>
+        requires port { IsPort self stop }
+        requires free { list_any (stop_eq stop) (used_ports self) ≡ false }
+        requires room { count_by (is_on stop.switch) (used_ports self) < 64 }
+        ensures { IfOk result (λ net. net ≡ with_host self stop) }
+    {
+        let Net {
+            switches,
+            mut ends,
+            links,
+            mut hosts,
+            vlans,
+            tags,
+        } = self;
+        ends.add(stop, End::Host)?;
+        hosts.push(stop)?;
+        Ok(Net {
+            switches,
+            ends,
+            links,
+            hosts,
+            vlans,
+            tags,
+        })
+    }
+
+    /// With one declared VLAN more.
+    pub(crate) fn with_vlan(self, vlan: Vlan) -> Result<Net, AllocError>
+        requires room { length self.vlans < 64 }
+        requires form { IsVlan vlan }
+        requires new { list_any (vlan_eq vlan) self.vlans ≡ false }
+        ensures { IfOk result (λ net. net ≡ with_vlan self vlan) }
+    {
+        let Net {
+            switches,
+            ends,
+            links,
+            hosts,
+            mut vlans,
+            tags,
+        } = self;
+        vlans.push(vlan)?;
+        Ok(Net {
+            switches,
+            ends,
+            links,
+            hosts,
+            vlans,
+            tags,
+        })
+    }
+
+    /// With this tag range.
+    pub(crate) fn with_tags(self, tags: Option<(u16, u16)>) -> Net
+        requires { IfSome tags (λ t. IsVlanId t.0 × IsVlanId t.1 × (t.0 ≤ t.1)) }
+        ensures { result ≡ with_tags self (option_map (λ t. record { first = t.0; last = t.1 }) tags) }
+    {
+        let mut net = self;
+        net.tags = tags;
+        net
+    }
+}

@@ -1,0 +1,77 @@
+// The used ports and what is at each.
+ghost use Rattle.std.specs.Prelude.{◌≡◌, ◌<◌, ◌^◌, ◌++◌, ◌∷◌, [], count_by, map, unwrap_or, OnOk, false};
+ghost use Rattle.std.specs.List.{list_any};
+ghost use Rattle.std.specs.Map.{lookup};
+ghost use Rattle.topology.specs.Networks.{stop_eq};
+ghost use Rattle.topology.specs.Topology.{is_on};
+ghost use Rattle.topology.specs.declared.net.End.TheVariants as at;
+
+use crate::net::End;
+use indexmap::IndexMap;
+use net_base::{Stop, SwitchId};
+use std::alloc::{AllocError, Global};
+use std::marker::Model;
+
+/// The used ports, each with what is there, in the order of their use.
+#[derive(Drop)]
+pub struct Ports {
+    ends: IndexMap<Stop, End>,
+}
+
+impl Model for Ports {
+    ghost use Rattle.std.specs.Prelude.{List};
+    ghost use Rattle.net_base.specs.declared.ids.Stop.{Stop};
+    ghost use Rattle.topology.specs.declared.net.End.{End};
+
+    ghost Value = { List (Stop × End) };
+
+    ghost view = { λ p. p.ends.entries };
+}
+
+impl Ports {
+    /// No port is used.
+    pub fn new(alloc: Global) -> Self
+        ensures { result ≡ [] }
+    {
+        Ports {
+            ends: IndexMap::new(alloc),
+        }
+    }
+
+    /// What is at the port. The cost is that of a look-up in a hash table.
+    pub fn end(&self, stop: Stop) -> End
+        ensures { result ≡ unwrap_or (lookup (stop_eq stop) self.now) at.Nothing }
+    {
+        match self.ends.get(&stop) {
+            Some(end) => *end,
+            None => End::Nothing,
+        }
+    }
+
+    /// Whether the port is used.
+    pub fn contains(&self, stop: Stop) -> bool
+        ensures { result ≡ list_any (stop_eq stop) (map (λ p. p.0) self.now) }
+    {
+        self.ends.contains_key(&stop)
+    }
+
+    /// How many ports of the switch are used.
+    pub fn count_on(&self, switch: SwitchId) -> usize
+        ensures value { result ≡ count_by (is_on switch) (map (λ p. p.0) self.now) }
+        ensures few { result < 2 ^ 63 }
+    {
+        self.ends
+            .keys()
+            .filter(|stop| stop.switch == switch)
+            .count()
+    }
+
+    /// Adds a port that isn't used.
+    pub fn add(&mut self, stop: Stop, end: End) -> Result<(), AllocError>
+        requires { list_any (stop_eq stop) (map (λ p. p.0) self.old) ≡ false }
+        ensures { OnOk result (self.new ≡ self.old ++ (stop, end) ∷ []) }
+    {
+        self.ends.insert(stop, end)?;
+        Ok(())
+    }
+}

@@ -1,0 +1,312 @@
+// The reader of a topology.
+ghost use Rattle.std.specs.Prelude.{◌≡◌, ◌<◌, ◌++◌, ◌∷◌, [], Ok, None, map, option_map, count_by, true, false, IfOk};
+ghost use Rattle.std.specs.List.{list_any};
+ghost use Rattle.std.specs.Option.{option_and_then};
+ghost use Rattle.serde_json.specs.View.{view};
+ghost use Rattle.net_base.specs.Reading.{Gives, in_turn};
+ghost use Rattle.net_base.specs.Tree as tree;
+ghost use Rattle.topology.specs.declared.fault.NetFault.TheVariants.{Memory};
+ghost use Rattle.topology.specs.Networks.{switch_named, used_ports, stop_eq};
+ghost use Rattle.topology.specs.Ends.{IsPort};
+ghost use Rattle.topology.specs.Beside.{beside_list};
+ghost use Rattle.topology.specs.Topology as topology;
+ghost use Rattle.topology.specs.Topology.{is_on};
+
+use crate::fault::NetFault;
+use crate::net::Net;
+use crate::references::reference_parts;
+use crate::small::{is_capacity, is_name, is_range, range_of, vlan_id, vlan_with};
+use net_base::{
+    Field, Port, Stop, is_object, list_at, list_in, parse_json, place_of, text_at, whole_at,
+};
+use serde_json::Value;
+use std::alloc::Global;
+
+const MAX_SWITCHES: u32 = 128;
+
+const MAX_PORTS: usize = 64;
+
+const MAX_VLANS: usize = 64;
+
+const MAX_PORT: u64 = 65279;
+
+/// Reads the name of one switch.
+#[tactic(auto, unfolding(crate::specs::Topology::name_at))]
+fn read_name<'v>(net: &Net, place: u32, item: &'v Value) -> Result<&'v str, NetFault>
+    ensures value { Gives Memory (λ s. s.now) result (topology.name_at place net.now (view item.now)) }
+    ensures form { IfOk result (λ s. topology.is_name s.now ≡ true) }
+    ensures new { IfOk result (λ s. switch_named net.now.names s.now ≡ None) }
+{
+    if !is_object(item) {
+        return Err(NetFault::Shape(Field::Switches, place));
+    }
+    let name = text_at(item, "name").ok_or(NetFault::Shape(Field::Name, place))?;
+    if !is_name(name) {
+        return Err(NetFault::BadName(place));
+    }
+    if net.find(name).is_some() {
+        return Err(NetFault::DoubleName(place));
+    }
+    Ok(name)
+}
+
+/// Reads one switch.
+#[tactic(auto, unfolding(crate::specs::Topology::switch_at))]
+fn read_switch(alloc: Global, net: Net, place: u32, item: &Value) -> Result<Net, NetFault>
+    ensures value { Gives Memory (λ n. n) result (topology.switch_at place net (view item.now)) }
+    ensures hosts { IfOk result (λ n. n.hosts ≡ net.hosts) }
+{
+    if net.switches() >= MAX_SWITCHES {
+        return Err(NetFault::TooMany(Field::Switches, place));
+    }
+    let name = read_name(&net, place, item)?;
+    let capacity = whole_at(item, "capacity").ok_or(NetFault::Shape(Field::Capacity, place))?;
+    if !is_capacity(capacity) {
+        return Err(NetFault::BadCapacity(place));
+    }
+    Ok(net.with_switch(alloc, name, capacity as u32)?)
+}
+
+fn read_each_switch(alloc: Global, empty: Net, items: &[Value]) -> Result<Net, NetFault>
+    ensures value { Gives Memory (λ n. n) result (in_turn topology.switch_at 0 empty (map view items.now)) }
+    ensures hosts { IfOk result (λ n. n.hosts ≡ empty.hosts) }
+{
+    let mut net = empty;
+    for (i, item) in items.iter().enumerate() {
+        net = read_switch(alloc, net, place_of(i), item)?;
+    }
+    Ok(net)
+}
+
+/// Reads the member `switches`.
+#[tactic(auto, unfolding(crate::specs::Topology::switches_in))]
+fn read_switches(alloc: Global, net: Net, top: &Value) -> Result<Net, NetFault>
+    ensures value { Gives Memory (λ n. n) result (topology.switches_in net (view top.now)) }
+    ensures hosts { IfOk result (λ n. n.hosts ≡ net.hosts) }
+{
+    let items = list_at(top, "switches").ok_or(NetFault::Shape(Field::Switches, 0))?;
+    read_each_switch(alloc, net, items)
+}
+
+/// Reads a port reference.
+#[tactic(auto, unfolding(crate::specs::Topology::reference))]
+fn read_reference(net: &Net, field: Field, place: u32, text: &str) -> Result<Stop, NetFault>
+    ensures value { Gives Memory (λ s. s) result (topology.reference net.now field place text.now) }
+    ensures port { IfOk result (λ s. IsPort net.now s) }
+{
+    let (name, number) = reference_parts(text).ok_or(NetFault::Shape(field, place))?;
+    let switch = net.find(name).ok_or(NetFault::UnknownSwitch(place))?;
+    if !(1..=MAX_PORT).contains(&number) {
+        return Err(NetFault::BadPort(place));
+    }
+    Ok(Stop {
+        switch,
+        port: Port(number as u16),
+    })
+}
+
+/// Whether a port is used, or is the one beside it.
+fn is_taken(net: &Net, beside: Option<Stop>, stop: Stop) -> bool
+    ensures { result ≡ list_any (stop_eq stop) (used_ports net.now ++ beside_list beside) }
+{
+    net.is_used(stop.switch, stop.port) || beside == Some(stop)
+}
+
+/// How many ports of the switch are used, with the one beside them.
+fn count_taken(net: &Net, beside: Option<Stop>, stop: Stop) -> usize
+    ensures { result ≡ count_by (is_on stop.switch) (used_ports net.now ++ beside_list beside) }
+{
+    let more = match beside {
+        Some(other) if other.switch == stop.switch => 1,
+        _ => 0,
+    };
+    net.count_on(stop.switch) + more
+}
+
+/// Reads a reference to a port that isn't used.
+#[tactic(auto, unfolding(crate::specs::Topology::free_port))]
+fn read_free_port(
+    net: &Net,
+    beside: Option<Stop>,
+    field: Field,
+    place: u32,
+    text: &str,
+) -> Result<Stop, NetFault>
+    ensures value { Gives Memory (λ s. s) result (topology.free_port net.now field place
+        (used_ports net.now ++ beside_list beside) text.now) }
+    ensures port { IfOk result (λ s. IsPort net.now s) }
+    ensures free { IfOk result
+        (λ s. list_any (stop_eq s) (used_ports net.now ++ beside_list beside) ≡ false) }
+    ensures room { IfOk result
+        (λ s. count_by (is_on s.switch) (used_ports net.now ++ beside_list beside) < 64) }
+{
+    let stop = read_reference(net, field, place, text)?;
+    if is_taken(net, beside, stop) {
+        return Err(NetFault::PortTwice(place));
+    }
+    if count_taken(net, beside, stop) >= MAX_PORTS {
+        return Err(NetFault::TooMany(field, place));
+    }
+    Ok(stop)
+}
+
+/// Two texts.
+fn two_texts(value: &Value) -> Option<(&str, &str)>
+    ensures { option_map (λ p. (p.0.now, p.1.now)) result
+        ≡ option_and_then topology.two_texts (tree.list_in (view value.now)) }
+{
+    match list_in(value)? {
+        [a, b] => Some((a.as_str()?, b.as_str()?)),
+        _ => None,
+    }
+}
+
+/// Reads one link.
+#[tactic(auto, unfolding(crate::specs::Topology::link_at))]
+fn read_link(net: Net, place: u32, item: &Value) -> Result<Net, NetFault>
+    requires { net.hosts ≡ [] }
+    ensures value { Gives Memory (λ n. n) result (topology.link_at place net (view item.now)) }
+    ensures hosts { IfOk result (λ n. n.hosts ≡ []) }
+{
+    let (first, second) = two_texts(item).ok_or(NetFault::Shape(Field::Links, place))?;
+    let a = read_free_port(&net, None, Field::Links, place, first)?;
+    let b = read_free_port(&net, Some(a), Field::Links, place, second)?;
+    Ok(net.with_link(a, b)?)
+}
+
+fn read_each_link(before: Net, items: &[Value]) -> Result<Net, NetFault>
+    requires { before.hosts ≡ [] }
+    ensures { Gives Memory (λ n. n) result (in_turn topology.link_at 0 before (map view items.now)) }
+{
+    let mut net = before;
+    for (i, item) in items.iter().enumerate() {
+        net = read_link(net, place_of(i), item)?;
+    }
+    Ok(net)
+}
+
+/// Reads the member `links`.
+#[tactic(auto, unfolding(crate::specs::Topology::links_in))]
+fn read_links(net: Net, top: &Value) -> Result<Net, NetFault>
+    requires { net.hosts ≡ [] }
+    ensures { Gives Memory (λ n. n) result (topology.links_in net (view top.now)) }
+{
+    let items = list_at(top, "links").ok_or(NetFault::Shape(Field::Links, 0))?;
+    read_each_link(net, items)
+}
+
+/// Reads one host port.
+#[tactic(auto, unfolding(crate::specs::Topology::host_at))]
+fn read_host(net: Net, place: u32, item: &Value) -> Result<Net, NetFault>
+    ensures { Gives Memory (λ n. n) result (topology.host_at place net (view item.now)) }
+{
+    let text = item.as_str().ok_or(NetFault::Shape(Field::Hosts, place))?;
+    let stop = read_free_port(&net, None, Field::Hosts, place, text)?;
+    Ok(net.with_host(stop)?)
+}
+
+fn read_each_host(before: Net, items: &[Value]) -> Result<Net, NetFault>
+    ensures { Gives Memory (λ n. n) result (in_turn topology.host_at 0 before (map view items.now)) }
+{
+    let mut net = before;
+    for (i, item) in items.iter().enumerate() {
+        net = read_host(net, place_of(i), item)?;
+    }
+    Ok(net)
+}
+
+/// Reads the member `hosts`.
+#[tactic(auto, unfolding(crate::specs::Topology::hosts_in))]
+fn read_hosts(net: Net, top: &Value) -> Result<Net, NetFault>
+    ensures { Gives Memory (λ n. n) result (topology.hosts_in net (view top.now)) }
+{
+    let items = list_at(top, "hosts").ok_or(NetFault::Shape(Field::Hosts, 0))?;
+    read_each_host(net, items)
+}
+
+/// Reads one declared VLAN.
+#[tactic(auto, unfolding(crate::specs::Topology::vlan_at))]
+fn read_vlan(net: Net, place: u32, item: &Value) -> Result<Net, NetFault>
+    ensures { Gives Memory (λ n. n) result (topology.vlan_at place net (view item.now)) }
+{
+    if net.vlans().len() >= MAX_VLANS {
+        return Err(NetFault::TooMany(Field::Vlans, place));
+    }
+    let id = vlan_id(item).ok_or(NetFault::Shape(Field::Vlans, place))?;
+    let vlan = vlan_with(id).ok_or(NetFault::BadVlan(place))?;
+    if net.is_declared(vlan) {
+        return Err(NetFault::VlanTwice(place));
+    }
+    Ok(net.with_vlan(vlan)?)
+}
+
+fn read_each_vlan(before: Net, items: &[Value]) -> Result<Net, NetFault>
+    ensures { Gives Memory (λ n. n) result (in_turn topology.vlan_at 0 before (map view items.now)) }
+{
+    let mut net = before;
+    for (i, item) in items.iter().enumerate() {
+        net = read_vlan(net, place_of(i), item)?;
+    }
+    Ok(net)
+}
+
+/// Reads the member `vlans`.
+#[tactic(auto, unfolding(crate::specs::Topology::vlans_in))]
+fn read_vlans(net: Net, top: &Value) -> Result<Net, NetFault>
+    ensures { Gives Memory (λ n. n) result (topology.vlans_in net (view top.now)) }
+{
+    let items = list_at(top, "vlans").ok_or(NetFault::Shape(Field::Vlans, 0))?;
+    read_each_vlan(net, items)
+}
+
+/// Reads the member `tags`.
+#[tactic(auto, unfolding(crate::specs::Topology::tags_in))]
+fn read_tags(net: Net, top: &Value) -> Result<Net, NetFault>
+    ensures { Gives Memory (λ n. n) result (topology.tags_in net (view top.now)) }
+{
+    let range = list_at(top, "tags")
+        .and_then(range_of)
+        .ok_or(NetFault::Shape(Field::Tags, 0))?;
+    match range {
+        None => Ok(net.with_tags(None)),
+        Some((first, last)) => {
+            if !is_range(first, last) {
+                return Err(NetFault::BadTags);
+            }
+            Ok(net.with_tags(Some((first as u16, last as u16))))
+        }
+    }
+}
+
+/// Reads the switches and their ports.
+#[tactic(auto, unfolding(crate::specs::Topology::ports_in))]
+fn read_ports(alloc: Global, top: &Value) -> Result<Net, NetFault>
+    ensures { Gives Memory (λ n. n) result (topology.ports_in (view top.now)) }
+{
+    let net = read_switches(alloc, Net::empty(alloc), top)?;
+    let net = read_links(net, top)?;
+    read_hosts(net, top)
+}
+
+/// Reads the members in their order.
+#[tactic(auto, unfolding(crate::specs::Topology::members_in))]
+fn read_members(alloc: Global, top: &Value) -> Result<Net, NetFault>
+    ensures { Gives Memory (λ n. n) result (topology.members_in (view top.now)) }
+{
+    if !is_object(top) {
+        return Err(NetFault::Shape(Field::Top, 0));
+    }
+    let net = read_ports(alloc, top)?;
+    let net = read_vlans(net, top)?;
+    read_tags(net, top)
+}
+
+/// The network that the bytes describe, or the first refusal of the table of members. The cost is that of the text, and
+/// for each port that is named a look through the used ones.
+#[tactic(auto, unfolding(crate::specs::Topology::network_in))]
+pub fn read_net(alloc: Global, bytes: &[u8]) -> Result<Net, NetFault>
+    ensures { Gives Memory (λ n. n) result (topology.network_in bytes.now) }
+{
+    let top = parse_json(alloc, bytes)?;
+    read_members(alloc, &top)
+}
