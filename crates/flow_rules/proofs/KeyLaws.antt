@@ -1,0 +1,65 @@
+-- The tests of keys say when two keys are the same.
+use Rattle.std.proofs.Common.{◌≡◌, ◌⊎◌, ℕ, true, false, refl, ◌∙◌, ap, subst, inl, inr}
+use Rattle.std.specs.Prelude.{Option, Some, None}
+use Rattle.std.proofs.lemmas.Bool.{eqb-true, eq-eqb, and_parts, and_from, false≢true, false_from_ne_true, both_ways}
+use Rattle.net_base.specs.declared.ids.Port.{Port}
+use Rattle.flow_rules.specs.Patterns.{key_eq, in_port_eq, vlan_test_eq}
+use Rattle.flow_rules.specs.declared.rules.VlanTest.{VlanTest}
+use Rattle.flow_rules.specs.declared.rules.VlanTest.TheVariants as test
+use Rattle.flow_rules.specs.declared.rules.Key.{Key}
+
+in_port_eq-true : (a b : Option Port) → in_port_eq a b ≡ true → a ≡ b
+in_port_eq-true None None e = refl
+in_port_eq-true None (Some q) e = absurd (false≢true e)
+in_port_eq-true (Some p) None e = absurd (false≢true e)
+in_port_eq-true (Some p) (Some q) e = let f : p.0 ≡ q.0 = eqb-true p.0 q.0 e in ap (λ (n : ℕ). let x : Port = record { 0 = n } in Some x) f
+
+in_port_eq-refl : (a : Option Port) → in_port_eq a a ≡ true
+in_port_eq-refl None = refl
+in_port_eq-refl (Some p) = eq-eqb p.0 p.0 refl
+
+vlan_test_eq-true : (a b : VlanTest) → vlan_test_eq a b ≡ true → a ≡ b
+vlan_test_eq-true test.Any test.Any e = refl
+vlan_test_eq-true test.Any test.Untagged e = absurd (false≢true e)
+vlan_test_eq-true test.Any (test.Id n) e = absurd (false≢true e)
+vlan_test_eq-true test.Untagged test.Any e = absurd (false≢true e)
+vlan_test_eq-true test.Untagged test.Untagged e = refl
+vlan_test_eq-true test.Untagged (test.Id n) e = absurd (false≢true e)
+vlan_test_eq-true (test.Id m) test.Any e = absurd (false≢true e)
+vlan_test_eq-true (test.Id m) test.Untagged e = absurd (false≢true e)
+vlan_test_eq-true (test.Id m) (test.Id n) e = ap test.Id (eqb-true m n e)
+
+vlan_test_eq-refl : (a : VlanTest) → vlan_test_eq a a ≡ true
+vlan_test_eq-refl test.Any = refl
+vlan_test_eq-refl test.Untagged = refl
+vlan_test_eq-refl (test.Id n) = eq-eqb n n refl
+
+abbrev key_of : ℕ → Option Port → VlanTest → ℕ → ℕ → Key
+key_of priority in_port vlan base len = record { priority = priority; pattern = record { in_port = in_port; vlan = vlan; dst = record { base = base; len = len } } }
+
+pub key_eq-true : (a b : Key) → key_eq a b ≡ true → a ≡ b
+key_eq-true a b e =
+    let (front, len) = and_parts _ _ e in
+    let (front2, base) = and_parts _ _ front in
+    let (front3, vlan) = and_parts _ _ front2 in
+    let (priority, port) = and_parts _ _ front3 in
+    ap (λ n. key_of n a.pattern.in_port a.pattern.vlan a.pattern.dst.base a.pattern.dst.len) (eqb-true a.priority b.priority priority)
+    ∙ ap (λ p. key_of b.priority p a.pattern.vlan a.pattern.dst.base a.pattern.dst.len) (in_port_eq-true a.pattern.in_port b.pattern.in_port port)
+    ∙ ap (λ v. key_of b.priority b.pattern.in_port v a.pattern.dst.base a.pattern.dst.len) (vlan_test_eq-true a.pattern.vlan b.pattern.vlan vlan)
+    ∙ ap (λ n. key_of b.priority b.pattern.in_port b.pattern.vlan n a.pattern.dst.len) (eqb-true a.pattern.dst.base b.pattern.dst.base base)
+    ∙ ap (λ n. key_of b.priority b.pattern.in_port b.pattern.vlan b.pattern.dst.base n) (eqb-true a.pattern.dst.len b.pattern.dst.len len)
+
+pub key_eq-refl : (a : Key) → key_eq a a ≡ true
+key_eq-refl a =
+    and_from _ _ (and_from _ _ (and_from _ _ (and_from _ _ (eq-eqb a.priority a.priority refl) (in_port_eq-refl a.pattern.in_port)) (vlan_test_eq-refl a.pattern.vlan))
+    (eq-eqb a.pattern.dst.base a.pattern.dst.base refl)) (eq-eqb a.pattern.dst.len a.pattern.dst.len refl)
+
+pub key_eq-false : (a b : Key) → key_eq a b ≡ false → ¬ (a ≡ b)
+key_eq-false a b e same = both_ways (key_eq a b) e (subst (λ k. key_eq a k ≡ true) same (key_eq-refl a))
+
+pub key_ne : (a b : Key) → ¬ (a ≡ b) → key_eq a b ≡ false
+key_ne a b differ = false_from_ne_true (key_eq a b) (λ e. differ (key_eq-true a b e))
+
+-- two keys are the same or not
+pub cases_key : (a b : Key) → (a ≡ b) ⊎ (¬ (a ≡ b))
+cases_key a b = elim (key_eq a b) as (λ t. key_eq a b ≡ t → (a ≡ b) ⊎ (¬ (a ≡ b))) [ true ↦ λ e. inl (key_eq-true a b e) | false ↦ λ e. inr (key_eq-false a b e) ] refl

@@ -1,0 +1,7 @@
+pub mod LookupLaws
+pub mod KeyLaws
+pub mod ScanLaws
+pub mod BestLaws
+pub mod OverlapLaws
+pub mod ClashLaws
+pub mod TableLaws

@@ -1,0 +1,84 @@
+-- A lookup in a clear table depends on the set of its covering rules alone.
+use Rattle.std.proofs.Common.{◌≡◌, ◌&&◌, ℕ, ◌≤◌, cond, List, [], ◌∷◌, refl, sym, ◌∙◌, subst, ap, arith, inl, inr}
+use Rattle.std.specs.Prelude.{◌==◌, Some, None, find}
+use Rattle.std.specs.Option.{option_map_or}
+use Rattle.std.specs.List.{AllByRecursion}
+use Rattle.std.proofs.lemmas.Bool.{eqb-true, eq-eqb, cases_lt}
+use Rattle.net_base.specs.Blocks.{in_block}
+use Rattle.net_base.specs.Members.{IsIn, IsSameSet}
+use Rattle.net_base.proofs.MemberLaws.{find_passes, in_from_filter, empty_from_none}
+use Rattle.net_base.specs.declared.ids.Port.{Port}
+use Rattle.net_base.specs.declared.ids.Vlan.{Vlan}
+use Rattle.flow_rules.specs.Patterns.{Header, covers, admits_port, admits_vlan}
+use Rattle.flow_rules.specs.Tables.{covering, top_priority, matched, lookup, IsClear}
+use Rattle.flow_rules.specs.declared.rules.Rule.{Rule}
+use Rattle.flow_rules.specs.declared.rules.Action.TheVariants.{Discard}
+
+-- no rule of the list has a greater priority
+abbrev pub IsTop : List Rule → Rule → Type 0
+IsTop rules r = (q : Rule) → IsIn q rules → q.key.priority ≤ r.key.priority
+
+pub below_top : (rules : List Rule) (r : Rule) → IsIn r rules → r.key.priority ≤ top_priority rules
+below_top [] r i = absurd i
+below_top (x ∷ rules) r (inl e) = let p = ap (λ z. z.key.priority) e in omega arith
+below_top (x ∷ rules) r (inr i) = let p = below_top rules r i in omega arith
+
+pub top_below : (rules : List Rule) (n : ℕ) → ((q : Rule) → IsIn q rules → q.key.priority ≤ n) → top_priority rules ≤ n
+top_below [] n h = omega arith
+top_below (x ∷ rules) n h = let p = h x (inl refl) in let q = top_below rules n (λ y i. h y (inr i)) in omega arith
+
+-- some rule of a list that isn't empty has the greatest priority
+pub top_of : (x : Rule) (rules : List Rule) → (r : Rule) × IsIn r (x ∷ rules) × IsTop (x ∷ rules) r
+top_of x [] = (x, inl refl, λ q i. elim i [ inl e ↦ (let p = ap (λ z. z.key.priority) e in omega arith) | inr j ↦ absurd j ])
+top_of x (y ∷ rules) =
+    let (m, i, top) = top_of y rules in
+    elim (cases_lt x.key.priority m.key.priority) [
+      | inl le ↦ (m, inr i, λ q j. elim j [ inl e ↦ (let p = ap (λ z. z.key.priority) e in omega arith) | inr k ↦ top q k ])
+      | inr ge ↦ (x, inl refl, λ q j. elim j [ inl e ↦ (let p = ap (λ z. z.key.priority) e in omega arith) | inr k ↦ (let t = top q k in omega arith) ])
+    ]
+
+module _ (h : Header) (rules : List Rule) (clear : IsClear rules) where
+  -- in a clear table the rule of greatest priority among those that cover is the one that matches
+  pub matched_is_top : (r : Rule) → IsIn r (covering h rules) → IsTop (covering h rules) r → matched h rules ≡ Some r
+  matched_is_top r i top =
+      let least = below_top (covering h rules) r i in
+      let most = top_below (covering h rules) r.key.priority top in
+      let e : r.key.priority ≡ top_priority (covering h rules) = omega arith in
+      let (y, found, j, passes) = find_passes (λ q. q.key.priority == top_priority (covering h rules)) r (covering h rules) i (eq-eqb _ _ e) in
+      let f : y.key.priority ≡ r.key.priority = eqb-true _ _ passes ∙ sym e in
+      let a = in_from_filter (λ q. covers q.key.pattern h) y rules j in
+      let b = in_from_filter (λ q. covers q.key.pattern h) r rules i in
+      found ∙ ap Some (clear h y r a.0 b.0 a.1 b.1 f)
+
+-- where no rule covers there is no match
+pub matched_none : (h : Header) (rules : List Rule) → ((q : Rule) → ¬ IsIn q (covering h rules)) → matched h rules ≡ None
+matched_none h rules none =
+    ap (λ rs. find (λ q. q.key.priority == top_priority rs) rs) (empty_from_none (covering h rules) none)
+
+-- clear tables with the same covering rules have the same lookup
+pub lookup_by_set : (h : Header) (xs ys : List Rule) → IsClear xs → IsClear ys → IsSameSet (covering h xs) (covering h ys) → lookup h xs ≡ lookup h ys
+lookup_by_set h xs ys clear_x clear_y same = ap (λ m. option_map_or (λ r. r.action) m Discard) (matched_same (covering h xs) refl)
+  where
+    matched_same : (zs : List Rule) → zs ≡ covering h xs → matched h xs ≡ matched h ys
+    matched_same [] e =
+        let none : (q : Rule) → ¬ IsIn q (covering h xs) = λ q i. subst (λ zs. IsIn q zs) (sym e) i in
+        matched_none h xs none ∙ sym (matched_none h ys (λ q i. none q ((same q).1 i)))
+    matched_same (z ∷ zs) e =
+        let (m, i, top) = top_of z zs in
+        let j : IsIn m (covering h xs) = subst (λ rs. IsIn m rs) e i in
+        let t : IsTop (covering h xs) m = subst (λ rs. IsTop rs m) e top in
+        matched_is_top h xs clear_x m j t ∙ sym (matched_is_top h ys clear_y m ((same m).0 j) (λ q k. t q ((same q).1 k)))
+
+-- rules that have both addresses or neither cover the same packets
+module _ (port : Port) (vlan : Vlan) (a b : ℕ) where
+  pub covering_same : (rules : List Rule) → AllByRecursion (λ r. in_block r.key.pattern.dst a ≡ in_block r.key.pattern.dst b) rules
+      → covering (record { port = port; vlan = vlan; dst = a }) rules ≡ covering (record { port = port; vlan = vlan; dst = b }) rules
+  covering_same [] same = refl
+  covering_same (r ∷ rules) same =
+      ap (λ t. cond (admits_port r.key.pattern.in_port port && admits_vlan r.key.pattern.vlan vlan && t) (r ∷ covering (record { port = port; vlan = vlan; dst = a }) rules) (covering (record { port = port; vlan = vlan; dst = a }) rules)) same.0
+      ∙ ap (λ rs. cond (covers r.key.pattern (record { port = port; vlan = vlan; dst = b })) (r ∷ rs) rs) (covering_same rules same.1)
+
+  pub lookup_same : (rules : List Rule) → AllByRecursion (λ r. in_block r.key.pattern.dst a ≡ in_block r.key.pattern.dst b) rules
+      → lookup (record { port = port; vlan = vlan; dst = a }) rules ≡ lookup (record { port = port; vlan = vlan; dst = b }) rules
+  lookup_same rules same =
+      ap (λ rs. option_map_or (λ r. r.action) (find (λ r. r.key.priority == top_priority rs) rs) Discard) (covering_same rules same)

@@ -1,0 +1,53 @@
+-- Which packets a pattern covers, and when two patterns are the same.
+use Rattle.std.specs.Prelude.{ℕ, ◌==◌, ◌&&◌, Bool, true, false, Option, Some, None}
+use Rattle.net_base.specs.Blocks.{in_block}
+use Rattle.net_base.specs.declared.ids.Port.{Port}
+use Rattle.net_base.specs.declared.ids.Vlan.{Vlan}
+use Rattle.net_base.specs.declared.ids.Vlan.TheVariants as vlan
+use Rattle.flow_rules.specs.declared.rules.VlanTest.{VlanTest}
+use Rattle.flow_rules.specs.declared.rules.VlanTest.TheVariants as test
+use Rattle.flow_rules.specs.declared.rules.Pattern.{Pattern}
+use Rattle.flow_rules.specs.declared.rules.Key.{Key}
+
+-- what a lookup sees of a packet
+pub record Header : Type 0 where
+  pub port : Port
+  pub vlan : Vlan
+  pub dst : ℕ
+
+-- any port, or the packet's ingress port
+abbrev pub admits_port : Option Port → Port → Bool
+admits_port None port = true
+admits_port (Some p) port = p.0 == port.0
+
+-- any VLAN, no tag, or the packet's id
+abbrev pub admits_vlan : VlanTest → Vlan → Bool
+admits_vlan test.Any v = true
+admits_vlan test.Untagged vlan.Untagged = true
+admits_vlan test.Untagged (vlan.Id id) = false
+admits_vlan (test.Id n) vlan.Untagged = false
+admits_vlan (test.Id n) (vlan.Id id) = n == id
+
+-- whether a pattern covers a packet: each of its three parts does
+abbrev pub covers : Pattern → Header → Bool
+covers p h = admits_port p.in_port h.port && admits_vlan p.vlan h.vlan && in_block p.dst h.dst
+
+-- whether two choices of an ingress port are the same
+abbrev pub in_port_eq : Option Port → Option Port → Bool
+in_port_eq None None = true
+in_port_eq None (Some q) = false
+in_port_eq (Some p) None = false
+in_port_eq (Some p) (Some q) = p.0 == q.0
+
+-- whether two VLAN tests are the same
+abbrev pub vlan_test_eq : VlanTest → VlanTest → Bool
+vlan_test_eq test.Any test.Any = true
+vlan_test_eq test.Untagged test.Untagged = true
+vlan_test_eq (test.Id m) (test.Id n) = m == n
+vlan_test_eq _ _ = false
+
+-- whether two keys are the same
+abbrev pub key_eq : Key → Key → Bool
+key_eq a b =
+    a.priority == b.priority && in_port_eq a.pattern.in_port b.pattern.in_port && vlan_test_eq a.pattern.vlan b.pattern.vlan
+    && a.pattern.dst.base == b.pattern.dst.base && a.pattern.dst.len == b.pattern.dst.len

@@ -1,0 +1,14 @@
+//! Patterns, rules, flow tables and lookup, after OpenFlow 1.0.0, sections 3.1 to 3.4.
+#![tactic(auto)]
+
+mod configs;
+mod overlaps;
+mod rules;
+mod tables;
+
+pub use configs::Config;
+pub use rules::{Action, Key, Pattern, Rewrite, Rule, VlanTest};
+pub use tables::Table;
+
+#[cfg(test)]
+mod tests;
