@@ -1,0 +1,3 @@
+pub mod PathLaws
+pub mod StayLaws
+pub mod WalkedLaws
