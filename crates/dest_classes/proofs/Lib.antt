@@ -1,0 +1,4 @@
+pub mod ClassLaws
+pub mod RisingLaws
+pub mod AtomLaws
+pub mod MapLaws

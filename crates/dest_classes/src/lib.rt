@@ -1,0 +1,88 @@
+//! Classes of packets: host ports, declared VLANs and ranges of addresses that no prefix tells apart.
+#![tactic(auto)]
+
+mod laws;
+mod numbering;
+mod ranges;
+
+pub use laws::one_atom_one_class;
+use net_base::{Place, Prefix, Stop, Vlan};
+pub use numbering::{MAX_CLASSES, class_map};
+use std::alloc::AllocError;
+use std::marker::Model;
+
+/// The atoms of addresses: the ranges between neighbouring boundaries, by their first addresses, ascending from 0.
+#[derive(Drop)]
+pub struct Atoms {
+    firsts: Vec<u32>,
+}
+
+impl Model for Atoms {
+    ghost use Rattle.std.specs.Prelude.{List, ℕ};
+    ghost use Rattle.dest_classes.specs.Atoms.{AreFirsts};
+
+    ghost Value = { List ℕ };
+
+    ghost view = { λ a. a.firsts.items };
+
+    ghost invariant = { λ a. AreFirsts a.firsts.items };
+}
+
+/// A class: where its packets enter, and the first of its addresses.
+#[derive(Clone, Copy, Debug, PartialEq, Eq)]
+pub struct Class {
+    pub entry: Place,
+    pub first: u32,
+}
+
+/// The classes of a network for a list of prefixes. Class `((host * vlans) + vlan) * atoms + atom` is made of the host
+/// port, the declared VLAN and the atom with these numbers, where `vlans` and `atoms` are counts.
+#[derive(Drop)]
+pub struct ClassMap {
+    hosts: Vec<Stop>,
+    vlans: Vec<Vlan>,
+    prefixes: Vec<Prefix>,
+    atoms: Atoms,
+}
+
+impl Model for ClassMap {
+    ghost use Rattle.std.specs.Prelude.{◌≡◌, ◌≤◌, ◌*◌, length};
+    ghost use Rattle.dest_classes.specs.Classes.{ClassList, boundaries};
+
+    ghost Value = { ClassList };
+
+    ghost view = { λ m. record { hosts = m.hosts.items; vlans = m.vlans.items; prefixes = m.prefixes.items } };
+
+    ghost invariant = { λ m. (m.atoms ≡ boundaries m.prefixes.items) × (length m.hosts.items * length m.vlans.items * length m.atoms ≤ 8192) };
+}
+
+/// Why there is no class map.
+#[derive(Clone, Copy, Debug, PartialEq, Eq)]
+pub enum ClassFault {
+    /// There are more than 8192 classes: how many.
+    TooManyClasses(u64),
+    /// Memory was wanting.
+    Memory,
+}
+
+impl From<net_base::Memory> for ClassFault {
+    ghost use Rattle.std.specs.Prelude.{◌≡◌};
+    ghost use Rattle.dest_classes.specs.declared.ClassFault.TheVariants.{Memory};
+
+    ghost from_gives = { λ _ e. e ≡ Memory };
+
+    fn from(_: net_base::Memory) -> Self {
+        ClassFault::Memory
+    }
+}
+
+impl From<AllocError> for ClassFault {
+    ghost use Rattle.std.specs.Prelude.{◌≡◌};
+    ghost use Rattle.dest_classes.specs.declared.ClassFault.TheVariants.{Memory};
+
+    ghost from_gives = { λ _ e. e ≡ Memory };
+
+    fn from(_: AllocError) -> Self {
+        ClassFault::Memory
+    }
+}

@@ -1,0 +1,149 @@
+// Atoms of a list of prefixes, and the atom of an address.
+ghost use Rattle.std.specs.Prelude.{◌≡◌, ℕ, ◌+◌, ◌*◌, ◌^◌, ◌<◌, ◌≤◌, ◌∷◌, ◌++◌, nat_lt, length, filter, flat_map, slice_index, List, IfOk, OnOk, IfSome, IfNone};
+ghost use Rattle.net_base.specs.Blocks.{Block, block_size, IsSameClass};
+ghost use Rattle.dest_classes.specs.Classes.{boundaries, block_ends};
+ghost use Rattle.dest_classes.specs.Atoms.{IsAtomOf};
+
+use crate::Atoms;
+use net_base::{Memory, Prefix};
+use std::alloc::Global;
+
+/// The address after the last one of a prefix, where it is below 2^32.
+fn address_after(prefix: &Prefix) -> Option<u32>
+    ensures some { IfSome result (λ a. (a ≡ prefix.now.base + block_size prefix.now) × (a < 2 ^ 32)) }
+    ensures none { IfNone result (2 ^ 32 ≤ prefix.now.base + block_size prefix.now) }
+{
+    let after = u64::from(prefix.base) + (1u64 << (32 - prefix.len));
+    if after <= u64::from(u32::MAX) {
+        Some(after as u32)
+    } else {
+        None
+    }
+}
+
+/// Adds the boundaries that a prefix makes.
+fn add_ends(ends: &mut Vec<u32>, prefix: &Prefix) -> Result<(), Memory>
+    ensures { OnOk result (ends.new.items ≡ ends.old.items ++ filter (λ a. nat_lt a (2 ^ 32)) (block_ends prefix.now)) }
+{
+    ends.push(prefix.base)?;
+    if let Some(after) = address_after(prefix) {
+        ends.push(after)?;
+    }
+    Ok(())
+}
+
+/// The boundaries of the prefixes in the order of the list, with repetitions, and 0 before them.
+fn all_ends(alloc: Global, prefixes: &[Prefix]) -> Result<Vec<u32>, Memory>
+    ensures { IfOk result (λ v. v.items ≡ 0 ∷ filter (λ a. nat_lt a (2 ^ 32)) (flat_map block_ends prefixes.now)) }
+{
+    let mut ends = Vec::new(alloc);
+    ends.push(0)?;
+    for prefix in prefixes {
+        add_ends(&mut ends, prefix)?;
+    }
+    Ok(ends)
+}
+
+impl Atoms {
+    /// The atoms of a list of prefixes. Boundaries are 0, each prefix's first address, and the address after each
+    /// prefix's last one where it is below 2^32. It takes time n log n.
+    pub fn of_prefixes(alloc: Global, prefixes: &[Prefix]) -> Result<Atoms, Memory>
+        ensures { IfOk result (λ a. a ≡ boundaries prefixes.now) }
+    {
+        let mut firsts = all_ends(alloc, prefixes)?;
+        firsts.sort_unstable();
+        firsts.dedup();
+        Ok(Atoms { firsts })
+    }
+
+    /// How many atoms there are, at least one.
+    pub fn count(&self) -> usize
+        ensures count { result ≡ length self.now }
+        ensures some { 0 < result }
+        ensures few { result ≤ 2 ^ 32 }
+    {
+        self.firsts.len()
+    }
+
+    /// The first address of atom `i`, from 0.
+    pub fn first(&self, i: usize) -> u32
+        requires { i < length self.now }
+        ensures { result ≡ slice_index self.now i }
+    {
+        self.firsts[i]
+    }
+
+    /// The position of the atom that has the address: of the greatest first address that isn't above it. It takes
+    /// time log n.
+    pub fn index_of(&self, addr: u32) -> usize
+        ensures atom { IsAtomOf self.now result addr }
+        ensures next { result + 1 < length self.now → addr < slice_index self.now (result + 1) }
+        // Where these are the atoms of prefixes, none of them tells the address apart from the atom's first one.
+        ensures class { (blocks : List Block) → self.now ≡ boundaries blocks → IsSameClass blocks (slice_index self.now result) addr }
+    {
+        self.firsts.partition_point(|first| *first <= addr) - 1
+    }
+
+    /// The same atoms again.
+    pub(crate) fn copy(&self) -> Result<Atoms, Memory>
+        ensures { IfOk result (λ a. a ≡ self.now) }
+    {
+        let alloc = *self.firsts.allocator();
+        let firsts = Vec::from_slice(alloc, self.firsts.as_slice())?;
+        Ok(Atoms { firsts })
+    }
+}
+
+#[cfg(test)]
+mod tests {
+    use super::*;
+    use net_base::read_prefix;
+    use std::test::Fail;
+
+    fn prefix_of(text: &str) -> Result<Prefix, Fail> {
+        Ok(read_prefix(text).map_err(|_| "no prefix")?)
+    }
+
+    /// The whole range and its last address: the last atom has no upper neighbour.
+    #[test]
+    fn the_last_address_is_an_atom(rt: HostRuntime) -> Result<(), Fail> {
+        let prefixes = [prefix_of("0.0.0.0/0")?, prefix_of("255.255.255.255/32")?];
+        let atoms = Atoms::of_prefixes(rt.alloc(), &prefixes)?;
+        assert_eq!(rt; atoms.count(), 2);
+        assert_eq!(rt; atoms.first(0), 0);
+        assert_eq!(rt; atoms.first(1), 4294967295);
+        assert_eq!(rt; atoms.index_of(0), 0);
+        assert_eq!(rt; atoms.index_of(4294967294), 0);
+        assert_eq!(rt; atoms.index_of(4294967295), 1);
+        Ok(())
+    }
+
+    /// Nested, repeated and neighbouring prefixes share their boundaries.
+    #[test]
+    fn equal_boundaries_stand_once(rt: HostRuntime) -> Result<(), Fail> {
+        let prefixes = [
+            prefix_of("10.1.0.0/16")?,
+            prefix_of("10.0.0.0/8")?,
+            prefix_of("10.0.0.0/16")?,
+            prefix_of("10.1.0.0/16")?,
+        ];
+        let atoms = Atoms::of_prefixes(rt.alloc(), &prefixes)?;
+        let firsts = [0, 167772160, 167837696, 167903232, 184549376];
+        assert_eq!(rt; atoms.count(), firsts.len());
+        for (i, first) in firsts.iter().enumerate() {
+            assert!(rt; i < atoms.count());
+            assert_eq!(rt; atoms.first(i), *first, "at {i}");
+            assert_eq!(rt; atoms.index_of(*first), i, "at {i}");
+        }
+        assert_eq!(rt; atoms.index_of(167837695), 1);
+        Ok(())
+    }
+
+    #[test]
+    fn no_prefix_makes_one_atom(rt: HostRuntime) -> Result<(), Fail> {
+        let atoms = Atoms::of_prefixes(rt.alloc(), &[])?;
+        assert_eq!(rt; atoms.count(), 1);
+        assert_eq!(rt; atoms.index_of(4294967295), 0);
+        Ok(())
+    }
+}
