@@ -1,0 +1,5 @@
+pub mod Steps
+pub mod Ports
+pub mod TableUpdates
+pub mod UserRules
+pub mod UserTables

@@ -1,0 +1,168 @@
+// One rule of a configuration, by the table of its members.
+ghost use Rattle.std.specs.Prelude.{◌≡◌, ◌≤◌, ◌&&◌, nat_le, option_map, true};
+ghost use Rattle.serde_json.specs.View.{view};
+ghost use Rattle.net_base.specs.Reading.{Gives};
+ghost use Rattle.topology.specs.Networks.{is_used};
+ghost use Rattle.config_files.specs.declared.fault.ConfigFault.TheVariants.{Memory};
+ghost use Rattle.config_files.specs.Configuration as configuration;
+
+use crate::fault::ConfigFault;
+use flow_rules::{Action, Key, Pattern, Rewrite, Rule, VlanTest};
+use net_base::{Field, Port, SwitchId, read_prefix, text_at, whole, whole_at};
+use serde_json::Value;
+use topology::Net;
+
+const MAX_PRIORITY: u64 = 16383;
+
+const MAX_PORT: u64 = 65279;
+
+const MAX_VLAN: u64 = 4094;
+
+/// Whether the value is this text.
+fn is_text(item: &Value, word: &str) -> bool
+    ensures { result ≡ configuration.is_text word.now (view item.now) }
+{
+    match item.as_str() {
+        Some(text) => text == word,
+        None => false,
+    }
+}
+
+/// Whether the number is that of a host port or link end of the switch.
+fn is_port(net: &Net, switch: SwitchId, number: u64) -> bool
+    ensures value { result ≡ is_used net.now (record { switch = switch; port = record { 0 = number } }) }
+    ensures small { result ≡ true → number ≤ 65279 }
+{
+    net.keeps_rules();
+    number <= MAX_PORT && net.is_used(switch, Port(number as u16))
+}
+
+/// Reads the number of a port.
+#[tactic(auto, unfolding(crate::specs::Configuration::port_in))]
+fn read_port(
+    net: &Net,
+    field: Field,
+    place: u32,
+    switch: SwitchId,
+    item: &Value,
+) -> Result<Port, ConfigFault>
+    ensures { Gives Memory (λ p. p) result (configuration.port_in field place net.now switch (view item.now)) }
+{
+    let number = whole(item).ok_or(ConfigFault::Shape(field, place))?;
+    if !is_port(net, switch, number) {
+        return Err(ConfigFault::BadPort(place));
+    }
+    Ok(Port(number as u16))
+}
+
+/// Reads a port, or the word for none.
+#[tactic(auto, unfolding(crate::specs::Configuration::some_port))]
+fn read_port_or(
+    net: &Net,
+    word: &str,
+    field: Field,
+    place: u32,
+    switch: SwitchId,
+    item: &Value,
+) -> Result<Option<Port>, ConfigFault>
+    ensures { Gives Memory (λ p. p) result (configuration.port_or word.now field place net.now switch (view item.now)) }
+{
+    if is_text(item, word) {
+        return Ok(None);
+    }
+    let port = read_port(net, field, place, switch, item)?;
+    Ok(Some(port))
+}
+
+/// Reads the ingress port.
+fn read_in_port(
+    net: &Net,
+    place: u32,
+    switch: SwitchId,
+    item: Option<&Value>,
+) -> Result<Option<Port>, ConfigFault>
+    ensures { Gives Memory (λ p. p) result (configuration.in_port_in place net.now switch (option_map (λ v. view v.now) item.entry)) }
+{
+    match item {
+        Some(item) => read_port_or(net, "any", Field::InPort, place, switch, item),
+        None => Ok(None),
+    }
+}
+
+fn is_vlan_id(id: u64) -> bool
+    ensures value { result ≡ (nat_le 1 id && nat_le id 4094) }
+    ensures small { result ≡ true → id ≤ 4094 }
+{
+    1 <= id && id <= MAX_VLAN
+}
+
+/// Reads an id of a VLAN.
+#[tactic(auto, unfolding(crate::specs::Configuration::id_in))]
+fn read_id(net: &Net, place: u32, item: &Value) -> Result<VlanTest, ConfigFault>
+    ensures { Gives Memory (λ t. t) result (configuration.id_in place net.now (view item.now)) }
+{
+    let id = whole(item).ok_or(ConfigFault::Shape(Field::Vlan, place))?;
+    if !is_vlan_id(id) {
+        return Err(ConfigFault::BadVlan(place));
+    }
+    let id = id as u16;
+    if net.is_tag(id) {
+        return Err(ConfigFault::ReservedVlan(place));
+    }
+    Ok(VlanTest::Id(id))
+}
+
+/// Reads the VLAN test.
+fn read_test(net: &Net, place: u32, item: Option<&Value>) -> Result<VlanTest, ConfigFault>
+    ensures { Gives Memory (λ t. t) result (configuration.vlan_in place net.now (option_map (λ v. view v.now) item.entry)) }
+{
+    match item {
+        Some(item) => {
+            if is_text(item, "any") {
+                return Ok(VlanTest::Any);
+            }
+            if is_text(item, "untagged") {
+                return Ok(VlanTest::Untagged);
+            }
+            read_id(net, place, item)
+        }
+        None => Ok(VlanTest::Any),
+    }
+}
+
+/// Discards where there is no port, or sends out of it and keeps the VLAN.
+fn action_by(port: Option<Port>) -> Action
+    ensures { result ≡ configuration.action_by port }
+{
+    match port {
+        Some(port) => Action::Out(port, Rewrite::Keep),
+        None => Action::Discard,
+    }
+}
+
+/// Reads one rule of a switch.
+#[tactic(auto, unfolding(crate::specs::Configuration::rule_in))]
+pub fn read_rule(net: &Net, place: u32, switch: SwitchId, item: &Value) -> Result<Rule, ConfigFault>
+    ensures { Gives Memory (λ r. r) result (configuration.rule_in place net.now switch (view item.now)) }
+{
+    let priority = whole_at(item, "priority").ok_or(ConfigFault::Shape(Field::Priority, place))?;
+    if !(1..=MAX_PRIORITY).contains(&priority) {
+        return Err(ConfigFault::BadPriority(place));
+    }
+    let in_port = read_in_port(net, place, switch, item.get("in_port"))?;
+    let vlan = read_test(net, place, item.get("vlan"))?;
+    let text = text_at(item, "dst").ok_or(ConfigFault::Shape(Field::Dst, place))?;
+    let dst = read_prefix(text).ok().ok_or(ConfigFault::BadPrefix(place))?;
+    let out = item
+        .get("out")
+        .ok_or(ConfigFault::Shape(Field::Out, place))?;
+    let port = read_port_or(net, "drop", Field::Out, place, switch, out)?;
+    let pattern = Pattern { in_port, vlan, dst };
+    Ok(Rule {
+        key: Key {
+            priority: priority as u16,
+            pattern,
+        },
+        action: action_by(port),
+    })
+}
