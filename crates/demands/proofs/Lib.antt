@@ -1,0 +1,4 @@
+pub mod DutyLaws
+pub mod ChainLaws
+pub mod RowLaws
+pub mod RangeLaws

@@ -1,0 +1,185 @@
+-- What is read is in range.
+use Rattle.std.proofs.Common.{◌≡◌, ℕ, suc, ◌+◌, ◌-◌, ◌%◌, ◌<◌, ◌≤◌, ◌^◌, Bool, true, false, List, [], ◌∷◌, ◌++◌, length, Option, Some, None, Result, Ok, Err, refl, sym, ◌∙◌, subst, ap, arith, length-append}
+use Rattle.std.specs.Prelude.{IfOk, position, ◌&&◌, nat_le, nat_lt, IfSome, ⊤, codes}
+use Rattle.std.specs.List.{AllByRecursion}
+use Rattle.std.specs.Str.{bytes_eq}
+use Rattle.std.proofs.lemmas.Bool.{and_parts, leb-true, ltb-true, eqb-true, cond_both}
+use Rattle.std.proofs.lemmas.Option.{option_and_then_some, cond_some, same_Some}
+use Rattle.std.proofs.lemmas.List.Quantifiers.{position-Some}
+use Rattle.serde_json.specs.Data.{Data}
+use Rattle.serde_json.specs.Find.{get, as_str}
+use Rattle.net_base.specs.declared.field.Field.TheVariants.{Demands, From, Vlan, Dst, Through, Top}
+use Rattle.net_base.specs.declared.ids.Stop.{Stop}
+use Rattle.net_base.specs.declared.ids.SwitchId.{SwitchId}
+use Rattle.net_base.specs.Blocks.{Block, IsBlock}
+use Rattle.net_base.specs.Members.{IsIn}
+use Rattle.net_base.specs.Reading.{◌>>=◌, check, need, in_turn, Gives}
+use Rattle.net_base.specs.Text.{prefix_in, is_based}
+use Rattle.net_base.specs.Tree.{is_object, text_at, list_in, list_at, tree_in}
+use Rattle.net_base.proofs.MemberLaws.{each_append}
+use Rattle.net_base.proofs.Prefixes.{address_in-some}
+use Rattle.net_base.proofs.Decimals.{decimal_in-some}
+use Rattle.net_base.proofs.Turns.{ok_is, in_turn-keeps}
+use Rattle.topology.specs.Networks.{Network, switch_count, switch_named, is_host, stop_eq}
+use Rattle.topology.specs.References.{reference_parts}
+use Rattle.topology.proofs.LinkLaws.{stop_eq-true}
+use Rattle.net_base.proofs.ListLaws.{in_from_any}
+use Rattle.flow_rules.specs.declared.rules.VlanTest.{VlanTest}
+use Rattle.flow_rules.specs.declared.rules.VlanTest.TheVariants as test
+use Rattle.demands.specs.declared.fault.DemandFault.{DemandFault}
+use Rattle.demands.specs.declared.fault.DemandFault.TheVariants.{NotJson, Shape, UnknownSwitch, NotHost, BadVlan, BadPrefix, TooMany, Memory}
+use Rattle.demands.specs.declared.read.TestWord.{TestWord}
+use Rattle.demands.specs.declared.read.TestWord.TheVariants as word
+use Rattle.demands.specs.Duties.{DemandView}
+use Rattle.demands.specs.Policy.{host_with, host_in, source_in, from_in, test_word, test_of, test_in, waypoint_at, waypoints_in, through_in, deliver_in, demand_at, members_in, demands_in}
+use Rattle.demands.specs.Ranges.{IsTest, IsDemand, AreDemands}
+
+abbrev Read : Type 0 → Type 0
+Read A = Result A DemandFault
+
+-- the value of a step that did not fail
+step : {A B P : Type 0} (r : Read A) (f : A → Read B) (y : B) → (r >>= f) ≡ Ok y → ((x : A) → r ≡ Ok x → f x ≡ Ok y → P) → P
+step (Ok x) f y e k = k x refl e
+step (Err d) f y e k = absurd cc
+
+needed : {A : Type 0} (o : Option A) (d : DemandFault) (x : A) → need o d ≡ Ok x → o ≡ Some x
+needed None d x e = absurd cc
+needed (Some y) d x e = cc
+
+checked : (b : Bool) (d : DemandFault) (x : ⊤) → check b d ≡ Ok x → b ≡ true
+checked true d x e = refl
+checked false d x e = absurd cc
+
+prefix_range : (s : List ℕ) (b : Block) → prefix_in s ≡ Some b → IsBlock b
+unfolding prefix_in
+prefix_range s b e =
+    option_and_then_some {A = List ℕ × List ℕ} _ _ b e (λ p hp e1.
+    option_and_then_some {A = ℕ} _ _ b e1 (λ a ha e2.
+    option_and_then_some {A = ℕ} _ _ b e2 (λ l hl e3.
+    let t = cond_some (is_based a l) (record { base = a; len = l }) b e3 in
+    let base = (address_in-some p.0 a ha).1 in
+    let len = (decimal_in-some p.1 32 l (omega arith) hl).1 in
+    let based = eqb-true (a % 2 ^ (32 - l)) 0 t.0 in
+    subst IsBlock t.1 (record { length = len; base = base; aligned = based }))))
+
+-- a place that was found lies in the list
+position_within : (p : List ℕ → Bool) (xs : List (List ℕ)) (n : ℕ) → position p xs ≡ Some n → n < length xs
+position_within p xs n e = (position-Some p xs n [] e).0
+
+host_range : (net : Network) (place : ℕ) (text : List ℕ) (stop : Stop) → host_in net place text ≡ Ok stop → IsIn stop net.hosts
+unfolding host_in
+host_range net place text stop e =
+    step (need (reference_parts text) (Shape From place)) _ stop e (λ parts hp e1.
+    step (need (switch_named net.names parts.0) (UnknownSwitch place)) _ stop e1 (λ switch hs e2.
+    let at : Stop = record { switch = record { 0 = switch }; port = record { 0 = parts.1 } } in
+    let t = cond_some (nat_le parts.1 65279 && is_host net at) at stop (needed (host_with net switch parts.1) (NotHost place) stop e2) in
+    let h = (and_parts (nat_le parts.1 65279) (is_host net at) t.0).1 in
+    let (found, i, same) = in_from_any (stop_eq at) net.hosts h in
+    subst (λ x. IsIn x net.hosts) (sym (stop_eq-true at found same) ∙ t.1) i))
+
+abbrev any_host : Result (Option Stop) DemandFault
+any_host = Ok None
+
+abbrev some_host : Stop → Result (Option Stop) DemandFault
+some_host stop = Ok (Some stop)
+
+source_range : (net : Network) (place : ℕ) (text : List ℕ) (from : Option Stop) → source_in net place text ≡ Ok from → IfSome from (λ s. IsIn s net.hosts)
+unfolding source_in
+source_range net place text from e =
+    cond_both (bytes_eq text (codes "any")) any_host (host_in net place text >>= some_host) (λ r. r ≡ Ok from → IfSome from (λ s. IsIn s net.hosts))
+    (λ _ f. subst (λ o. IfSome o (λ s. IsIn s net.hosts)) (ok_is {E = DemandFault} None from f) tt)
+    (λ _ f. step (host_in net place text) some_host from f (λ stop hs g. subst (λ o. IfSome o (λ s. IsIn s net.hosts)) (ok_is {E = DemandFault} (Some stop) from g) (host_range net place text stop hs))) e
+
+from_range : (net : Network) (place : ℕ) (d : Option Data) (from : Option Stop) → from_in net place d ≡ Ok from → IfSome from (λ s. IsIn s net.hosts)
+unfolding from_in
+from_range net place None from e = subst (λ o. IfSome o (λ s. IsIn s net.hosts)) (ok_is {E = DemandFault} None from e) tt
+from_range net place (Some d) from e = step _ _ from e (λ text ht e1. source_range net place text from e1)
+
+test_of_range : (w : TestWord) (t : VlanTest) → test_of w ≡ Some t → IsTest t
+test_of_range word.Any t e = subst IsTest (same_Some _ _ e) tt
+test_of_range word.Untagged t e = subst IsTest (same_Some _ _ e) tt
+test_of_range (word.Number n) t e =
+    let h = cond_some (nat_le 1 n && nat_le n 4094) (test.Id n) t e in
+    let parts = and_parts (nat_le 1 n) (nat_le n 4094) h.0 in
+    subst IsTest h.1 (leb-true 1 n parts.0, leb-true n 4094 parts.1)
+
+test_range : (place : ℕ) (d : Option Data) (t : VlanTest) → test_in place d ≡ Ok t → IsTest t
+unfolding test_in
+test_range place None t e = subst IsTest (ok_is {E = DemandFault} test.Any t e) tt
+test_range place (Some d) t e = step (need (test_word d) (Shape Vlan place)) _ t e (λ w hw e1. test_of_range w t (needed (test_of w) (BadVlan place) t e1))
+
+module _ (net : Network) (place : ℕ) where
+  abbrev AreKnown : List SwitchId → Type 0
+  AreKnown switches = AllByRecursion (λ s. s.0 < switch_count net) switches
+
+  waypoint_range : (before after : List SwitchId) (d : Data) → AreKnown before → waypoint_at net place before d ≡ Ok after → AreKnown after × (length after ≡ suc (length before))
+  unfolding waypoint_at
+  waypoint_range before after d known e =
+      step (need (as_str d) (Shape Through place)) _ after e (λ name hn e1.
+      step (need (switch_named net.names name) (UnknownSwitch place)) _ after e1 (λ n hs e2.
+      let one : SwitchId = record { 0 = n } in
+      let is = ok_is {E = DemandFault} (before ++ one ∷ []) after e2 in
+      let low = position_within (λ m. bytes_eq name m) net.names n (needed (switch_named net.names name) (UnknownSwitch place) n hs) in
+      (subst AreKnown is (each_append (λ (s : SwitchId). s.0 < switch_count net) before (one ∷ []) known (low, tt)), ap length (sym is) ∙ length_push before one)))
+    where
+      length_push : (xs : List SwitchId) (x : SwitchId) → length (xs ++ x ∷ []) ≡ suc (length xs)
+      length_push [] x = refl
+      length_push (y ∷ xs) x = ap suc (length_push xs x)
+
+  each_waypoint : (n : ℕ) (before after : List SwitchId) (items : List Data) → AreKnown before → in_turn (λ i. waypoint_at net place) n before items ≡ Ok after
+      → AreKnown after × (length after ≡ length before + length items)
+  unfolding in_turn
+  each_waypoint n before after [] known e = let is = ok_is {E = DemandFault} before after e in (subst AreKnown is known, omega (arith, ap length is))
+  each_waypoint n before after (d ∷ items) known e =
+      step (waypoint_at net place before d) (λ t. in_turn (λ i. waypoint_at net place) (suc n) t items) after e
+      (λ t ht e1.
+      let one = waypoint_range before t d known ht in
+      let rest = each_waypoint (suc n) t after items one.0 e1 in
+      (rest.0, omega (arith, rest.1, one.1)))
+
+  through_range : (d : Option Data) (through : List SwitchId) → through_in net place d ≡ Ok through → AreKnown through × (length through ≤ 16)
+  unfolding through_in waypoints_in
+  through_range None through e = let is = ok_is {E = DemandFault} [] through e in (subst AreKnown is tt, omega (arith, ap length is))
+  through_range (Some d) through e =
+      step (need (list_in d) (Shape Through place)) _ through e (λ items hi e1.
+      step (check (nat_le (length items) 16) (TooMany Through place)) _ through e1 (λ _ hc e2.
+      let few = leb-true (length items) 16 (checked (nat_le (length items) 16) (TooMany Through place) tt hc) in
+      let all = each_waypoint 0 [] through items tt e2 in
+      (all.0, omega (arith, few, all.1))))
+
+  demand_range : (before after : List DemandView) (d : Data) → AreDemands net before → demand_at net place before d ≡ Ok after → AreDemands net after
+  unfolding demand_at
+  demand_range before after d known e =
+      step (check (nat_lt (length before) 512) (TooMany Demands place)) _ after e (λ _ h0 e0.
+      step (check (is_object d) (Shape Demands place)) _ after e0 (λ _ h1 e1.
+      step (from_in net place (get (codes "from") d)) _ after e1 (λ from hf e2.
+      step (test_in place (get (codes "vlan") d)) _ after e2 (λ vlan hv e3.
+      step (need (text_at (codes "dst") d) (Shape Dst place)) _ after e3 (λ text ht e4.
+      step (need (prefix_in text) (BadPrefix place)) _ after e4 (λ dst hd e5.
+      step (through_in net place (get (codes "through") d)) _ after e5 (λ through hw e6.
+      step (deliver_in place (get (codes "deliver") d)) _ after e6 (λ deliver hl e7.
+      let one : DemandView = record { from = from; vlan = vlan; dst = dst; through = through; deliver = deliver } in
+      let is = ok_is {E = DemandFault} (before ++ one ∷ []) after e7 in
+      let room = ltb-true (length before) 512 (checked (nat_lt (length before) 512) (TooMany Demands place) tt h0) in
+      let way = through_range (get (codes "through") d) through hw in
+      let this : IsDemand net one = record {
+        from = from_range net place (get (codes "from") d) from hf;
+        vlan = test_range place (get (codes "vlan") d) vlan hv;
+        dst = prefix_range text dst (needed (prefix_in text) (BadPrefix place) dst hd);
+        through = way.0;
+        few = way.1;
+      } in
+      subst (AreDemands net) is (record { few = omega (arith, length-append before (one ∷ []), room); each = each_append (IsDemand net) before (one ∷ []) known.each (this, tt) })))))))))
+
+-- what is read is in range
+pub demands_are : (net : Network) (bytes : List ℕ) (demands : List DemandView) → demands_in net bytes ≡ Ok demands → AreDemands net demands
+unfolding demands_in members_in
+demands_are net bytes demands e =
+    step (need (tree_in bytes) NotJson) _ demands e (λ top ht e1.
+    step (check (is_object top) (Shape Top 0)) _ demands e1 (λ _ ho e2.
+    step (need (list_at (codes "demands") top) (Shape Demands 0)) _ demands e2 (λ items hi e3.
+    in_turn-keeps (demand_at net) (AreDemands net) (λ n s t x p f. demand_range net n s t x p f) 0 [] demands items (record { few = omega arith; each = tt }) e3)))
+
+pub demands_range : (net : Network) (bytes : List ℕ) (result : Result (List DemandView) DemandFault) → Gives Memory (λ d. d) result (demands_in net bytes) → IfOk result (AreDemands net)
+demands_range net bytes (Ok demands) h = demands_are net bytes demands h
+demands_range net bytes (Err e) h = tt

@@ -1,0 +1,38 @@
+use Rattle.std.proofs.Common.{◌≡◌, ◌+◌, length, List, ◌∷◌, ◌++◌, [], ap, sym, subst, ◌∙◌, arith, inl, inr}
+use Rattle.std.specs.Prelude.{slice_get, Some}
+use Rattle.std.proofs.lemmas.Bool.{cases_lt}
+use Rattle.dest_classes.specs.Classes.{IsClass}
+use Rattle.dest_classes.specs.declared.Class.{Class}
+use Rattle.dest_classes.proofs.MapLaws.{number_fits}
+use Rattle.demands.specs.Duties.{duties_of, PacketDuties}
+use Rattle.demands.proofs.RowLaws.{get_before, get_last, length_push}
+use Rattle.demands.proofs.stored.all_duties.Goals as goal
+
+pub loop-n-preserved : goal.loop-n-preserved
+loop-n-preserved c =
+    let n = c.loop-n.n in
+    let rows : List PacketDuties = c.loop-n.rows.items in
+    let row : PacketDuties = c.in_ok-row.row in
+    let more : c.push.new.self.items ≡ rows ++ row ∷ [] = c.in_ok-push.ensures.items in
+    let count : length rows ≡ n = c.loop-n.invariant.count in
+    record {
+      count = ap length more ∙ length_push rows row ∙ ap (λ m. m + 1) count;
+      made = λ k class lt is. elim (cases_lt k n) [
+        | inl less ↦ ap (λ xs. slice_get xs k) more ∙ get_before rows row k (omega arith) ∙ c.loop-n.invariant.made k class less is
+        | inr ge ↦ (
+            let e : k ≡ n = omega arith in
+            let same : class ≡ c.class.result = c.class.ensures.only class (subst (λ m. IsClass c.args.classes.now m class) e is) in
+            ap (λ xs. slice_get xs k) more ∙ get_last rows row k (omega arith)
+            ∙ ap (λ (p : PacketDuties). Some p) (c.in_ok-row.ensures ∙ ap (λ (x : Class). duties_of c.args.demands.now x.entry x.first) (sym same)))
+      ];
+    }
+
+pub returns : goal.returns
+returns c =
+    let past = c.loop-n-test.false in
+    let end = c.loop-n.auto.n-end in
+    let all = c.count-n-end.ensures.count in
+    let count = c.loop-n.invariant.count in (
+      omega arith,
+      λ k class is. let fits = number_fits c.args.classes.now k class is in c.loop-n.invariant.made k class (omega arith) is,
+    )

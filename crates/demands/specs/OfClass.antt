@@ -1,0 +1,33 @@
+-- The duties of a class, and that they are those of each of its addresses.
+use Rattle.std.specs.Prelude.{◌≡◌, ℕ, List, length, slice_get, Some}
+use Rattle.std.specs.List.{AllByRecursion}
+use Rattle.net_base.specs.Blocks.{IsSameClass}
+use Rattle.net_base.specs.Members.{IsIn}
+use Rattle.dest_classes.specs.Classes.{ClassList, IsClass, class_count}
+use Rattle.dest_classes.specs.declared.Class.{Class}
+use Rattle.demands.specs.Duties.{DemandView, PacketDuties, ClassDuties, duties_of}
+
+-- the prefix of each demand is one of the map's
+abbrev pub AreCovered : List DemandView → ClassList → Type 0
+AreCovered demands classes = AllByRecursion (λ d. IsIn d.dst classes.prefixes) demands
+
+-- this holds of the duties of class n
+abbrev pub OfClass : ClassDuties → ℕ → (PacketDuties → Type 0) → Type 0
+OfClass d n P = (class : Class) → IsClass d.classes n class → P (duties_of d.demands class.entry class.first)
+
+-- each address of class n has the duties of its first address
+abbrev pub HasDutiesOfEachAddress : ClassDuties → ℕ → Type 0
+HasDutiesOfEachAddress d n =
+    (class : Class) → IsClass d.classes n class → (dst : ℕ) → IsSameClass d.classes.prefixes class.first dst
+    → duties_of d.demands class.entry dst ≡ duties_of d.demands class.entry class.first
+
+-- the rows are the duties of the classes, in the order of their numbers
+abbrev pub AreInOrder : List DemandView → ClassList → List PacketDuties → Type 0
+AreInOrder demands classes rows =
+    (n : ℕ) (class : Class) → IsClass classes n class → slice_get rows n ≡ Some (duties_of demands class.entry class.first)
+
+-- what stored duties keep
+pub record AreStored (demands : List DemandView) (classes : ClassList) (rows : List PacketDuties) : Type 0 where
+  pub covered : AreCovered demands classes
+  pub count : length rows ≡ class_count classes
+  pub in_order : AreInOrder demands classes rows

@@ -1,0 +1,27 @@
+-- The demands that a file may hold: hosts and waypoints of the network, ids and prefixes in range, and not too many.
+use Rattle.std.specs.Prelude.{◌<◌, ◌≤◌, List, length, IfSome}
+use Rattle.std.specs.List.{AllByRecursion}
+use Rattle.net_base.specs.Blocks.{IsBlock}
+use Rattle.net_base.specs.Members.{IsIn}
+use Rattle.topology.specs.Networks.{Network, switch_count, IsVlanId}
+use Rattle.flow_rules.specs.declared.rules.VlanTest.{VlanTest}
+use Rattle.flow_rules.specs.declared.rules.VlanTest.TheVariants as test
+use Rattle.demands.specs.Duties.{DemandView}
+
+-- a test whose id is in range
+abbrev pub IsTest : VlanTest → Type 0
+IsTest (test.Id id) = IsVlanId id
+IsTest _ = Unit {0}
+
+-- a demand of the network
+pub record IsDemand (net : Network) (d : DemandView) : Type 0 where
+  pub from : IfSome d.from (λ s. IsIn s net.hosts)
+  pub vlan : IsTest d.vlan
+  pub dst : IsBlock d.dst
+  pub through : AllByRecursion (λ s. s.0 < switch_count net) d.through
+  pub few : length d.through ≤ 16
+
+-- the demands of a file
+pub record AreDemands (net : Network) (demands : List DemandView) : Type 0 where
+  pub few : length demands ≤ 512
+  pub each : AllByRecursion (IsDemand net) demands

@@ -1,0 +1,114 @@
+//! Demands, the reader of their file, and the duties that they lay on a packet.
+#![tactic(auto)]
+
+mod chains;
+mod fault;
+mod policy;
+mod read;
+mod stored;
+
+use dest_classes::ClassMap;
+pub use fault::DemandFault;
+use flow_rules::VlanTest;
+use net_base::{Prefix, Stop, SwitchId};
+pub use policy::no_demands;
+pub use read::read_demands;
+use std::marker::Model;
+
+/// Which packets a demand speaks of: those that enter at the host port, or at any, whose VLAN the test admits, to an
+/// address in the prefix.
+#[derive(Clone, Copy, Debug, PartialEq, Eq)]
+pub(crate) struct Cover {
+    from: Option<Stop>,
+    vlan: VlanTest,
+    dst: Prefix,
+}
+
+/// A demand: which packets it speaks of, the waypoints that they must visit in this order where they leave, and whether
+/// they must arrive.
+#[derive(Drop)]
+pub struct Demand {
+    cover: Cover,
+    through: Vec<SwitchId>,
+    deliver: bool,
+}
+
+impl Model for Demand {
+    ghost use Rattle.demands.specs.Duties.{DemandView};
+
+    ghost Value = { DemandView };
+
+    ghost view = { λ d. record { from = d.cover.from; vlan = d.cover.vlan; dst = d.cover.dst; through = d.through.items; deliver = d.deliver } };
+}
+
+/// A policy: a list of at most 512 demands.
+#[derive(Drop)]
+pub struct Demands {
+    list: Vec<Demand>,
+}
+
+impl Model for Demands {
+    ghost use Rattle.std.specs.Prelude.{List, ◌≤◌, length};
+    ghost use Rattle.demands.specs.Duties.{DemandView};
+
+    ghost Value = { List DemandView };
+
+    ghost view = { λ d. d.list.items };
+
+    ghost invariant = { λ d. length d.list.items ≤ 512 };
+}
+
+/// A chain of waypoints, each switch once.
+#[derive(Drop)]
+pub(crate) struct Chain {
+    switches: Vec<SwitchId>,
+}
+
+impl Model for Chain {
+    ghost use Rattle.std.specs.Prelude.{List};
+    ghost use Rattle.net_base.specs.declared.ids.SwitchId.{SwitchId};
+
+    ghost Value = { List SwitchId };
+
+    ghost view = { λ c. c.switches.items };
+}
+
+/// What is asked of the packets of a class: chains of waypoints, and whether they must arrive.
+#[derive(Drop)]
+pub(crate) struct Duty {
+    chains: Vec<Chain>,
+    arrive: bool,
+}
+
+impl Model for Duty {
+    ghost use Rattle.std.specs.Prelude.{◌≤◌, length};
+    ghost use Rattle.demands.specs.Duties.{PacketDuties};
+
+    ghost Value = { PacketDuties };
+
+    ghost view = { λ d. record { chains = d.chains.items; arrive = d.arrive } };
+
+    ghost invariant = { λ d. length d.chains.items ≤ 512 };
+}
+
+/// The duties of each class of a map. It keeps copies of the demands and of the class map.
+#[derive(Drop)]
+pub struct Duties {
+    demands: Demands,
+    classes: ClassMap,
+    rows: Vec<Duty>,
+}
+
+impl Model for Duties {
+    ghost use Rattle.demands.specs.Duties.{ClassDuties};
+    ghost use Rattle.demands.specs.OfClass.{AreStored};
+
+    ghost Value = { ClassDuties };
+
+    ghost view = { λ d. record { demands = d.demands; classes = d.classes } };
+
+    ghost invariant = { λ d. AreStored d.demands d.classes d.rows.items };
+}
+
+#[cfg(test)]
+mod tests;

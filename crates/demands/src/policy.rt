@@ -1,0 +1,148 @@
+// Policies as lists of demands, and what a demand covers.
+ghost use Rattle.std.specs.Prelude.{◌≡◌, ◌<◌, ◌≤◌, ◌++◌, ◌∷◌, [], Some, length, map, option_map, slice_get, IfOk, if◌then◌else◌, is_ok};
+ghost use Rattle.std.specs.List.{AllByRecursion};
+ghost use Rattle.net_base.specs.Members.{IsIn};
+ghost use Rattle.demands.specs.Covers.{is_covered};
+ghost use Rattle.demands.specs.Duties.{admits_host};
+ghost use Rattle.flow_rules.specs.Patterns.{admits_vlan};
+ghost use Rattle.net_base.specs.Places.{stop_of};
+
+use crate::{Cover, Demand, Demands};
+use flow_rules::VlanTest;
+use net_base::{Memory, Place, Prefix, Stop, Vlan};
+use std::alloc::{AllocFailed, Global};
+
+/// Whether any host port is admitted, or this one.
+fn admits_host(from: Option<Stop>, host: Stop) -> bool
+    ensures { result ≡ admits_host from host }
+{
+    match from {
+        None => true,
+        Some(stop) => stop.switch.0 == host.switch.0 && stop.port.0 == host.port.0,
+    }
+}
+
+/// Whether the test admits the VLAN.
+fn admits_vlan(test: VlanTest, vlan: Vlan) -> bool
+    ensures { result ≡ admits_vlan test vlan }
+{
+    match (test, vlan) {
+        (VlanTest::Any, _) => true,
+        (VlanTest::Untagged, Vlan::Untagged) => true,
+        (VlanTest::Id(m), Vlan::Id(n)) => m == n,
+        _ => false,
+    }
+}
+
+impl Cover {
+    /// Whether packets that enter there, to this address, are spoken of.
+    pub(crate) fn covers(&self, entry: Place, dst: u32) -> bool
+        ensures { result ≡ is_covered self.now entry dst }
+    {
+        let host = Stop {
+            switch: entry.switch,
+            port: entry.port,
+        };
+        admits_host(self.from, host) && admits_vlan(self.vlan, entry.vlan) && self.dst.has(dst)
+    }
+}
+
+impl Demand {
+    pub(crate) fn copy(&self) -> Result<Demand, Memory>
+        ensures { IfOk result (λ d. d ≡ self.now) }
+    {
+        let alloc = *self.through.allocator();
+        let through = Vec::from_slice(alloc, self.through.as_slice())?;
+        Ok(Demand {
+            cover: self.cover,
+            through,
+            deliver: self.deliver,
+        })
+    }
+}
+
+impl Demands {
+    /// No demands.
+    pub(crate) fn empty(alloc: Global) -> Demands
+        ensures { result ≡ [] }
+    {
+        Demands {
+            list: Vec::new(alloc),
+        }
+    }
+
+    /// Adds a demand as the last one.
+    pub(crate) fn add(&mut self, demand: Demand) -> Result<(), AllocFailed<Demand>>
+        requires { length self.old < 512 }
+        ensures { self.new ≡ (if is_ok result then self.old ++ demand ∷ [] else self.old) }
+    {
+        self.list.push(demand)
+    }
+
+    /// How many demands there are, at most 512.
+    pub fn count(&self) -> usize
+        ensures count { result ≡ length self.now }
+        ensures few { result ≤ 512 }
+    {
+        self.list.len()
+    }
+
+    /// The prefix of demand `i`, from 0.
+    pub fn prefix(&self, i: usize) -> Prefix
+        requires { i < length self.now }
+        ensures { option_map (λ d. d.dst) (slice_get self.now i) ≡ Some result }
+    {
+        self.list[i].cover.dst
+    }
+
+    /// The prefixes of the demands in their order.
+    pub fn prefixes(&self) -> Result<Vec<Prefix>, Memory>
+        ensures all { IfOk result (λ v. v.items ≡ map (λ d. d.dst) self.now) }
+        ensures covered { IfOk result (λ v. AllByRecursion (λ d. IsIn d.dst v.items) self.now) }
+    {
+        prefixes_of(*self.list.allocator(), self.list.as_slice())
+    }
+
+    /// The demands in their order.
+    pub(crate) fn list(&self) -> &[Demand]
+        ensures all { result.now ≡ self.now }
+        ensures few { length result.now ≤ 512 }
+    {
+        self.list.as_slice()
+    }
+
+    /// Equal demands.
+    pub fn copy(&self) -> Result<Demands, Memory>
+        ensures { IfOk result (λ d. d ≡ self.now) }
+    {
+        let list = copies_of(*self.list.allocator(), self.list.as_slice())?;
+        Ok(Demands { list })
+    }
+}
+
+fn prefixes_of(alloc: Global, demands: &[Demand]) -> Result<Vec<Prefix>, Memory>
+    ensures { IfOk result (λ v. v.items ≡ map (λ d. d.dst) demands.now) }
+{
+    let mut prefixes = Vec::new(alloc);
+    for demand in demands {
+        prefixes.push(demand.cover.dst)?;
+    }
+    Ok(prefixes)
+}
+
+fn copies_of(alloc: Global, demands: &[Demand]) -> Result<Vec<Demand>, Memory>
+    ensures { IfOk result (λ v. v.items ≡ demands.now) }
+{
+    let mut copies = Vec::new(alloc);
+    for demand in demands {
+        copies.push(demand.copy()?)?;
+    }
+    Ok(copies)
+}
+
+/// The policy without demands.
+pub fn no_demands(alloc: Global) -> Result<Demands, Memory>
+    ensures { IfOk result (λ d. d ≡ []) }
+{
+    Ok(Demands::empty(alloc))
+}

@@ -1,0 +1,291 @@
+// The reader of a policy.
+ghost use Rattle.std.specs.Prelude.{◌≡◌, Ok, [], map, option_map, IfOk, MatchResult};
+ghost use Rattle.serde_json.specs.View.{view};
+ghost use Rattle.net_base.specs.Reading.{Gives, Fails, in_turn};
+ghost use Rattle.net_base.specs.Tree as tree;
+ghost use Rattle.demands.specs.declared.fault.DemandFault.TheVariants.{Memory};
+ghost use Rattle.demands.specs.Policy as policy;
+ghost use Rattle.demands.specs.Ranges.{AreDemands};
+
+use crate::fault::DemandFault;
+use crate::{Cover, Demand, Demands};
+use flow_rules::VlanTest;
+use net_base::{
+    Field, Port, Stop, SwitchId, is_object, list_at, list_in, parse_json, place_of, read_prefix,
+    text_at, whole,
+};
+use serde_json::Value;
+use std::alloc::Global;
+use topology::{Net, reference_parts};
+
+/// The greatest number of demands of a policy.
+const MAX_DEMANDS: usize = 512;
+
+/// The greatest number of waypoints of a demand.
+const MAX_WAYPOINTS: usize = 16;
+
+const MAX_PORT: u64 = 65279;
+
+const MAX_VLAN: u64 = 4094;
+
+/// A VLAN test as it is spelled.
+#[derive(Clone, Copy)]
+enum TestWord {
+    Any,
+    Untagged,
+    Number(u64),
+}
+
+/// The host port with this number.
+fn host_with(net: &Net, switch: SwitchId, number: u64) -> Option<Stop>
+    ensures { result ≡ policy.host_with net.now switch.0 number }
+{
+    if number > MAX_PORT {
+        return None;
+    }
+    let stop = Stop {
+        switch,
+        port: Port(number as u16),
+    };
+    if net.is_host(stop) { Some(stop) } else { None }
+}
+
+/// Reads a port reference to a host port.
+#[tactic(auto, unfolding(crate::specs::Policy::host_in))]
+fn read_host(net: &Net, place: u32, text: &str) -> Result<Stop, DemandFault>
+    ensures { Gives Memory (λ s. s) result (policy.host_in net.now place text.now) }
+{
+    let (name, number) = reference_parts(text).ok_or(DemandFault::Shape(Field::From, place))?;
+    let switch = net.find(name).ok_or(DemandFault::UnknownSwitch(place))?;
+    host_with(net, switch, number).ok_or(DemandFault::NotHost(place))
+}
+
+/// Reads `any` or a host port.
+#[tactic(auto, unfolding(crate::specs::Policy::source_in))]
+fn read_source(net: &Net, place: u32, text: &str) -> Result<Option<Stop>, DemandFault>
+    ensures { Gives Memory (λ o. o) result (policy.source_in net.now place text.now) }
+{
+    if text == "any" {
+        return Ok(None);
+    }
+    let stop = read_host(net, place, text)?;
+    Ok(Some(stop))
+}
+
+/// Reads the member `from`.
+#[tactic(auto, unfolding(crate::specs::Policy::from_in))]
+fn read_from(net: &Net, place: u32, member: Option<&Value>) -> Result<Option<Stop>, DemandFault>
+    ensures { Gives Memory (λ o. o) result (policy.from_in net.now place (option_map (λ v. view v.now) member.entry)) }
+{
+    match member {
+        None => Ok(None),
+        Some(value) => {
+            let text = value
+                .as_str()
+                .ok_or(DemandFault::Shape(Field::From, place))?;
+            read_source(net, place, text)
+        }
+    }
+}
+
+fn word_of_text(text: &str) -> Option<TestWord>
+    ensures { result ≡ policy.word_of_text text.now }
+{
+    if text == "any" {
+        return Some(TestWord::Any);
+    }
+    if text == "untagged" {
+        return Some(TestWord::Untagged);
+    }
+    None
+}
+
+/// The text `any` or `untagged`, or a whole number.
+fn test_word(value: &Value) -> Option<TestWord>
+    ensures { result ≡ policy.test_word (view value.now) }
+{
+    match value.as_str().and_then(word_of_text) {
+        Some(word) => Some(word),
+        None => whole(value).map(TestWord::Number),
+    }
+}
+
+/// The test, where a VLAN may have the number.
+fn test_of(word: TestWord) -> Option<VlanTest>
+    ensures { result ≡ policy.test_of word }
+{
+    match word {
+        TestWord::Any => Some(VlanTest::Any),
+        TestWord::Untagged => Some(VlanTest::Untagged),
+        TestWord::Number(n) if 1 <= n && n <= MAX_VLAN => Some(VlanTest::Id(n as u16)),
+        TestWord::Number(_) => None,
+    }
+}
+
+/// Reads the member `vlan`.
+#[tactic(auto, unfolding(crate::specs::Policy::test_in))]
+fn read_test(place: u32, member: Option<&Value>) -> Result<VlanTest, DemandFault>
+    ensures { Gives Memory (λ t. t) result (policy.test_in place (option_map (λ v. view v.now) member.entry)) }
+{
+    match member {
+        None => Ok(VlanTest::Any),
+        Some(value) => {
+            let word = test_word(value).ok_or(DemandFault::Shape(Field::Vlan, place))?;
+            test_of(word).ok_or(DemandFault::BadVlan(place))
+        }
+    }
+}
+
+/// Reads one name of `through`.
+#[tactic(auto, unfolding(crate::specs::Policy::waypoint_at))]
+fn read_waypoint(
+    net: &Net,
+    place: u32,
+    through: &mut Vec<SwitchId>,
+    item: &Value,
+) -> Result<(), DemandFault>
+    ensures { MatchResult result
+        (λ _. policy.waypoint_at net.now place through.old.items (view item.now) ≡ Ok through.new.items)
+        (λ e. Fails Memory e (policy.waypoint_at net.now place through.old.items (view item.now))) }
+{
+    let name = item
+        .as_str()
+        .ok_or(DemandFault::Shape(Field::Through, place))?;
+    let switch = net.find(name).ok_or(DemandFault::UnknownSwitch(place))?;
+    through.push(switch)?;
+    Ok(())
+}
+
+fn read_each_waypoint(
+    alloc: Global,
+    net: &Net,
+    place: u32,
+    items: &[Value],
+) -> Result<Vec<SwitchId>, DemandFault>
+    ensures { Gives Memory (λ v. v.items) result (in_turn (λ i. policy.waypoint_at net.now place) 0 [] (map view items.now)) }
+{
+    let mut through = Vec::new(alloc);
+    for item in items {
+        read_waypoint(net, place, &mut through, item)?;
+    }
+    Ok(through)
+}
+
+/// Reads a list of names of switches.
+#[tactic(auto, unfolding(crate::specs::Policy::waypoints_in))]
+fn read_waypoints(
+    alloc: Global,
+    net: &Net,
+    place: u32,
+    value: &Value,
+) -> Result<Vec<SwitchId>, DemandFault>
+    ensures { Gives Memory (λ v. v.items) result (policy.waypoints_in net.now place (view value.now)) }
+{
+    let items = list_in(value).ok_or(DemandFault::Shape(Field::Through, place))?;
+    if items.len() > MAX_WAYPOINTS {
+        return Err(DemandFault::TooMany(Field::Through, place));
+    }
+    read_each_waypoint(alloc, net, place, items)
+}
+
+/// Reads the member `through`.
+#[tactic(auto, unfolding(crate::specs::Policy::through_in))]
+fn read_through(
+    alloc: Global,
+    net: &Net,
+    place: u32,
+    member: Option<&Value>,
+) -> Result<Vec<SwitchId>, DemandFault>
+    ensures { Gives Memory (λ v. v.items) result (policy.through_in net.now place (option_map (λ v. view v.now) member.entry)) }
+{
+    match member {
+        None => Ok(Vec::new(alloc)),
+        Some(value) => read_waypoints(alloc, net, place, value),
+    }
+}
+
+/// Reads the member `deliver`.
+#[tactic(auto, unfolding(crate::specs::Policy::deliver_in))]
+fn read_deliver(place: u32, member: Option<&Value>) -> Result<bool, DemandFault>
+    ensures { Gives Memory (λ b. b) result (policy.deliver_in place (option_map (λ v. view v.now) member.entry)) }
+{
+    match member {
+        None => Ok(false),
+        Some(value) => value
+            .as_bool()
+            .ok_or(DemandFault::Shape(Field::Deliver, place)),
+    }
+}
+
+/// Reads one demand.
+#[tactic(auto, unfolding(crate::specs::Policy::demand_at))]
+fn read_demand(
+    alloc: Global,
+    net: &Net,
+    place: u32,
+    demands: &mut Demands,
+    item: &Value,
+) -> Result<(), DemandFault>
+    ensures { MatchResult result
+        (λ _. policy.demand_at net.now place demands.old (view item.now) ≡ Ok demands.new)
+        (λ e. Fails Memory e (policy.demand_at net.now place demands.old (view item.now))) }
+{
+    if demands.count() >= MAX_DEMANDS {
+        return Err(DemandFault::TooMany(Field::Demands, place));
+    }
+    if !is_object(item) {
+        return Err(DemandFault::Shape(Field::Demands, place));
+    }
+    let from = read_from(net, place, item.get("from"))?;
+    let vlan = read_test(place, item.get("vlan"))?;
+    let text = text_at(item, "dst").ok_or(DemandFault::Shape(Field::Dst, place))?;
+    let dst = read_prefix(text).map_err(|_| DemandFault::BadPrefix(place))?;
+    let through = read_through(alloc, net, place, item.get("through"))?;
+    let deliver = read_deliver(place, item.get("deliver"))?;
+    let cover = Cover { from, vlan, dst };
+    demands.add(Demand {
+        cover,
+        through,
+        deliver,
+    })?;
+    Ok(())
+}
+
+fn read_each_demand(alloc: Global, net: &Net, items: &[Value]) -> Result<Demands, DemandFault>
+    ensures { Gives Memory (λ d. d) result (in_turn (policy.demand_at net.now) 0 [] (map view items.now)) }
+{
+    let mut demands = Demands::empty(alloc);
+    for (i, item) in items.iter().enumerate() {
+        read_demand(alloc, net, place_of(i), &mut demands, item)?;
+    }
+    Ok(demands)
+}
+
+/// Reads the member `demands`.
+#[tactic(auto, unfolding(crate::specs::Policy::members_in))]
+fn read_members(alloc: Global, net: &Net, top: &Value) -> Result<Demands, DemandFault>
+    ensures { Gives Memory (λ d. d) result (policy.members_in net.now (view top.now)) }
+{
+    if !is_object(top) {
+        return Err(DemandFault::Shape(Field::Top, 0));
+    }
+    let items = list_at(top, "demands").ok_or(DemandFault::Shape(Field::Demands, 0))?;
+    read_each_demand(alloc, net, items)
+}
+
+#[tactic(auto, unfolding(crate::specs::Policy::demands_in))]
+fn read_file(alloc: Global, net: &Net, bytes: &[u8]) -> Result<Demands, DemandFault>
+    ensures { Gives Memory (λ d. d) result (policy.demands_in net.now bytes.now) }
+{
+    let top = parse_json(alloc, bytes)?;
+    read_members(alloc, net, &top)
+}
+
+/// The demands that the bytes describe, or the first refusal of the table of members.
+pub fn read_demands(alloc: Global, net: &Net, bytes: &[u8]) -> Result<Demands, DemandFault>
+    ensures read { Gives Memory (λ d. d) result (policy.demands_in net.now bytes.now) }
+    ensures in_range { IfOk result (λ d. AreDemands net.now d) }
+{
+    net.keeps_rules();
+    read_file(alloc, net, bytes)
+}

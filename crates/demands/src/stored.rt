@@ -1,0 +1,134 @@
+// The duties of the classes of a map.
+ghost use Rattle.std.specs.Prelude.{◌≡◌, ◌<◌, ◌&&◌, cond, length, slice_get, Some, IfOk, OnOk};
+ghost use Rattle.std.specs.List.{list_any};
+ghost use Rattle.dest_classes.specs.Classes.{class_count};
+ghost use Rattle.demands.specs.Duties.{demand_covers, duties_of, with_chain, first_of_each};
+ghost use Rattle.demands.specs.OfClass.{AreCovered, OfClass, HasDutiesOfEachAddress, AreInOrder};
+
+use crate::chains::put_chain;
+use crate::{Chain, Demand, Demands, Duties, Duty};
+use dest_classes::{Class, ClassMap};
+use net_base::{Memory, SwitchId};
+use std::alloc::Global;
+use topology::Net;
+
+impl Demand {
+    /// Whether it speaks of the packets of the class that go to its first address.
+    fn covers(&self, class: Class) -> bool
+        ensures { result ≡ demand_covers self.now class.entry class.first }
+    {
+        self.cover.covers(class.entry, class.first)
+    }
+
+    /// Whether it asks the packets of the class to arrive.
+    fn asks_to_arrive(&self, class: Class) -> bool
+        ensures { result ≡ (demand_covers self.now class.entry class.first && self.now.deliver) }
+    {
+        self.covers(class) && self.deliver
+    }
+}
+
+/// Whether a demand asks the packets of the class to arrive.
+fn must_arrive(demands: &[Demand], class: Class) -> bool
+    ensures { result ≡ list_any (λ d. demand_covers d class.entry class.first && d.deliver) demands.now }
+{
+    demands.iter().any(|demand| demand.asks_to_arrive(class))
+}
+
+/// Puts the chain of a demand of the class into an ascending list.
+fn put_demand(chains: &mut Vec<Chain>, demand: &Demand, class: Class) -> Result<(), Memory>
+    ensures { OnOk result (chains.new.items ≡ cond (demand_covers demand.now class.entry class.first)
+        (with_chain (first_of_each demand.now.through) chains.old.items) chains.old.items) }
+{
+    if demand.covers(class) {
+        let alloc = *chains.allocator();
+        let chain = Chain::of_switches(alloc, &demand.through)?;
+        put_chain(chains, chain)?;
+    }
+    Ok(())
+}
+
+/// The chains of the demands of the class, ascending and each once.
+fn chains_of(alloc: Global, demands: &[Demand], class: Class) -> Result<Vec<Chain>, Memory>
+    ensures { IfOk result (λ v. v.items ≡ (duties_of demands.now class.entry class.first).chains) }
+{
+    let mut chains = Vec::new(alloc);
+    let mut left = demands.len();
+    while left > 0 {
+        left -= 1;
+        put_demand(&mut chains, &demands[left], class)?;
+    }
+    Ok(chains)
+}
+
+/// The duties of the class.
+fn duty_of(alloc: Global, demands: &Demands, class: Class) -> Result<Duty, Memory>
+    ensures { IfOk result (λ d. d ≡ duties_of demands.now class.entry class.first) }
+{
+    let list = demands.list();
+    let chains = chains_of(alloc, list, class)?;
+    let arrive = must_arrive(list, class);
+    Ok(Duty { chains, arrive })
+}
+
+/// The duties of the classes in the order of their numbers.
+fn all_duties(alloc: Global, demands: &Demands, classes: &ClassMap) -> Result<Vec<Duty>, Memory>
+    ensures { IfOk result (λ v. (length v.items ≡ class_count classes.now) × AreInOrder demands.now classes.now v.items) }
+{
+    let mut rows = Vec::new(alloc);
+    for n in 0..classes.count() {
+        let row = duty_of(alloc, demands, classes.class(n))?;
+        rows.push(row)?;
+    }
+    Ok(rows)
+}
+
+impl Duties {
+    /// The duties of the classes of a map. The prefix of each demand is one of the map's. It takes time and memory in
+    /// the product of classes and demands, and where many demands with chains cover a class, of their chains.
+    pub fn make(
+        alloc: Global,
+        net: &Net,
+        demands: &Demands,
+        classes: &ClassMap,
+    ) -> Result<Duties, Memory>
+        requires { AreCovered demands.now classes.now }
+        ensures { IfOk result (λ d. d ≡ record { demands = demands.now; classes = classes.now }) }
+    {
+        let _ = net;
+        let rows = all_duties(alloc, demands, classes)?;
+        Ok(Duties {
+            demands: demands.copy()?,
+            classes: classes.copy()?,
+            rows,
+        })
+    }
+
+    /// How many chains of waypoints the class has.
+    pub fn chains(&self, class: u32) -> u32
+        requires { class < class_count self.now.classes }
+        ensures count { OfClass self.now class (λ duties. result ≡ length duties.chains) }
+        ensures each_address { HasDutiesOfEachAddress self.now class }
+    {
+        self.rows[class as usize].chains.len() as u32
+    }
+
+    /// Chain `i` of the class, from 0, in ascending order.
+    pub fn chain(&self, class: u32, i: u32) -> &[SwitchId]
+        requires class { class < class_count self.now.classes }
+        requires within { OfClass self.now class (λ duties. i < length duties.chains) }
+        ensures chain { OfClass self.now class (λ duties. slice_get duties.chains i ≡ Some result.now) }
+        ensures each_address { HasDutiesOfEachAddress self.now class }
+    {
+        self.rows[class as usize].chains[i as usize].list()
+    }
+
+    /// Whether the packets of the class must arrive.
+    pub fn must_arrive(&self, class: u32) -> bool
+        requires { class < class_count self.now.classes }
+        ensures arrive { OfClass self.now class (λ duties. result ≡ duties.arrive) }
+        ensures each_address { HasDutiesOfEachAddress self.now class }
+    {
+        self.rows[class as usize].arrive
+    }
+}
