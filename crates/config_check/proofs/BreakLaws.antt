@@ -1,0 +1,60 @@
+-- A path that breaks its duties is no good path.
+use Rattle.std.proofs.Common.{◌≡◌, ℕ, List, [], ◌∷◌, ◌++◌, map, refl, sym, subst, inl, inr, append_assoc}
+use Rattle.std.specs.List.{AllByRecursion}
+use Rattle.net_base.specs.Members.{IsIn, IsDistinct, IsSubsequence}
+use Rattle.net_base.specs.Places.{stop_of}
+use Rattle.net_base.proofs.MemberLaws.{each_at, in_append_right, map-push}
+use Rattle.net_base.specs.declared.ids.SwitchId.{SwitchId}
+use Rattle.net_base.specs.declared.ids.Place.{Place}
+use Rattle.topology.specs.Networks.{Network}
+use Rattle.flow_rules.specs.declared.rules.Rule.{Rule}
+use Rattle.path_walk.specs.Paths.{Trace}
+use Rattle.path_walk.specs.declared.Ended.{Ended}
+use Rattle.path_walk.specs.declared.Ended.TheVariants as end
+use Rattle.path_walk.proofs.PathLaws.{path_one, path_begins}
+use Rattle.path_walk.proofs.WalkedLaws.{along, switches_along}
+use Rattle.demands.specs.Duties.{DemandView, duties_of}
+use Rattle.demands.specs.Good.{switches_of, HasGoodPath, IsGood, MeetsChains, IsDropped}
+use Rattle.demands.proofs.DutyLaws.{distinct_prefix}
+use Rattle.config_check.specs.Broken.{Loops, EndsSo, IsLeft, BreaksSo}
+use Rattle.config_check.specs.declared.How.{How}
+use Rattle.config_check.specs.declared.How.TheVariants.{Loop, Dropped, Missed}
+use Rattle.config_check.proofs.ChainLaws.{first_part}
+
+-- the last of distinct members is not among those before it
+last_apart : (xs : List SwitchId) (x : SwitchId) → IsDistinct (xs ++ x ∷ []) → ¬ IsIn x xs
+last_apart [] x distinct i = i
+last_apart (y ∷ xs) x distinct (inl e) = distinct.0 (in_append_right y xs (x ∷ []) (inl (sym e)))
+last_apart (y ∷ xs) x distinct (inr i) = last_apart xs x distinct.1 i
+
+-- of a packet that left the chains are met
+met_of_left : (chains : List (List SwitchId)) (switches : List SwitchId) (ended : Ended) → IsLeft ended → MeetsChains chains switches ended → AllByRecursion (λ chain. IsSubsequence chain switches) chains
+met_of_left chains switches (end.Left s port vlan) left meets = meets
+met_of_left chains switches end.UnderWay left meets = absurd left
+met_of_left chains switches (end.Dropped s) left meets = absurd left
+met_of_left chains switches end.Lost left meets = absurd left
+
+module _ (net : Network) (tables : List (List Rule)) (demands : List DemandView) (entry : Place) (dst : ℕ) where
+  loop_is_bad : (s : SwitchId) → Loops net tables dst entry s → HasGoodPath net tables demands entry dst → ⊥
+  loop_is_bad s loops good =
+      let places = entry ∷ loops.front ++ loops.again ∷ [] in
+      let front = path_begins net tables entry dst (loops.front ++ loops.again ∷ []) good.trace loops.walk good.path in
+      let once : IsDistinct (along places) = subst IsDistinct (switches_along places) (distinct_prefix (map stop_of places) good.trace.stops front good.good.distinct) in
+      let split : along places ≡ along (entry ∷ loops.front) ++ loops.again.switch ∷ [] = map-push (λ (p : Place). p.switch) (entry ∷ loops.front) loops.again in
+      last_apart (along (entry ∷ loops.front)) loops.again.switch (subst IsDistinct split once) loops.seen
+
+  -- the path that ends so is the good path
+  good_so : (trace : Trace) → EndsSo net tables dst entry trace → HasGoodPath net tables demands entry dst → IsGood (duties_of demands entry dst) trace
+  good_so trace ends good = subst (IsGood (duties_of demands entry dst)) (path_one net tables entry dst good.trace trace good.path ends.path) good.good
+
+  -- what breaks duties is not good
+  pub break_is_bad : (how : How) → BreaksSo net tables (duties_of demands entry dst) entry dst how → ¬ HasGoodPath net tables demands entry dst
+  break_is_bad (Loop s) breaks good = loop_is_bad s breaks good
+  break_is_bad (Dropped s) (trace, ends, dropped, arrive) good = (good_so trace ends good).arrives arrive (subst IsDropped (sym dropped) tt)
+  break_is_bad (Missed w) (trace, ends, left, misses) good =
+      let switches = switches_of trace.stops in
+      let met = met_of_left (duties_of demands entry dst).chains switches trace.ended left (good_so trace ends good).chains in
+      let chain = misses.front ++ w ∷ misses.back in
+      let is_in : IsIn chain (duties_of demands entry dst).chains = subst (λ cs. IsIn chain cs) (sym misses.chains_are) (in_append_right chain misses.earlier (chain ∷ misses.later) (inl refl)) in
+      let whole = each_at (λ c. IsSubsequence c switches) (duties_of demands entry dst).chains chain met is_in in
+      misses.missed (first_part (misses.front ++ w ∷ []) misses.back switches (subst (λ c. IsSubsequence c switches) (sym (append_assoc misses.front (w ∷ []) misses.back)) whole))

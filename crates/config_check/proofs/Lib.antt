@@ -1,0 +1,4 @@
+pub mod ChainLaws
+pub mod BreakLaws
+pub mod AddressLaws
+pub mod JudgeLaws

@@ -1,0 +1,65 @@
+// How the path of a class breaks its duties.
+ghost use Rattle.std.specs.Prelude.{◌≡◌, ◌<◌, length, IfSome, IfNone};
+ghost use Rattle.std.specs.List.{AllByRecursion};
+ghost use Rattle.net_base.specs.Members.{IsSubsequence};
+ghost use Rattle.topology.specs.Networks.{switch_count};
+ghost use Rattle.flow_rules.specs.Tables.{rules_of_all};
+ghost use Rattle.dest_classes.specs.Classes.{class_count, IsClass};
+ghost use Rattle.demands.specs.Duties.{duties_of};
+ghost use Rattle.demands.specs.Good.{switches_of, HasGoodPath};
+ghost use Rattle.demands.specs.OfClass.{OfClass};
+ghost use Rattle.config_check.specs.Broken.{MissesAt, BreaksSo};
+
+use crate::How;
+use crate::waypoints::missed_waypoint;
+use demands::Duties;
+use dest_classes::Class;
+use flow_rules::Config;
+use net_base::{Stop, SwitchId};
+use path_walk::{PathEnd, PathRoom, walk};
+use topology::Net;
+
+/// The waypoint that the stops don't visit of the first chain of a class that they don't meet.
+fn missed(duties: &Duties, class: u32, stops: &[Stop]) -> Option<SwitchId>
+    requires { class < class_count duties.now.classes }
+    ensures none { IfNone result (OfClass duties.now class (λ d. AllByRecursion (λ chain. IsSubsequence chain (switches_of stops.now)) d.chains)) }
+    ensures some { IfSome result (λ w. OfClass duties.now class (λ d. MissesAt d.chains (switches_of stops.now) w)) }
+{
+    for i in 0..duties.chains(class) {
+        if let Some(waypoint) = missed_waypoint(duties.chain(class, i), stops) {
+            return Some(waypoint);
+        }
+    }
+    None
+}
+
+/// How the path of a class, the one with this number, breaks its duties, where it does.
+pub(crate) fn how_broken(
+    net: &Net,
+    config: &Config,
+    duties: &Duties,
+    number: u32,
+    class: Class,
+    room: &mut PathRoom,
+) -> Option<How>
+    requires tables { length config.now ≡ switch_count net.now }
+    requires entry { class.entry.switch.0 < switch_count net.now }
+    requires room { room.old.switches ≡ switch_count net.now }
+    requires number { number < class_count duties.now.classes }
+    requires class { IsClass duties.now.classes number class }
+    ensures none { IfNone result (HasGoodPath net.now (rules_of_all config.now) duties.now.demands class.entry class.first) }
+    ensures some { IfSome result (BreaksSo net.now (rules_of_all config.now) (duties_of duties.now.demands class.entry class.first) class.entry class.first) }
+    ensures same_room { room.new.switches ≡ room.old.switches }
+{
+    match walk(net, config, class.entry, class.first, room) {
+        PathEnd::Repeats(switch) => Some(How::Loop(switch)),
+        PathEnd::Dropped(switch) => {
+            if duties.must_arrive(number) {
+                Some(How::Dropped(switch))
+            } else {
+                None
+            }
+        }
+        PathEnd::Left(_, _) => Some(How::Missed(missed(duties, number, room.stops())?)),
+    }
+}

@@ -1,0 +1,25 @@
+//! Paths against duties.
+#![tactic(auto)]
+
+mod breaking;
+mod checking;
+pub mod laws;
+mod waypoints;
+
+pub use checking::check_config;
+use net_base::SwitchId;
+
+/// How a path breaks its duties: it visits a switch again, is dropped there and must arrive, or misses a waypoint.
+#[derive(Clone, Copy, Debug, PartialEq, Eq)]
+pub enum How {
+    Loop(SwitchId),
+    Dropped(SwitchId),
+    Missed(SwitchId),
+}
+
+/// A class whose path isn't good, and how.
+#[derive(Clone, Copy, Debug, PartialEq, Eq)]
+pub struct Breaks {
+    pub class: u32,
+    pub how: How,
+}
