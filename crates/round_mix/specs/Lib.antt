@@ -1,0 +1,6 @@
+pub mod Marks
+pub mod Prepared
+pub mod Faults
+pub mod Found
+pub mod Scan
+pub mod Order

@@ -1,0 +1,83 @@
+//! The rules of a switch, marked by the changes of a round.
+ghost use Rattle.std.specs.Prelude.{◌≡◌, ◌+◌, ◌≤◌, ◌++◌, length, map, vec_len, vec_capacity};
+ghost use Rattle.std.specs.Option.{option_map_or};
+ghost use Rattle.round_mix.specs.Marks.{mark_by, change_of, marked, inserted, marked_rules, all_rules};
+
+use crate::{Mark, MarkedRule, put};
+use flow_rules::Rule;
+use update_model::Change;
+
+/// The mark of the rule that a change names.
+fn mark_by(change: &Change) -> Mark
+    ensures { result ≡ mark_by change.now }
+{
+    match *change {
+        Change::Insert(_, _) | Change::Delete(_, _) => Mark::Possible,
+        Change::Replace(_, rule) => Mark::Replaced(rule.action),
+    }
+}
+
+/// The change that names the key of a rule, where one does.
+fn change_of(changes: &[Change], rule: &Rule) -> Option<Change>
+    ensures { result ≡ change_of changes.now rule.now }
+{
+    changes
+        .iter()
+        .copied()
+        .find(|change| change.rule().key.is_same(&rule.key))
+}
+
+/// The mark of a rule: it is sure where no change names its key.
+fn mark_of(changes: &[Change], rule: &Rule) -> Mark
+    ensures { result ≡ option_map_or mark_by (change_of changes.now rule.now) Mark.Sure }
+{
+    match change_of(changes, rule) {
+        None => Mark::Sure,
+        Some(change) => mark_by(&change),
+    }
+}
+
+/// A rule with its mark.
+fn mark(changes: &[Change], rule: &Rule) -> MarkedRule
+    ensures { result ≡ marked changes.now rule.now }
+{
+    MarkedRule {
+        rule: *rule,
+        mark: mark_of(changes, rule),
+    }
+}
+
+/// Puts the rules of the table, marked.
+fn put_table(changes: &[Change], rules: &[Rule], marks: &mut Vec<MarkedRule>)
+    requires { vec_len marks.old + length rules.now ≤ vec_capacity marks.old }
+    ensures items { marks.new.items ≡ marks.old.items ++ map (marked changes.now) rules.now }
+    ensures room { vec_capacity marks.old ≤ vec_capacity marks.new }
+{
+    for rule in rules {
+        put(marks, mark(changes, rule));
+    }
+}
+
+/// Puts the rules that the changes insert, marked.
+fn put_inserted(changes: &[Change], marks: &mut Vec<MarkedRule>)
+    requires { vec_len marks.old + length (inserted changes.now) ≤ vec_capacity marks.old }
+    ensures items { marks.new.items ≡ marks.old.items ++ map (marked changes.now) (inserted changes.now) }
+    ensures room { vec_capacity marks.old ≤ vec_capacity marks.new }
+{
+    for change in changes {
+        if let Change::Insert(_, rule) = change {
+            put(marks, mark(changes, rule));
+        }
+    }
+}
+
+/// Replaces the list by the rules of the table and the inserted ones, marked.
+pub fn fill(changes: &[Change], rules: &[Rule], marks: &mut Vec<MarkedRule>)
+    requires { length (all_rules rules.now changes.now) ≤ vec_capacity marks.old }
+    ensures items { marks.new.items ≡ marked_rules rules.now changes.now }
+    ensures room { vec_capacity marks.old ≤ vec_capacity marks.new }
+{
+    marks.clear();
+    put_table(changes, rules, marks);
+    put_inserted(changes, marks);
+}
