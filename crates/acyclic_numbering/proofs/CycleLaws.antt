@@ -1,0 +1,87 @@
+-- A walk that comes to a switch it has visited closes there.
+use Rattle.std.proofs.Common.{◌≡◌, ◌⊎◌, ℕ, zero, suc, Bool, true, false, List, [], ◌∷◌, ◌++◌, length, length-set, set, drop, replicate, refl, sym, ◌∙◌, subst, ap, inl, inr, arith}
+use Rattle.std.specs.Prelude.{slice_get, Some, None}
+use Rattle.std.proofs.lemmas.Bool.{cases_eq}
+use Rattle.std.proofs.lemmas.List.{get_or-set_other, get_or-replicate, length-replicate}
+use Rattle.net_base.specs.Members.{IsIn}
+use Rattle.net_base.specs.Walks.{IsWalk, end_of}
+use Rattle.net_base.proofs.WalkLaws.{IsWalk-push, end_of-push}
+use Rattle.net_base.proofs.MemberLaws.{in_append_left, in_append_right}
+use Rattle.net_base.specs.declared.ids.SwitchId.{SwitchId}
+use Rattle.acyclic_numbering.specs.Heights.{AreHeights}
+use Rattle.acyclic_numbering.specs.Numbered.{IsOpen, AreHeightsSoFar, IsWalkedSoFar, IsClosedWalk}
+use Rattle.net_base.proofs.NameLaws.{same_switch}
+
+module _ (edge : SwitchId → SwitchId → Type 0) where
+  closed_here : (start at next : SwitchId) (rest : List SwitchId) → IsWalk edge start rest → end_of start rest ≡ at → start ≡ next → edge at next → IsClosedWalk edge ((start ∷ rest) ++ next ∷ [])
+  closed_here start at next [] walk ends same goes = record {
+    start = start;
+    next = next;
+    rest = [];
+    is = refl;
+    cycle = record { walk = (subst (λ (x : SwitchId). edge x next) (sym ends) goes, tt); closed = sym same };
+  }
+  closed_here start at next (n ∷ rest) walk ends same goes = record {
+    start = start;
+    next = n;
+    rest = rest ++ next ∷ [];
+    is = refl;
+    cycle = record {
+      walk = IsWalk-push edge start (n ∷ rest) next walk (subst (λ (x : SwitchId). edge x next) (sym ends) goes);
+      closed = end_of-push n rest next ∙ sym same;
+    };
+  }
+
+  pub closed_from_walk : (p : ℕ) (start at next : SwitchId) (rest : List SwitchId) → IsWalk edge start rest → end_of start rest ≡ at → slice_get (start ∷ rest) p ≡ Some next → edge at next
+      → IsClosedWalk edge (drop p (start ∷ rest) ++ next ∷ [])
+  closed_from_walk zero start at next rest walk ends is goes = let same : start ≡ next = cc in closed_here start at next rest walk ends same goes
+  closed_from_walk (suc p) start at next [] walk ends is goes = absurd (let f : None ≡ Some next = is in cc)
+  closed_from_walk (suc p) start at next (n ∷ rest) walk ends is goes = closed_from_walk p n at next rest walk.1 ends is goes
+
+  -- one switch more
+  pub walked_more : (pending left : List Bool) (at next : SwitchId) (switches new : List SwitchId) → IsWalkedSoFar edge pending left at switches → edge at next → IsOpen pending next
+      → new ≡ switches ++ next ∷ [] → IsWalkedSoFar edge pending (set left next.0 false) next new
+  walked_more pending left at next switches new so_far goes opens is = record {
+    start = so_far.start;
+    rest = so_far.rest ++ next ∷ [];
+    is = is ∙ ap (λ (xs : List SwitchId). xs ++ next ∷ []) so_far.is;
+    walk = IsWalk-push edge so_far.start so_far.rest next so_far.walk (subst (λ (x : SwitchId). edge x next) (sym so_far.ends) goes);
+    ends = end_of-push so_far.start so_far.rest next;
+    at_open = opens;
+    count = length-set left next.0 false ∙ so_far.count;
+    seen = λ t o. subst (λ (xs : List SwitchId). IsOpen (set left next.0 false) t ⊎ IsIn t xs) (sym is) (elim (cases_eq t.0 next.0) [
+      | inl e ↦ inr (in_append_right t switches (next ∷ []) (inl (same_switch t next e)))
+      | inr ne ↦ elim (so_far.seen t o) [
+        | inl l ↦ inl (get_or-set_other left next.0 t.0 false false ne ∙ l)
+        | inr i ↦ inr (in_append_left t switches (next ∷ []) i)
+      ]
+    ]);
+  }
+
+  pub walked_start : (pending : List Bool) (start : SwitchId) (switches : List SwitchId) (left : List Bool) → IsOpen pending start → switches ≡ start ∷ [] → left ≡ pending → IsWalkedSoFar edge pending left start switches
+  walked_start pending start switches left opens is same = record {
+    start = start;
+    rest = [];
+    is = is;
+    walk = tt;
+    ends = refl;
+    at_open = opens;
+    count = ap length same;
+    seen = λ t o. inl (subst (λ (xs : List Bool). IsOpen xs t) (sym same) o);
+  }
+
+  -- nothing has a number at the start, and everything at the end
+  pub so_far_none : (n : ℕ) → AreHeightsSoFar edge (replicate n true) (replicate n 0)
+  so_far_none n =
+      let p = length-replicate n true in
+      record {
+        count = length-replicate n 0 ∙ sym (length-replicate n true);
+        each = λ s within closed. absurd (closed (get_or-replicate n s.0 true false (omega arith)));
+        low = λ s within closed. absurd (closed (get_or-replicate n s.0 true false (omega arith)));
+      }
+
+  pub heights_from_all : (pending : List Bool) (numbers : List ℕ) (n : ℕ) → AreHeightsSoFar edge pending numbers → length pending ≡ n → ((s : SwitchId) → ¬ IsOpen pending s) → AreHeights edge n numbers
+  heights_from_all pending numbers n so_far len none = record {
+    count = so_far.count ∙ len;
+    each = λ s within. so_far.each s (omega arith) (none s);
+  }

@@ -1,0 +1,13 @@
+pub mod Falling
+pub mod Guarded
+pub mod SameClass
+pub mod Labelled
+pub mod Consistency
+pub mod Untouched
+pub mod TreeTables
+pub mod TreeRounds
+pub mod TreeWalks
+pub mod TreePaths
+pub mod TreeSteps
+pub mod TreeLaw
+pub mod Chains

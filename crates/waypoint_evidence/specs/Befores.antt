@@ -1,0 +1,49 @@
+-- Before sets: a packet in the set of a waypoint has yet to meet it.
+use Rattle.std.specs.Prelude.{◌≡◌, ◌⊎◌, ℕ, ◌+◌, Bool, true, false, List, [], ◌∷◌, Option, Some, None}
+use Rattle.net_base.specs.Members.{IsIn}
+use Rattle.net_base.specs.declared.ids.SwitchId.{SwitchId}
+use Rattle.acyclic_numbering.specs.declared.Edge.{Edge}
+
+-- the places that are marked, counted from a number
+abbrev pub marked_from : ℕ → List Bool → List ℕ
+marked_from n [] = []
+marked_from n (true ∷ marks) = n ∷ marked_from (n + 1) marks
+marked_from n (false ∷ marks) = marked_from (n + 1) marks
+
+-- the set holds the switch
+abbrev pub Holds : List ℕ → SwitchId → Type 0
+Holds set s = IsIn s.0 set
+
+-- the set of the position before holds the switch; a first position has no such set
+abbrev pub HoldsEarlier : Option (List ℕ) → SwitchId → Type 0
+HoldsEarlier None s = ⊥
+HoldsEarlier (Some set) s = Holds set s
+
+-- the position is the first of its chain
+abbrev pub IsFirst : Option (List ℕ) → Type 0
+IsFirst None = Unit {0}
+IsFirst (Some set) = ⊥
+
+-- a set that is left only to the waypoint: it holds the start, unless the position is a first one and the start is the waypoint,
+-- and the end of each edge that begins in it, unless the edge goes to the waypoint from outside the set before
+pub record IsBeforeSet (start : SwitchId) (edge : SwitchId → SwitchId → Type 0) (waypoint : SwitchId) (earlier : Option (List ℕ)) (set : List ℕ) : Type 0 where
+  pub begins : Holds set start ⊎ (IsFirst earlier × (start ≡ waypoint))
+  pub stays : (s t : SwitchId) → edge s t → Holds set s → Holds set t ⊎ ((¬ HoldsEarlier earlier s) × (t ≡ waypoint))
+
+-- the set guards the waypoint: no packet leaves the network from it
+pub record IsGuard (start : SwitchId) (edge : SwitchId → SwitchId → Type 0) (leaves : SwitchId → Type 0) (waypoint : SwitchId) (earlier : Option (List ℕ)) (set : List ℕ) : Type 0 where
+  pub before : IsBeforeSet start edge waypoint earlier set
+  pub keeps : (s : SwitchId) → leaves s → ¬ Holds set s
+
+-- the least of the sets that are left only to the waypoint
+pub record IsLeastBefore (start : SwitchId) (edge : SwitchId → SwitchId → Type 0) (waypoint : SwitchId) (earlier : Option (List ℕ)) (set : List ℕ) : Type 0 where
+  pub before : IsBeforeSet start edge waypoint earlier set
+  pub least : (other : List ℕ) → IsBeforeSet start edge waypoint earlier other → (s : SwitchId) → Holds set s → Holds other s
+
+-- one step of a packet that has still to meet the waypoint
+abbrev pub MissesStep : (SwitchId → SwitchId → Type 0) → SwitchId → Option (List ℕ) → SwitchId → SwitchId → Type 0
+MissesStep edge waypoint earlier s t = edge s t × ((t ≡ waypoint) → HoldsEarlier earlier s)
+
+-- the edge leaves the set only to the waypoint, from outside the set before
+abbrev pub Stays : List ℕ → SwitchId → Option (List ℕ) → Edge → Type 0
+Stays set waypoint earlier edge = Holds set edge.from → Holds set edge.to ⊎ ((¬ HoldsEarlier earlier edge.from) × (edge.to ≡ waypoint))

@@ -1,0 +1,374 @@
+//! Sets of switches that a packet doesn't leave before it meets a waypoint.
+#![tactic(auto)]
+
+ghost use Rattle.std.specs.Prelude.{◌≡◌, ◌↔◌, ◌⊎◌, ◌<◌, ◌+◌, ◌≤◌, ℕ, List, [], ◌∷◌, ◌++◌, length, IsTrue, All, map, MatchOption, IfOk, OnOk};
+ghost use Rattle.net_base.specs.Members.{IsIn};
+ghost use Rattle.std.specs.List.{AllByRecursion};
+ghost use Rattle.std.specs.Option.{option_copied};
+ghost use Rattle.net_base.specs.declared.ids.SwitchId.{SwitchId};
+ghost use Rattle.waypoint_evidence.specs.Befores.{marked_from, Holds, HoldsEarlier, IsFirst, IsBeforeSet, IsGuard, Stays, MissesStep};
+ghost use Rattle.waypoint_evidence.specs.Grown.{AreChained, IsGrown, IsKnown, IsWalkTo, IsBefored};
+ghost use Rattle.acyclic_numbering.specs.Heights.{IsEdge};
+
+use acyclic_numbering::{Edge, SwitchList};
+use net_base::SwitchId;
+use std::alloc::{AllocError, Global};
+use std::marker::Model;
+
+/// A set of switches below 128.
+#[derive(Drop)]
+pub struct Before {
+    marks: [bool; 128],
+}
+
+impl Model for Before {
+    ghost use Rattle.std.specs.Prelude.{List, ℕ};
+    ghost use Rattle.waypoint_evidence.specs.Befores.{marked_from};
+
+    ghost Value = { List ℕ };
+
+    ghost view = { λ b. marked_from 0 b.marks };
+}
+
+/// The least before set, or a walk of edges that misses the waypoint.
+#[derive(Drop)]
+pub enum Befored {
+    Set(Before),
+    Walk(SwitchList),
+}
+
+impl Before {
+    /// The empty set.
+    pub fn none() -> Before
+        ensures { result ≡ [] }
+    {
+        Before {
+            marks: [false; 128],
+        }
+    }
+
+    /// Adds a switch.
+    pub fn put(&mut self, s: SwitchId)
+        requires { s.0 < 128 }
+        ensures holds { (t : SwitchId) → Holds self.new t ↔ ((t ≡ s) ⊎ Holds self.old t) }
+        ensures more { ¬ Holds self.old s → length self.new ≡ length self.old + 1 }
+        ensures most { length self.new ≤ 128 }
+        ensures last { AllByRecursion (λ t. t < s.0) self.old → self.new ≡ self.old ++ s.0 ∷ [] }
+    {
+        self.marks[s.0 as usize] = true;
+    }
+
+    /// For each number below 128 whether the switch of that number is in the set.
+    pub fn marks(&self) -> &[bool]
+        ensures value { marked_from 0 result.now ≡ self.now }
+        ensures len { length result.now ≡ 128 }
+    {
+        &self.marks
+    }
+
+    /// Whether the set holds a switch.
+    pub fn holds(&self, s: SwitchId) -> bool
+        requires { s.0 < 128 }
+        ensures { IsTrue result ↔ Holds self.now s }
+    {
+        self.marks[s.0 as usize]
+    }
+}
+
+/// Whether the set of the position before holds a switch.
+fn holds_earlier(earlier: Option<&Before>, s: SwitchId) -> bool
+    requires { s.0 < 128 }
+    ensures { IsTrue result ↔ HoldsEarlier (option_copied earlier.entry) s }
+{
+    match earlier {
+        None => false,
+        Some(set) => set.holds(s),
+    }
+}
+
+/// Whether the edge goes to the waypoint from outside the set before.
+fn meets(edge: Edge, waypoint: SwitchId, earlier: Option<&Before>) -> bool
+    requires { edge.from.0 < 128 }
+    ensures { IsTrue result ↔ ((¬ HoldsEarlier (option_copied earlier.entry) edge.from) × (edge.to ≡ waypoint)) }
+{
+    edge.to.0 == waypoint.0 && !holds_earlier(earlier, edge.from)
+}
+
+/// Whether the set is not left by the edge, or only to the waypoint.
+fn stays(before: &Before, edge: Edge, waypoint: SwitchId, earlier: Option<&Before>) -> bool
+    requires { (edge.from.0 < 128) × (edge.to.0 < 128) }
+    ensures { IsTrue result ↔ Stays before.now waypoint (option_copied earlier.entry) edge }
+{
+    !before.holds(edge.from) || before.holds(edge.to) || meets(edge, waypoint, earlier)
+}
+
+/// An edge by which the set is left other than to the waypoint.
+fn way_out(
+    before: &Before,
+    edges: &[Edge],
+    waypoint: SwitchId,
+    earlier: Option<&Before>,
+) -> Option<Edge>
+    requires { All (λ e. (e.from.0 < 128) × (e.to.0 < 128)) edges.now }
+    ensures { MatchOption result (All (Stays before.now waypoint (option_copied earlier.entry)) edges.now) (λ e. IsIn e edges.now × ¬ Stays before.now waypoint (option_copied earlier.entry) e) }
+{
+    for edge in edges {
+        if !stays(before, *edge, waypoint, earlier) {
+            return Some(*edge);
+        }
+    }
+    None
+}
+
+/// The first of the switches that the set holds.
+fn first_held(before: &Before, switches: &[SwitchId]) -> Option<SwitchId>
+    requires { All (λ s. s.0 < 128) switches.now }
+    ensures { MatchOption result (All (λ s. ¬ Holds before.now s) switches.now) (λ s. IsIn s switches.now × Holds before.now s) }
+{
+    for s in switches {
+        if before.holds(*s) {
+            return Some(*s);
+        }
+    }
+    None
+}
+
+/// Whether the position is a first one and the start is its waypoint.
+fn starts_there(start: SwitchId, waypoint: SwitchId, earlier: Option<&Before>) -> bool
+    ensures { IsTrue result ↔ (IsFirst (option_copied earlier.entry) × (start ≡ waypoint)) }
+{
+    earlier.is_none() && start.0 == waypoint.0
+}
+
+/// Whether the set holds the start, or the position is a first one and the start is the waypoint.
+fn begins(before: &Before, start: SwitchId, waypoint: SwitchId, earlier: Option<&Before>) -> bool
+    requires { start.0 < 128 }
+    ensures { IsTrue result ↔ (Holds before.now start ⊎ (IsFirst (option_copied earlier.entry) × (start ≡ waypoint))) }
+{
+    before.holds(start) || starts_there(start, waypoint, earlier)
+}
+
+/// Whether each edge stays in the set, or goes from outside the set before to the waypoint.
+fn all_stay(before: &Before, edges: &[Edge], waypoint: SwitchId, earlier: Option<&Before>) -> bool
+    requires { All (λ e. (e.from.0 < 128) × (e.to.0 < 128)) edges.now }
+    ensures { IsTrue result ↔ All (Stays before.now waypoint (option_copied earlier.entry)) edges.now }
+{
+    match way_out(before, edges, waypoint, earlier) {
+        None => true,
+        Some(_) => false,
+    }
+}
+
+/// Whether the set holds none of the switches.
+fn holds_none(before: &Before, switches: &[SwitchId]) -> bool
+    requires { All (λ s. s.0 < 128) switches.now }
+    ensures { IsTrue result ↔ All (λ s. ¬ Holds before.now s) switches.now }
+{
+    match first_held(before, switches) {
+        None => true,
+        Some(_) => false,
+    }
+}
+
+/// Whether the set is left only to the waypoint.
+fn is_before_set(
+    before: &Before,
+    start: SwitchId,
+    edges: &[Edge],
+    waypoint: SwitchId,
+    earlier: Option<&Before>,
+) -> bool
+    requires start { start.0 < 128 }
+    requires edges { All (λ e. (e.from.0 < 128) × (e.to.0 < 128)) edges.now }
+    ensures { IsTrue result ↔ IsBeforeSet start (IsEdge edges.now) waypoint (option_copied earlier.entry) before.now }
+{
+    begins(before, start, waypoint, earlier) && all_stay(before, edges, waypoint, earlier)
+}
+
+/// Whether the set guards the waypoint: it holds the start, unless the position is a first one and
+/// the start is the waypoint, is left only to the waypoint, and holds no leaving switch.
+pub fn closed(
+    before: &Before,
+    start: SwitchId,
+    edges: &[Edge],
+    leaving: &[SwitchId],
+    waypoint: SwitchId,
+    earlier: Option<&Before>,
+) -> bool
+    requires start { start.0 < 128 }
+    requires edges { All (λ e. (e.from.0 < 128) × (e.to.0 < 128)) edges.now }
+    requires leaving { All (λ s. s.0 < 128) leaving.now }
+    ensures { IsTrue result ↔ IsGuard start (IsEdge edges.now) (λ s. IsIn s leaving.now) waypoint (option_copied earlier.entry) before.now }
+{
+    is_before_set(before, start, edges, waypoint, earlier) && holds_none(before, leaving)
+}
+
+/// Puts the start and each switch that an edge leads to from the set, but for the edges that the
+/// waypoint allows; the steps are the edges by which it grew.
+fn grow(
+    alloc: Global,
+    before: &mut Before,
+    start: SwitchId,
+    edges: &[Edge],
+    waypoint: SwitchId,
+    earlier: Option<&Before>,
+) -> Result<Vec<Edge>, AllocError>
+    requires empty { before.old ≡ [] }
+    requires start { start.0 < 128 }
+    requires edges { All (λ e. (e.from.0 < 128) × (e.to.0 < 128)) edges.now }
+    ensures grown { IfOk result (λ steps. IsGrown start (MissesStep (IsEdge edges.now) waypoint (option_copied earlier.entry)) steps.items before.new) }
+    ensures full { OnOk result (All (Stays before.new waypoint (option_copied earlier.entry)) edges.now) }
+{
+    let mut steps = Vec::new(alloc);
+    before.put(start);
+    'growing: while let Some(edge) = way_out(before, edges, waypoint, earlier) {
+        before.put(edge.to);
+        steps.push(edge)?;
+    }
+    Ok(steps)
+}
+
+/// The walk from the start to a switch that the steps lead to.
+fn walk_to(
+    alloc: Global,
+    start: SwitchId,
+    steps: &[Edge],
+    end: SwitchId,
+) -> Result<Vec<SwitchId>, AllocError>
+    requires chained { AreChained start steps.now }
+    requires known { IsKnown start steps.now end }
+    ensures { IfOk result (λ walk. IsWalkTo start (IsEdge steps.now) end walk.items) }
+{
+    let mut walk = Vec::new(alloc);
+    walk.push(end)?;
+    let mut at = end;
+    let mut k = steps.len();
+    while k > 0 {
+        k -= 1;
+        if steps[k].to.0 == at.0 {
+            at = steps[k].from;
+            walk.push(at)?;
+        }
+    }
+    walk.reverse();
+    Ok(walk)
+}
+
+/// The least set that is left only to the waypoint, where it holds no leaving switch, or a walk to
+/// one that misses the waypoint. `earlier` is the set of the position before in the chain; None says
+/// a first position. It looks at each edge once for each switch of the set at most.
+pub fn before_set(
+    alloc: Global,
+    switches: u32,
+    start: SwitchId,
+    edges: &[Edge],
+    leaving: &[SwitchId],
+    waypoint: SwitchId,
+    earlier: Option<&Before>,
+) -> Result<Befored, AllocError>
+    requires switches { switches ≤ 128 }
+    requires start { start.0 < switches }
+    requires edges { All (λ e. (e.from.0 < switches) × (e.to.0 < switches)) edges.now }
+    requires leaving { All (λ s. s.0 < switches) leaving.now }
+    ensures { IfOk result (λ found. IsBefored start edges.now leaving.now waypoint (option_copied earlier.entry) found) }
+{
+    let mut before = Before::none();
+    if starts_there(start, waypoint, earlier) {
+        return Ok(Befored::Set(before));
+    }
+    let steps = grow(alloc, &mut before, start, edges, waypoint, earlier)?;
+    match first_held(&before, leaving) {
+        None => Ok(Befored::Set(before)),
+        Some(end) => Ok(Befored::Walk(SwitchList::of(walk_to(alloc, start, &steps, end)?))),
+    }
+}
+
+#[cfg(test)]
+mod tests {
+    use super::*;
+    use std::test::Fail;
+
+    // a line 0, 1, 2, 3 and a way round 1
+    const EDGES: [Edge; 4] = [
+        Edge {
+            from: SwitchId(0),
+            to: SwitchId(1),
+        },
+        Edge {
+            from: SwitchId(1),
+            to: SwitchId(2),
+        },
+        Edge {
+            from: SwitchId(2),
+            to: SwitchId(3),
+        },
+        Edge {
+            from: SwitchId(0),
+            to: SwitchId(2),
+        },
+    ];
+
+    #[test]
+    fn the_set_ends_before_the_waypoint(rt: HostRuntime) -> Result<(), Fail> {
+        match before_set(
+            rt.alloc(),
+            4,
+            SwitchId(0),
+            &EDGES,
+            &[SwitchId(3)],
+            SwitchId(2),
+            None,
+        )? {
+            Befored::Set(set) => {
+                assert!(rt; set.holds(SwitchId(0)) && set.holds(SwitchId(1)));
+                assert!(rt; !set.holds(SwitchId(2)) && !set.holds(SwitchId(3)));
+            }
+            Befored::Walk(walk) => {
+                assert!(rt; walk.switches().is_empty(), "no walk misses switch 2");
+            }
+        }
+        Ok(())
+    }
+
+    #[test]
+    fn a_way_round_misses_the_waypoint(rt: HostRuntime) -> Result<(), Fail> {
+        match before_set(
+            rt.alloc(),
+            4,
+            SwitchId(0),
+            &EDGES,
+            &[SwitchId(3)],
+            SwitchId(1),
+            None,
+        )? {
+            Befored::Set(_) => assert!(rt; false, "a walk misses switch 1"),
+            Befored::Walk(walk) => {
+                let wanted = [SwitchId(0), SwitchId(2), SwitchId(3)];
+                assert_eq!(rt; walk.switches(), wanted.as_slice());
+            }
+        }
+        Ok(())
+    }
+
+    #[test]
+    fn a_second_waypoint_is_met_from_outside_the_first_set(rt: HostRuntime) -> Result<(), Fail> {
+        let mut first = Before::none();
+        first.put(SwitchId(0));
+        match before_set(
+            rt.alloc(),
+            4,
+            SwitchId(0),
+            &EDGES,
+            &[SwitchId(3)],
+            SwitchId(2),
+            Some(&first),
+        )? {
+            Befored::Set(_) => assert!(rt; false, "switch 2 may be met before switch 1"),
+            Befored::Walk(walk) => {
+                let wanted = [SwitchId(0), SwitchId(2), SwitchId(3)];
+                assert_eq!(rt; walk.switches(), wanted.as_slice());
+            }
+        }
+        Ok(())
+    }
+}
