@@ -1,0 +1,10 @@
+use Rattle.planner_cli.specs.Answers.{dialogue}
+use Rattle.planner_cli.proofs.run.reply_to.Goals as goal
+
+pub returns-in-Config-clause-meets : goal.returns-in-Config-clause-meets
+unfolding dialogue
+returns-in-Config-clause-meets g c = rw (← c.in-Config.ensures) c.config.ensures.meets
+
+pub returns-in_ok-usage-in-Usage-clause-meets : goal.returns-in_ok-usage-in-Usage-clause-meets
+unfolding dialogue
+returns-in_ok-usage-in-Usage-clause-meets g c = rw (← c.in-Usage.ensures) (c.in_ok-usage-in-Usage.ensures, tt {0})

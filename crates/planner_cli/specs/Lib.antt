@@ -1,0 +1,9 @@
+pub mod Kinds
+pub mod Asked
+pub mod Lines
+pub mod Verdicts
+pub mod Dialogue
+pub mod Answers
+pub mod Replies
+pub mod Runs
+pub mod Configs

@@ -1,0 +1,54 @@
+//! The program: it reads the words of the command line and the files that they name, and writes one answer.
+#![tactic(auto)]
+
+mod command;
+mod config;
+#[cfg(test)]
+mod example_files;
+mod exit;
+mod faults;
+mod files;
+mod kinds;
+mod lines;
+mod readings;
+mod reply;
+mod run;
+mod status;
+#[cfg(test)]
+mod tests;
+mod verdict;
+
+use crate::run::run;
+use crate::status::Status;
+use net_base::{FileSource, StdoutSink};
+use std::process::ExitCode;
+use std::rt::Env;
+use std::{env, io};
+
+// The words after the program's name, or how a run without them ends.
+fn words_of<R: Env + AllocGlobal>(rt: &R) -> Result<Vec<String>, Status> {
+    let args = match env::args(rt) {
+        Ok(args) => args,
+        Err(e) if e.kind() == io::ErrorKind::OutOfMemory => return Err(Status::Memory),
+        Err(_) => return Err(Status::Usage),
+    };
+    let mut words = Vec::new(rt.alloc());
+    for word in args.skip(1) {
+        if words.push(word).is_err() {
+            return Err(Status::Memory);
+        }
+    }
+    Ok(words)
+}
+
+fn main(rt: HostRuntime) -> ExitCode {
+    let status = match words_of(&rt) {
+        Ok(words) => {
+            let mut source = FileSource::make(&rt);
+            let mut sink = StdoutSink::make(&rt);
+            run(rt.alloc(), &words, &mut source, &mut sink)
+        }
+        Err(status) => status,
+    };
+    ExitCode::from(status.code())
+}

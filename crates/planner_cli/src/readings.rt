@@ -1,0 +1,138 @@
+// What the files mean: each is fetched and then read.
+ghost use Rattle.std.specs.Prelude.{◌≡◌, ◌≤◌, ℕ, List, IfOk, IfErr, OnOk, Ok, Some, Option, option_map};
+ghost use Rattle.topology.specs.Networks.{Network};
+ghost use Rattle.topology.specs.Topology.{network_in};
+ghost use Rattle.flow_rules.specs.Tables.{rules_of_all};
+ghost use Rattle.flow_rules.specs.declared.rules.Rule.{Rule};
+ghost use Rattle.path_walk.specs.UserConfigs.{IsUserConfig};
+ghost use Rattle.config_files.specs.Configuration.{configuration_in};
+ghost use Rattle.demands.specs.Duties.{DemandView};
+ghost use Rattle.demands.specs.Policy.{demands_in};
+ghost use Rattle.planner_cli.specs.Kinds.{limit_of};
+ghost use Rattle.planner_cli.specs.declared.kinds.FileKind.{FileKind};
+ghost use Rattle.planner_cli.specs.declared.kinds.FileKind.TheVariants as «kind»;
+ghost use Rattle.planner_cli.specs.Lines.{net_words, config_words, demand_words};
+ghost use Rattle.planner_cli.specs.Dialogue.{Dialogue, IsWhole};
+ghost use Rattle.planner_cli.specs.Answers.{reading_topology, reading_config, reading_policy};
+ghost use Rattle.planner_cli.specs.Replies.{answer_of, words_of, bad_answer, IsBad, Ends, GoesOn, kind_after};
+
+use crate::exit::Exit;
+use crate::faults::{Fault, config_fault, demand_fault, net_fault};
+use crate::files::fetch_file;
+use crate::kinds::FileKind;
+use crate::lines::bad_line;
+use crate::reply::Reply;
+use crate::status::Status;
+use config_files::{ConfigFault, read_config};
+use demands::{DemandFault, Demands, no_demands, read_demands};
+use flow_rules::Config;
+use net_base::{Memory, Source};
+use std::alloc::Global;
+use topology::{Net, NetFault, read_net};
+
+fn bad_reply(alloc: Global, kind: FileKind, fault: Fault) -> Result<Reply, Memory>
+    ensures { IfOk result (λ r. answer_of r ≡ bad_answer kind (words_of fault)) }
+{
+    Ok(Reply {
+        status: Status::BadFile,
+        text: bad_line(alloc, kind, fault)?,
+    })
+}
+
+// The network that the bytes mean.
+fn network_of(alloc: Global, bytes: &[u8]) -> Result<Net, Exit>
+    ensures ok { IfOk result (λ net. network_in bytes.now ≡ Ok net) }
+    ensures bad { IfErr result (λ e. IsBad FileKind.Topology net_words (network_in bytes.now) e) }
+{
+    match read_net(alloc, bytes) {
+        Ok(net) => Ok(net),
+        Err(NetFault::Memory) => Err(Exit::Memory),
+        Err(fault) => Err(Exit::Says(bad_reply(alloc, FileKind::Topology, net_fault(fault))?)),
+    }
+}
+
+// The configuration that the bytes mean.
+fn configuration_of(alloc: Global, kind: FileKind, net: &Net, bytes: &[u8]) -> Result<Config, Exit>
+    ensures ok { IfOk result (λ c. configuration_in net.now bytes.now ≡ Ok (rules_of_all c)) }
+    ensures user { IfOk result (λ c. IsUserConfig net.now (rules_of_all c)) }
+    ensures bad { IfErr result (λ e. IsBad kind config_words (configuration_in net.now bytes.now) e) }
+{
+    match read_config(alloc, net, bytes) {
+        Ok(config) => Ok(config),
+        Err(ConfigFault::Memory) => Err(Exit::Memory),
+        Err(fault) => Err(Exit::Says(bad_reply(alloc, kind, config_fault(fault))?)),
+    }
+}
+
+// The policy that the bytes mean.
+fn demands_of(alloc: Global, net: &Net, bytes: &[u8]) -> Result<Demands, Exit>
+    ensures ok { IfOk result (λ d. demands_in net.now bytes.now ≡ Ok d) }
+    ensures bad { IfErr result (λ e. IsBad FileKind.Policy demand_words (demands_in net.now bytes.now) e) }
+{
+    match read_demands(alloc, net, bytes) {
+        Ok(demands) => Ok(demands),
+        Err(DemandFault::Memory) => Err(Exit::Memory),
+        Err(fault) => Err(Exit::Says(bad_reply(alloc, FileKind::Policy, demand_fault(fault))?)),
+    }
+}
+
+/// Fetches and reads a topology.
+pub fn read_topology<S: Source>(alloc: Global, source: &mut S, name: &str) -> Result<Net, Exit>
+    ensures goes_on { IfOk result (λ v. (last : Option FileKind) (next : Network → Dialogue)
+        → GoesOn (S.held source.old) last (reading_topology name.now next) (Some FileKind.Topology) (next v)) }
+    ensures count { OnOk result (S.taken source.new ≤ limit_of FileKind.Topology) }
+    ensures stops { IfErr result (λ e. (last : Option FileKind) (next : Network → Dialogue)
+        → Ends (S.held source.old) last (reading_topology name.now next) (S.faults source.old) (S.faults source.new) e (S.taken source.new)) }
+    ensures held { S.held source.new ≡ S.held source.old }
+    ensures later { S.faults source.old ≤ S.faults source.new }
+{
+    let bytes = fetch_file(alloc, source, FileKind::Topology, name)?;
+    network_of(alloc, &bytes)
+}
+
+/// Fetches and reads a configuration of the network.
+pub fn read_configuration<S: Source>(
+    alloc: Global,
+    source: &mut S,
+    kind: FileKind,
+    net: &Net,
+    name: &str,
+) -> Result<Config, Exit>
+    ensures goes_on { IfOk result (λ v. (last : Option FileKind) (next : List (List Rule) → Dialogue)
+        → GoesOn (S.held source.old) last (reading_config kind net.now name.now next) (Some kind) (next (rules_of_all v))) }
+    ensures user { IfOk result (λ v. IsUserConfig net.now (rules_of_all v)) }
+    ensures count { OnOk result (S.taken source.new ≤ limit_of kind) }
+    ensures stops { IfErr result (λ e. (last : Option FileKind) (next : List (List Rule) → Dialogue)
+        → Ends (S.held source.old) last (reading_config kind net.now name.now next) (S.faults source.old) (S.faults source.new) e (S.taken source.new)) }
+    ensures held { S.held source.new ≡ S.held source.old }
+    ensures later { S.faults source.old ≤ S.faults source.new }
+{
+    let bytes = fetch_file(alloc, source, kind, name)?;
+    configuration_of(alloc, kind, net, &bytes)
+}
+
+/// Fetches and reads a policy of the network, if one is named; otherwise nothing is demanded.
+pub fn read_policy<S: Source>(
+    alloc: Global,
+    source: &mut S,
+    net: &Net,
+    name: Option<&str>,
+) -> Result<Demands, Exit>
+    ensures goes_on { let name_bytes = option_map (λ n. n.now) name.entry in
+        IfOk result (λ v. (last : Option FileKind) (next : List DemandView → Dialogue)
+        → GoesOn (S.held source.old) last (reading_policy net.now name_bytes next) (kind_after name_bytes last) (next v)) }
+    ensures count { (last : Option FileKind) → IsWhole last (S.taken source.old)
+        → OnOk result (IsWhole (kind_after (option_map (λ n. n.now) name.entry) last) (S.taken source.new)) }
+    ensures stops { IfErr result (λ e. (last : Option FileKind) (next : List DemandView → Dialogue)
+        → Ends (S.held source.old) last (reading_policy net.now (option_map (λ n. n.now) name.entry) next) (S.faults source.old) (S.faults source.new) e (S.taken source.new)) }
+    ensures held { S.held source.new ≡ S.held source.old }
+    ensures later { S.faults source.old ≤ S.faults source.new }
+{
+    match name {
+        None => Ok(no_demands(alloc)?),
+        Some(name) => {
+            let bytes = fetch_file(alloc, source, FileKind::Policy, name)?;
+            demands_of(alloc, net, &bytes)
+        }
+    }
+}

@@ -1,0 +1,145 @@
+// The top call.
+ghost use Rattle.std.specs.Prelude.{◌≡◌, ◌⊎◌, ◌↔◌, ◌≤◌, ℕ, List, Option, None, Some, map, string_bytes, IfOk};
+ghost use Rattle.std.specs.Io.KnownBytes.{Appends, Keeps};
+ghost use Rattle.net_base.specs.Causes.{Rose};
+ghost use Rattle.net_base.specs.Outside.{Files, AppendsFront};
+ghost use Rattle.topology.specs.Networks.{Network};
+ghost use Rattle.flow_rules.specs.declared.rules.Rule.{Rule};
+ghost use Rattle.demands.specs.Duties.{DemandView};
+ghost use Rattle.planner_cli.specs.Lines.{usage_line, classes_line};
+ghost use Rattle.planner_cli.specs.Verdicts.{count_under};
+ghost use Rattle.planner_cli.specs.Dialogue.{Line, IsSaid, Lacks};
+ghost use Rattle.planner_cli.specs.Asked.{Config, Usage, asked};
+ghost use Rattle.planner_cli.specs.Answers.{dialogue};
+ghost use Rattle.planner_cli.specs.Replies.{answer_of, Meets};
+ghost use Rattle.planner_cli.specs.Configs.{FilesMean, FilesHold, FilesBreak, FilesMakeTooMany, NamesFirstBreak, KeepsPacketsGood};
+ghost use Rattle.planner_cli.specs.Runs.{IsSettled, EndsAs, AnswersAll, AnswersFront};
+
+use crate::command::{Command, command_of};
+use crate::config::config;
+use crate::exit::Exit;
+use crate::lines::usage_line;
+use crate::reply::Reply;
+use crate::status::Status;
+use net_base::{Memory, Sink, Source, WriteFault, pour};
+use std::alloc::Global;
+
+fn usage(alloc: Global) -> Result<Reply, Memory>
+    ensures { IfOk result (λ r. IsSaid (Line Status.Usage usage_line) (answer_of r)) }
+{
+    Ok(Reply {
+        status: Status::Usage,
+        text: usage_line(alloc)?,
+    })
+}
+
+// The reply to the words.
+fn reply_to<S: Source>(alloc: Global, words: &[String], source: &mut S) -> Result<Reply, Exit>
+    ensures meets { Meets (S.held source.old) None (dialogue (map string_bytes words.now)) (S.faults source.old) (S.faults source.new) result (S.taken source.new) }
+    ensures later { S.faults source.old ≤ S.faults source.new }
+{
+    match command_of(words) {
+        Command::Config {
+            topology,
+            config: tables,
+            policy,
+        } => config(alloc, source, topology, tables, policy),
+        Command::Usage => Ok(usage(alloc)?),
+    }
+}
+
+fn write_reply<K: Sink>(sink: &mut K, reply: &Reply) -> Status
+    ensures done { result ≡ Status.WriteFault ⊎ ((result ≡ reply.now.status) × Appends (K.written sink.old) (K.written sink.new) reply.now.text.items) }
+    ensures front { result ≡ Status.WriteFault → AppendsFront (K.written sink.old) (K.written sink.new) reply.now.text.items }
+    ensures cause { result ≡ Status.WriteFault → Rose (K.faults sink.old) (K.faults sink.new) }
+    ensures later { K.faults sink.old ≤ K.faults sink.new }
+{
+    match pour(sink, &reply.text) {
+        Ok(()) => reply.status,
+        Err(WriteFault) => Status::WriteFault,
+    }
+}
+
+// Does what the words ask for, with the files of the source, and writes the text to the sink.
+fn respond<S: Source, K: Sink>(
+    alloc: Global,
+    words: &[String],
+    source: &mut S,
+    sink: &mut K,
+) -> Status
+    // The status and the text are where the dialogue of the words leads.
+    ensures ends { EndsAs (S.held source.old) (dialogue (map string_bytes words.now)) (K.written sink.old) (K.written sink.new) (S.taken source.new) result }
+
+    // Where the source tells, a settled run has the status and the whole text of the answer over its files.
+    ensures all { IsSettled result → AnswersAll (S.held source.old) (dialogue (map string_bytes words.now)) (K.written sink.old) (K.written sink.new) result }
+    ensures front { result ≡ Status.WriteFault → AnswersFront (S.held source.old) (dialogue (map string_bytes words.now)) (K.written sink.old) (K.written sink.new) }
+    ensures nothing { (result ≡ Status.ReadFault) ⊎ (result ≡ Status.Memory) → Keeps (K.written sink.old) (K.written sink.new) }
+
+    // Usage comes exactly for words that are none of the listed forms.
+    ensures usage { IsSettled result → ((result ≡ Status.Usage) ↔ (asked (map string_bytes words.now) ≡ Usage)) }
+
+    ensures read_fault { result ≡ Status.ReadFault
+        → Rose (S.faults source.old) (S.faults source.new) ⊎ Lacks (S.held source.old) (dialogue (map string_bytes words.now)) }
+    ensures write_fault { result ≡ Status.WriteFault → Rose (K.faults sink.old) (K.faults sink.new) }
+{
+    match reply_to(alloc, words, source) {
+        Ok(reply) => write_reply(sink, &reply),
+        Err(Exit::Says(reply)) => write_reply(sink, &reply),
+        Err(Exit::ReadFault) => Status::ReadFault,
+        Err(Exit::Memory) => Status::Memory,
+    }
+}
+
+/// Does what the words ask for, with the files of the source, and writes the text to the sink.
+pub fn run<S: Source, K: Sink>(
+    alloc: Global,
+    words: &[String],
+    source: &mut S,
+    sink: &mut K,
+) -> Status
+    // The status and the text are where the dialogue of the words leads.
+    ensures ends { EndsAs (S.held source.old) (dialogue (map string_bytes words.now)) (K.written sink.old) (K.written sink.new) (S.taken source.new) result }
+
+    // Where the source tells, a settled run has the status and the whole text of the answer over its files.
+    ensures all { IsSettled result → AnswersAll (S.held source.old) (dialogue (map string_bytes words.now)) (K.written sink.old) (K.written sink.new) result }
+    ensures front { result ≡ Status.WriteFault → AnswersFront (S.held source.old) (dialogue (map string_bytes words.now)) (K.written sink.old) (K.written sink.new) }
+    ensures nothing { (result ≡ Status.ReadFault) ⊎ (result ≡ Status.Memory) → Keeps (K.written sink.old) (K.written sink.new) }
+
+    // Usage comes exactly for words that are none of the listed forms.
+    ensures usage { IsSettled result → ((result ≡ Status.Usage) ↔ (asked (map string_bytes words.now) ≡ Usage)) }
+
+    ensures read_fault { result ≡ Status.ReadFault
+        → Rose (S.faults source.old) (S.faults source.new) ⊎ Lacks (S.held source.old) (dialogue (map string_bytes words.now)) }
+    ensures write_fault { result ≡ Status.WriteFault → Rose (K.faults sink.old) (K.faults sink.new) }
+    // Words of `config` over a source that tells. Done comes exactly where the files are read, there are at most
+    // 8192 classes, and each has a good path.
+    ensures config_done { (files : Files) (topology config : List ℕ) (policy : Option (List ℕ))
+        → S.held source.old ≡ Some files → asked (map string_bytes words.now) ≡ Config topology config policy
+        → IsSettled result → ((result ≡ Status.Done) ↔ FilesHold files topology config policy) }
+
+    // Then every packet of every run over the configuration, in which nothing is changed, is good for its duties.
+    ensures config_keeps { (files : Files) (topology config : List ℕ) (policy : Option (List ℕ)) (net : Network) (tables : List (List Rule)) (demands : List DemandView)
+        → S.held source.old ≡ Some files → asked (map string_bytes words.now) ≡ Config topology config policy
+        → FilesMean files topology config policy net tables demands → result ≡ Status.Done → KeepsPacketsGood net tables demands }
+
+    // Refused comes exactly where some class has none; the line names the first of them.
+    ensures config_refused { (files : Files) (topology config : List ℕ) (policy : Option (List ℕ))
+        → S.held source.old ≡ Some files → asked (map string_bytes words.now) ≡ Config topology config policy
+        → IsSettled result → ((result ≡ Status.Refused) ↔ FilesBreak files topology config policy) }
+    ensures config_first { (files : Files) (topology config : List ℕ) (policy : Option (List ℕ)) (net : Network) (tables : List (List Rule)) (demands : List DemandView)
+        → S.held source.old ≡ Some files → asked (map string_bytes words.now) ≡ Config topology config policy
+        → FilesMean files topology config policy net tables demands → result ≡ Status.Refused
+        → NamesFirstBreak net tables demands (K.written sink.old) (K.written sink.new) }
+
+    // Too many classes are a bad file, and their line is written for no other cause.
+    ensures config_classes { (files : Files) (topology config : List ℕ) (policy : Option (List ℕ))
+        → S.held source.old ≡ Some files → asked (map string_bytes words.now) ≡ Config topology config policy
+        → IsSettled result → (many : FilesMakeTooMany files topology config policy)
+        → (result ≡ Status.BadFile) × Appends (K.written sink.old) (K.written sink.new) (classes_line (count_under many.net many.tables many.demands)) }
+    ensures config_classes_only { (files : Files) (topology config : List ℕ) (policy : Option (List ℕ)) (before : List ℕ) (classes : ℕ)
+        → S.held source.old ≡ Some files → asked (map string_bytes words.now) ≡ Config topology config policy
+        → K.written sink.old ≡ Some before → result ≡ Status.BadFile → Appends (K.written sink.old) (K.written sink.new) (classes_line classes)
+        → FilesMakeTooMany files topology config policy }
+{
+    respond(alloc, words, source, sink)
+}
