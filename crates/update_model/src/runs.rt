@@ -52,7 +52,7 @@ fn add_rule(table: &mut Table, rule: Rule) -> Result<(), Memory> {
 fn line(alloc: Global) -> Result<Config, Memory> {
     let mut config = Config::make(alloc, 4)?;
     for (switch, port) in [(0, 2), (1, 2), (2, 2), (3, 3)] {
-        if switch < config.count() as u32 {
+        if (switch as usize) < config.count() {
             add_rule(config.table_mut(SwitchId(switch)), rule(port))?;
         }
     }
