@@ -129,9 +129,5 @@ fn a_packet_of_a_settled_round_goes_on_across_the_next_start(rt: HostRuntime) ->
     assert_eq!(rt; first_refused(&mut world, &events)?, None);
     assert_eq!(rt; world.phase(), Phase::Running(2));
     assert_eq!(rt; first_packet(&world), Some((1, Ended::UnderWay, 1)));
-    let hops = [Event::Hop(0), Event::Hop(0), Event::Hop(0)];
-    assert_eq!(rt; first_refused(&mut world, &hops)?, Some(2));
-    let left = Ended::Left(SwitchId(3), Port(3), Vlan::Untagged);
-    assert_eq!(rt; first_packet(&world), Some((1, left, 2)));
     Ok(())
 }
