@@ -1,5 +1,5 @@
 // Flow tables.
-ghost use Rattle.std.specs.Prelude.{◌≡◌, ◌↔◌, ◌+◌, ◌≤◌, ◌++◌, ◌∷◌, [], filter, map, cond, not, IsTrue, IsNone, IfSome, IfOk, OnOk, OnErr, vec_len, vec_capacity};
+ghost use Rattle.std.specs.Prelude.{◌≡◌, ◌↔◌, ◌+◌, ◌≤◌, ◌++◌, ◌∷◌, [], filter, map, cond, not, IsTrue, IsNone, IfSome, IfOk, OnOk, OnErr, length, vec_len, vec_capacity};
 ghost use Rattle.std.specs.List.{list_any};
 ghost use Rattle.net_base.specs.Members.{IsIn};
 ghost use Rattle.flow_rules.specs.Overlaps.{IsLeastClash};
@@ -187,6 +187,14 @@ impl Table {
         ensures spare { self.new.spare ≡ self.old.spare }
     {
         self.replace(Rule { key: *key, action });
+    }
+
+    /// Takes out all rules. Their room stays.
+    pub fn clear(&mut self)
+        ensures rules { self.new.rules ≡ [] }
+        ensures spare { self.new.spare ≡ length self.old.rules + self.old.spare }
+    {
+        self.entries.clear();
     }
 
     /// Whether there is a rule with the key.
