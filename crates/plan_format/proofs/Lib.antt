@@ -1,0 +1,7 @@
+pub mod OrderLaws
+pub mod KeyLaws
+pub mod RankLaws
+pub mod ReadLaws
+pub mod ValidChanges
+pub mod ValidEvidence
+pub mod ValidPlans

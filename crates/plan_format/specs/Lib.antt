@@ -1,0 +1,5 @@
+pub mod Faults
+pub mod Changes
+pub mod Evidence
+pub mod Plans
+pub mod SharedKeys

@@ -1,0 +1,191 @@
+// The numberings and the before sets of a plan, and the evidence that names them.
+ghost use Rattle.std.specs.Prelude.{◌≡◌, ◌≤◌, [], Ok, true, map, nat_lt, MatchResult};
+ghost use Rattle.serde_json.specs.View.{view};
+ghost use Rattle.net_base.specs.Reading.{Gives, Fails, in_turn};
+ghost use Rattle.plan_format.specs.declared.fault.PlanFault.TheVariants.{Memory};
+ghost use Rattle.plan_format.specs.Evidence as plan;
+
+use crate::fault::PlanFault;
+use crate::lists::{are_below, ascends, is_index, read_numbers};
+use acyclic_numbering::Numbering;
+use certificates::{Befores, IndexList, Numberings, Shared};
+use net_base::{Field, SwitchId, list_at, list_in, place_of, whole};
+use serde_json::Value;
+use std::alloc::Global;
+use topology::Net;
+use waypoint_evidence::Before;
+
+const MAX_HEIGHT: u64 = 65535;
+
+/// Reads one more number of a numbering.
+#[tactic(auto, unfolding(crate::specs::Evidence::height_at))]
+fn read_height(place: u32, numbering: &mut Numbering, item: &Value) -> Result<(), PlanFault>
+    ensures { MatchResult result
+        (λ _. plan.height_at place numbering.old (view item.now) ≡ Ok numbering.new)
+        (λ e. Fails Memory e (plan.height_at place numbering.old (view item.now))) }
+{
+    let number = whole(item).ok_or(PlanFault::Shape(Field::Numberings, place))?;
+    if number > MAX_HEIGHT {
+        return Err(PlanFault::Shape(Field::Numberings, place));
+    }
+    numbering.add(number as u16)?;
+    Ok(())
+}
+
+fn read_each_height(alloc: Global, place: u32, items: &[Value]) -> Result<Numbering, PlanFault>
+    ensures { Gives Memory (λ n. n) result (in_turn (λ i. plan.height_at place) 0 [] (map view items.now)) }
+{
+    let mut numbering = Numbering::make(alloc)?;
+    for item in items {
+        read_height(place, &mut numbering, item)?;
+    }
+    Ok(numbering)
+}
+
+/// Reads a number for each switch.
+#[tactic(auto, unfolding(crate::specs::Evidence::numbering_in))]
+fn read_numbering(
+    alloc: Global,
+    net: &Net,
+    place: u32,
+    item: &Value,
+) -> Result<Numbering, PlanFault>
+    ensures { Gives Memory (λ n. n) result (plan.numbering_in net.now place (view item.now)) }
+{
+    let items = list_in(item).ok_or(PlanFault::Shape(Field::Numberings, place))?;
+    if items.len() != net.switches() as usize {
+        return Err(PlanFault::Shape(Field::Numberings, place));
+    }
+    read_each_height(alloc, place, items)
+}
+
+/// Reads one more numbering.
+#[tactic(auto, unfolding(crate::specs::Evidence::numbering_at))]
+fn read_next_numbering(
+    alloc: Global,
+    net: &Net,
+    numberings: &mut Numberings,
+    place: u32,
+    item: &Value,
+) -> Result<(), PlanFault>
+    ensures { MatchResult result
+        (λ _. plan.numbering_at net.now place numberings.old (view item.now) ≡ Ok numberings.new)
+        (λ e. Fails Memory e (plan.numbering_at net.now place numberings.old (view item.now))) }
+{
+    let numbering = read_numbering(alloc, net, place, item)?;
+    numberings.add(numbering)?;
+    Ok(())
+}
+
+fn read_each_numbering(alloc: Global, net: &Net, items: &[Value]) -> Result<Numberings, PlanFault>
+    ensures { Gives Memory (λ n. n) result (in_turn (plan.numbering_at net.now) 0 [] (map view items.now)) }
+{
+    let mut numberings = Numberings::make(alloc)?;
+    for (i, item) in items.iter().enumerate() {
+        read_next_numbering(alloc, net, &mut numberings, place_of(i), item)?;
+    }
+    Ok(numberings)
+}
+
+/// Reads the member `numberings`.
+#[tactic(auto, unfolding(crate::specs::Evidence::numberings_in))]
+pub(crate) fn read_numberings(
+    alloc: Global,
+    net: &Net,
+    top: &Value,
+) -> Result<Numberings, PlanFault>
+    ensures { Gives Memory (λ n. n) result (plan.numberings_in net.now (view top.now)) }
+{
+    let items = list_at(top, "numberings").ok_or(PlanFault::Shape(Field::Numberings, 0))?;
+    read_each_numbering(alloc, net, items)
+}
+
+fn set_of(switches: &[u64]) -> Before
+    requires few { plan.all_below 128 switches.now ≡ true }
+    requires ascending { plan.ascends nat_lt switches.now ≡ true }
+    ensures { result ≡ switches.now }
+{
+    let mut set = Before::none();
+    for switch in switches {
+        set.put(SwitchId(*switch as u32));
+    }
+    set
+}
+
+/// The set of these switches.
+fn before_of(numbers: &IndexList) -> Before
+    requires few { plan.all_below 128 numbers.now ≡ true }
+    requires ascending { plan.ascends nat_lt numbers.now ≡ true }
+    ensures { result ≡ numbers.now }
+{
+    set_of(numbers.list())
+}
+
+/// Reads one more before set.
+#[tactic(auto, unfolding(crate::specs::Evidence::before_at))]
+fn read_before(
+    alloc: Global,
+    net: &Net,
+    befores: &mut Befores,
+    place: u32,
+    item: &Value,
+) -> Result<(), PlanFault>
+    ensures { MatchResult result
+        (λ _. plan.before_at net.now place befores.old (view item.now) ≡ Ok befores.new)
+        (λ e. Fails Memory e (plan.before_at net.now place befores.old (view item.now))) }
+{
+    let numbers = read_numbers(alloc, Field::Befores, place, item)?;
+    if !are_below(&numbers, net.switches() as usize) {
+        return Err(PlanFault::BadIndex(place));
+    }
+    if !ascends(&numbers) {
+        return Err(PlanFault::BadIndex(place));
+    }
+    befores.add(before_of(&numbers))?;
+    Ok(())
+}
+
+fn read_each_before(alloc: Global, net: &Net, items: &[Value]) -> Result<Befores, PlanFault>
+    ensures { Gives Memory (λ b. b) result (in_turn (plan.before_at net.now) 0 [] (map view items.now)) }
+{
+    let mut befores = Befores::make(alloc)?;
+    for (i, item) in items.iter().enumerate() {
+        read_before(alloc, net, &mut befores, place_of(i), item)?;
+    }
+    Ok(befores)
+}
+
+/// Reads the member `befores`.
+#[tactic(auto, unfolding(crate::specs::Evidence::befores_in))]
+pub(crate) fn read_befores(alloc: Global, net: &Net, top: &Value) -> Result<Befores, PlanFault>
+    ensures { Gives Memory (λ b. b) result (plan.befores_in net.now (view top.now)) }
+{
+    let items = list_at(top, "befores").ok_or(PlanFault::Shape(Field::Befores, 0))?;
+    read_each_before(alloc, net, items)
+}
+
+/// Reads the numbers of before sets, beside the number of a numbering.
+#[tactic(auto, unfolding(crate::specs::Evidence::shared_in))]
+pub(crate) fn read_shared(
+    alloc: Global,
+    field: Field,
+    place: u32,
+    numberings: usize,
+    befores: usize,
+    numbering: u64,
+    item: &Value,
+) -> Result<Shared, PlanFault>
+    ensures { Gives Memory (λ s. s) result (plan.shared_in field place numberings befores numbering (view item.now)) }
+{
+    let numbers = read_numbers(alloc, field, place, item)?;
+    if !is_index(numberings, numbering) {
+        return Err(PlanFault::BadIndex(place));
+    }
+    if !are_below(&numbers, befores) {
+        return Err(PlanFault::BadIndex(place));
+    }
+    Ok(Shared {
+        numbering: numbering as u32,
+        befores: numbers,
+    })
+}

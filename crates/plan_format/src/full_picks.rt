@@ -1,0 +1,228 @@
+// The picks of an ordered plan of format 1, which carry their evidence.
+ghost use Rattle.std.specs.Prelude.{◌≡◌, ◌≤◌, ◌<◌, [], Ok, length, IfErr, not, map, option_map, IfOk, OnOk, MatchResult};
+ghost use Rattle.serde_json.specs.View.{view};
+ghost use Rattle.net_base.specs.Reading.{Gives, Fails, in_turn};
+ghost use Rattle.plan_format.specs.declared.fault.PlanFault.TheVariants.{Memory};
+ghost use Rattle.plan_format.specs.Evidence as plan;
+ghost use Rattle.plan_format.specs.Evidence.{shared_eq};
+ghost use Rattle.plan_format.specs.SharedKeys.{shared_of, HasFew};
+ghost use Rattle.std.specs.List.{list_any};
+
+use crate::evidence::read_shared;
+use crate::fault::PlanFault;
+use crate::lists::three_numbers;
+use crate::picks::{PickTable, add_pick, is_round_and_class};
+use certificates::{IndexList, OrderedPick, OrderedPicks, Shared, Uses};
+use indexmap::IndexSet;
+use net_base::{Field, list_at, list_in, place_of};
+use serde_json::Value;
+use std::alloc::Global;
+use std::marker::Model;
+
+/// The evidence of a pick, as it is looked up.
+#[derive(PartialEq, Eq, Hash, Drop)]
+struct SharedKey {
+    numbering: u32,
+    befores: Vec<u64>,
+}
+
+/// The key of the evidence.
+fn key_of(alloc: Global, shared: &Shared) -> Result<SharedKey, PlanFault>
+    ensures key { IfOk result (λ k. shared_of k ≡ shared.now) }
+    ensures err { IfErr result (λ e. e ≡ Memory) }
+{
+    Ok(SharedKey {
+        numbering: shared.numbering,
+        befores: shared.befores.list().to_vec(alloc)?,
+    })
+}
+
+/// The evidence of picks, each once, in the order of first use.
+#[derive(Drop)]
+struct SharedKeys {
+    keys: IndexSet<SharedKey>,
+}
+
+impl Model for SharedKeys {
+    ghost use Rattle.std.specs.Prelude.{List, map};
+    ghost use Rattle.certificates.specs.declared.Shared.{Shared};
+    ghost use Rattle.plan_format.specs.Evidence.{shared_eq};
+    ghost use Rattle.plan_format.specs.SharedKeys.{shared_of, HasFew};
+    ghost use Rattle.std.specs.List.{list_any};
+
+    ghost Value = { List Shared };
+
+    ghost view = { λ s. map shared_of s.keys.keys };
+}
+
+impl SharedKeys {
+    fn empty(alloc: Global) -> SharedKeys
+        ensures { result ≡ [] }
+    {
+        SharedKeys {
+            keys: IndexSet::new(alloc),
+        }
+    }
+
+    /// The number of the evidence, and whether it is new. It is added where it isn't there.
+    fn number(&mut self, alloc: Global, shared: &Shared) -> Result<(usize, bool), PlanFault>
+        ensures number { IfOk result (λ n. n.0 ≡ plan.number_of_shared self.old shared.now) }
+        ensures new { IfOk result (λ n. n.1 ≡ not (list_any (shared_eq shared.now) self.old)) }
+        ensures keys { OnOk result (self.new ≡ plan.with_shared self.old shared.now) }
+        ensures err { IfErr result (λ e. e ≡ Memory) }
+    {
+        let key = key_of(alloc, shared)?;
+        let (number, new) = self.keys.insert_full(key)?;
+        Ok((number, new))
+    }
+}
+
+/// The number of the evidence, which is added where it isn't there. The keys are those of the evidence so far.
+fn add_shared(
+    alloc: Global,
+    keys: &mut SharedKeys,
+    uses: &mut Uses,
+    shared: Shared,
+) -> Result<usize, PlanFault>
+    requires { keys.old ≡ uses.old }
+    ensures number { IfOk result (λ n. n ≡ plan.number_of_shared uses.old shared) }
+    ensures uses { OnOk result (uses.new ≡ plan.with_shared uses.old shared) }
+    ensures keys { OnOk result (keys.new ≡ uses.new) }
+    ensures err { IfErr result (λ e. e ≡ Memory) }
+{
+    let (number, new) = keys.number(alloc, &shared)?;
+    if new {
+        uses.add(shared)?;
+    }
+    Ok(number)
+}
+
+/// Adds a pick, by its round, class and evidence.
+#[tactic(auto, unfolding(crate::specs::Evidence::full_picks_with))]
+fn add_full_pick(
+    alloc: Global,
+    keys: &mut SharedKeys,
+    table: &mut PickTable,
+    place: u32,
+    round: u32,
+    class: u32,
+    shared: Shared,
+) -> Result<(), PlanFault>
+    requires round { round ≤ 4200 }
+    requires class { class ≤ 8191 }
+    requires keys { keys.old ≡ table.old.uses }
+    requires few { HasFew table.old }
+    ensures value { MatchResult result
+        (λ _. plan.full_picks_with place table.old round class shared ≡ Ok table.new)
+        (λ e. Fails Memory e (plan.full_picks_with place table.old round class shared)) }
+    ensures keys { OnOk result (keys.new ≡ table.new.uses) }
+    ensures few { OnOk result (HasFew table.new) }
+{
+    let number = add_shared(alloc, keys, &mut table.uses, shared)?;
+    let pick = OrderedPick {
+        round,
+        class,
+        shared: number as u32,
+    };
+    add_pick(&mut table.picks, place, pick)
+}
+
+/// Three whole numbers, and what comes fourth.
+fn numbers_and_list(items: &[Value]) -> Option<((u64, u64, u64), &Value)>
+    ensures { option_map (λ p. (p.0, view p.1.now)) result ≡ plan.numbers_and_list (map view items.now) }
+{
+    match items {
+        [a, b, c, list] => Some((three_numbers(a, b, c)?, list)),
+        _ => None,
+    }
+}
+
+/// Reads one more pick: a round, a class, and its evidence.
+#[tactic(auto, unfolding(crate::specs::Evidence::full_pick_at))]
+fn read_full_pick(
+    alloc: Global,
+    rounds: usize,
+    numberings: usize,
+    befores: usize,
+    keys: &mut SharedKeys,
+    table: &mut PickTable,
+    place: u32,
+    item: &Value,
+) -> Result<(), PlanFault>
+    requires rounds { rounds ≤ 4200 }
+    requires keys { keys.old ≡ table.old.uses }
+    requires few { HasFew table.old }
+    ensures value { MatchResult result
+        (λ _. plan.full_pick_at rounds numberings befores place table.old (view item.now) ≡ Ok table.new)
+        (λ e. Fails Memory e (plan.full_pick_at rounds numberings befores place table.old (view item.now))) }
+    ensures keys { OnOk result (keys.new ≡ table.new.uses) }
+    ensures few { OnOk result (HasFew table.new) }
+{
+    let ((round, class, numbering), list) = list_in(item)
+        .and_then(numbers_and_list)
+        .ok_or(PlanFault::Shape(Field::Picks, place))?;
+    let shared = read_shared(
+        alloc,
+        Field::Picks,
+        place,
+        numberings,
+        befores,
+        numbering,
+        list,
+    )?;
+    if !is_round_and_class(rounds, round, class) {
+        return Err(PlanFault::BadIndex(place));
+    }
+    add_full_pick(
+        alloc,
+        keys,
+        table,
+        place,
+        round as u32,
+        class as u32,
+        shared,
+    )
+}
+
+fn read_each_full_pick(
+    alloc: Global,
+    rounds: usize,
+    numberings: usize,
+    befores: usize,
+    items: &[Value],
+) -> Result<PickTable, PlanFault>
+    requires { rounds ≤ 4200 }
+    ensures { Gives Memory (λ t. t) result (in_turn (plan.full_pick_at rounds numberings befores) 0 (record { uses = []; picks = [] }) (map view items.now)) }
+{
+    let mut keys = SharedKeys::empty(alloc);
+    let mut table = PickTable::empty(alloc)?;
+    for (i, item) in items.iter().enumerate() {
+        read_full_pick(
+            alloc,
+            rounds,
+            numberings,
+            befores,
+            &mut keys,
+            &mut table,
+            place_of(i),
+            item,
+        )?;
+    }
+    Ok(table)
+}
+
+/// Reads the member `picks` of format 1.
+#[tactic(auto, unfolding(crate::specs::Evidence::full_picks_in))]
+pub(crate) fn read_full_picks(
+    alloc: Global,
+    rounds: usize,
+    numberings: usize,
+    befores: usize,
+    top: &Value,
+) -> Result<PickTable, PlanFault>
+    requires { rounds ≤ 4200 }
+    ensures { Gives Memory (λ t. t) result (plan.full_picks_in rounds numberings befores (view top.now)) }
+{
+    let items = list_at(top, "picks").ok_or(PlanFault::Shape(Field::Picks, 0))?;
+    read_each_full_pick(alloc, rounds, numberings, befores, items)
+}

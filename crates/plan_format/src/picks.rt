@@ -1,0 +1,237 @@
+// The picks of an ordered plan of format 2, and the evidence that they name.
+ghost use Rattle.std.specs.Prelude.{◌≡◌, ◌≤◌, ◌&&◌, [], Ok, true, map, nat_le, option_map, IfOk, IfErr, MatchResult};
+ghost use Rattle.serde_json.specs.View.{view};
+ghost use Rattle.net_base.specs.Reading.{Gives, Fails, in_turn};
+ghost use Rattle.plan_format.specs.declared.fault.PlanFault.TheVariants.{Memory};
+ghost use Rattle.plan_format.specs.Evidence as plan;
+
+use crate::evidence::read_shared;
+use crate::fault::PlanFault;
+use crate::lists::{is_index, is_round, three_numbers};
+use certificates::{OrderedPick, OrderedPicks, Uses};
+use net_base::{Field, list_at, list_in, place_of, whole};
+use serde_json::Value;
+use std::alloc::Global;
+
+const MAX_CLASS: u64 = 8191;
+
+/// Picks, and the evidence that they name by its number.
+#[derive(Drop)]
+pub(crate) struct PickTable {
+    pub uses: Uses,
+    pub picks: OrderedPicks,
+}
+
+impl PickTable {
+    pub fn empty(alloc: Global) -> Result<PickTable, PlanFault>
+        ensures ok { IfOk result (λ t. t ≡ record { uses = []; picks = [] }) }
+        ensures err { IfErr result (λ e. e ≡ Memory) }
+    {
+        Ok(PickTable {
+            uses: Uses::make(alloc)?,
+            picks: OrderedPicks::make(alloc)?,
+        })
+    }
+}
+
+/// A whole number, and what comes second.
+fn number_and_list(items: &[Value]) -> Option<(u64, &Value)>
+    ensures { option_map (λ p. (p.0, view p.1.now)) result ≡ plan.number_and_list (map view items.now) }
+{
+    match items {
+        [number, list] => Some((whole(number)?, list)),
+        _ => None,
+    }
+}
+
+/// Reads one more use.
+#[tactic(auto, unfolding(crate::specs::Evidence::use_at))]
+fn read_use(
+    alloc: Global,
+    numberings: usize,
+    befores: usize,
+    uses: &mut Uses,
+    place: u32,
+    item: &Value,
+) -> Result<(), PlanFault>
+    ensures { MatchResult result
+        (λ _. plan.use_at numberings befores place uses.old (view item.now) ≡ Ok uses.new)
+        (λ e. Fails Memory e (plan.use_at numberings befores place uses.old (view item.now))) }
+{
+    let (numbering, list) = list_in(item)
+        .and_then(number_and_list)
+        .ok_or(PlanFault::Shape(Field::Uses, place))?;
+    let shared = read_shared(
+        alloc,
+        Field::Uses,
+        place,
+        numberings,
+        befores,
+        numbering,
+        list,
+    )?;
+    uses.add(shared)?;
+    Ok(())
+}
+
+fn read_each_use(
+    alloc: Global,
+    numberings: usize,
+    befores: usize,
+    items: &[Value],
+) -> Result<Uses, PlanFault>
+    ensures { Gives Memory (λ u. u) result (in_turn (plan.use_at numberings befores) 0 [] (map view items.now)) }
+{
+    let mut uses = Uses::make(alloc)?;
+    for (i, item) in items.iter().enumerate() {
+        read_use(alloc, numberings, befores, &mut uses, place_of(i), item)?;
+    }
+    Ok(uses)
+}
+
+/// Reads the member `uses`.
+#[tactic(auto, unfolding(crate::specs::Evidence::uses_in))]
+fn read_uses(
+    alloc: Global,
+    numberings: usize,
+    befores: usize,
+    top: &Value,
+) -> Result<Uses, PlanFault>
+    ensures { Gives Memory (λ u. u) result (plan.uses_in numberings befores (view top.now)) }
+{
+    let items = list_at(top, "uses").ok_or(PlanFault::Shape(Field::Uses, 0))?;
+    read_each_use(alloc, numberings, befores, items)
+}
+
+/// Whether one pick comes before another, by round and then by class.
+fn is_before(p: OrderedPick, q: OrderedPick) -> bool
+    ensures { result ≡ plan.pick_before p q }
+{
+    p.round < q.round || (p.round == q.round && p.class < q.class)
+}
+
+/// Whether the last of the picks, if there is one, comes before this one.
+fn comes_next(picks: &[OrderedPick], pick: OrderedPick) -> bool
+    ensures { result ≡ plan.follows plan.pick_before picks.now pick }
+{
+    match picks.last() {
+        None => true,
+        Some(last) => is_before(*last, pick),
+    }
+}
+
+/// Adds a pick, which comes after the last.
+#[tactic(auto, unfolding(crate::specs::Evidence::picks_with))]
+pub(crate) fn add_pick(
+    picks: &mut OrderedPicks,
+    place: u32,
+    pick: OrderedPick,
+) -> Result<(), PlanFault>
+    ensures { MatchResult result
+        (λ _. plan.picks_with place picks.old pick ≡ Ok picks.new)
+        (λ e. Fails Memory e (plan.picks_with place picks.old pick)) }
+{
+    if !comes_next(picks.list(), pick) {
+        return Err(PlanFault::BadIndex(place));
+    }
+    picks.add(pick)?;
+    Ok(())
+}
+
+/// Whether they are the number of a round, from 1, and that of a class.
+pub(crate) fn is_round_and_class(rounds: usize, round: u64, class: u64) -> bool
+    ensures value { result ≡ (plan.is_round rounds round && nat_le class 8191) }
+    ensures round { result ≡ true → round ≤ rounds }
+    ensures class { result ≡ true → class ≤ 8191 }
+{
+    is_round(rounds, round) && class <= MAX_CLASS
+}
+
+/// A list of three whole numbers.
+fn list_of_three(items: &[Value]) -> Option<(u64, u64, u64)>
+    ensures { result ≡ plan.list_of_three (map view items.now) }
+{
+    match items {
+        [a, b, c] => three_numbers(a, b, c),
+        _ => None,
+    }
+}
+
+/// Reads one more pick: a round, a class, and the number of its evidence.
+#[tactic(auto, unfolding(crate::specs::Evidence::pick_at))]
+fn read_pick(
+    rounds: usize,
+    uses: usize,
+    picks: &mut OrderedPicks,
+    place: u32,
+    item: &Value,
+) -> Result<(), PlanFault>
+    requires { rounds ≤ 4200 }
+    ensures { MatchResult result
+        (λ _. plan.pick_at rounds uses place picks.old (view item.now) ≡ Ok picks.new)
+        (λ e. Fails Memory e (plan.pick_at rounds uses place picks.old (view item.now))) }
+{
+    let (round, class, shared) = list_in(item)
+        .and_then(list_of_three)
+        .ok_or(PlanFault::Shape(Field::Picks, place))?;
+    if !is_round_and_class(rounds, round, class) {
+        return Err(PlanFault::BadIndex(place));
+    }
+    if !is_index(uses, shared) {
+        return Err(PlanFault::BadIndex(place));
+    }
+    let pick = OrderedPick {
+        round: round as u32,
+        class: class as u32,
+        shared: shared as u32,
+    };
+    add_pick(picks, place, pick)
+}
+
+fn read_each_pick(
+    alloc: Global,
+    rounds: usize,
+    uses: usize,
+    items: &[Value],
+) -> Result<OrderedPicks, PlanFault>
+    requires { rounds ≤ 4200 }
+    ensures { Gives Memory (λ p. p) result (in_turn (plan.pick_at rounds uses) 0 [] (map view items.now)) }
+{
+    let mut picks = OrderedPicks::make(alloc)?;
+    for (i, item) in items.iter().enumerate() {
+        read_pick(rounds, uses, &mut picks, place_of(i), item)?;
+    }
+    Ok(picks)
+}
+
+/// Reads the member `picks`.
+#[tactic(auto, unfolding(crate::specs::Evidence::picks_in))]
+fn read_picks(
+    alloc: Global,
+    rounds: usize,
+    uses: usize,
+    top: &Value,
+) -> Result<OrderedPicks, PlanFault>
+    requires { rounds ≤ 4200 }
+    ensures { Gives Memory (λ p. p) result (plan.picks_in rounds uses (view top.now)) }
+{
+    let items = list_at(top, "picks").ok_or(PlanFault::Shape(Field::Picks, 0))?;
+    read_each_pick(alloc, rounds, uses, items)
+}
+
+/// Reads the members `uses` and `picks`.
+#[tactic(auto, unfolding(crate::specs::Evidence::uses_and_picks_in))]
+pub(crate) fn read_uses_and_picks(
+    alloc: Global,
+    rounds: usize,
+    numberings: usize,
+    befores: usize,
+    top: &Value,
+) -> Result<PickTable, PlanFault>
+    requires { rounds ≤ 4200 }
+    ensures { Gives Memory (λ t. t) result (plan.uses_and_picks_in rounds numberings befores (view top.now)) }
+{
+    let uses = read_uses(alloc, numberings, befores, top)?;
+    let picks = read_picks(alloc, rounds, uses.list().len(), top)?;
+    Ok(PickTable { uses, picks })
+}

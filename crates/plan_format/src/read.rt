@@ -1,0 +1,223 @@
+// The reader of plans.
+ghost use Rattle.std.specs.Prelude.{◌≡◌, ◌≤◌, IfOk, length};
+ghost use Rattle.serde_json.specs.View.{view};
+ghost use Rattle.net_base.specs.Reading.{Gives};
+ghost use Rattle.plan_format.specs.declared.fault.PlanFault.TheVariants.{Memory};
+ghost use Rattle.plan_format.specs.Plans as plan;
+ghost use Rattle.certificates.specs.Valid.{IsValidPlan};
+
+use crate::changes::{CountedRounds, Spelling, read_rounds, read_rules};
+use crate::evidence::{read_befores, read_numberings};
+use crate::fault::PlanFault;
+use crate::full_picks::read_full_picks;
+use crate::labels::{read_label_picks, read_labels};
+use crate::picks::{PickTable, read_uses_and_picks};
+use certificates::{Evidence, OrderedEvidence, Plan, TwoPhaseEvidence};
+use net_base::{Field, is_object, parse_json, text_at, whole_at};
+use serde_json::Value;
+use std::alloc::Global;
+use topology::Net;
+
+const MAX_ROUNDS: usize = 4200;
+
+const MAX_TRIED: usize = 4096;
+
+/// The format of a plan.
+#[derive(Clone, Copy)]
+enum Format {
+    One,
+    Two,
+}
+
+/// The kind of a plan.
+#[derive(Clone, Copy)]
+enum PlanKind {
+    Ordered,
+    TwoPhase,
+}
+
+/// The format of this number.
+fn format_of(number: u64) -> Option<Format>
+    ensures { result ≡ plan.format_of number }
+{
+    if number == 1 {
+        return Some(Format::One);
+    }
+    if number == 2 {
+        return Some(Format::Two);
+    }
+    None
+}
+
+/// The kind of plan of this word.
+fn kind_of(word: &str) -> Option<PlanKind>
+    ensures { result ≡ plan.kind_of word.now }
+{
+    match word {
+        "ordered" => Some(PlanKind::Ordered),
+        "two-phase" => Some(PlanKind::TwoPhase),
+        _ => None,
+    }
+}
+
+/// Reads how changes are spelled: the member `rules` in format 2.
+#[tactic(auto, unfolding(crate::specs::Plans::spelling_in))]
+fn read_spelling(
+    alloc: Global,
+    net: &Net,
+    format: Format,
+    top: &Value,
+) -> Result<Spelling, PlanFault>
+    ensures { Gives Memory (λ s. s) result (plan.spelling_in net.now format (view top.now)) }
+{
+    match format {
+        Format::One => Ok(Spelling::Objects),
+        Format::Two => {
+            let rules = read_rules(alloc, net, top)?;
+            Ok(Spelling::Numbers(rules))
+        }
+    }
+}
+
+/// Reads the picks and their evidence.
+fn read_pick_table(
+    alloc: Global,
+    format: Format,
+    rounds: usize,
+    numberings: usize,
+    befores: usize,
+    top: &Value,
+) -> Result<PickTable, PlanFault>
+    requires { rounds ≤ 4200 }
+    ensures { Gives Memory (λ t. t) result (plan.pick_table_in format rounds numberings befores (view top.now)) }
+{
+    match format {
+        Format::One => read_full_picks(alloc, rounds, numberings, befores, top),
+        Format::Two => read_uses_and_picks(alloc, rounds, numberings, befores, top),
+    }
+}
+
+/// Reads the members of an ordered plan.
+#[tactic(auto, unfolding(crate::specs::Plans::ordered_in))]
+fn read_ordered(
+    alloc: Global,
+    net: &Net,
+    format: Format,
+    rounds: usize,
+    top: &Value,
+) -> Result<OrderedEvidence, PlanFault>
+    requires { rounds ≤ 4200 }
+    ensures { Gives Memory (λ e. e) result (plan.ordered_in net.now format rounds (view top.now)) }
+{
+    let numberings = read_numberings(alloc, net, top)?;
+    let befores = read_befores(alloc, net, top)?;
+    let table = read_pick_table(
+        alloc,
+        format,
+        rounds,
+        numberings.list().len(),
+        befores.list().len(),
+        top,
+    )?;
+    Ok(OrderedEvidence {
+        numberings,
+        befores,
+        uses: table.uses,
+        picks: table.picks,
+    })
+}
+
+/// Reads the members of a two-phase plan.
+#[tactic(auto, unfolding(crate::specs::Plans::two_phase_in))]
+fn read_two_phase(
+    alloc: Global,
+    net: &Net,
+    spelling: &Spelling,
+    rounds: &CountedRounds,
+    top: &Value,
+) -> Result<TwoPhaseEvidence, PlanFault>
+    requires { length rounds.now ≤ 4200 }
+    ensures { Gives Memory (λ e. e) result (plan.two_phase_in net.now spelling.now rounds.now (view top.now)) }
+{
+    let labels = read_labels(alloc, top)?;
+    let picks = read_label_picks(alloc, rounds.count(), labels.list().len(), top)?;
+    let tried = read_rounds(
+        alloc,
+        net,
+        spelling,
+        Field::Tried,
+        MAX_TRIED,
+        rounds.changes(),
+        top,
+    )?;
+    Ok(TwoPhaseEvidence {
+        labels,
+        picks,
+        tried: tried.rounds(),
+    })
+}
+
+/// Reads the evidence of a plan of this kind.
+#[tactic(auto, unfolding(crate::specs::Plans::evidence_in))]
+fn read_evidence(
+    alloc: Global,
+    net: &Net,
+    format: Format,
+    kind: PlanKind,
+    spelling: &Spelling,
+    rounds: &CountedRounds,
+    top: &Value,
+) -> Result<Evidence, PlanFault>
+    requires { length rounds.now ≤ 4200 }
+    ensures { Gives Memory (λ e. e) result (plan.evidence_in net.now format kind spelling.now rounds.now (view top.now)) }
+{
+    match kind {
+        PlanKind::Ordered => {
+            let evidence = read_ordered(alloc, net, format, rounds.count(), top)?;
+            Ok(Evidence::Ordered(evidence))
+        }
+        PlanKind::TwoPhase => {
+            let evidence = read_two_phase(alloc, net, spelling, rounds, top)?;
+            Ok(Evidence::TwoPhase(evidence))
+        }
+    }
+}
+
+/// Reads the plan of a tree.
+#[tactic(auto, unfolding(crate::specs::Plans::plan_at))]
+fn read_top(alloc: Global, net: &Net, top: &Value) -> Result<Plan, PlanFault>
+    ensures { Gives Memory (λ p. p) result (plan.plan_at net.now (view top.now)) }
+{
+    if !is_object(top) {
+        return Err(PlanFault::Shape(Field::Top, 0));
+    }
+    let number = whole_at(top, "format").ok_or(PlanFault::Shape(Field::Format, 0))?;
+    let format = format_of(number).ok_or(PlanFault::BadFormat)?;
+    let kind = text_at(top, "kind")
+        .and_then(kind_of)
+        .ok_or(PlanFault::Shape(Field::Kind, 0))?;
+    let spelling = read_spelling(alloc, net, format, top)?;
+    let rounds = read_rounds(alloc, net, &spelling, Field::Rounds, MAX_ROUNDS, 0, top)?;
+    let evidence = read_evidence(alloc, net, format, kind, &spelling, &rounds, top)?;
+    Ok(Plan {
+        rounds: rounds.rounds(),
+        evidence,
+    })
+}
+
+#[tactic(auto, unfolding(crate::specs::Plans::plan_in))]
+fn read_file(alloc: Global, net: &Net, bytes: &[u8]) -> Result<Plan, PlanFault>
+    ensures { Gives Memory (λ p. p) result (plan.plan_in net.now bytes.now) }
+{
+    let top = parse_json(alloc, bytes)?;
+    read_top(alloc, net, &top)
+}
+
+/// The plan that the bytes describe, of format 1 or 2, or the first refusal of the table of members. It takes time and
+/// memory in proportion to the bytes.
+pub fn read_plan(alloc: Global, net: &Net, bytes: &[u8]) -> Result<Plan, PlanFault>
+    ensures exact { Gives Memory (λ p. p) result (plan.plan_in net.now bytes.now) }
+    ensures valid { IfOk result (λ p. IsValidPlan net.now p) }
+{
+    read_file(alloc, net, bytes)
+}
