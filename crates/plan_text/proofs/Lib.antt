@@ -1,0 +1,9 @@
+pub mod UsedRules
+pub mod SameRule
+pub mod Marked
+pub mod Shallow
+pub mod InTurn
+pub mod EvidenceAgain
+pub mod ChangesAgain
+pub mod UsedAgain
+pub mod PlanAgain

@@ -1,0 +1,175 @@
+-- Reading the text of a plan gives the plan.
+use Rattle.std.proofs.Common.{◌≡◌, ℕ, ◌+◌, ◌≤◌, List, ◌++◌, length, map, sum_by, codes, Some, Ok, refl, arith}
+use Rattle.std.specs.List.{AllByRecursion}
+use Rattle.std.proofs.lemmas.List.Sums.{sum_by-append}
+use Rattle.serde_json.specs.Data.{Data, string, object, Members}
+use Rattle.serde_json.specs.Find.{get_member}
+use Rattle.net_base.specs.Members.{IsDistinct}
+use Rattle.net_base.specs.Tree.{tree_in}
+use Rattle.net_base.specs.declared.field.Field.TheVariants as field
+use Rattle.net_base.proofs.MemberLaws.{each_append, each_first, each_last}
+use Rattle.topology.specs.Networks.{Network, IsNetwork}
+use Rattle.update_model.specs.declared.Change.{Change}
+use Rattle.update_model.specs.Ranges.{IsPlanChange}
+use Rattle.certificates.specs.declared.OrderedEvidence.{OrderedEvidence}
+use Rattle.certificates.specs.declared.TwoPhaseEvidence.{TwoPhaseEvidence}
+use Rattle.certificates.specs.declared.Evidence.{Evidence}
+use Rattle.certificates.specs.declared.Evidence.TheVariants.{Ordered, TwoPhase}
+use Rattle.certificates.specs.declared.Plan.{Plan}
+use Rattle.certificates.specs.Valid.{IsValidOrdered, IsValidTwoPhase, IsValidEvidence, IsValidPlan}
+use Rattle.plan_format.specs.Evidence.{uses_and_picks_in}
+use Rattle.plan_format.specs.Plans.{spelling_in, ordered_in, two_phase_in, evidence_in, plan_at, plan_in}
+use Rattle.plan_text.specs.PlanText.{whole_tree, list_tree, numbers_tree, rule_tree, use_tree, pick_tree, table_tree, label_pick_tree, numbered_rounds_tree, with_evidence, plan_members, plan_tree, used_rules, tried_of, once, rules_of}
+use Rattle.plan_format.specs.declared.rules.PlanRule.{PlanRule}
+use Rattle.plan_text.proofs.ChangesAgain.{IsInRange, HasNumber, rules_again, rounds_again}
+use Rattle.plan_text.proofs.EvidenceAgain.{numberings_again, befores_again, uses_again, picks_again, labels_again, label_picks_again}
+use Rattle.plan_text.proofs.UsedAgain.{used_numbered, used_in_range, used_few}
+
+-- ---- with a list of rules that has those of all changes
+
+-- the list has few rules, each in range, and the rules of these rounds
+record Serves (net : Network) (rules : List PlanRule) (rounds : List (List Change)) : Type 0 where
+  few : length rules ≤ 2200000
+  in_range : AllByRecursion (IsInRange net) rules
+  numbered : AllByRecursion (AllByRecursion (HasNumber rules)) rounds
+  few_changes : sum_by length rounds ≤ 2200000
+  few_rounds : length rounds ≤ 4200
+
+module _ (net : Network) (rules : List PlanRule) (rounds : List (List Change)) (distinct : IsDistinct net.names) (serves : Serves net rules rounds) where
+  module _ (e : OrderedEvidence) where
+    abbrev ordered : Plan
+    ordered = record { rounds = rounds; evidence = Ordered e }
+
+    ordered_format : get_member (codes "format") (plan_members net rules ordered) ≡ Some (whole_tree 2)
+    unfolding plan_members with_evidence
+    ordered_format = refl
+
+    ordered_kind : get_member (codes "kind") (plan_members net rules ordered) ≡ Some (string (codes "ordered"))
+    unfolding plan_members with_evidence
+    ordered_kind = refl
+
+    ordered_rules : get_member (codes "rules") (plan_members net rules ordered) ≡ Some (list_tree (map (rule_tree net) rules))
+    unfolding plan_members with_evidence
+    ordered_rules = refl
+
+    ordered_rounds : get_member (codes "rounds") (plan_members net rules ordered) ≡ Some (numbered_rounds_tree rules rounds)
+    unfolding plan_members with_evidence
+    ordered_rounds = refl
+
+    ordered_numberings : get_member (codes "numberings") (plan_members net rules ordered) ≡ Some (list_tree (map numbers_tree e.numberings))
+    unfolding plan_members with_evidence
+    ordered_numberings = refl
+
+    ordered_befores : get_member (codes "befores") (plan_members net rules ordered) ≡ Some (list_tree (map numbers_tree e.befores))
+    unfolding plan_members with_evidence
+    ordered_befores = refl
+
+    ordered_uses : get_member (codes "uses") (plan_members net rules ordered) ≡ Some (list_tree (map use_tree e.uses))
+    unfolding plan_members with_evidence
+    ordered_uses = refl
+
+    ordered_picks : get_member (codes "picks") (plan_members net rules ordered) ≡ Some (list_tree (map pick_tree e.picks))
+    unfolding plan_members with_evidence
+    ordered_picks = refl
+
+    ordered_again : IsValidOrdered net (length rounds) e → plan_at net (object (plan_members net rules ordered)) ≡ Ok ordered
+    unfolding plan_at spelling_in evidence_in ordered_in uses_and_picks_in
+    ordered_again h =
+        let ms : Members = plan_members net rules ordered in
+        rw (
+          ordered_format,
+          ordered_kind,
+          rules_again net ms rules ordered_rules distinct serves.few serves.in_range,
+          rounds_again net rules field.Rounds 4200 0 ms rounds ordered_rounds serves.few_rounds (omega (arith, serves.few_changes)) serves.numbered,
+          numberings_again net ms e.numberings ordered_numberings h.numberings,
+          befores_again net ms e.befores ordered_befores h.befores,
+          uses_again (length e.numberings) (length e.befores) ms e.uses ordered_uses h.uses,
+          picks_again (length rounds) (length e.uses) ms e.picks ordered_picks h.picks h.ascending,
+        ) refl
+
+  module _ (e : TwoPhaseEvidence) where
+    abbrev two_phase : Plan
+    two_phase = record { rounds = rounds; evidence = TwoPhase e }
+
+    two_phase_format : get_member (codes "format") (plan_members net rules two_phase) ≡ Some (whole_tree 2)
+    unfolding plan_members with_evidence
+    two_phase_format = refl
+
+    two_phase_kind : get_member (codes "kind") (plan_members net rules two_phase) ≡ Some (string (codes "two-phase"))
+    unfolding plan_members with_evidence
+    two_phase_kind = refl
+
+    two_phase_rules : get_member (codes "rules") (plan_members net rules two_phase) ≡ Some (list_tree (map (rule_tree net) rules))
+    unfolding plan_members with_evidence
+    two_phase_rules = refl
+
+    two_phase_rounds : get_member (codes "rounds") (plan_members net rules two_phase) ≡ Some (numbered_rounds_tree rules rounds)
+    unfolding plan_members with_evidence
+    two_phase_rounds = refl
+
+    two_phase_labels : get_member (codes "labels") (plan_members net rules two_phase) ≡ Some (list_tree (map table_tree e.labels))
+    unfolding plan_members with_evidence
+    two_phase_labels = refl
+
+    two_phase_picks : get_member (codes "picks") (plan_members net rules two_phase) ≡ Some (list_tree (map label_pick_tree e.picks))
+    unfolding plan_members with_evidence
+    two_phase_picks = refl
+
+    two_phase_tried : get_member (codes "tried") (plan_members net rules two_phase) ≡ Some (numbered_rounds_tree rules e.tried)
+    unfolding plan_members with_evidence
+    two_phase_tried = refl
+
+    two_phase_again : IsValidTwoPhase net (length rounds) (sum_by length rounds) e → AllByRecursion (AllByRecursion (HasNumber rules)) e.tried
+        → plan_at net (object (plan_members net rules two_phase)) ≡ Ok two_phase
+    unfolding plan_at spelling_in evidence_in two_phase_in
+    two_phase_again h tried =
+        let ms : Members = plan_members net rules two_phase in
+        rw (
+          two_phase_format,
+          two_phase_kind,
+          rules_again net ms rules two_phase_rules distinct serves.few serves.in_range,
+          rounds_again net rules field.Rounds 4200 0 ms rounds two_phase_rounds serves.few_rounds (omega (arith, serves.few_changes)) serves.numbered,
+          labels_again ms e.labels two_phase_labels h.labels,
+          label_picks_again (length rounds) (length e.labels) ms e.picks two_phase_picks h.picks h.ascending,
+          rounds_again net rules field.Tried 4096 (sum_by length rounds) ms e.tried two_phase_tried h.few_tried h.few_changes tried,
+        ) refl
+
+  evidence_again : (e : Evidence) → IsValidEvidence net (length rounds) (sum_by length rounds) e → AllByRecursion (AllByRecursion (HasNumber rules)) (tried_of e)
+      → let plan : Plan = record { rounds = rounds; evidence = e } in plan_at net (object (plan_members net rules plan)) ≡ Ok plan
+  evidence_again (Ordered e) h tried = ordered_again e h
+  evidence_again (TwoPhase e) h tried = two_phase_again e h tried
+
+-- ---- with the rules that it uses
+
+few_in_all : (net : Network) (rounds : List (List Change)) (e : Evidence) → sum_by length rounds ≤ 2200000 → IsValidEvidence net (length rounds) (sum_by length rounds) e
+    → sum_by length rounds + sum_by length (tried_of e) ≤ 2200000
+few_in_all net rounds (Ordered e) few h = omega arith
+few_in_all net rounds (TwoPhase e) few h = h.few_changes
+
+tried_in_range : (net : Network) (rounds changes : ℕ) (e : Evidence) → IsValidEvidence net rounds changes e → AllByRecursion (AllByRecursion (IsPlanChange net)) (tried_of e)
+tried_in_range net rounds changes (Ordered e) h = tt
+tried_in_range net rounds changes (TwoPhase e) h = h.tried
+
+pub plan_again : (net : Network) (plan : Plan) → IsNetwork net → IsValidPlan net plan → plan_at net (plan_tree net plan) ≡ Ok plan
+unfolding used_rules
+plan_again net plan kept valid =
+    let tried : List (List Change) = tried_of plan.evidence in
+    let all : List (List Change) = plan.rounds ++ tried in
+    let rules : List PlanRule = once (rules_of all) in
+    let few : sum_by length plan.rounds + sum_by length tried ≤ 2200000 = few_in_all net plan.rounds plan.evidence valid.few_changes valid.evidence in
+    let count : sum_by length all ≡ sum_by length plan.rounds + sum_by length tried = sum_by-append (λ (r : List Change). length r) plan.rounds tried in
+    let in_range : AllByRecursion (IsInRange net) rules = used_in_range net all
+    (each_append (AllByRecursion (IsPlanChange net)) plan.rounds tried valid.rounds (tried_in_range net (length plan.rounds) (sum_by length plan.rounds) plan.evidence valid.evidence)) in
+    let numbered : AllByRecursion (AllByRecursion (HasNumber rules)) all = used_numbered all in
+    let serves : Serves net rules plan.rounds = record {
+      few = omega (arith, used_few all, few, count);
+      in_range = in_range;
+      numbered = each_first (AllByRecursion (HasNumber rules)) plan.rounds tried numbered;
+      few_changes = valid.few_changes;
+      few_rounds = valid.few_rounds;
+    } in
+    evidence_again net rules plan.rounds kept.names serves plan.evidence valid.evidence (each_last (AllByRecursion (HasNumber rules)) plan.rounds tried numbered)
+
+pub text_again : (net : Network) (plan : Plan) (bytes : List ℕ) (d : Data) → IsNetwork net → IsValidPlan net plan → d ≡ plan_tree net plan → tree_in bytes ≡ Some d → plan_in net bytes ≡ Ok plan
+unfolding plan_in
+text_again net plan bytes d kept valid is reads = rw (reads, is) (plan_again net plan kept valid)

@@ -1,0 +1,12 @@
+//! The text of plans: the one spelling, in format 2.
+#![tactic(auto)]
+
+mod write;
+mod write_changes;
+mod write_evidence;
+mod write_lists;
+#[cfg(test)]
+mod write_tests;
+mod write_used;
+
+pub use write::{rounds_text, write_plan};
