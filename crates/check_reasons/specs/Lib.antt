@@ -1,0 +1,4 @@
+pub mod Reasons
+pub mod Cases
+pub mod Passed
+pub mod Loaded

@@ -1,0 +1,200 @@
+-- Why a plan is refused: each reason with the numbers by which the first one is chosen.
+use Rattle.std.specs.Prelude.{◌≡◌, ◌≢◌, ◌⊎◌, ℕ, suc, ◌<◌, Bool, IsTrue, List, [], ◌∷◌, ◌++◌, length, flat_map, slice_get, Some, if◌then◌else◌}
+use Rattle.std.specs.List.{AllByRecursion}
+use Rattle.net_base.specs.Members.{IsIn, IsSameSet}
+use Rattle.net_base.specs.declared.ids.SwitchId.{SwitchId}
+use Rattle.net_base.specs.declared.ids.Place.{Place}
+use Rattle.topology.specs.Networks.{capacity_of}
+use Rattle.flow_rules.specs.Tables.{IsClear, rules_at}
+use Rattle.flow_rules.specs.declared.rules.Rule.{Rule}
+use Rattle.path_walk.specs.declared.Outcome.{Outcome}
+use Rattle.path_walk.specs.declared.Outcome.TheVariants.{Discard, Go}
+use Rattle.dest_classes.specs.Classes.{IsClass}
+use Rattle.dest_classes.specs.declared.Class.{Class}
+use Rattle.demands.specs.Duties.{PacketDuties, duties_of}
+use Rattle.config_check.specs.Broken.{IsFirstBreak}
+use Rattle.update_model.specs.Changes.{switch_of, rule_of, Applies, entry_named, round_after}
+use Rattle.update_model.specs.Mixtures.{Update, tables_before, MayHold, IsPossible, IsOnMixedWalk}
+use Rattle.update_model.specs.declared.Change.{Change}
+use Rattle.acyclic_numbering.specs.Heights.{IsLower}
+use Rattle.waypoint_evidence.specs.Befores.{Holds, HoldsEarlier, IsFirst}
+use Rattle.certificates.specs.Steps.{IsMixedStep, MayLeave}
+use Rattle.certificates.specs.Ordered.{Position, positions, IsPickInForce, IsMeant}
+use Rattle.certificates.specs.Certified.{Task, classes_for, KeepsVlan}
+use Rattle.update_model.specs.Mixtures.{need_of}
+use Rattle.certificates.specs.declared.OrderedPick.{OrderedPick}
+use Rattle.certificates.specs.declared.OrderedEvidence.{OrderedEvidence}
+use Rattle.certificates.specs.declared.TwoPhaseEvidence.{TwoPhaseEvidence}
+use Rattle.certificates.specs.declared.Evidence.{Evidence}
+use Rattle.certificates.specs.declared.Evidence.TheVariants.{Ordered, TwoPhase}
+use Rattle.certificates.specs.declared.Label.{Label}
+use Rattle.certificates.specs.declared.LabelPick.{LabelPick}
+use Rattle.certificates.specs.TwoPhase.{carrying, outcome_carrying, tables_of, Agrees, IsLabelPickInForce}
+use Rattle.path_walk.specs.Paths.{outcome_in, Forwards}
+use Rattle.net_base.specs.Walks.{IsWalk, end_of}
+use Rattle.net_base.specs.declared.ids.Vlan.{Vlan}
+use Rattle.check_reasons.specs.declared.reason.Reason.{Reason}
+use Rattle.check_reasons.specs.declared.reason.Reason.TheVariants.{EndBreaks, BadChange, Ambiguous, OverCapacity, Rewrites, NoNumbering, NotLower, MayDrop, NoBefore, Bypass, BadLabels, MixedPath, WrongEnd}
+
+-- the first differing number decides, and a list comes before what goes on from it
+abbrev pub IsBefore : List ℕ → List ℕ → Type 0
+IsBefore [] [] = ⊥
+IsBefore [] (y ∷ ys) = Unit {0}
+IsBefore (x ∷ xs) [] = ⊥
+IsBefore (x ∷ xs) (y ∷ ys) = (x < y) ⊎ ((x ≡ y) × IsBefore xs ys)
+
+-- change i of round k is bad: it doesn't apply, or an earlier one of the round names its entry
+pub record IsBadChange (u : Update) (k i : ℕ) (s : SwitchId) : Type 0 where
+  pub change : Change
+  pub is : slice_get (round_after k u.rounds) i ≡ Some change
+  pub at_is : switch_of change ≡ s
+  pub bad : (¬ Applies (tables_before u k) change)
+      ⊎ ((j : ℕ) × (other : Change) × (j < i) × (slice_get (round_after k u.rounds) j ≡ Some other) × (entry_named other ≡ entry_named change))
+
+-- some mixture of a switch isn't clear
+pub record IsUnclear (u : Update) (k : ℕ) (s : SwitchId) : Type 0 where
+  pub mixed : List Rule
+  pub held : MayHold u k s mixed
+  pub unclear : ¬ IsClear mixed
+
+-- a change of the round at the switch sets or strips
+pub record HasRewrite (u : Update) (k : ℕ) (s : SwitchId) : Type 0 where
+  pub change : Change
+  pub stands : IsIn change (round_after k u.rounds)
+  pub at_is : switch_of change ≡ s
+  pub rewrites : ¬ KeepsVlan (rule_of change).action
+
+-- what the pick in force for a round and a class means
+pub record IsInForce (e : OrderedEvidence) (k n : ℕ) (numbers : List ℕ) (sets : List (List ℕ)) : Type 0 where
+  pub pick : OrderedPick
+  pub in_force : IsPickInForce e.picks (suc k) n pick
+  pub meant : IsMeant e pick numbers sets
+
+-- a step from the switch goes to no lower number
+pub record HasBadStep (u : Update) (k dst : ℕ) (entry : Place) (numbers : List ℕ) (s : SwitchId) : Type 0 where
+  pub next : SwitchId
+  pub step : IsMixedStep u k dst entry s next
+  pub not_lower : ¬ IsLower numbers s next
+
+-- a packet may be discarded at a place of a mixed walk at the switch
+pub record DropsAt (u : Update) (k dst : ℕ) (entry : Place) (s : SwitchId) : Type 0 where
+  pub place : Place
+  pub on_walk : IsOnMixedWalk u k dst entry place
+  pub drops : IsPossible u k dst place Discard
+  pub at_is : place.switch ≡ s
+
+-- the position isn't guarded at the switch: the entry is there and the set doesn't begin as it must,
+-- or the set holds the switch and a packet may leave there, or may step from there outside the set otherwise than to the waypoint
+abbrev pub IsBypassed : Update → ℕ → ℕ → Place → Position → SwitchId → Type 0
+IsBypassed u k dst entry p s =
+    ((s ≡ entry.switch) × ¬ (Holds p.set s ⊎ (IsFirst p.earlier × (s ≡ p.waypoint))))
+    ⊎ ((Holds p.set s × MayLeave u k dst entry s)
+    ⊎ ((t : SwitchId) × Holds p.set s × IsMixedStep u k dst entry s t × (¬ Holds p.set t) × ¬ ((¬ HoldsEarlier p.earlier s) × (t ≡ p.waypoint))))
+
+-- a class with its duties
+abbrev pub IsClassOf : Task → ℕ → Class → Type 0
+IsClassOf t n class = IsClass (classes_for t) n class
+
+abbrev pub class_duties : Task → Class → PacketDuties
+class_duties t class = duties_of t.demands class.entry class.first
+
+-- a reason that an end isn't good, or that holds of an ordered plan, with the numbers that choose among reasons: the stage, the round,
+-- the reason's own number, the class, the position, the switch, the change
+abbrev pub IsOrderedReason : Task → OrderedEvidence → List ℕ → Reason → Type 0
+IsOrderedReason t e place (EndBreaks new breaks) =
+    (place ≡ (if new then 1 else 0) ∷ []) × IsFirstBreak t.update.net (if new then t.new else t.update.old) t.demands (classes_for t) breaks
+IsOrderedReason t e place (BadChange round s i) =
+    (k : ℕ) × (round ≡ suc k) × (place ≡ 2 ∷ k ∷ 2 ∷ s.0 ∷ i ∷ []) × IsBadChange t.update k i s
+IsOrderedReason t e place (Ambiguous round s) =
+    (k : ℕ) × (round ≡ suc k) × (k < length t.update.rounds) × (place ≡ 2 ∷ k ∷ 3 ∷ s.0 ∷ []) × IsUnclear t.update k s
+IsOrderedReason t e place (OverCapacity round s need) =
+    (k : ℕ) × (round ≡ suc k) × (k < length t.update.rounds) × (place ≡ 2 ∷ k ∷ 4 ∷ s.0 ∷ []) × (need ≡ need_of t.update k s) × (capacity_of t.update.net s < need)
+IsOrderedReason t e place (Rewrites round s) =
+    (k : ℕ) × (round ≡ suc k) × (place ≡ 2 ∷ k ∷ 5 ∷ s.0 ∷ []) × HasRewrite t.update k s
+IsOrderedReason t e place (NoNumbering round n) =
+    (k : ℕ) × (class : Class) × (round ≡ suc k) × (k < length t.update.rounds) × IsClassOf t n class × (place ≡ 2 ∷ k ∷ 6 ∷ n ∷ [])
+    × ((pick : OrderedPick) → ¬ IsPickInForce e.picks (suc k) n pick)
+IsOrderedReason t e place (NotLower round n s) =
+    (k : ℕ) × (class : Class) × (numbers : List ℕ) × (sets : List (List ℕ)) × (round ≡ suc k) × (k < length t.update.rounds) × IsClassOf t n class × (place ≡ 2 ∷ k ∷ 7 ∷ n ∷ s.0 ∷ [])
+    × IsInForce e k n numbers sets × HasBadStep t.update k class.first class.entry numbers s
+IsOrderedReason t e place (MayDrop round n s) =
+    (k : ℕ) × (class : Class) × (round ≡ suc k) × (k < length t.update.rounds) × IsClassOf t n class × (place ≡ 2 ∷ k ∷ 8 ∷ n ∷ s.0 ∷ [])
+    × IsTrue (class_duties t class).arrive × DropsAt t.update k class.first class.entry s
+IsOrderedReason t e place (NoBefore round n) =
+    (k : ℕ) × (class : Class) × (numbers : List ℕ) × (sets : List (List ℕ)) × (round ≡ suc k) × (k < length t.update.rounds) × IsClassOf t n class × (place ≡ 2 ∷ k ∷ 9 ∷ n ∷ [])
+    × IsInForce e k n numbers sets × (length sets ≢ length (flat_map (λ chain. chain) (class_duties t class).chains))
+IsOrderedReason t e place (Bypass round n w s) =
+    (k i : ℕ) × (class : Class) × (numbers : List ℕ) × (sets : List (List ℕ)) × (p : Position) × (round ≡ suc k) × (k < length t.update.rounds) × IsClassOf t n class
+    × (place ≡ 2 ∷ k ∷ 10 ∷ n ∷ i ∷ s.0 ∷ []) × IsInForce e k n numbers sets × (slice_get (positions (class_duties t class).chains sets) i ≡ Some p) × (p.waypoint ≡ w)
+    × IsBypassed t.update k class.first class.entry p s
+IsOrderedReason t e place (BadLabels round) = ⊥
+IsOrderedReason t e place (MixedPath round n s) = ⊥
+IsOrderedReason t e place (WrongEnd s) =
+    (place ≡ 3 ∷ s.0 ∷ []) × ¬ IsSameSet (rules_at (tables_before t.update (length t.update.rounds)) s) (rules_at t.new s)
+
+-- a label table that is in force and whose users' VLANs are declared
+pub record IsTableInForce (t : Task) (e : TwoPhaseEvidence) (k : ℕ) (labels : List Label) : Type 0 where
+  pub pick : LabelPick
+  pub in_force : IsLabelPickInForce e.picks (suc k) pick
+  pub is : slice_get e.labels pick.labels ≡ Some labels
+  pub declared : AllByRecursion (λ l. IsIn l.user t.update.net.vlans) labels
+
+-- an outcome of the entry agrees with neither version
+pub record IsMixedAtEntry (t : Task) (k : ℕ) (class : Class) (labels : List Label) : Type 0 where
+  pub found : Outcome
+  pub possible : IsPossible t.update k class.first class.entry found
+  pub agrees_not : (version : Bool) → ¬ Agrees t.update.net (tables_of t.update t.new version) labels version class.first class.entry found
+
+-- an outcome of a place, for a packet that carries the tag, isn't that of the tables
+abbrev pub Strays : Update → ℕ → ℕ → List (List Rule) → Vlan → Place → Type 0
+Strays u k dst tables tag place =
+    (found : Outcome) × IsPossible u k dst (carrying tag place) found × (found ≢ outcome_carrying tag (outcome_in u.net tables place dst))
+
+-- after an outcome of the entry that agrees, the first place of the path where a packet may stray is at the switch
+pub record StraysAt (t : Task) (k : ℕ) (class : Class) (labels : List Label) (s : SwitchId) : Type 0 where
+  pub next : Place
+  pub first : Place
+  pub rest : List Place
+  pub version : Bool
+  pub possible : IsPossible t.update k class.first class.entry (Go next)
+  pub agrees : Agrees t.update.net (tables_of t.update t.new version) labels version class.first class.entry (Go next)
+  pub goes : outcome_in t.update.net (tables_of t.update t.new version) class.entry class.first ≡ Go first
+  pub walk : IsWalk (Forwards t.update.net (tables_of t.update t.new version) class.first) first rest
+  pub strays : Strays t.update k class.first (tables_of t.update t.new version) next.vlan (end_of first rest)
+  pub at_is : (end_of first rest).switch ≡ s
+  pub none_earlier : (front : List Place) (x : Place) (back : List Place) → rest ≡ front ++ x ∷ back
+      → ¬ Strays t.update k class.first (tables_of t.update t.new version) next.vlan (end_of first front)
+
+-- a reason that holds of a two-phase plan, with its numbers; those of the ends, rounds and tables are as in an ordered plan
+abbrev pub IsTwoPhaseReason : Task → TwoPhaseEvidence → List ℕ → Reason → Type 0
+IsTwoPhaseReason t e place (BadLabels round) =
+    (k : ℕ) × (n : ℕ) × (class : Class) × (round ≡ suc k) × (k < length t.update.rounds) × IsClassOf t n class × (place ≡ 2 ∷ k ∷ 11 ∷ [])
+    × ((labels : List Label) → ¬ IsTableInForce t e k labels)
+IsTwoPhaseReason t e place (MixedPath round n s) =
+    (k : ℕ) × (class : Class) × (labels : List Label) × (round ≡ suc k) × (k < length t.update.rounds) × IsClassOf t n class × (place ≡ 2 ∷ k ∷ 12 ∷ n ∷ s.0 ∷ [])
+    × IsTableInForce t e k labels × (((s ≡ class.entry.switch) × IsMixedAtEntry t k class labels) ⊎ StraysAt t k class labels s)
+IsTwoPhaseReason t e place _ = ⊥
+
+-- the evidence of a two-phase plan has no reason of an ordered one, and the other way round
+abbrev pub IsShared : Reason → Type 0
+IsShared (EndBreaks new breaks) = Unit {0}
+IsShared (BadChange round s i) = Unit {0}
+IsShared (Ambiguous round s) = Unit {0}
+IsShared (OverCapacity round s need) = Unit {0}
+IsShared (WrongEnd s) = Unit {0}
+IsShared _ = ⊥
+
+-- no evidence of an ordered plan
+abbrev pub no_evidence : OrderedEvidence
+no_evidence = record { numberings = []; befores = []; uses = []; picks = [] }
+
+-- a reason that holds of a plan, with its numbers
+abbrev pub IsReason : Task → Evidence → List ℕ → Reason → Type 0
+IsReason t (Ordered e) place reason = IsOrderedReason t e place reason
+IsReason t (TwoPhase e) place reason = (IsShared reason × IsOrderedReason t no_evidence place reason) ⊎ IsTwoPhaseReason t e place reason
+
+-- the first reason of a plan: no other comes before it
+pub record IsFirstReason (t : Task) (evidence : Evidence) (reason : Reason) : Type 0 where
+  pub place : List ℕ
+  pub holds : IsReason t evidence place reason
+  pub first : (other : List ℕ) (r : Reason) → IsReason t evidence other r → ¬ IsBefore other place

@@ -1,0 +1,4 @@
+pub mod MarkedLaws
+pub mod NotedLaws
+pub mod PlaceLaws
+pub mod WalkedLaws

@@ -1,0 +1,31 @@
+-- Lists in which each member stands once, with a mark for each that may stand there.
+use Rattle.std.specs.Prelude.{◌≡◌, ◌↔◌, ℕ, ◌+◌, ◌*◌, ◌<◌, ◌≤◌, Bool, true, false, List, length, map, slice_index_or}
+use Rattle.net_base.specs.Members.{IsIn, IsDistinct}
+use Rattle.net_base.specs.declared.ids.SwitchId.{SwitchId}
+use Rattle.net_base.specs.declared.ids.Place.{Place}
+use Rattle.acyclic_numbering.specs.declared.Edge.{Edge}
+
+-- each member has a number of its own below the bound, the mark of a number says whether it stands there, and there is room for all
+pub record IsMarked {A : Type 0} (number : A → ℕ) (bound : ℕ) (list : List A) (capacity : ℕ) (marks : List Bool) : Type 0 where
+  pub count : length marks ≡ bound
+  pub room : bound ≤ capacity
+  pub once : IsDistinct (map number list)
+  pub marked : (n : ℕ) → IsIn n (map number list) ↔ (slice_index_or marks n false ≡ true)
+
+-- the number of a switch
+abbrev pub switch_number : SwitchId → ℕ
+switch_number s = s.0
+
+-- the number of a step between two of 128 switches
+abbrev pub edge_number : Edge → ℕ
+edge_number e = e.from.0 * 128 + e.to.0
+
+-- a step between two of 128 switches
+abbrev pub IsNear : Edge → Type 0
+IsNear e = (e.from.0 < 128) × (e.to.0 < 128)
+
+-- each place stands once, its switch stands in the other list, and there is room for 8193
+pub record IsPlaceList (places : List Place) (capacity : ℕ) (switches : List SwitchId) : Type 0 where
+  pub room : 8193 ≤ capacity
+  pub once : IsDistinct places
+  pub seen : (p : Place) → IsIn p places → IsIn p.switch switches

@@ -1,0 +1,66 @@
+-- What is noted while the mixed walks of a class are walked.
+use Rattle.std.specs.Prelude.{◌≡◌, ◌↔◌, ◌⊎◌, ℕ, ◌<◌, ◌≤◌, List, ◌++◌, length, take}
+use Rattle.net_base.specs.Members.{IsIn, IsDistinct}
+use Rattle.net_base.specs.declared.ids.SwitchId.{SwitchId}
+use Rattle.net_base.specs.declared.ids.Port.{Port}
+use Rattle.net_base.specs.declared.ids.Vlan.{Vlan}
+use Rattle.net_base.specs.declared.ids.Place.{Place}
+use Rattle.path_walk.specs.declared.Outcome.{Outcome}
+use Rattle.path_walk.specs.declared.Outcome.TheVariants.{Discard, Leave, Go}
+use Rattle.update_model.specs.Mixtures.{Update, IsPossible, MayGo, IsOnMixedWalk}
+use Rattle.acyclic_numbering.specs.Heights.{IsEdge}
+use Rattle.mixed_walks.specs.Walks.{WalkState}
+
+-- the outcomes of a place are noted: the next places behind those that stood there, and the steps, leavings and discards at its switch
+pub record IsNoted (old : WalkState) (place : Place) (found : List Outcome) (new : WalkState) : Type 0 where
+  pub more : List Place
+  pub behind : new.places ≡ old.places ++ more
+  pub once : IsDistinct old.places → IsDistinct new.places
+  pub places : (p : Place) → IsIn p new.places ↔ (IsIn p old.places ⊎ IsIn (Go p) found)
+  pub steps : (s t : SwitchId) → IsEdge new.steps s t ↔ (IsEdge old.steps s t ⊎ ((s ≡ place.switch) × ((q : Place) × IsIn (Go q) found × (q.switch ≡ t))))
+  pub leaving : (s : SwitchId) → IsIn s new.leaving ↔ (IsIn s old.leaving ⊎ ((s ≡ place.switch) × ((port : Port) × (vlan : Vlan) × IsIn (Leave port vlan) found)))
+  pub dropping : (s : SwitchId) → IsIn s new.dropping ↔ (IsIn s old.dropping ⊎ ((s ≡ place.switch) × IsIn Discard found))
+
+-- the places stand once, and they and those that the outcomes lead to are among few, at switches with numbers below 128
+pub record AreFew (places : List Place) (found : List Outcome) : Type 0 where
+  pub ends : List Place
+  pub few : length ends ≤ 8193
+  pub once : IsDistinct places
+  pub near : (p : Place) → IsIn p ends → p.switch.0 < 128
+  pub stood : (p : Place) → IsIn p places → IsIn p ends
+  pub led_to : (p : Place) → IsIn (Go p) found → IsIn p ends
+
+-- a packet may go from one of the places, at the one switch, to the other switch
+pub record GoesAt (u : Update) (k dst : ℕ) (places : List Place) (s t : SwitchId) : Type 0 where
+  pub place : Place
+  pub next : Place
+  pub among : IsIn place places
+  pub goes : MayGo u k dst place next
+  pub from_is : place.switch ≡ s
+  pub to_is : next.switch ≡ t
+
+-- a packet may leave at one of the places, at the switch
+pub record LeavesAt (u : Update) (k dst : ℕ) (places : List Place) (s : SwitchId) : Type 0 where
+  pub place : Place
+  pub port : Port
+  pub vlan : Vlan
+  pub among : IsIn place places
+  pub leaves : IsPossible u k dst place (Leave port vlan)
+  pub at_is : place.switch ≡ s
+
+-- a packet may be discarded at one of the places, at the switch
+pub record DiscardsAt (u : Update) (k dst : ℕ) (places : List Place) (s : SwitchId) : Type 0 where
+  pub place : Place
+  pub among : IsIn place places
+  pub drops : IsPossible u k dst place Discard
+  pub at_is : place.switch ≡ s
+
+-- the places are on mixed walks, and what may happen at the first of them, so many, is noted
+pub record IsWalkedTo (u : Update) (k dst : ℕ) (entry : Place) (next : ℕ) (noted : WalkState) : Type 0 where
+  pub begins : IsIn entry noted.places
+  pub once : IsDistinct noted.places
+  pub on_walk : (p : Place) → IsIn p noted.places → IsOnMixedWalk u k dst entry p
+  pub goes : (p q : Place) → IsIn p (take next noted.places) → MayGo u k dst p q → IsIn q noted.places
+  pub steps : (s t : SwitchId) → IsEdge noted.steps s t ↔ GoesAt u k dst (take next noted.places) s t
+  pub leaving : (s : SwitchId) → IsIn s noted.leaving ↔ LeavesAt u k dst (take next noted.places) s
+  pub dropping : (s : SwitchId) → IsIn s noted.dropping ↔ DiscardsAt u k dst (take next noted.places) s

@@ -1,0 +1,35 @@
+-- The mixed walks of a class in a round: what is noted of them.
+use Rattle.std.specs.Prelude.{◌↔◌, ℕ, ◌<◌, ◌≤◌, List}
+use Rattle.std.specs.List.{AllByRecursion}
+use Rattle.net_base.specs.Members.{IsIn}
+use Rattle.net_base.specs.declared.ids.SwitchId.{SwitchId}
+use Rattle.net_base.specs.declared.ids.Place.{Place}
+use Rattle.topology.specs.Networks.{switch_count}
+use Rattle.update_model.specs.Changes.{rule_of, round_after}
+use Rattle.update_model.specs.Mixtures.{Update}
+use Rattle.acyclic_numbering.specs.Heights.{IsEdge}
+use Rattle.acyclic_numbering.specs.declared.Edge.{Edge}
+use Rattle.certificates.specs.Steps.{IsMixedStep, MayLeave}
+use Rattle.certificates.specs.Certified.{KeepsVlan}
+use Rattle.check_reasons.specs.Reasons.{DropsAt}
+
+-- the places that were found, the steps between their switches, and the switches where a packet may leave or be discarded
+pub record WalkState : Type 0 where
+  pub places : List Place
+  pub steps : List Edge
+  pub leaving : List SwitchId
+  pub dropping : List SwitchId
+
+-- the rounds up to round k neither set nor strip
+abbrev pub KeepVlansUpTo : Update → ℕ → Type 0
+KeepVlansUpTo u k = (j : ℕ) → j ≤ k → AllByRecursion (λ c. KeepsVlan (rule_of c).action) (round_after j u.rounds)
+
+-- what is noted are the steps of the mixed walks of an entry, and where a packet on them may leave or be discarded;
+-- all of it at switches of the network
+pub record IsWalked (u : Update) (k dst : ℕ) (entry : Place) (noted : WalkState) : Type 0 where
+  pub steps : (s t : SwitchId) → IsEdge noted.steps s t ↔ IsMixedStep u k dst entry s t
+  pub leaving : (s : SwitchId) → IsIn s noted.leaving ↔ MayLeave u k dst entry s
+  pub dropping : (s : SwitchId) → IsIn s noted.dropping ↔ DropsAt u k dst entry s
+  pub steps_within : AllByRecursion (λ e. (e.from.0 < switch_count u.net) × (e.to.0 < switch_count u.net)) noted.steps
+  pub leaving_within : AllByRecursion (λ s. s.0 < switch_count u.net) noted.leaving
+  pub dropping_within : AllByRecursion (λ s. s.0 < switch_count u.net) noted.dropping

@@ -1,0 +1,85 @@
+// Switches, each of them once, with a mark for each that may stand there.
+ghost use Rattle.std.specs.Prelude.{◌≡◌, ◌↔◌, ◌⊎◌, ◌<◌, [], ℕ, IsTrue, length, map, true, false, slice_index_or, All, IfOk};
+ghost use Rattle.net_base.specs.Members.{IsIn};
+ghost use Rattle.net_base.specs.declared.ids.SwitchId.{SwitchId};
+ghost use Rattle.mixed_walks.specs.Marked.{switch_number};
+
+use net_base::{Memory, SwitchId};
+use std::alloc::Global;
+use std::marker::Model;
+
+/// Switches of a network, each once.
+#[derive(Drop)]
+pub(crate) struct SwitchSet {
+    list: Vec<SwitchId>,
+    marks: Vec<bool>,
+}
+
+impl Model for SwitchSet {
+    ghost use Rattle.std.specs.Prelude.{List, vec_capacity};
+    ghost use Rattle.net_base.specs.declared.ids.SwitchId.{SwitchId};
+    ghost use Rattle.mixed_walks.specs.Marked.{IsMarked, switch_number};
+
+    ghost Value = { List SwitchId };
+
+    ghost view = { λ a. a.list.items };
+
+    ghost invariant = { λ a. IsMarked switch_number 128 a.list.items (vec_capacity a.list) a.marks.items };
+}
+
+/// Takes the marks of switches away.
+fn unmark_switches(list: &[SwitchId], marks: &mut Vec<bool>)
+    requires { All (λ s. s.0 < length marks.old.items) list.now }
+    ensures count { length marks.new.items ≡ length marks.old.items }
+    ensures taken { (n : ℕ) → slice_index_or marks.new.items n false ≡ true → (slice_index_or marks.old.items n false ≡ true) × ¬ IsIn n (map switch_number list.now) }
+{
+    for switch in list {
+        marks[switch.0 as usize] = false;
+    }
+}
+
+impl SwitchSet {
+    /// No switches.
+    pub(crate) fn make(alloc: Global) -> Result<SwitchSet, Memory>
+        ensures { IfOk result (λ list. list ≡ []) }
+    {
+        Ok(SwitchSet {
+            list: Vec::with_capacity(alloc, 128)?,
+            marks: vec![in alloc; false; 128]?,
+        })
+    }
+
+    /// The switches, in the order in which they were put.
+    pub(crate) fn list(&self) -> &[SwitchId]
+        ensures { result.now ≡ self.now }
+    {
+        &self.list
+    }
+
+    /// Whether the switch stands there.
+    pub(crate) fn has(&self, switch: SwitchId) -> bool
+        requires { switch.0 < 128 }
+        ensures { IsTrue result ↔ IsIn switch self.now }
+    {
+        self.marks[switch.0 as usize]
+    }
+
+    /// Puts a switch, if it doesn't stand there.
+    pub(crate) fn put(&mut self, switch: SwitchId)
+        requires { switch.0 < 128 }
+        ensures { (s : SwitchId) → IsIn s self.new ↔ (IsIn s self.old ⊎ (s ≡ switch)) }
+    {
+        if !self.marks[switch.0 as usize] {
+            self.marks[switch.0 as usize] = true;
+            self.list.push_reserved(switch);
+        }
+    }
+
+    /// Forgets the switches, in time by how many there are.
+    pub(crate) fn clear(&mut self)
+        ensures { self.new ≡ [] }
+    {
+        unmark_switches(&self.list, &mut self.marks);
+        self.list.clear();
+    }
+}

@@ -1,0 +1,134 @@
+// What is noted while the mixed walks of a class are walked.
+ghost use Rattle.std.specs.Prelude.{◌≡◌, ◌↔◌, ◌<◌, ◌∷◌, [], length, slice_get, IfOk};
+ghost use Rattle.net_base.specs.Members.{IsIn, IsDistinct};
+ghost use Rattle.net_base.specs.declared.ids.Place.{Place};
+ghost use Rattle.mixed_walks.specs.Walking.{IsNoted, AreFew};
+
+use crate::edges::EdgeSet;
+use crate::marked::SwitchSet;
+use crate::reached::Reached;
+use acyclic_numbering::Edge;
+use net_base::{Memory, Place, SwitchId};
+use path_walk::Outcome;
+use std::alloc::Global;
+use std::marker::Model;
+
+/// The places that walks come to, the steps between their switches, and the switches where a packet may leave or be
+/// discarded.
+#[derive(Drop)]
+pub(crate) struct Noted {
+    reached: Reached,
+    steps: EdgeSet,
+    leaving: SwitchSet,
+    dropping: SwitchSet,
+}
+
+impl Model for Noted {
+    ghost use Rattle.mixed_walks.specs.Walks.{WalkState};
+
+    ghost Value = { WalkState };
+
+    ghost view = { λ a. record { places = a.reached; steps = a.steps; leaving = a.leaving; dropping = a.dropping } };
+}
+
+impl Noted {
+    /// Nothing noted.
+    pub(crate) fn make(alloc: Global) -> Result<Noted, Memory>
+        ensures { IfOk result (λ noted. noted ≡ record { places = []; steps = []; leaving = []; dropping = [] }) }
+    {
+        Ok(Noted {
+            reached: Reached::make(alloc)?,
+            steps: EdgeSet::make(alloc)?,
+            leaving: SwitchSet::make(alloc)?,
+            dropping: SwitchSet::make(alloc)?,
+        })
+    }
+
+    /// How many places there are.
+    pub(crate) fn count(&self) -> usize
+        ensures { result ≡ length self.now.places }
+    {
+        self.reached.count()
+    }
+
+    /// A place, by its number from 0.
+    pub(crate) fn place(&self, i: usize) -> Place
+        requires { i < length self.now.places }
+        ensures { slice_get self.now.places i ≡ Some result }
+    {
+        self.reached.at(i)
+    }
+
+    /// The steps, each once.
+    pub(crate) fn steps(&self) -> &[Edge]
+        ensures { result.now ≡ self.now.steps }
+    {
+        self.steps.list()
+    }
+
+    /// The switches where a packet may leave, each once.
+    pub(crate) fn leaving(&self) -> &[SwitchId]
+        ensures { result.now ≡ self.now.leaving }
+    {
+        self.leaving.list()
+    }
+
+    /// The switches where a packet may be discarded, each once.
+    pub(crate) fn dropping(&self) -> &[SwitchId]
+        ensures { result.now ≡ self.now.dropping }
+    {
+        self.dropping.list()
+    }
+
+    /// Forgets all.
+    fn clear(&mut self)
+        ensures { self.new ≡ record { places = []; steps = []; leaving = []; dropping = [] } }
+    {
+        self.reached.clear();
+        self.steps.clear();
+        self.leaving.clear();
+        self.dropping.clear();
+    }
+
+    /// Forgets all but the place where the walks begin.
+    pub(crate) fn start(&mut self, entry: Place)
+        requires { entry.switch.0 < 128 }
+        ensures places { (p : Place) → IsIn p self.new.places ↔ (p ≡ entry) }
+        ensures once { IsDistinct self.new.places }
+        ensures nothing { (self.new.steps ≡ []) × (self.new.leaving ≡ []) × (self.new.dropping ≡ []) }
+    {
+        self.clear();
+        self.reached.put(entry);
+    }
+
+    /// Notes an outcome of a place.
+    fn note(&mut self, place: Place, outcome: Outcome)
+        requires near { place.switch.0 < 128 }
+        requires few { AreFew self.old.places (outcome ∷ []) }
+        ensures { IsNoted self.old place (outcome ∷ []) self.new }
+    {
+        match outcome {
+            Outcome::Discard => self.dropping.put(place.switch),
+            Outcome::Leave(_, _) => self.leaving.put(place.switch),
+            Outcome::Go(next) => {
+                let step = Edge {
+                    from: place.switch,
+                    to: next.switch,
+                };
+                self.steps.put(step);
+                self.reached.put(next);
+            }
+        }
+    }
+
+    /// Notes all outcomes of a place.
+    pub(crate) fn note_all(&mut self, place: Place, outcomes: &[Outcome])
+        requires near { place.switch.0 < 128 }
+        requires few { AreFew self.old.places outcomes.now }
+        ensures { IsNoted self.old place outcomes.now self.new }
+    {
+        for outcome in outcomes {
+            self.note(place, *outcome);
+        }
+    }
+}
