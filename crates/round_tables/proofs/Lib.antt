@@ -1,0 +1,6 @@
+pub mod PresentLaws
+pub mod FirstReasons
+pub mod EndLaws
+pub mod LoadLaws
+pub mod ApplyLaws
+pub mod PassLaws

@@ -1,0 +1,10 @@
+use Rattle.std.proofs.Common.{◌≡◌, ◌+◌, ◌<◌, ◌≤◌, length}
+use Rattle.std.specs.Prelude.{slice_index_or}
+use Rattle.net_base.specs.declared.ids.SwitchId.{SwitchId}
+use Rattle.topology.specs.Networks.{capacity_of}
+use Rattle.round_tables.specs.Present.{mix_at}
+use Rattle.round_tables.proofs.present.roomy_mixes.Given as goal
+
+abbrev pub invariant-loop-i : goal.invariant-loop-i
+invariant-loop-i l =
+    (length l.mixes.items ≡ l.i) × ((s : SwitchId) → s.0 < l.i → capacity_of l.net s + slice_index_or l.counts s.0 0 ≤ (mix_at l.mixes.items s).room)

@@ -1,0 +1,15 @@
+use Rattle.std.proofs.Common.{◌≡◌, drop}
+use Rattle.net_base.specs.declared.ids.SwitchId.{SwitchId}
+use Rattle.flow_rules.specs.Tables.{rules_of_all}
+use Rattle.update_model.specs.Changes.{IsGoodRound, tables_after}
+use Rattle.round_tables.specs.Present.{room_of, table_at}
+use Rattle.round_tables.specs.Loading.{HaveRoom}
+use Rattle.round_tables.proofs.rounds.change_all.Given as goal
+
+abbrev pub invariant-loop-change : goal.invariant-loop-change
+invariant-loop-change l = record {
+  good : IsGoodRound (rules_of_all l.tables) (drop l.change-index l.round);
+  fits : HaveRoom l.tables (drop l.change-index l.round);
+  rules : tables_after (drop l.change-index l.round) (rules_of_all l.tables) ≡ tables_after l.round (rules_of_all l.initial.tables);
+  room : (s : SwitchId) → room_of (table_at l.tables s) ≡ room_of (table_at l.initial.tables s);
+}

@@ -1,0 +1,60 @@
+-- The tables before a round and each switch prepared for it, with the room that the rounds of an update want.
+use Rattle.std.specs.Prelude.{◌≡◌, ℕ, ◌+◌, ◌<◌, ◌≤◌, Bool, true, false, List, [], length, None, slice_index_or, IsSomeAnd}
+use Rattle.net_base.specs.declared.ids.SwitchId.{SwitchId}
+use Rattle.topology.specs.Networks.{Network, switch_count, capacity_of}
+use Rattle.flow_rules.specs.Tables.{TableState, rules_at, rules_of_all}
+use Rattle.flow_rules.specs.declared.rules.Rule.{Rule}
+use Rattle.update_model.specs.Changes.{changes_at, round_after}
+use Rattle.update_model.specs.Mixtures.{Update, tables_before}
+use Rattle.update_model.specs.declared.Change.{Change}
+use Rattle.round_mix.specs.Prepared.{MixedState, IsPrepared}
+use Rattle.check_reasons.specs.Loaded.{AreLoaded}
+
+-- the tables, what is prepared of each switch, which switches are to be prepared anew, and for how many changes of one switch there is room
+pub record PresentState : Type 0 where
+  pub tables : List TableState
+  pub mixes : List MixedState
+  pub touched : List Bool
+  pub room : ℕ
+
+-- the table of a switch, with its room
+abbrev pub table_at : List TableState → SwitchId → TableState
+table_at tables s = slice_index_or tables s.0 (record { rules = []; spare = 0 })
+
+-- what is prepared of a switch
+abbrev pub mix_at : List MixedState → SwitchId → MixedState
+mix_at mixes s = slice_index_or mixes s.0 (record { prepared = None; room = 0 })
+
+-- whether a switch is to be prepared anew
+abbrev pub is_touched : List Bool → SwitchId → Bool
+is_touched touched s = slice_index_or touched s.0 true
+
+-- for how many rules a table has room in all
+abbrev pub room_of : TableState → ℕ
+room_of t = length t.rules + t.spare
+
+-- there is room for each switch's capacity, and for the changes of each round
+pub record HasRoom (net : Network) (rounds : List (List Change)) (p : PresentState) : Type 0 where
+  pub tables : length p.tables ≡ switch_count net
+  pub mixes : length p.mixes ≡ switch_count net
+  pub touched : length p.touched ≡ switch_count net
+  pub for_rules : (s : SwitchId) → s.0 < switch_count net → capacity_of net s ≤ room_of (table_at p.tables s)
+  pub for_marks : (s : SwitchId) (k : ℕ) → s.0 < switch_count net
+      → capacity_of net s + length (changes_at s (round_after k rounds)) ≤ (mix_at p.mixes s).room
+  pub for_changes : (k : ℕ) → length (round_after k rounds) ≤ p.room
+
+-- a switch is prepared for its table and these changes of it
+abbrev pub IsMixed : List Rule → List Change → MixedState → Type 0
+IsMixed rules changes mixed = IsSomeAnd mixed.prepared (IsPrepared rules changes)
+
+-- the tables are those before round k and fit, and each switch that isn't to be prepared anew is prepared for no changes of its table
+pub record StandsBefore (u : Update) (k : ℕ) (p : PresentState) : Type 0 where
+  pub tables : rules_of_all p.tables ≡ tables_before u k
+  pub fit : (s : SwitchId) → s.0 < switch_count u.net → length (rules_at (tables_before u k) s) ≤ capacity_of u.net s
+  pub same : (s : SwitchId) → is_touched p.touched s ≡ false → IsMixed (rules_at (tables_before u k) s) [] (mix_at p.mixes s)
+
+-- the tables are those before round k, each switch is prepared for the round, and those that it changes are to be prepared anew
+pub record StandsAt (u : Update) (k : ℕ) (p : PresentState) : Type 0 where
+  pub tables : rules_of_all p.tables ≡ tables_before u k
+  pub loaded : AreLoaded u k p.mixes
+  pub same : (s : SwitchId) → is_touched p.touched s ≡ false → changes_at s (round_after k u.rounds) ≡ []
