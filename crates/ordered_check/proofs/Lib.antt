@@ -1,0 +1,6 @@
+pub mod PickLaws
+pub mod LeastLaws
+pub mod WayLaws
+pub mod MeaningLaws
+pub mod JudgeLaws
+pub mod RoundLaws

@@ -1,0 +1,202 @@
+-- The picks that were taken up, and the one that is in force for a class.
+use Rattle.std.proofs.Common.{◌≡◌, ℕ, zero, suc, ◌+◌, ◌<◌, ◌≤◌, List, [], ◌∷◌, ◌++◌, length, get_or, set, take, drop, replicate, Option, Some, None, refl, sym, ap, ◌∙◌, subst, inl, inr, arith}
+use Rattle.std.specs.Prelude.{slice_get}
+use Rattle.std.specs.List.{AllByRecursion}
+use Rattle.std.proofs.lemmas.Bool.{cases_eq}
+use Rattle.std.proofs.lemmas.Option.{same_Some, none-some}
+use Rattle.std.proofs.lemmas.List.{take_more, take-append-drop, drop_all, append-nil, take_all}
+use Rattle.net_base.specs.Members.{IsIn}
+use Rattle.net_base.proofs.MemberLaws.{each_at, each_weaker, each_append, in_append_left, in_append_right, in_append_cases}
+use Rattle.certificates.proofs.Chains.{all_at}
+use Rattle.certificates.specs.Valid.{IsChain, IsPickBefore}
+use Rattle.certificates.specs.declared.OrderedPick.{OrderedPick}
+use Rattle.ordered_check.specs.Picks.{PicksState, PicksStand, IsUseInForce}
+
+-- ---- picks in order
+
+pub chain_rest : (p : OrderedPick) (picks : List OrderedPick) → IsChain IsPickBefore (p ∷ picks) → IsChain IsPickBefore picks
+chain_rest p [] h = tt
+chain_rest p (q ∷ picks) h = h.1
+
+no_later : (p q : OrderedPick) → IsPickBefore p q → p.round ≤ q.round
+no_later p q (inl less) = omega arith
+no_later p q (inr same) = let e = same.0 in omega arith
+
+-- no pick after the first has a lower round
+rounds_up : (p : OrderedPick) (picks : List OrderedPick) → IsChain IsPickBefore (p ∷ picks) → AllByRecursion (λ q. p.round ≤ q.round) picks
+rounds_up p [] h = tt
+rounds_up p (q ∷ picks) h =
+    let le : p.round ≤ q.round = no_later p q h.0 in
+    (le, each_weaker (λ (x : OrderedPick). q.round ≤ x.round) (λ (x : OrderedPick). p.round ≤ x.round) (λ x less. omega arith) picks (rounds_up q picks h.1))
+
+pub front_begun : (picks : List OrderedPick) (i : ℕ) (d : OrderedPick) → i < length picks → IsChain IsPickBefore picks → AllByRecursion (λ q. q.round ≤ (get_or picks i d).round) (take i picks)
+front_begun [] i d lt h = absurd (omega arith)
+front_begun (p ∷ picks) zero d lt h = tt
+front_begun (p ∷ picks) (suc i) d lt h =
+    (all_at (λ (q : OrderedPick). p.round ≤ q.round) picks i d (omega arith) (rounds_up p picks h), front_begun picks i d (omega arith) (chain_rest p picks h))
+
+pub back_later : (round : ℕ) (picks : List OrderedPick) (i : ℕ) (d : OrderedPick) → i < length picks → IsChain IsPickBefore picks → round < (get_or picks i d).round → AllByRecursion (λ q. round < q.round) (drop i picks)
+back_later round [] i d lt h late = absurd (omega arith)
+back_later round (p ∷ picks) zero d lt h late =
+    (late, each_weaker (λ (q : OrderedPick). p.round ≤ q.round) (λ (q : OrderedPick). round < q.round) (λ q le. omega arith) picks (rounds_up p picks h))
+back_later round (p ∷ picks) (suc i) d lt h late = back_later round picks i d (omega arith) (chain_rest p picks h) late
+
+-- ---- the last pick of a class
+
+pub record IsLatest (picks : List OrderedPick) (n use_ : ℕ) : Type 0 where
+  pub pick : OrderedPick
+  pub stands : IsIn pick picks
+  pub of_class : pick.class ≡ n
+  pub is : pick.shared ≡ use_
+  pub latest : (other : OrderedPick) → IsIn other picks → other.class ≡ n → other.round ≤ pick.round
+
+-- the use of the pick of a class that has the greatest round; none where the class has no pick
+abbrev pub IsLatestUse : List OrderedPick → ℕ → Option ℕ → Type 0
+IsLatestUse picks n None = (pick : OrderedPick) → IsIn pick picks → ¬ (pick.class ≡ n)
+IsLatestUse picks n (Some use_) = IsLatest picks n use_
+
+-- each class has its own
+abbrev pub AreKept : List OrderedPick → List (Option ℕ) → Type 0
+AreKept picks of_class = (n : ℕ) (kept : Option ℕ) → slice_get of_class n ≡ Some kept → IsLatestUse picks n kept
+
+get_set_same : {A : Type 0} (xs : List A) (i : ℕ) (x y : A) → slice_get (set xs i x) i ≡ Some y → x ≡ y
+get_set_same [] i x y e = absurd (none-some y e)
+get_set_same (z ∷ xs) zero x y e = same_Some x y e
+get_set_same (z ∷ xs) (suc i) x y e = get_set_same xs i x y e
+
+get_set_other : {A : Type 0} (xs : List A) (i j : ℕ) (x : A) → ¬ (j ≡ i) → slice_get (set xs i x) j ≡ slice_get xs j
+get_set_other [] i j x ne = refl
+get_set_other (z ∷ xs) zero zero x ne = absurd (ne refl)
+get_set_other (z ∷ xs) zero (suc j) x ne = refl
+get_set_other (z ∷ xs) (suc i) zero x ne = refl
+get_set_other (z ∷ xs) (suc i) (suc j) x ne = get_set_other xs i j x (λ e. ne (ap suc e))
+
+module _ (front : List OrderedPick) (p : OrderedPick) where
+  here_latest : AllByRecursion (λ q. q.round ≤ p.round) front → IsLatest (front ++ p ∷ []) p.class p.shared
+  here_latest begun = record {
+    pick = p;
+    stands = in_append_right p front (p ∷ []) (inl refl);
+    of_class = refl;
+    is = refl;
+    latest = λ other i same.
+        elim (in_append_cases other front (p ∷ []) i) [
+          | inl j ↦ each_at (λ (q : OrderedPick). q.round ≤ p.round) front other begun j
+          | inr j ↦ last_one other j
+        ];
+  }
+    where
+      last_one : (other : OrderedPick) → IsIn other (p ∷ []) → other.round ≤ p.round
+      last_one other (inl e) = let f : other.round ≡ p.round = ap (λ (q : OrderedPick). q.round) e in omega arith
+      last_one other (inr none) = absurd none
+
+  -- a pick of another class changes nothing
+  other_class : (other : OrderedPick) (n : ℕ) → ¬ (n ≡ p.class) → other.class ≡ n → IsIn other (front ++ p ∷ []) → IsIn other front
+  other_class other n ne of_class i =
+      elim (in_append_cases other front (p ∷ []) i) [
+        | inl j ↦ j
+        | inr j ↦ absurd (elim j [ inl e ↦ ne (sym of_class ∙ ap (λ (q : OrderedPick). q.class) e) | inr none ↦ none ])
+      ]
+
+  still_latest : (n : ℕ) (kept : Option ℕ) → ¬ (n ≡ p.class) → IsLatestUse front n kept → IsLatestUse (front ++ p ∷ []) n kept
+  still_latest n None ne h = λ pick i of_class. h pick (other_class pick n ne of_class i) of_class
+  still_latest n (Some use_) ne h = record {
+    pick = h.pick;
+    stands = in_append_left h.pick front (p ∷ []) h.stands;
+    of_class = h.of_class;
+    is = h.is;
+    latest = λ other i same. h.latest other (other_class other n ne same i) same;
+  }
+
+  -- one more pick, noted for its class
+  pub kept_more : (of_class : List (Option ℕ)) → AllByRecursion (λ q. q.round ≤ p.round) front → AreKept front of_class → AreKept (front ++ p ∷ []) (set of_class p.class (Some p.shared))
+  kept_more of_class begun h n kept is =
+      elim (cases_eq n p.class) [
+        | inl same ↦ subst (λ (m : ℕ). IsLatestUse (front ++ p ∷ []) m kept) (sym same)
+            (subst (IsLatestUse (front ++ p ∷ []) p.class) (get_set_same of_class p.class (Some p.shared) kept (subst (λ (m : ℕ). slice_get (set of_class p.class (Some p.shared)) m ≡ Some kept) same is)) (here_latest begun))
+        | inr ne ↦ still_latest n kept ne (h n kept (sym (get_set_other of_class p.class n (Some p.shared) ne) ∙ is))
+      ]
+
+-- ---- the pick in force
+
+module _ (round : ℕ) (front back : List OrderedPick) (begun : AllByRecursion (λ p. p.round ≤ round) front) (later : AllByRecursion (λ p. round < p.round) back) where
+  in_front : (pick : OrderedPick) → pick.round ≤ round → IsIn pick (front ++ back) → IsIn pick front
+  in_front pick le i =
+      elim (in_append_cases pick front back i) [
+        | inl j ↦ j
+        | inr j ↦ absurd (let less = each_at (λ (p : OrderedPick). round < p.round) back pick later j in omega arith)
+      ]
+
+  begun_at : (pick : OrderedPick) → IsIn pick front → pick.round ≤ round
+  begun_at pick i = each_at (λ (p : OrderedPick). p.round ≤ round) front pick begun i
+
+  use_from_latest_in : (n : ℕ) (kept : Option ℕ) → IsLatestUse front n kept → IsUseInForce (front ++ back) round n kept
+  use_from_latest_in n None h = λ pick i of_class le. h pick (in_front pick le i) of_class
+  use_from_latest_in n (Some use_) h = (
+    h.pick,
+    record {
+      stands = in_append_left h.pick front back h.stands;
+      of_class = h.of_class;
+      begun = begun_at h.pick h.stands;
+      latest = λ other i same le. h.latest other (in_front other le i) same;
+    },
+    h.is,
+  )
+
+  latest_from_use_in : (n : ℕ) (kept : Option ℕ) → IsUseInForce (front ++ back) round n kept → IsLatestUse front n kept
+  latest_from_use_in n None h = λ pick i of_class. h pick (in_append_left pick front back i) of_class (begun_at pick i)
+  latest_from_use_in n (Some use_) (pick, force, shared) = record {
+    pick = pick;
+    stands = in_front pick force.begun force.stands;
+    of_class = force.of_class;
+    is = shared;
+    latest = λ other i same. force.latest other (in_append_left other front back i) same (begun_at other i);
+  }
+
+module _ (picks : List OrderedPick) (round next : ℕ) (begun : AllByRecursion (λ p. p.round ≤ round) (take next picks)) (later : AllByRecursion (λ p. round < p.round) (drop next picks)) where
+  pub use_from_latest : (n : ℕ) (kept : Option ℕ) → IsLatestUse (take next picks) n kept → IsUseInForce picks round n kept
+  use_from_latest n kept h =
+      subst (λ (ps : List OrderedPick). IsUseInForce ps round n kept) (take-append-drop next picks) (use_from_latest_in round (take next picks) (drop next picks) begun later n kept h)
+
+  pub latest_from_use : (n : ℕ) (kept : Option ℕ) → IsUseInForce picks round n kept → IsLatestUse (take next picks) n kept
+  latest_from_use n kept h =
+      latest_from_use_in round (take next picks) (drop next picks) begun later n kept (subst (λ (ps : List OrderedPick). IsUseInForce ps round n kept) (sym (take-append-drop next picks)) h)
+
+-- the picks taken up, with one more
+pub record AreTaken (picks : List OrderedPick) (round next : ℕ) (of_class : List (Option ℕ)) : Type 0 where
+  pub within : next ≤ length picks
+  pub begun : AllByRecursion (λ p. p.round ≤ round) (take next picks)
+  pub kept : AreKept (take next picks) of_class
+
+pub taken_more : (picks : List OrderedPick) (round next : ℕ) (of_class : List (Option ℕ)) (p d : OrderedPick) → IsChain IsPickBefore picks → next < length picks → p ≡ get_or picks next d → p.round ≤ round
+    → AreTaken picks round next of_class → AreTaken picks round (next + 1) (set of_class p.class (Some p.shared))
+taken_more picks round next of_class p d chain lt is le taken =
+    let more : take (next + 1) picks ≡ take next picks ++ p ∷ [] = take_more picks next d lt ∙ ap (λ (x : OrderedPick). take next picks ++ x ∷ []) (sym is) in
+    let front = subst (λ (x : OrderedPick). AllByRecursion (λ (q : OrderedPick). q.round ≤ x.round) (take next picks)) (sym is) (front_begun picks next d lt chain) in
+    record {
+      within = omega arith;
+      begun = subst (AllByRecursion (λ (q : OrderedPick). q.round ≤ round)) (sym more) (each_append (λ (q : OrderedPick). q.round ≤ round) (take next picks) (p ∷ []) taken.begun (le, tt));
+      kept = subst (λ (ps : List OrderedPick). AreKept ps (set of_class p.class (Some p.shared))) (sym more) (kept_more (take next picks) p of_class front taken.kept);
+    }
+
+-- what a slice of a whole list writes back
+pub written_back : {A : Type 0} (len : ℕ) (new items : List A) → length new ≡ length items → length items ≡ len → take len (new ++ drop (length new) items) ≡ new
+written_back {A} len new items same is =
+    let e : new ++ drop (length new) items ≡ new = ap (λ (xs : List A). new ++ xs) (drop_all (length new) items (omega arith)) ∙ append-nil new in
+    ap (take len) e ∙ take_all len new (omega arith)
+
+get_replicate : {A : Type 0} (count n : ℕ) (x y : A) → slice_get (replicate count x) n ≡ Some y → x ≡ y
+get_replicate zero n x y e = absurd (none-some y e)
+get_replicate (suc count) zero x y e = same_Some x y e
+get_replicate (suc count) (suc n) x y e = get_replicate count n x y e
+
+-- before the first round no pick is in force
+pub none_begun : (picks : List OrderedPick) (state : PicksState) (count : ℕ) → AllByRecursion (λ p. 1 ≤ p.round) picks → state.next ≡ 0 → state.of_class ≡ replicate count None → PicksStand picks 0 state
+none_begun picks state count positive next none = record {
+  within = omega arith;
+  begun = subst (λ (n : ℕ). AllByRecursion (λ p. p.round ≤ 0) (take n picks)) (sym next) tt;
+  later = subst (λ (n : ℕ). AllByRecursion (λ p. 0 < p.round) (drop n picks)) (sym next)
+      (each_weaker (λ (p : OrderedPick). 1 ≤ p.round) (λ (p : OrderedPick). 0 < p.round) (λ p h. omega arith) picks positive);
+  each = λ n kept is.
+      subst (IsUseInForce picks 0 n) (get_replicate count n None kept (ap (λ (xs : List (Option ℕ)). slice_get xs n) (sym none) ∙ is))
+      (λ pick i of_class. let some = each_at (λ (p : OrderedPick). 1 ≤ p.round) picks pick positive i in λ le. omega arith);
+}

@@ -1,0 +1,13 @@
+use Rattle.std.proofs.Common.{◌≤◌, length}
+use Rattle.net_base.proofs.MemberLaws.{each_weaker}
+use Rattle.certificates.specs.Valid.{IsValidPick}
+use Rattle.certificates.specs.declared.OrderedPick.{OrderedPick}
+use Rattle.ordered_check.proofs.PickLaws.{none_begun}
+use Rattle.ordered_check.proofs.ordered.OrderedRoom.start.Goals as goal
+
+pub returns-clause-stands : goal.returns-clause-stands
+returns-clause-stands c =
+    let e = c.args.evidence.now in
+    let valid = c.keeps_valid.ensures.valid in
+    none_begun e.picks c.start.new.self (length c.self.inside.picks.of_class)
+    (each_weaker (IsValidPick (length c.args.case.now.task.update.rounds) (length e.uses)) (λ (p : OrderedPick). 1 ≤ p.round) (λ p h. h.0) e.picks valid.picks) c.start.ensures.next c.start.ensures.none

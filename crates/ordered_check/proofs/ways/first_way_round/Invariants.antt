@@ -1,0 +1,15 @@
+use Rattle.std.proofs.Common.{◌≡◌, take}
+use Rattle.net_base.specs.Members.{IsIn}
+use Rattle.acyclic_numbering.specs.Heights.{IsEdge}
+use Rattle.demands.specs.Duties.{duties_of}
+use Rattle.certificates.specs.Ordered.{positions}
+use Rattle.ordered_check.specs.Judged.{IsWayRound, sets_of, AreGuardedBelow}
+use Rattle.ordered_check.proofs.WayLaws.{together}
+use Rattle.ordered_check.proofs.ways.first_way_round.Given as goal
+
+abbrev pub invariant-loop-i : goal.invariant-loop-i
+invariant-loop-i l = record {
+  at_is : l.at ≡ together (take l.i (duties_of l.duties.demands l.fn.class.entry l.fn.class.first).chains);
+  guarded : AreGuardedBelow (IsWayRound l.fn.class.entry.switch (IsEdge l.steps) (λ s. IsIn s l.leaving))
+      (positions (take l.i (duties_of l.duties.demands l.fn.class.entry l.fn.class.first).chains) (sets_of l.befores l.indices)) l.at;
+}

@@ -1,0 +1,148 @@
+// The least switches at which something is wrong.
+ghost use Rattle.std.specs.Prelude.{◌≡◌, ◌↔◌, ◌⊎◌, ◌<◌, length, All, IsTrue};
+ghost use Rattle.std.specs.Option.{option_copied};
+ghost use Rattle.net_base.specs.Members.{IsIn};
+ghost use Rattle.net_base.specs.declared.ids.SwitchId.{SwitchId};
+ghost use Rattle.acyclic_numbering.specs.Heights.{IsEdge};
+ghost use Rattle.waypoint_evidence.specs.Befores.{Holds, HoldsEarlier, IsFirst};
+ghost use Rattle.ordered_check.specs.Judged.{IsLeastOf, lesser, HasEdgeUp, HasStray, Strays, IsWayRound};
+
+use acyclic_numbering::{Edge, Numbering, lowers};
+use net_base::SwitchId;
+use waypoint_evidence::Before;
+
+/// The lesser of two switches, where there are two.
+fn lesser(one: Option<SwitchId>, other: Option<SwitchId>) -> Option<SwitchId>
+    ensures { result ≡ lesser one other }
+{
+    match one {
+        None => other,
+        Some(s) => match other {
+            None => one,
+            Some(t) => { if t.0 < s.0 { other } else { one } }
+        },
+    }
+}
+
+/// The least of the switches from which a step goes to no lower number.
+pub(crate) fn least_not_lower(numbering: &Numbering, steps: &[Edge]) -> Option<SwitchId>
+    requires { All (λ e. (e.from.0 < length numbering.now) × (e.to.0 < length numbering.now)) steps.now }
+    ensures { IsLeastOf (HasEdgeUp steps.now numbering.now) result }
+{
+    let mut least = None;
+    for step in steps {
+        let up = !lowers(numbering, step.from, step.to);
+        least = lesser(least, up.then_some(step.from));
+    }
+    least
+}
+
+/// The least of the switches.
+pub(crate) fn least_of(switches: &[SwitchId]) -> Option<SwitchId>
+    ensures { IsLeastOf (λ s. IsIn s switches.now) result }
+{
+    let mut least = None;
+    for s in switches {
+        least = lesser(least, Some(*s));
+    }
+    least
+}
+
+/// The least of the switches that the set holds.
+fn least_held(set: &Before, switches: &[SwitchId]) -> Option<SwitchId>
+    requires { All (λ s. s.0 < 128) switches.now }
+    ensures { IsLeastOf (λ s. Holds set.now s × IsIn s switches.now) result }
+{
+    let mut least = None;
+    for s in switches {
+        least = lesser(least, set.holds(*s).then_some(*s));
+    }
+    least
+}
+
+/// Whether the set of the position before holds a switch.
+fn holds_earlier(earlier: Option<&Before>, s: SwitchId) -> bool
+    requires { s.0 < 128 }
+    ensures { IsTrue result ↔ HoldsEarlier (option_copied earlier.entry) s }
+{
+    match earlier {
+        None => false,
+        Some(set) => set.holds(s),
+    }
+}
+
+/// Whether the step goes to the waypoint from outside the set before.
+fn meets(step: Edge, waypoint: SwitchId, earlier: Option<&Before>) -> bool
+    requires { step.from.0 < 128 }
+    ensures { IsTrue result ↔ ((¬ HoldsEarlier (option_copied earlier.entry) step.from) × (step.to ≡ waypoint)) }
+{
+    step.to.0 == waypoint.0 && !holds_earlier(earlier, step.from)
+}
+
+/// Whether the step leaves the set otherwise than from outside the set before to the waypoint.
+fn strays(set: &Before, step: Edge, waypoint: SwitchId, earlier: Option<&Before>) -> bool
+    requires { (step.from.0 < 128) × (step.to.0 < 128) }
+    ensures { IsTrue result ↔ Strays (record { waypoint = waypoint; earlier = option_copied earlier.entry; set = set.now }) step }
+{
+    set.holds(step.from) && !set.holds(step.to) && !meets(step, waypoint, earlier)
+}
+
+/// The least of the switches from which a step strays.
+fn least_stray(
+    set: &Before,
+    steps: &[Edge],
+    waypoint: SwitchId,
+    earlier: Option<&Before>,
+) -> Option<SwitchId>
+    requires { All (λ e. (e.from.0 < 128) × (e.to.0 < 128)) steps.now }
+    ensures { IsLeastOf (HasStray steps.now (record { waypoint = waypoint; earlier = option_copied earlier.entry; set = set.now })) result }
+{
+    let mut least = None;
+    for step in steps {
+        least = lesser(
+            least,
+            strays(set, *step, waypoint, earlier).then_some(step.from),
+        );
+    }
+    least
+}
+
+/// Whether the position is a first one and the start is its waypoint.
+fn starts_there(start: SwitchId, waypoint: SwitchId, earlier: Option<&Before>) -> bool
+    ensures { IsTrue result ↔ (IsFirst (option_copied earlier.entry) × (start ≡ waypoint)) }
+{
+    earlier.is_none() && start.0 == waypoint.0
+}
+
+/// Whether the set holds the start, or the position is a first one and the start is the waypoint.
+fn begins(set: &Before, start: SwitchId, waypoint: SwitchId, earlier: Option<&Before>) -> bool
+    requires { start.0 < 128 }
+    ensures { IsTrue result ↔ (Holds set.now start ⊎ (IsFirst (option_copied earlier.entry) × (start ≡ waypoint))) }
+{
+    set.holds(start) || starts_there(start, waypoint, earlier)
+}
+
+/// The least of the switches at which the position isn't guarded: at the start where the set doesn't begin as it must,
+/// at a switch of the set where a packet may leave or from which it may stray.
+pub(crate) fn least_way_round(
+    start: SwitchId,
+    steps: &[Edge],
+    leaving: &[SwitchId],
+    set: &Before,
+    waypoint: SwitchId,
+    earlier: Option<&Before>,
+) -> Option<SwitchId>
+    requires start { start.0 < 128 }
+    requires steps { All (λ e. (e.from.0 < 128) × (e.to.0 < 128)) steps.now }
+    requires leaving { All (λ s. s.0 < 128) leaving.now }
+    ensures { IsLeastOf (IsWayRound start (IsEdge steps.now) (λ s. IsIn s leaving.now)
+        (record { waypoint = waypoint; earlier = option_copied earlier.entry; set = set.now })) result }
+{
+    let unbegun = !begins(set, start, waypoint, earlier);
+    let at_start = unbegun.then_some(start);
+    let at_set = lesser(
+        least_held(set, leaving),
+        least_stray(set, steps, waypoint, earlier),
+    );
+    lesser(at_start, at_set)
+}

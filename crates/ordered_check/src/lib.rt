@@ -1,0 +1,10 @@
+//! The classes of a round of an ordered plan: whether each has its certificate.
+#![tactic(auto)]
+
+mod judging;
+mod least;
+mod ordered;
+mod picks;
+mod ways;
+
+pub use ordered::OrderedRoom;

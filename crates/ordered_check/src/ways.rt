@@ -1,0 +1,138 @@
+// The positions of the chains of a class that before sets don't guard.
+ghost use Rattle.std.specs.Prelude.{◌≡◌, ◌↔◌, ◌<◌, ◌≤◌, length, drop, flat_map, slice_get, Some, None, All, IsTrue, IfSome, IfNone};
+ghost use Rattle.std.specs.Option.{option_copied};
+ghost use Rattle.net_base.specs.Members.{IsIn};
+ghost use Rattle.acyclic_numbering.specs.Heights.{IsEdge};
+ghost use Rattle.dest_classes.specs.Classes.{class_count, IsClass};
+ghost use Rattle.demands.specs.Duties.{duties_of};
+ghost use Rattle.certificates.specs.Ordered.{chain_positions, positions};
+ghost use Rattle.ordered_check.specs.Judged.{IsWayRound, sets_of, set_before, AreGuardedBelow, IsFirstWayRound};
+
+use crate::least::least_way_round;
+use acyclic_numbering::Edge;
+use demands::Duties;
+use dest_classes::Class;
+use net_base::SwitchId;
+use waypoint_evidence::Before;
+
+/// A waypoint that isn't guarded, and the least switch at which it isn't.
+#[derive(Clone, Copy, Debug, PartialEq, Eq)]
+pub(crate) struct WayRound {
+    pub(crate) waypoint: SwitchId,
+    pub(crate) switch: SwitchId,
+}
+
+/// The before set at a place of a list of their numbers.
+fn set_at<'a>(befores: &'a [Before], indices: &[u64], place: usize) -> &'a Before
+    requires place { place < length indices.now }
+    requires indices { All (λ i. i < length befores.now) indices.now }
+    ensures { slice_get (sets_of befores.now indices.now) place ≡ Some result.now }
+{
+    &befores[indices[place] as usize]
+}
+
+/// The before set at the place before, if one is before it.
+fn earlier_set<'a>(befores: &'a [Before], indices: &[u64], place: usize) -> Option<&'a Before>
+    requires place { place < length indices.now }
+    requires indices { All (λ i. i < length befores.now) indices.now }
+    ensures { option_copied result ≡ set_before (sets_of befores.now indices.now) place }
+{
+    if place == 0 {
+        None
+    } else {
+        Some(set_at(befores, indices, place - 1))
+    }
+}
+
+/// The first waypoint of a chain that isn't guarded, where the first numbers are those of its before sets.
+fn way_round_chain(
+    start: SwitchId,
+    steps: &[Edge],
+    leaving: &[SwitchId],
+    chain: &[SwitchId],
+    befores: &[Before],
+    indices: &[u64],
+) -> Option<WayRound>
+    requires start { start.0 < 128 }
+    requires steps { All (λ e. (e.from.0 < 128) × (e.to.0 < 128)) steps.now }
+    requires leaving { All (λ s. s.0 < 128) leaving.now }
+    requires indices { All (λ i. i < length befores.now) indices.now }
+    requires enough { length chain.now ≤ length indices.now }
+    ensures none { IfNone result (AreGuardedBelow (IsWayRound start (IsEdge steps.now) (λ s. IsIn s leaving.now))
+        (chain_positions None chain.now (sets_of befores.now indices.now)) (length chain.now)) }
+    ensures some { IfSome result (IsFirstWayRound (IsWayRound start (IsEdge steps.now) (λ s. IsIn s leaving.now))
+        (chain_positions None chain.now (sets_of befores.now indices.now))) }
+{
+    for (place, waypoint) in chain.iter().enumerate() {
+        let set = set_at(befores, indices, place);
+        let earlier = earlier_set(befores, indices, place);
+        if let Some(switch) = least_way_round(start, steps, leaving, set, *waypoint, earlier) {
+            return Some(WayRound {
+                waypoint: *waypoint,
+                switch,
+            });
+        }
+    }
+    None
+}
+
+/// The numbers from a place on.
+fn from_place(indices: &[u64], place: usize) -> &[u64]
+    requires { place ≤ length indices.now }
+    ensures { result.now ≡ drop place indices.now }
+{
+    &indices[place..]
+}
+
+/// Whether there are so many positions in the chains of a class.
+pub(crate) fn has_positions(duties: &Duties, number: u32, class: Class, count: usize) -> bool
+    requires number { number < class_count duties.now.classes }
+    requires class { IsClass duties.now.classes number class }
+    ensures { IsTrue result ↔ (count ≡ length (flat_map (λ chain. chain) (duties_of duties.now.demands class.entry class.first).chains)) }
+{
+    let _ = class;
+    let mut left = count;
+    for i in 0..duties.chains(number) {
+        let chain = duties.chain(number, i);
+        if chain.len() > left {
+            return false;
+        }
+        left -= chain.len();
+    }
+    left == 0
+}
+
+/// The first waypoint of the chains of a class that isn't guarded, where these are the numbers of its before sets.
+pub(crate) fn first_way_round(
+    steps: &[Edge],
+    leaving: &[SwitchId],
+    duties: &Duties,
+    number: u32,
+    class: Class,
+    befores: &[Before],
+    indices: &[u64],
+) -> Option<WayRound>
+    requires start { class.entry.switch.0 < 128 }
+    requires steps { All (λ e. (e.from.0 < 128) × (e.to.0 < 128)) steps.now }
+    requires leaving { All (λ s. s.0 < 128) leaving.now }
+    requires number { number < class_count duties.now.classes }
+    requires class { IsClass duties.now.classes number class }
+    requires indices { All (λ i. i < length befores.now) indices.now }
+    requires count { length indices.now ≡ length (flat_map (λ chain. chain) (duties_of duties.now.demands class.entry class.first).chains) }
+    ensures none { IfNone result (AreGuardedBelow (IsWayRound class.entry.switch (IsEdge steps.now) (λ s. IsIn s leaving.now))
+        (positions (duties_of duties.now.demands class.entry class.first).chains (sets_of befores.now indices.now)) (length indices.now)) }
+    ensures some { IfSome result (IsFirstWayRound (IsWayRound class.entry.switch (IsEdge steps.now) (λ s. IsIn s leaving.now))
+        (positions (duties_of duties.now.demands class.entry class.first).chains (sets_of befores.now indices.now))) }
+{
+    let start = class.entry.switch;
+    let mut at = 0;
+    for i in 0..duties.chains(number) {
+        let chain = duties.chain(number, i);
+        let rest = from_place(indices, at);
+        if let Some(way) = way_round_chain(start, steps, leaving, chain, befores, rest) {
+            return Some(way);
+        }
+        at += chain.len();
+    }
+    None
+}
