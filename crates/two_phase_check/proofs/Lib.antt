@@ -1,0 +1,5 @@
+pub mod AgreeLaws
+pub mod StrayLaws
+pub mod FollowLaws
+pub mod InForceLaws
+pub mod JudgedLaws

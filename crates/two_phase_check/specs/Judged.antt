@@ -1,0 +1,20 @@
+-- The first class of a round of a two-phase plan that mixes the versions.
+use Rattle.std.specs.Prelude.{◌≡◌, ℕ, ◌<◌, List}
+use Rattle.dest_classes.specs.Classes.{ClassList, IsClass}
+use Rattle.dest_classes.specs.declared.Class.{Class}
+use Rattle.certificates.specs.Certified.{Task}
+use Rattle.certificates.specs.declared.Label.{Label}
+use Rattle.two_phase_check.specs.Agreements.{MixesAt, KeepsVersions, IsLeastSwitch}
+use Rattle.two_phase_check.specs.declared.two_phase.MixedClass.{MixedClass}
+
+-- each class keeps the versions apart
+abbrev pub AllKeepVersions : Task → ℕ → ClassList → List Label → Type 0
+AllKeepVersions t k classes labels = (n : ℕ) (class : Class) → IsClass classes n class → KeepsVersions t k class labels
+
+-- the least class that mixes the versions, and the least switch where it does
+pub record IsFirstMixed (t : Task) (k : ℕ) (classes : ClassList) (labels : List Label) (mixed : MixedClass) : Type 0 where
+  pub class : Class
+  pub is_class : IsClass classes mixed.class class
+  pub only : (other : Class) → IsClass classes mixed.class other → other ≡ class
+  pub least : IsLeastSwitch (MixesAt t k class labels) mixed.switch
+  pub earlier : (n : ℕ) (other : Class) → n < mixed.class → IsClass classes n other → KeepsVersions t k other labels

@@ -1,0 +1,141 @@
+// Where a packet may stray from a path in a round.
+ghost use Rattle.std.specs.Prelude.{◌≡◌, ◌≢◌, ◌+◌, ◌<◌, ℕ, IfSome, IfNone, length};
+ghost use Rattle.std.specs.Bool.{MatchBool};
+ghost use Rattle.std.specs.List.{AllWithin, HoldsAt};
+ghost use Rattle.topology.specs.Networks.{IsNetwork, switch_count};
+ghost use Rattle.flow_rules.specs.Tables.{rules_of_all};
+ghost use Rattle.net_base.specs.declared.ids.Place.{Place};
+ghost use Rattle.path_walk.specs.Paths.{outcome_in};
+ghost use Rattle.path_walk.specs.declared.Outcome.TheVariants.{Go};
+ghost use Rattle.certificates.specs.TwoPhase.{outcome_carrying, KeepsPath};
+ghost use Rattle.two_phase_check.specs.Agreements.{AreAllFound, HasOutcomeAlone, HasOtherOutcome, EndsSoon, IsFirstStray};
+
+use check_reasons::Case;
+use flow_rules::Config;
+use net_base::{Place, SwitchId, Vlan};
+use path_walk::Outcome;
+use path_walk::following::outcome;
+use round_mix::{Mixed, Outcomes};
+use std::marker::Model;
+
+/// A round of a case, by its number from 0, each switch prepared for it.
+#[derive(Drop)]
+pub(crate) struct RoundCase<'a> {
+    pub(crate) case: &'a Case<'a>,
+    pub(crate) mixes: &'a [Mixed],
+    pub(crate) number: usize,
+}
+
+impl<'a> Model for RoundCase<'a> {
+    ghost use Rattle.two_phase_check.specs.Agreements.{RoundView};
+    ghost use Rattle.check_reasons.specs.Loaded.{AreLoaded};
+
+    ghost Value = { RoundView };
+
+    ghost view = { λ r. record { task = r.case.now.task; number = r.number } };
+
+    ghost invariant = { λ r. AreLoaded r.case.now.task.update r.number r.mixes.now };
+}
+
+/// Puts the possible outcomes of a place into the room.
+pub(crate) fn find_outcomes(round: &RoundCase, place: Place, dst: u32, room: &mut Outcomes)
+    requires switch { place.switch.0 < switch_count round.now.task.update.net }
+    requires room { 8192 < length room.old.list + room.old.spare }
+    ensures all { AreAllFound round.now.task.update round.now.number dst place room.new.list }
+    ensures room { 8192 < length room.new.list + room.new.spare }
+{
+    let case = round.case;
+    round.mixes[place.switch.0 as usize].possible(case.net, place, dst, room);
+}
+
+/// Whether each outcome of a list is this one.
+fn are_all(list: &[Outcome], expected: Outcome) -> bool
+    ensures { MatchBool result (AllWithin (λ found. found ≡ expected) list.now 0 (length list.now)) ((i : ℕ) × (i < length list.now) × HoldsAt (λ found. found ≢ expected) list.now i) }
+{
+    list.iter().all(|found| *found == expected)
+}
+
+impl<'a> RoundCase<'a> {
+    /// Does nothing: its contract says what every network keeps.
+    pub(crate) fn keeps_network(&self)
+        ensures { IsNetwork self.now.task.update.net }
+    {
+        let case = self.case;
+        case.net.keeps_rules();
+    }
+
+    /// How many switches there are.
+    fn switches(&self) -> u32
+        ensures { result ≡ switch_count self.now.task.update.net }
+    {
+        let case = self.case;
+        case.net.switches()
+    }
+}
+
+/// Whether a packet at the place may have this outcome alone.
+fn stays(round: &RoundCase, place: Place, dst: u32, expected: Outcome, room: &mut Outcomes) -> bool
+    requires switch { place.switch.0 < switch_count round.now.task.update.net }
+    requires room { 8192 < length room.old.list + room.old.spare }
+    ensures exact { MatchBool result (HasOutcomeAlone round.now.task.update round.now.number dst place expected) (HasOtherOutcome round.now.task.update round.now.number dst place expected) }
+    ensures room { 8192 < length room.new.list + room.new.spare }
+{
+    find_outcomes(round, place, dst, room);
+    are_all(room.list(), expected)
+}
+
+/// The outcome of a place in tables of the network.
+pub(crate) fn outcome_at(round: &RoundCase, tables: &Config, place: Place, dst: u32) -> Outcome
+    requires tables { length tables.now ≡ switch_count round.now.task.update.net }
+    requires switch { place.switch.0 < switch_count round.now.task.update.net }
+    ensures value { result ≡ outcome_in round.now.task.update.net (rules_of_all tables.now) place dst }
+    ensures within { (next : Place) → result ≡ Go next → next.switch.0 < switch_count round.now.task.update.net }
+{
+    let case = round.case;
+    case.net.keeps_rules();
+    outcome(case.net, tables.table(place.switch), place, dst)
+}
+
+/// The outcome for a packet that carries another VLAN while it is in the network.
+fn carry(tag: Vlan, expected: Outcome) -> Outcome
+    ensures { result ≡ outcome_carrying tag expected }
+{
+    match expected {
+        Outcome::Go(next) => Outcome::Go(Place { vlan: tag, ..next }),
+        _ => expected,
+    }
+}
+
+/// The switch of the first place of the path of the tables, from the first one on, where a packet that carries the VLAN
+/// may have another outcome than the path. Takes time by the length of the path.
+pub(crate) fn first_stray(
+    round: &RoundCase,
+    tables: &Config,
+    dst: u32,
+    first: Place,
+    tag: Vlan,
+    room: &mut Outcomes,
+) -> Option<SwitchId>
+    requires tables { length tables.now ≡ switch_count round.now.task.update.net }
+    requires switch { first.switch.0 < switch_count round.now.task.update.net }
+    requires soon { EndsSoon round.now.task.update.net (rules_of_all tables.now) dst first }
+    requires room { 8192 < length room.old.list + room.old.spare }
+    ensures none { IfNone result (KeepsPath round.now.task.update round.now.number dst (rules_of_all tables.now) first tag) }
+    ensures some { IfSome result (IsFirstStray round.now.task.update round.now.number dst (rules_of_all tables.now) first tag) }
+    ensures room { 8192 < length room.new.list + room.new.spare }
+{
+    let mut place = first;
+    for _step in 0..round.switches() {
+        let expected = outcome_at(round, tables, place, dst);
+        let carried = Place { vlan: tag, ..place };
+        if !stays(round, carried, dst, carry(tag, expected), room) {
+            return Some(place.switch);
+        }
+        match expected {
+            Outcome::Go(next) => place = next,
+            _ => return None,
+        }
+    }
+    // The path has ended before.
+    None
+}
