@@ -1,0 +1,28 @@
+use Rattle.std.proofs.Common.{rules, ◌∷◌, []}
+use Rattle.plan_checker.proofs.Stages.{case_ascends, from_none, none_before_round, none_before_classes, rounds_more}
+use Rattle.plan_checker.proofs.checking.round_reason.Goals as goal
+
+pub returns-in-Some-clause-some : goal.returns-in-Some-clause-some
+returns-in-Some-clause-some c =
+    let case = c.args.case.now in
+    from_none case.task case.evidence (2 ∷ c.args.k ∷ []) c.in-Some.reason
+    (none_before_round case.task case.evidence c.keeps_rules.ensures.old_user.count (case_ascends case c.keeps_rules.ensures) c.requires.ends c.args.k c.requires.before)
+    c.in-Some.ensures.some
+
+pub returns-in-Some-classes_reason-clause-some : goal.returns-in-Some-classes_reason-clause-some
+returns-in-Some-classes_reason-clause-some c =
+    let case = c.args.case.now in
+    from_none case.task case.evidence (2 ∷ c.args.k ∷ 6 ∷ []) c.in-Some-classes_reason.reason
+    (none_before_classes case.task case.evidence c.keeps_rules.ensures.old_user.count (case_ascends case c.keeps_rules.ensures) c.requires.ends c.args.k c.requires.before c.in_default.ensures.none.0)
+    c.in-Some-classes_reason.ensures.some
+
+pub returns-clause-none : goal.returns-clause-none
+returns-clause-none c =
+    let case = c.args.case.now in (
+      rounds_more case.task case.evidence c.args.k c.requires.before c.in_default.ensures.none.0 c.in_default-classes_reason.ensures.none,
+      record {
+        fits = search rules;
+        tables = c.apply_round.ensures.stands;
+        evidence = search rules;
+      },
+    )

@@ -1,0 +1,5 @@
+use Rattle.plan_checker.specs.Checking.{RoundsPass, IsReady}
+use Rattle.plan_checker.proofs.checking.rounds_reason.Given as goal
+
+abbrev pub invariant-loop-k : goal.invariant-loop-k
+invariant-loop-k l = record { passed : RoundsPass l.case.task l.case.evidence l.k; ready : IsReady l.case l.k l.room }

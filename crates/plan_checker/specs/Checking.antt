@@ -1,0 +1,51 @@
+-- How far a check has come.
+use Rattle.std.specs.Prelude.{◌≡◌, ℕ, suc, ◌<◌, length, if◌then◌else◌}
+use Rattle.net_base.specs.Members.{IsSameSet}
+use Rattle.net_base.specs.declared.ids.SwitchId.{SwitchId}
+use Rattle.topology.specs.Networks.{Network}
+use Rattle.flow_rules.specs.Tables.{rules_at}
+use Rattle.path_walk.specs.UserConfigs.{IsUserConfig}
+use Rattle.demands.specs.Good.{HasGoodPaths}
+use Rattle.update_model.specs.Mixtures.{tables_before}
+use Rattle.certificates.specs.Certified.{Task, classes_for}
+use Rattle.certificates.specs.Valid.{IsValidPlan}
+use Rattle.certificates.specs.declared.Evidence.{Evidence}
+use Rattle.certificates.specs.declared.Evidence.TheVariants.{Ordered, TwoPhase}
+use Rattle.check_reasons.specs.Cases.{CaseView}
+use Rattle.plan_checker.specs.Fits.{RoomView, Fits}
+use Rattle.check_reasons.specs.Passed.{ChangesPass, ClassesPass}
+use Rattle.ordered_check.specs.Picks.{PicksStand}
+use Rattle.round_tables.specs.Present.{StandsBefore}
+use Rattle.two_phase_check.specs.InForce.{LabelsStand}
+use Rattle.check_reasons.specs.declared.reason.Reason.{Reason}
+use Rattle.check_reasons.specs.declared.reason.Verdict.{Verdict}
+use Rattle.check_reasons.specs.declared.reason.Verdict.TheVariants.{Accepted, Refused}
+
+-- this holds of the reason of a refusal
+abbrev pub IfRefused : Verdict → (Reason → Type 0) → Type 0
+IfRefused Accepted P = Unit {0}
+IfRefused (Refused reason) P = P reason
+
+-- both configurations have good paths
+pub record EndsAreGood (t : Task) : Type 0 where
+  pub old_good : HasGoodPaths t.update.net t.update.old t.demands (classes_for t)
+  pub new_good : HasGoodPaths t.update.net t.new t.demands (classes_for t)
+
+-- the tables after the last round are the new ones
+abbrev pub EndsAtNew : Task → Type 0
+EndsAtNew t = (s : SwitchId) → IsSameSet (rules_at (tables_before t.update (length t.update.rounds)) s) (rules_at t.new s)
+
+-- the first k rounds give no reason
+abbrev pub RoundsPass : Task → Evidence → ℕ → Type 0
+RoundsPass t evidence k = (j : ℕ) → j < k → ChangesPass t evidence j × ClassesPass t evidence j
+
+-- what is kept of the picks stands before round k
+abbrev pub EvidenceStands : Network → Evidence → ℕ → RoomView → Type 0
+EvidenceStands net (Ordered e) k room = PicksStand e.picks k room.ordered
+EvidenceStands net (TwoPhase e) k room = LabelsStand net e k room.two_phase
+
+-- the rooms fit the case and stand before round k
+pub record IsReady (c : CaseView) (k : ℕ) (room : RoomView) : Type 0 where
+  pub fits : Fits c.task room
+  pub tables : StandsBefore c.task.update k room.present
+  pub evidence : EvidenceStands c.task.update.net c.evidence k room

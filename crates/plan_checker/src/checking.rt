@@ -1,0 +1,198 @@
+// Whether a plan is certified, and otherwise the first reason why not.
+ghost use Rattle.std.specs.Prelude.{◌≡◌, ◌↔◌, suc, ◌<◌, ◌∷◌, [], length, IfSome, IfNone, if◌then◌else◌};
+ghost use Rattle.topology.specs.Networks.{switch_count};
+ghost use Rattle.flow_rules.specs.Tables.{rules_of_all};
+ghost use Rattle.path_walk.specs.UserConfigs.{IsUserConfig};
+ghost use Rattle.demands.specs.Good.{HasGoodPaths};
+ghost use Rattle.config_check.specs.Broken.{IsFirstBreak};
+ghost use Rattle.certificates.specs.Certified.{IsCertified, classes_for};
+ghost use Rattle.certificates.specs.Consistent.{IsConsistent};
+ghost use Rattle.certificates.specs.Laws.{task_of};
+ghost use Rattle.certificates.specs.Valid.{IsValidPlan};
+ghost use Rattle.plan_checker.specs.Checking.{EndsAreGood, RoundsPass, EvidenceStands, IsReady, IfRefused};
+ghost use Rattle.plan_checker.specs.Fits.{Fits};
+ghost use Rattle.check_reasons.specs.Loaded.{AreLoaded};
+ghost use Rattle.check_reasons.specs.Passed.{ChangesPass, ClassesPass, IsFirstFrom};
+ghost use Rattle.check_reasons.specs.Reasons.{IsFirstReason};
+
+use crate::CheckRoom;
+use certificates::laws::certified_consistent;
+use certificates::{Evidence, Plan};
+use check_reasons::{Case, Reason, Verdict};
+use config_check::{Breaks, check_config};
+use demands::Demands;
+use flow_rules::Config;
+use topology::Net;
+
+/// The new or the old configuration.
+fn config_of<'a>(case: &Case<'a>, new: bool) -> &'a Config
+    ensures rules { rules_of_all result.now ≡ (if new then case.now.task.new else case.now.task.update.old) }
+    ensures count { length result.now ≡ switch_count case.now.task.update.net }
+{
+    if new { case.new } else { case.old }
+}
+
+/// How the first class that has no good path in the new or the old configuration breaks its duties.
+fn end_breaks(case: &Case, new: bool, room: &mut CheckRoom) -> Option<Breaks>
+    requires { Fits case.now.task room.old }
+    ensures none { IfNone result (HasGoodPaths case.now.task.update.net (if new then case.now.task.new else case.now.task.update.old) case.now.task.demands (classes_for case.now.task)) }
+    ensures some { IfSome result (IsFirstBreak case.now.task.update.net (if new then case.now.task.new else case.now.task.update.old) case.now.task.demands (classes_for case.now.task)) }
+    ensures fits { Fits case.now.task room.new }
+{
+    let config = config_of(case, new);
+    check_config(
+        case.net,
+        config,
+        &room.duties,
+        &room.classes,
+        &mut room.path,
+    )
+    .err()
+}
+
+/// The first reason of the two configurations, if there is one.
+fn end_reason(case: &Case, room: &mut CheckRoom) -> Option<Reason>
+    requires { Fits case.now.task room.old }
+    ensures none { IfNone result (EndsAreGood case.now.task) }
+    ensures some { IfSome result (IsFirstReason case.now.task case.now.evidence) }
+    ensures fits { Fits case.now.task room.new }
+{
+    case.keeps_rules();
+    if let Some(breaks) = end_breaks(case, false, room) {
+        return Some(Reason::EndBreaks { new: false, breaks });
+    }
+    if let Some(breaks) = end_breaks(case, true, room) {
+        return Some(Reason::EndBreaks { new: true, breaks });
+    }
+    None
+}
+
+/// The first reason of the classes of round k, from 0, if there is one.
+fn classes_reason(case: &Case, k: usize, room: &mut CheckRoom) -> Option<Reason>
+    requires within { k < length case.now.task.update.rounds }
+    requires fits { Fits case.now.task room.old }
+    requires evidence { EvidenceStands case.now.task.update.net case.now.evidence k room.old }
+    requires loaded { AreLoaded case.now.task.update k room.old.present.mixes }
+    requires ends { EndsAreGood case.now.task }
+    requires before { RoundsPass case.now.task case.now.evidence k }
+    requires pass { ChangesPass case.now.task case.now.evidence k }
+    ensures none { IfNone result (ClassesPass case.now.task case.now.evidence k) }
+    ensures some { IfSome result (IsFirstFrom case.now.task case.now.evidence (2 ∷ k ∷ 6 ∷ [])) }
+    ensures fits { Fits case.now.task room.new }
+    ensures evidence { EvidenceStands case.now.task.update.net case.now.evidence (suc k) room.new }
+    ensures present { room.new.present ≡ room.old.present }
+{
+    match &case.plan.evidence {
+        Evidence::Ordered(evidence) => room.ordered.judge_round(
+            case,
+            evidence,
+            &room.classes,
+            &room.duties,
+            room.present.mixes(),
+            k,
+        ),
+        Evidence::TwoPhase(evidence) => room
+            .two_phase
+            .judge_round(case, evidence, &room.classes, room.present.mixes(), k),
+    }
+}
+
+/// The first reason of round k, from 0, if there is one.
+fn round_reason(case: &Case, k: usize, room: &mut CheckRoom) -> Option<Reason>
+    requires within { k < length case.now.task.update.rounds }
+    requires ready { IsReady case.now k room.old }
+    requires ends { EndsAreGood case.now.task }
+    requires before { RoundsPass case.now.task case.now.evidence k }
+    ensures none { IfNone result (RoundsPass case.now.task case.now.evidence (suc k) × IsReady case.now (suc k) room.new) }
+    ensures some { IfSome result (IsFirstReason case.now.task case.now.evidence) }
+    ensures fits { Fits case.now.task room.new }
+{
+    case.keeps_rules();
+    if let Some(reason) = room.present.load_round(case, k) {
+        return Some(reason);
+    }
+    if let Some(reason) = classes_reason(case, k, room) {
+        return Some(reason);
+    }
+    room.present.apply_round(case, k);
+    None
+}
+
+/// Readies the rooms for the first round.
+fn start(case: &Case, room: &mut CheckRoom)
+    requires { Fits case.now.task room.old }
+    ensures { IsReady case.now 0 room.new }
+{
+    room.present.start(case);
+    match &case.plan.evidence {
+        Evidence::Ordered(evidence) => room.ordered.start(case, evidence),
+        Evidence::TwoPhase(_) => room.two_phase.start(),
+    }
+}
+
+/// The first reason of the rounds, if there is one.
+fn rounds_reason(case: &Case, room: &mut CheckRoom) -> Option<Reason>
+    requires fits { Fits case.now.task room.old }
+    requires ends { EndsAreGood case.now.task }
+    ensures none { IfNone result (RoundsPass case.now.task case.now.evidence (length case.now.task.update.rounds) × IsReady case.now (length case.now.task.update.rounds) room.new) }
+    ensures some { IfSome result (IsFirstReason case.now.task case.now.evidence) }
+    ensures fits { Fits case.now.task room.new }
+{
+    start(case, room);
+    for k in 0..case.plan.rounds.count() {
+        if let Some(reason) = round_reason(case, k, room) {
+            return Some(reason);
+        }
+    }
+    None
+}
+
+/// The first reason of the case, if there is one.
+fn first_reason(case: &Case, room: &mut CheckRoom) -> Option<Reason>
+    requires { Fits case.now.task room.old }
+    ensures none { IfNone result (IsCertified case.now.task case.now.evidence) }
+    ensures some { IfSome result (IsFirstReason case.now.task case.now.evidence) }
+    ensures fits { Fits case.now.task room.new }
+{
+    case.keeps_rules();
+    if let Some(reason) = end_reason(case, room) {
+        return Some(reason);
+    }
+    if let Some(reason) = rounds_reason(case, room) {
+        return Some(reason);
+    }
+    room.present.wrong_end(case)
+}
+
+/// Checks a plan that leads from an old to a new configuration under demands: whether it is certified, and so every
+/// run of it consistent, or the first reason why it isn't. The room was made for these values, and can be used again.
+pub fn check(
+    net: &Net,
+    old: &Config,
+    new: &Config,
+    demands: &Demands,
+    plan: &Plan,
+    room: &mut CheckRoom,
+) -> Verdict
+    requires old { IsUserConfig net.now (rules_of_all old.now) }
+    requires new { IsUserConfig net.now (rules_of_all new.now) }
+    requires plan { IsValidPlan net.now plan.now }
+    requires room { Fits (task_of net.now old.now new.now demands.now plan.now) room.old }
+    ensures accepted { (result ≡ Verdict.Accepted) ↔ IsCertified (task_of net.now old.now new.now demands.now plan.now) plan.now.evidence }
+    ensures consistent { result ≡ Verdict.Accepted → IsConsistent (task_of net.now old.now new.now demands.now plan.now) plan.now.evidence }
+    ensures refused { IfRefused result (IsFirstReason (task_of net.now old.now new.now demands.now plan.now) plan.now.evidence) }
+    ensures fits { Fits (task_of net.now old.now new.now demands.now plan.now) room.new }
+{
+    certified_consistent(net, old, new, demands, plan);
+    let case = Case {
+        net,
+        old,
+        new,
+        demands,
+        plan,
+    };
+    match first_reason(&case, room) {
+        Some(reason) => Verdict::Refused(reason),
+        None => Verdict::Accepted,
+    }
+}

@@ -1,0 +1,10 @@
+//! The checker of plans: whether a plan is certified, and otherwise the first reason why not.
+#![tactic(auto)]
+
+mod checking;
+mod prefixes;
+mod room;
+
+pub use check_reasons::{Reason, Verdict};
+pub use checking::check;
+pub use room::{CheckRoom, RoomFault};

@@ -1,0 +1,116 @@
+// All memory of a check.
+ghost use Rattle.std.specs.Prelude.{◌≡◌, ◌≤◌, length, IfOk, IfErr};
+ghost use Rattle.topology.specs.Networks.{switch_count};
+ghost use Rattle.dest_classes.specs.Classes.{class_count};
+ghost use Rattle.certificates.specs.Certified.{classes_for};
+ghost use Rattle.certificates.specs.Laws.{task_of};
+ghost use Rattle.plan_checker.specs.Fits.{Fits, IsCauseFor};
+
+use crate::prefixes::prefixes_of;
+use certificates::Plan;
+use demands::{Demands, Duties};
+use dest_classes::{ClassFault, ClassMap, class_map};
+use flow_rules::Config;
+use ordered_check::OrderedRoom;
+use path_walk::PathRoom;
+use round_tables::Present;
+use std::alloc::Global;
+use std::marker::Model;
+use topology::Net;
+use two_phase_check::TwoPhaseRoom;
+
+/// All memory of a check: the class map of an update, its duties, and room for each table, round and walk.
+#[derive(Drop)]
+pub struct CheckRoom {
+    pub(crate) classes: ClassMap,
+    pub(crate) duties: Duties,
+    pub(crate) present: Present,
+    pub(crate) ordered: OrderedRoom,
+    pub(crate) two_phase: TwoPhaseRoom,
+    pub(crate) path: PathRoom,
+}
+
+impl Model for CheckRoom {
+    ghost use Rattle.plan_checker.specs.Fits.{RoomView};
+
+    ghost Value = { RoomView };
+
+    ghost view = { λ r. record { classes = r.classes; duties = r.duties; present = r.present; ordered = r.ordered; two_phase = r.two_phase; path = r.path } };
+}
+
+/// Why there is no room for a check.
+#[derive(Clone, Copy, Debug, PartialEq, Eq)]
+pub enum RoomFault {
+    /// There are more than 8192 classes: how many.
+    TooManyClasses(u64),
+    /// Memory was wanting.
+    Memory,
+}
+
+impl From<net_base::Memory> for RoomFault {
+    ghost use Rattle.std.specs.Prelude.{◌≡◌};
+    ghost use Rattle.plan_checker.specs.declared.room.RoomFault.TheVariants.{Memory};
+
+    ghost from_gives = { λ _ e. e ≡ Memory };
+
+    fn from(_: net_base::Memory) -> Self {
+        RoomFault::Memory
+    }
+}
+
+impl From<ClassFault> for RoomFault {
+    ghost use Rattle.std.specs.Prelude.{◌≡◌};
+    ghost use Rattle.plan_checker.specs.Fits.{room_fault};
+
+    ghost from_gives = { λ fault e. e ≡ room_fault fault };
+
+    fn from(fault: ClassFault) -> Self {
+        match fault {
+            ClassFault::TooManyClasses(count) => RoomFault::TooManyClasses(count),
+            ClassFault::Memory => RoomFault::Memory,
+        }
+    }
+}
+
+impl CheckRoom {
+    /// Room for a check of a plan that leads from an old to a new configuration under demands. It is refused with the
+    /// number of classes where that exceeds 8192. It takes time and memory in the product of classes and demands, and
+    /// by the sizes of the tables and rounds.
+    pub fn make(
+        alloc: Global,
+        net: &Net,
+        old: &Config,
+        new: &Config,
+        demands: &Demands,
+        plan: &Plan,
+    ) -> Result<CheckRoom, RoomFault>
+        requires old { length old.now ≡ switch_count net.now }
+        requires new { length new.now ≡ switch_count net.now }
+        ensures fits { IfOk result (Fits (task_of net.now old.now new.now demands.now plan.now)) }
+        ensures few { IfOk result (λ _. class_count (classes_for (task_of net.now old.now new.now demands.now plan.now)) ≤ 8192) }
+        ensures too_many { IfErr result (IsCauseFor (classes_for (task_of net.now old.now new.now demands.now plan.now))) }
+    {
+        let prefixes = prefixes_of(alloc, net, old, new, demands, plan)?;
+        let classes = class_map(alloc, net, &prefixes)?;
+        let duties = Duties::make(alloc, net, demands, &classes)?;
+        let present = Present::make(alloc, net, &plan.rounds)?;
+        let ordered = OrderedRoom::make(alloc, &classes)?;
+        let two_phase = TwoPhaseRoom::make(alloc)?;
+        let path = PathRoom::make(alloc, net)?;
+        Ok(CheckRoom {
+            classes,
+            duties,
+            present,
+            ordered,
+            two_phase,
+            path,
+        })
+    }
+
+    /// The classes of the update.
+    pub fn classes(&self) -> &ClassMap
+        ensures { result.now ≡ self.now.classes }
+    {
+        &self.classes
+    }
+}
