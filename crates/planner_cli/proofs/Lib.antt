@@ -1,8 +1,11 @@
 pub mod GoingOn
 pub mod Told
-pub mod Usages
 pub mod Over
+pub mod Judged
+pub mod Usages
 pub mod ConfigLaws
+pub mod PlanLaws
 pub mod StillLaws
 pub mod Settled
 pub mod VerdictLaws
+pub mod ReasonLaws

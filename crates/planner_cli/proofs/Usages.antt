@@ -4,15 +4,16 @@ use Rattle.std.specs.declared.option.Option.{Option}
 use Rattle.std.specs.declared.result.Result.{Result}
 use Rattle.net_base.specs.Outside.{Files}
 use Rattle.topology.specs.Networks.{Network}
-use Rattle.flow_rules.specs.declared.rules.Rule.{Rule}
 use Rattle.demands.specs.Duties.{DemandView}
 use Rattle.planner_cli.specs.declared.status.Status.TheVariants as status
 use Rattle.planner_cli.specs.declared.kinds.FileKind.{FileKind}
 use Rattle.planner_cli.specs.Lines.{FaultWords}
-use Rattle.planner_cli.specs.Asked.{Asked, Config, Usage}
-use Rattle.planner_cli.specs.Verdicts.{Answer, IsVerdict}
+use Rattle.planner_cli.specs.Asked.{Asked, UpdateNames, Config, Check, Upgrade, Usage}
+use Rattle.planner_cli.specs.Verdicts.{Answer}
+use Rattle.planner_cli.specs.Updates.{UpdateMeaning}
 use Rattle.planner_cli.specs.Dialogue.{Dialogue, Says, Reads, LeadsTo, Never}
-use Rattle.planner_cli.specs.Answers.{reading, reading_policy, with_meaning, config_dialogue, dialogue_of}
+use Rattle.planner_cli.specs.Answers.{reading, reading_policy, reading_update, with_meaning, config_dialogue, check_dialogue, upgrade_dialogue, dialogue_of}
+use Rattle.planner_cli.proofs.Judged.{never_usage}
 
 -- what is never said is never the answer
 pub never_leads : (held : Option Files) (last : Option FileKind) (dialogue : Dialogue) (answer : Answer) (taken : ℕ) → Never status.Usage dialogue → LeadsTo held last dialogue answer taken → answer.status ≢ status.Usage
@@ -28,12 +29,6 @@ never_reading : {A E : Type 0} (kind : FileKind) (words : E → FaultWords) (mea
 unfolding reading
 never_reading kind words meaning name next never = λ bytes. never_meaning kind words (meaning bytes) next never
 
--- a verdict on a configuration is no usage
-never_verdict : (net : Network) (tables : List (List Rule)) (demands : List DemandView) (answer : Answer) → IsVerdict net tables demands answer → answer.status ≢ status.Usage
-never_verdict net tables demands answer (inl v) = λ is. let bad : answer.status ≡ status.BadFile = ap (λ (a : Answer). a.status) v.answer_is in cc
-never_verdict net tables demands answer (inr (inl v)) = λ is. let bad : answer.status ≡ status.Done = ap (λ (a : Answer). a.status) v.answer_is in cc
-never_verdict net tables demands answer (inr (inr v)) = λ is. let bad : answer.status ≡ status.Refused = ap (λ (a : Answer). a.status) v.answer_is in cc
-
 never_policy : (net : Network) (policy : Option (List ℕ)) (next : List DemandView → Dialogue) → ((demands : List DemandView) → Never status.Usage (next demands)) → Never status.Usage (reading_policy net policy next)
 unfolding reading_policy
 never_policy net None next never = never _
@@ -43,9 +38,26 @@ never_policy net (Some name) next never = never_reading _ _ _ _ _ never
 config_never : (topology config : List ℕ) (policy : Option (List ℕ)) → Never status.Usage (config_dialogue topology config policy)
 unfolding config_dialogue
 config_never topology config policy =
-    never_reading _ _ _ _ _ (λ net. never_reading _ _ _ _ _ (λ tables. never_policy net policy _ (λ demands. never_verdict net tables demands)))
+    never_reading _ _ _ _ _ (λ net. never_reading _ _ _ _ _ (λ tables. never_policy net policy _ (λ demands. λ answer. never_usage _ _ _ _ _ answer)))
+
+never_update : (names : UpdateNames) (next : UpdateMeaning → Dialogue) → ((u : UpdateMeaning) → Never status.Usage (next u)) → Never status.Usage (reading_update names next)
+unfolding reading_update
+never_update names next never =
+    never_reading _ _ _ _ _ (λ net. never_reading _ _ _ _ _ (λ old. never_reading _ _ _ _ _ (λ new. never_policy net (Some names.policy) _ (λ demands. never _))))
+
+-- check
+check_never : (names : UpdateNames) (plan : List ℕ) → Never status.Usage (check_dialogue names plan)
+unfolding check_dialogue
+check_never names plan = never_update names _ (λ u. never_reading _ _ _ _ _ (λ p answer. never_usage _ _ _ _ _ answer))
+
+-- upgrade
+upgrade_never : (topology plan : List ℕ) → Never status.Usage (upgrade_dialogue topology plan)
+unfolding upgrade_dialogue
+upgrade_never topology plan = never_reading _ _ _ _ _ (λ net. never_reading _ _ _ _ _ (λ p answer says is. let done : answer.status ≡ status.Done = ap (λ (a : Answer). a.status) says.answer_is in cc))
 
 pub usage_exact : (held : Option Files) (a : Asked) (answer : Answer) (taken : ℕ) → LeadsTo held None (dialogue_of a) answer taken → (answer.status ≡ status.Usage) ↔ (a ≡ Usage)
 usage_exact held (Config topology config policy) answer taken leads =
     (λ is. absurd (never_leads held None _ answer taken (config_never topology config policy) leads is), λ is. cc)
+usage_exact held (Check names plan) answer taken leads = (λ is. absurd (never_leads held None _ answer taken (check_never names plan) leads is), λ is. cc)
+usage_exact held (Upgrade topology plan) answer taken leads = (λ is. absurd (never_leads held None _ answer taken (upgrade_never topology plan) leads is), λ is. cc)
 usage_exact held Usage answer taken leads = (λ is. refl, λ is. ap (λ (a : Answer). a.status) leads.0)

@@ -63,19 +63,23 @@ module _ (net : Network) (tables : List (List Rule)) (demands : List DemandView)
     pub holds_law : HasGoodPaths net tables duties.demands classes → HasGoodPathEverywhere net tables demands → answer ≡ record { status = status.Done; text = holds_line (class_count classes) } → IsVerdict net tables demands answer
     holds_law good everywhere is = inr (inl (record {
       few = few;
-      good = subst (λ c. HasGoodPaths net tables demands c) are (subst (λ d. HasGoodPaths net tables d.demands classes) made good);
-      everywhere = everywhere;
+      holds = subst (λ c. HasGoodPaths net tables demands c) are (subst (λ d. HasGoodPaths net tables d.demands classes) made good);
+      follows = everywhere;
       answer_is = subst (λ c. answer ≡ record { status = status.Done; text = holds_line (class_count c) }) are is;
     }))
 
     pub breaks_law : (b : Breaks) (class : Class) → ¬ HasGoodPaths net tables duties.demands classes → IsFirstBreak net tables duties.demands classes b → IsClass classes b.class class → answer ≡ record { status = status.Refused; text = breaks_line net class b.how } → IsVerdict net tables demands answer
     breaks_law b class broken first is_class is = inr (inr (record {
       few = few;
-      broken = subst (λ c. ¬ HasGoodPaths net tables demands c) are (subst (λ d. ¬ HasGoodPaths net tables d.demands classes) made broken);
-      break = b;
-      first = subst (λ c. IsFirstBreak net tables demands c b) are (subst (λ d. IsFirstBreak net tables d.demands classes b) made first);
-      class = class;
-      is_class = subst (λ c. IsClass c b.class class) are is_class;
+      fails = subst (λ c. ¬ HasGoodPaths net tables demands c) are (subst (λ d. ¬ HasGoodPaths net tables d.demands classes) made broken);
+      line = breaks_line net class b.how;
+      is_why = record {
+        break = b;
+        first = subst (λ c. IsFirstBreak net tables demands c b) are (subst (λ d. IsFirstBreak net tables d.demands classes b) made first);
+        class = class;
+        is_class = subst (λ c. IsClass c b.class class) are is_class;
+        line_is = refl;
+      };
       answer_is = is;
     }))
 

@@ -4,12 +4,16 @@ use Rattle.net_base.specs.Outside.{Files, IsFile}
 use Rattle.topology.specs.Networks.{Network}
 use Rattle.flow_rules.specs.declared.rules.Rule.{Rule}
 use Rattle.demands.specs.Duties.{DemandView}
+use Rattle.certificates.specs.Certified.{Task}
+use Rattle.certificates.specs.declared.Evidence.{Evidence}
+use Rattle.certificates.specs.declared.Plan.{Plan}
 use Rattle.planner_cli.specs.declared.status.Status.{Status}
 use Rattle.planner_cli.specs.declared.status.Status.TheVariants.{BadFile}
 use Rattle.planner_cli.specs.declared.kinds.FileKind.{FileKind}
 use Rattle.planner_cli.specs.Kinds.{limit_of}
 use Rattle.planner_cli.specs.Lines.{too_long_line}
 use Rattle.planner_cli.specs.Verdicts.{Answer, IsVerdict}
+use Rattle.planner_cli.specs.Updates.{IsPlanVerdict, SaysPlan}
 
 -- how a dialogue ends
 pub data Say : Type 0 where
@@ -17,11 +21,17 @@ pub data Say : Type 0 where
   Line : Status → List ℕ → Say
   -- with what holds of a configuration of the network under the demands
   OnConfig : Network → List (List Rule) → List DemandView → Say
+  -- with what holds of an update by a plan with this evidence
+  OnPlan : Task → Evidence → Say
+  -- with the text of a plan
+  ThePlan : Network → Plan → Say
 
 -- what an ending says
 abbrev pub IsSaid : Say → Answer → Type 0
 IsSaid (Line status text) answer = answer ≡ record { status = status; text = text }
 IsSaid (OnConfig net tables demands) answer = IsVerdict net tables demands answer
+IsSaid (OnPlan task evidence) answer = IsPlanVerdict task evidence answer
+IsSaid (ThePlan net plan) answer = SaysPlan net plan answer
 
 pub data Dialogue : Type 0 where
   Says : Say → Dialogue

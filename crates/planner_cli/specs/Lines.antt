@@ -11,6 +11,8 @@ use Rattle.config_files.specs.Faults as config_fault
 use Rattle.config_files.specs.declared.fault.ConfigFault.{ConfigFault}
 use Rattle.demands.specs.Faults as demand_fault
 use Rattle.demands.specs.declared.fault.DemandFault.{DemandFault}
+use Rattle.plan_format.specs.Faults as plan_fault
+use Rattle.plan_format.specs.declared.fault.PlanFault.{PlanFault}
 use Rattle.dest_classes.specs.declared.Class.{Class}
 use Rattle.config_check.specs.declared.How.{How}
 use Rattle.config_check.specs.declared.How.TheVariants.{Loop, Dropped, Missed}
@@ -35,6 +37,10 @@ config_words f = record { number = config_fault.fault_number f; name = config_fa
 -- of a policy's fault
 abbrev pub demand_words : DemandFault → FaultWords
 demand_words f = record { number = demand_fault.fault_number f; name = demand_fault.fault_name f; field = demand_fault.fault_field f; place = demand_fault.fault_place f }
+
+-- of a plan's fault
+abbrev pub plan_words : PlanFault → FaultWords
+plan_words f = record { number = plan_fault.fault_number f; name = plan_fault.fault_name f; field = plan_fault.fault_field f; place = plan_fault.fault_place f }
 
 -- a member, if there is one, behind a space
 abbrev pub field_text : Option Field → List ℕ

@@ -36,28 +36,39 @@ abbrev pub HoldsUnder : Network → List (List Rule) → List DemandView → Typ
 HoldsUnder net tables demands = HasGoodPaths net tables demands (classes_under net tables demands)
 
 -- there are too many classes
-pub record SaysTooMany (net : Network) (tables : List (List Rule)) (demands : List DemandView) (answer : Answer) : Type 0 where
-  pub many : most_classes < count_under net tables demands
-  pub answer_is : answer ≡ record { status = status.BadFile; text = classes_line (count_under net tables demands) }
+pub record SaysTooMany (count : ℕ) (answer : Answer) : Type 0 where
+  pub many : most_classes < count
+  pub answer_is : answer ≡ record { status = status.BadFile; text = classes_line count }
 
--- each class has a good path, and so has each entry with each address
-pub record SaysHolds (net : Network) (tables : List (List Rule)) (demands : List DemandView) (answer : Answer) : Type 0 where
-  pub few : count_under net tables demands ≤ most_classes
-  pub good : HoldsUnder net tables demands
-  pub everywhere : HasGoodPathEverywhere net tables demands
-  pub answer_is : answer ≡ record { status = status.Done; text = holds_line (count_under net tables demands) }
+-- it is good, and then this follows
+pub record SaysHolds (count : ℕ) (good then : Type 0) (text : List ℕ) (answer : Answer) : Type 0 where
+  pub few : count ≤ most_classes
+  pub holds : good
+  pub follows : then
+  pub answer_is : answer ≡ record { status = status.Done; text = text }
 
--- some class has none, and this is the first of them and how its path breaks its duties
-pub record SaysBreaks (net : Network) (tables : List (List Rule)) (demands : List DemandView) (answer : Answer) : Type 0 where
-  pub few : count_under net tables demands ≤ most_classes
-  pub broken : ¬ HoldsUnder net tables demands
+-- it isn't good, and the line says why
+pub record SaysWhyNot (count : ℕ) (good : Type 0) (why : List ℕ → Type 0) (answer : Answer) : Type 0 where
+  pub few : count ≤ most_classes
+  pub fails : ¬ good
+  pub line : List ℕ
+  pub is_why : why line
+  pub answer_is : answer ≡ record { status = status.Refused; text = line }
+
+-- a judgement over so many classes: one of three, each in its own case
+abbrev pub IsJudgement : ℕ → Type 0 → Type 0 → List ℕ → (List ℕ → Type 0) → Answer → Type 0
+IsJudgement count good then text why answer = SaysTooMany count answer ⊎ (SaysHolds count good then text answer ⊎ SaysWhyNot count good why answer)
+
+-- the line names the first class whose path isn't good, and how it breaks its duties
+pub record IsBreaksLine (net : Network) (tables : List (List Rule)) (demands : List DemandView) (line : List ℕ) : Type 0 where
   pub break : Breaks
   pub first : IsFirstBreak net tables demands (classes_under net tables demands) break
   pub class : Class
   pub is_class : IsClass (classes_under net tables demands) break.class class
-  pub answer_is : answer ≡ record { status = status.Refused; text = breaks_line net class break.how }
+  pub line_is : line ≡ breaks_line net class break.how
 
--- the answer on a configuration under a policy: one of three, each in its own case
+-- the answer on a configuration under a policy: good paths for all classes are good paths for all entries and addresses
 abbrev pub IsVerdict : Network → List (List Rule) → List DemandView → Answer → Type 0
 IsVerdict net tables demands answer =
-    SaysTooMany net tables demands answer ⊎ (SaysHolds net tables demands answer ⊎ SaysBreaks net tables demands answer)
+    IsJudgement (count_under net tables demands) (HoldsUnder net tables demands) (HasGoodPathEverywhere net tables demands)
+    (holds_line (count_under net tables demands)) (IsBreaksLine net tables demands) answer

@@ -1,11 +1,12 @@
 // What is printed of a file's fault.
 ghost use Rattle.std.specs.Prelude.{◌≡◌};
-ghost use Rattle.planner_cli.specs.Lines.{net_words, config_words, demand_words};
+ghost use Rattle.planner_cli.specs.Lines.{net_words, config_words, demand_words, plan_words};
 ghost use Rattle.planner_cli.specs.Replies.{words_of};
 
 use config_files::ConfigFault;
 use demands::DemandFault;
 use net_base::Field;
+use plan_format::PlanFault;
 use topology::NetFault;
 
 /// Why a file isn't read, as it is printed: a number and a name, the member that it names if it names one, and the
@@ -45,6 +46,18 @@ pub fn config_fault(fault: ConfigFault) -> Fault
 /// Of a policy.
 pub fn demand_fault(fault: DemandFault) -> Fault
     ensures { words_of result ≡ demand_words fault }
+{
+    Fault {
+        number: fault.number(),
+        name: fault.name(),
+        field: fault.field(),
+        place: fault.place(),
+    }
+}
+
+/// Of a plan.
+pub fn plan_fault(fault: PlanFault) -> Fault
+    ensures { words_of result ≡ plan_words fault }
 {
     Fault {
         number: fault.number(),

@@ -46,8 +46,8 @@ pub fn usage_line(alloc: Global) -> Result<Vec<u8>, Memory>
     Ok(b"unknown command or wrong words\n".to_vec(alloc)?)
 }
 
-// The name of a switch; empty where there is no such switch.
-fn switch_name(net: &Net, switch: SwitchId) -> &str
+/// The name of a switch; empty where there is no such switch.
+pub fn switch_name(net: &Net, switch: SwitchId) -> &str
     ensures { result.now ≡ lines.switch_name net.now switch }
 {
     if switch.0 < net.switches() {

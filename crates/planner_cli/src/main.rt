@@ -1,21 +1,29 @@
 //! The program: it reads the words of the command line and the files that they name, and writes one answer.
 #![tactic(auto)]
 
+#[cfg(test)]
+mod check_tests;
+mod checking;
 mod command;
 mod config;
 #[cfg(test)]
 mod example_files;
+#[cfg(test)]
+mod example_plans;
 mod exit;
 mod faults;
 mod files;
 mod kinds;
 mod lines;
 mod readings;
+mod reason_lines;
 mod reply;
 mod run;
 mod status;
 #[cfg(test)]
 mod tests;
+mod updates;
+mod upgrading;
 mod verdict;
 
 use crate::run::run;

@@ -8,25 +8,30 @@ ghost use Rattle.path_walk.specs.UserConfigs.{IsUserConfig};
 ghost use Rattle.config_files.specs.Configuration.{configuration_in};
 ghost use Rattle.demands.specs.Duties.{DemandView};
 ghost use Rattle.demands.specs.Policy.{demands_in};
+ghost use Rattle.certificates.specs.Valid.{IsValidPlan};
+ghost use Rattle.certificates.specs.declared.Plan.{Plan};
+ghost use Rattle.plan_format.specs.Plans.{plan_in};
 ghost use Rattle.planner_cli.specs.Kinds.{limit_of};
 ghost use Rattle.planner_cli.specs.declared.kinds.FileKind.{FileKind};
 ghost use Rattle.planner_cli.specs.declared.kinds.FileKind.TheVariants as «kind»;
-ghost use Rattle.planner_cli.specs.Lines.{net_words, config_words, demand_words};
+ghost use Rattle.planner_cli.specs.Lines.{net_words, config_words, demand_words, plan_words};
 ghost use Rattle.planner_cli.specs.Dialogue.{Dialogue, IsWhole};
-ghost use Rattle.planner_cli.specs.Answers.{reading_topology, reading_config, reading_policy};
+ghost use Rattle.planner_cli.specs.Answers.{reading_topology, reading_config, reading_policy, reading_plan};
 ghost use Rattle.planner_cli.specs.Replies.{answer_of, words_of, bad_answer, IsBad, Ends, GoesOn, kind_after};
 
 use crate::exit::Exit;
-use crate::faults::{Fault, config_fault, demand_fault, net_fault};
+use crate::faults::{Fault, config_fault, demand_fault, net_fault, plan_fault};
 use crate::files::fetch_file;
 use crate::kinds::FileKind;
 use crate::lines::bad_line;
 use crate::reply::Reply;
 use crate::status::Status;
+use certificates::Plan;
 use config_files::{ConfigFault, read_config};
 use demands::{DemandFault, Demands, no_demands, read_demands};
 use flow_rules::Config;
 use net_base::{Memory, Source};
+use plan_format::{PlanFault, read_plan};
 use std::alloc::Global;
 use topology::{Net, NetFault, read_net};
 
@@ -73,6 +78,19 @@ fn demands_of(alloc: Global, net: &Net, bytes: &[u8]) -> Result<Demands, Exit>
         Ok(demands) => Ok(demands),
         Err(DemandFault::Memory) => Err(Exit::Memory),
         Err(fault) => Err(Exit::Says(bad_reply(alloc, FileKind::Policy, demand_fault(fault))?)),
+    }
+}
+
+// The plan that the bytes mean.
+fn plan_of(alloc: Global, net: &Net, bytes: &[u8]) -> Result<Plan, Exit>
+    ensures ok { IfOk result (λ p. plan_in net.now bytes.now ≡ Ok p) }
+    ensures valid { IfOk result (IsValidPlan net.now) }
+    ensures bad { IfErr result (λ e. IsBad FileKind.Plan plan_words (plan_in net.now bytes.now) e) }
+{
+    match read_plan(alloc, net, bytes) {
+        Ok(plan) => Ok(plan),
+        Err(PlanFault::Memory) => Err(Exit::Memory),
+        Err(fault) => Err(Exit::Says(bad_reply(alloc, FileKind::Plan, plan_fault(fault))?)),
     }
 }
 
@@ -135,4 +153,24 @@ pub fn read_policy<S: Source>(
             demands_of(alloc, net, &bytes)
         }
     }
+}
+
+/// Fetches and reads a plan of the network. It is a valid plan.
+pub fn read_plan_file<S: Source>(
+    alloc: Global,
+    source: &mut S,
+    net: &Net,
+    name: &str,
+) -> Result<Plan, Exit>
+    ensures goes_on { IfOk result (λ v. (last : Option FileKind) (next : Plan → Dialogue)
+        → GoesOn (S.held source.old) last (reading_plan net.now name.now next) (Some FileKind.Plan) (next v)) }
+    ensures valid { IfOk result (IsValidPlan net.now) }
+    ensures count { OnOk result (S.taken source.new ≤ limit_of FileKind.Plan) }
+    ensures stops { IfErr result (λ e. (last : Option FileKind) (next : Plan → Dialogue)
+        → Ends (S.held source.old) last (reading_plan net.now name.now next) (S.faults source.old) (S.faults source.new) e (S.taken source.new)) }
+    ensures held { S.held source.new ≡ S.held source.old }
+    ensures later { S.faults source.old ≤ S.faults source.new }
+{
+    let bytes = fetch_file(alloc, source, FileKind::Plan, name)?;
+    plan_of(alloc, net, &bytes)
 }

@@ -9,18 +9,24 @@ ghost use Rattle.demands.specs.Duties.{DemandView};
 ghost use Rattle.planner_cli.specs.Lines.{usage_line, classes_line};
 ghost use Rattle.planner_cli.specs.Verdicts.{count_under};
 ghost use Rattle.planner_cli.specs.Dialogue.{Line, IsSaid, Lacks};
-ghost use Rattle.planner_cli.specs.Asked.{Config, Usage, asked};
+ghost use Rattle.certificates.specs.Consistent.{IsConsistent};
+ghost use Rattle.certificates.specs.declared.Plan.{Plan};
+ghost use Rattle.planner_cli.specs.Asked.{UpdateNames, Config, Check, Upgrade, Usage, asked};
+ghost use Rattle.planner_cli.specs.Updates.{UpdateMeaning, task_for};
+ghost use Rattle.planner_cli.specs.Plans.{FilesMeanPlan, FilesAreCertified, FilesAreRefused, PlanMakesTooMany, NamesFirstReason, FilesMeanOnePlan, FilesAreAPlan, WritesPlan, count_for};
 ghost use Rattle.planner_cli.specs.Answers.{dialogue};
 ghost use Rattle.planner_cli.specs.Replies.{answer_of, Meets};
 ghost use Rattle.planner_cli.specs.Configs.{FilesMean, FilesHold, FilesBreak, FilesMakeTooMany, NamesFirstBreak, KeepsPacketsGood};
 ghost use Rattle.planner_cli.specs.Runs.{IsSettled, EndsAs, AnswersAll, AnswersFront};
 
+use crate::checking::check;
 use crate::command::{Command, command_of};
 use crate::config::config;
 use crate::exit::Exit;
 use crate::lines::usage_line;
 use crate::reply::Reply;
 use crate::status::Status;
+use crate::upgrading::upgrade;
 use net_base::{Memory, Sink, Source, WriteFault, pour};
 use std::alloc::Global;
 
@@ -44,6 +50,8 @@ fn reply_to<S: Source>(alloc: Global, words: &[String], source: &mut S) -> Resul
             config: tables,
             policy,
         } => config(alloc, source, topology, tables, policy),
+        Command::Check(names, plan) => check(alloc, source, &names, plan),
+        Command::Upgrade { topology, plan } => upgrade(alloc, source, topology, plan),
         Command::Usage => Ok(usage(alloc)?),
     }
 }
@@ -140,6 +148,45 @@ pub fn run<S: Source, K: Sink>(
         → S.held source.old ≡ Some files → asked (map string_bytes words.now) ≡ Config topology config policy
         → K.written sink.old ≡ Some before → result ≡ Status.BadFile → Appends (K.written sink.old) (K.written sink.new) (classes_line classes)
         → FilesMakeTooMany files topology config policy }
+
+    // Words of `check` over a source that tells. Done comes exactly where the five files mean an update and a plan of
+    // it that is certified, with at most 8192 classes.
+    ensures check_done { (files : Files) (names : UpdateNames) (plan : List ℕ)
+        → S.held source.old ≡ Some files → asked (map string_bytes words.now) ≡ Check names plan
+        → IsSettled result → ((result ≡ Status.Done) ↔ FilesAreCertified files names plan) }
+
+    // The headline. Then in every state of every run, in which the changes of each round come in any order between the
+    // hops of packets, each packet's trace is good for its duties, and under two phases it is the old or the new path.
+    ensures check_keeps { (files : Files) (names : UpdateNames) (plan : List ℕ) (update : UpdateMeaning) (p : Plan)
+        → S.held source.old ≡ Some files → asked (map string_bytes words.now) ≡ Check names plan
+        → FilesMeanPlan files names plan update p → result ≡ Status.Done → IsConsistent (task_for update p) p.evidence }
+
+    // Refused comes exactly where the plan isn't certified; the line names the first reason.
+    ensures check_refused { (files : Files) (names : UpdateNames) (plan : List ℕ)
+        → S.held source.old ≡ Some files → asked (map string_bytes words.now) ≡ Check names plan
+        → IsSettled result → ((result ≡ Status.Refused) ↔ FilesAreRefused files names plan) }
+    ensures check_first { (files : Files) (names : UpdateNames) (plan : List ℕ) (update : UpdateMeaning) (p : Plan)
+        → S.held source.old ≡ Some files → asked (map string_bytes words.now) ≡ Check names plan
+        → FilesMeanPlan files names plan update p → result ≡ Status.Refused
+        → NamesFirstReason update p (K.written sink.old) (K.written sink.new) }
+    ensures check_classes { (files : Files) (names : UpdateNames) (plan : List ℕ)
+        → S.held source.old ≡ Some files → asked (map string_bytes words.now) ≡ Check names plan
+        → IsSettled result → (many : PlanMakesTooMany files names plan)
+        → (result ≡ Status.BadFile) × Appends (K.written sink.old) (K.written sink.new) (classes_line (count_for many.update many.plan_read)) }
+    ensures check_classes_only { (files : Files) (names : UpdateNames) (plan : List ℕ) (before : List ℕ) (classes : ℕ)
+        → S.held source.old ≡ Some files → asked (map string_bytes words.now) ≡ Check names plan
+        → K.written sink.old ≡ Some before → result ≡ Status.BadFile → Appends (K.written sink.old) (K.written sink.new) (classes_line classes)
+        → PlanMakesTooMany files names plan }
+
+    // Words of `upgrade` over a source that tells. Done comes exactly where both files are read; what is written means
+    // the same plan.
+    ensures upgrade_done { (files : Files) (topology plan : List ℕ)
+        → S.held source.old ≡ Some files → asked (map string_bytes words.now) ≡ Upgrade topology plan
+        → IsSettled result → ((result ≡ Status.Done) ↔ FilesAreAPlan files topology plan) }
+    ensures upgrade_same { (files : Files) (topology plan : List ℕ) (net : Network) (p : Plan)
+        → S.held source.old ≡ Some files → asked (map string_bytes words.now) ≡ Upgrade topology plan
+        → FilesMeanOnePlan files topology plan net p → result ≡ Status.Done
+        → WritesPlan net p (K.written sink.old) (K.written sink.new) }
 {
     respond(alloc, words, source, sink)
 }

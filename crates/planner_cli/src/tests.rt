@@ -8,7 +8,7 @@ use net_base::{MemorySink, MemorySource};
 use std::alloc::Global;
 use std::test::Fail;
 
-fn words(alloc: Global, texts: &[&str]) -> Result<Vec<String>, Fail> {
+pub(crate) fn words(alloc: Global, texts: &[&str]) -> Result<Vec<String>, Fail> {
     let mut words = Vec::new(alloc);
     for text in texts {
         words.push(String::from_str(alloc, text)?)?;
@@ -181,7 +181,7 @@ fn bad_files_are_named(rt: HostRuntime) -> Result<(), Fail> {
 }
 
 // One switch with 64 host ports and 64 VLANs.
-fn wide_topology(alloc: Global) -> Result<String, Fail> {
+pub(crate) fn wide_topology(alloc: Global) -> Result<String, Fail> {
     let mut hosts = String::new(alloc);
     let mut vlans = String::new(alloc);
     for i in 1..=64u32 {

@@ -7,7 +7,7 @@ ghost use Rattle.demands.specs.Good.{HasGoodPaths};
 ghost use Rattle.config_check.specs.Broken.{IsFirstBreak};
 ghost use Rattle.config_check.specs.Everywhere.{HasGoodPathEverywhere};
 ghost use Rattle.planner_cli.specs.Lines as lines;
-ghost use Rattle.planner_cli.specs.Verdicts.{IsVerdict, SaysTooMany, SaysHolds, SaysBreaks, classes_under, count_under, most_classes};
+ghost use Rattle.planner_cli.specs.Verdicts.{IsVerdict, classes_under, count_under, most_classes};
 ghost use Rattle.planner_cli.specs.Replies.{answer_of};
 
 use crate::lines::{breaks_line, classes_line, holds_line};
@@ -70,7 +70,8 @@ fn prefixes_of(
     Ok(prefixes)
 }
 
-fn too_many_reply(alloc: Global, classes: u64) -> Result<Reply, Memory>
+/// The reply on more classes than are allowed.
+pub fn too_many_reply(alloc: Global, classes: u64) -> Result<Reply, Memory>
     ensures { IfOk result (λ r. answer_of r ≡ record { status = Status.BadFile; text = lines.classes_line classes }) }
 {
     Ok(Reply {

@@ -1,32 +1,70 @@
-use Rattle.planner_cli.proofs.ConfigLaws.{answered, done, refused, first_break, too_many, only_too_many, done_says}
+use Rattle.planner_cli.specs.Asked.{Config, Check, Upgrade}
+use Rattle.planner_cli.proofs.Told.{answered}
+use Rattle.planner_cli.proofs.ConfigLaws as config_law
+use Rattle.planner_cli.proofs.PlanLaws as plan_law
 use Rattle.planner_cli.proofs.StillLaws.{keeps_good}
 use Rattle.planner_cli.proofs.Settled.{settled_done, settled_refused, settled_bad}
 use Rattle.planner_cli.proofs.run.run.Goals as goal
 
 pub returns-clause-config_done : goal.returns-clause-config_done
 returns-clause-config_done g c = λ files topology config policy tells asks settled.
-    done files topology config policy _ _ _ (answered _ _ _ _ _ files topology config policy (c.respond.ensures.all settled) tells asks)
+    config_law.done files topology config policy _ _ _ (answered _ _ _ _ _ files (Config topology config policy) (c.respond.ensures.all settled) tells asks)
 
 pub returns-clause-config_keeps : goal.returns-clause-config_keeps
 returns-clause-config_keeps g c = λ files topology config policy net tables demands tells asks mean is.
-    let a = answered _ _ _ _ _ files topology config policy (c.respond.ensures.all (settled_done _ is)) tells asks in
-    let says = done_says files topology config policy _ _ _ a is net tables demands mean in
-    keeps_good net tables demands says.everywhere
+    let a = answered _ _ _ _ _ files (Config topology config policy) (c.respond.ensures.all (settled_done _ is)) tells asks in
+    keeps_good net tables demands (config_law.done_then files topology config policy _ _ _ a is net tables demands mean)
 
 pub returns-clause-config_refused : goal.returns-clause-config_refused
 returns-clause-config_refused g c = λ files topology config policy tells asks settled.
-    refused files topology config policy _ _ _ (answered _ _ _ _ _ files topology config policy (c.respond.ensures.all settled) tells asks)
+    config_law.refused files topology config policy _ _ _ (answered _ _ _ _ _ files (Config topology config policy) (c.respond.ensures.all settled) tells asks)
 
 pub returns-clause-config_first : goal.returns-clause-config_first
 returns-clause-config_first g c = λ files topology config policy net tables demands tells asks mean is.
-    let a = answered _ _ _ _ _ files topology config policy (c.respond.ensures.all (settled_refused _ is)) tells asks in
-    first_break files topology config policy _ _ _ a is net tables demands mean
+    let a = answered _ _ _ _ _ files (Config topology config policy) (c.respond.ensures.all (settled_refused _ is)) tells asks in
+    config_law.first_break files topology config policy _ _ _ a is net tables demands mean
 
 pub returns-clause-config_classes : goal.returns-clause-config_classes
 returns-clause-config_classes g c = λ files topology config policy tells asks settled many.
-    too_many files topology config policy _ _ _ (answered _ _ _ _ _ files topology config policy (c.respond.ensures.all settled) tells asks) many
+    config_law.too_many files topology config policy _ _ _ (answered _ _ _ _ _ files (Config topology config policy) (c.respond.ensures.all settled) tells asks) many
 
 pub returns-clause-config_classes_only : goal.returns-clause-config_classes_only
 returns-clause-config_classes_only g c = λ files topology config policy before classes tells asks told is line.
-    let a = answered _ _ _ _ _ files topology config policy (c.respond.ensures.all (settled_bad _ is)) tells asks in
-    only_too_many files topology config policy _ _ _ a before told classes is line
+    let a = answered _ _ _ _ _ files (Config topology config policy) (c.respond.ensures.all (settled_bad _ is)) tells asks in
+    config_law.only_too_many files topology config policy _ _ _ a before told classes is line
+
+pub returns-clause-check_done : goal.returns-clause-check_done
+returns-clause-check_done g c = λ files names plan tells asks settled.
+    plan_law.done files names plan _ _ _ (answered _ _ _ _ _ files (Check names plan) (c.respond.ensures.all settled) tells asks)
+
+pub returns-clause-check_keeps : goal.returns-clause-check_keeps
+returns-clause-check_keeps g c = λ files names plan update p tells asks mean is.
+    let a = answered _ _ _ _ _ files (Check names plan) (c.respond.ensures.all (settled_done _ is)) tells asks in
+    plan_law.done_then files names plan _ _ _ a is update p mean
+
+pub returns-clause-check_refused : goal.returns-clause-check_refused
+returns-clause-check_refused g c = λ files names plan tells asks settled.
+    plan_law.refused files names plan _ _ _ (answered _ _ _ _ _ files (Check names plan) (c.respond.ensures.all settled) tells asks)
+
+pub returns-clause-check_first : goal.returns-clause-check_first
+returns-clause-check_first g c = λ files names plan update p tells asks mean is.
+    let a = answered _ _ _ _ _ files (Check names plan) (c.respond.ensures.all (settled_refused _ is)) tells asks in
+    plan_law.first_reason files names plan _ _ _ a is update p mean
+
+pub returns-clause-check_classes : goal.returns-clause-check_classes
+returns-clause-check_classes g c = λ files names plan tells asks settled many.
+    plan_law.too_many files names plan _ _ _ (answered _ _ _ _ _ files (Check names plan) (c.respond.ensures.all settled) tells asks) many
+
+pub returns-clause-check_classes_only : goal.returns-clause-check_classes_only
+returns-clause-check_classes_only g c = λ files names plan before classes tells asks told is line.
+    let a = answered _ _ _ _ _ files (Check names plan) (c.respond.ensures.all (settled_bad _ is)) tells asks in
+    plan_law.only_too_many files names plan _ _ _ a before told classes is line
+
+pub returns-clause-upgrade_done : goal.returns-clause-upgrade_done
+returns-clause-upgrade_done g c = λ files topology plan tells asks settled.
+    plan_law.upgrade_done files topology plan _ _ _ (answered _ _ _ _ _ files (Upgrade topology plan) (c.respond.ensures.all settled) tells asks)
+
+pub returns-clause-upgrade_same : goal.returns-clause-upgrade_same
+returns-clause-upgrade_same g c = λ files topology plan net p tells asks mean is.
+    let a = answered _ _ _ _ _ files (Upgrade topology plan) (c.respond.ensures.all (settled_done _ is)) tells asks in
+    plan_law.upgrade_same files topology plan _ _ _ a is net p mean

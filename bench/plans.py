@@ -1,0 +1,41 @@
+#!/usr/bin/env python3
+"""Times `upgrade`, which reads a plan and writes it again, on great plans: 2,200,000 changes, and 3,000,000 picks.
+Prints time and memory; tests nothing."""
+import json
+import pathlib
+import tempfile
+
+import measure
+
+
+def write(path, front, items, back):
+    """A file of many equal parts, written piece by piece."""
+    with open(path, "w") as out:
+        out.write(front)
+        for i, item in enumerate(items):
+            out.write(item if i == 0 else "," + item)
+        out.write(back)
+
+
+def change(i):
+    return json.dumps({"do": "insert", "switch": f"r{i % 128}", "priority": 1 + i % 16383, "dst": f"10.{i >> 8 & 255}.{i & 255}.0/24",
+                       "out": 1 + i % 1000, "in_port": 1 + (i >> 16)}, separators=(",", ":"))
+
+
+def main():
+    with tempfile.TemporaryDirectory() as name:
+        folder = pathlib.Path(name)
+        switches = [{"name": f"r{i}", "capacity": 8192} for i in range(128)]
+        (folder / "topology.json").write_text(json.dumps({"switches": switches, "links": [], "hosts": [], "vlans": [], "tags": []}))
+        plan = folder / "plan.json"
+        write(plan, '{"format":1,"kind":"two-phase","labels":[],"picks":[],"tried":[],"rounds":[[', (change(i) for i in range(2_200_000)), "]]}")
+        measure.sizes(folder, "plan.json")
+        measure.run("2,200,000 changes", ["upgrade", "topology.json", "plan.json"], folder)
+        front = f'{{"format":1,"kind":"ordered","numberings":[{json.dumps([0] * 128)}],"befores":[[0],[1]],"rounds":[{",".join(["[]"] * 4200)}],"picks":['
+        picks = (f"[{1 + i // 1000},{i % 1000},0,[{i % 2}]]" for i in range(3_000_000))
+        write(plan, front, picks, "]}")
+        measure.sizes(folder, "plan.json")
+        measure.run("3,000,000 picks", ["upgrade", "topology.json", "plan.json"], folder)
+
+
+main()

@@ -1,0 +1,12 @@
+use Rattle.std.proofs.Common.{◌≡◌, ◌∙◌, sym, subst, IfSome, ◌<◌}
+use Rattle.dest_classes.specs.Classes.{ClassList, class_count}
+use Rattle.planner_cli.specs.ReasonLines as lines
+use Rattle.planner_cli.specs.Updates.{meaning_of, task_for}
+use Rattle.planner_cli.proofs.ReasonLaws.{named_fits}
+use Rattle.planner_cli.proofs.checking.judge_plan.Goals as goal
+
+pub class_of-class-requires : goal.class_of-class-requires
+class_of-class-requires c =
+    let are = c.classes-in-Refused.ensures ∙ c.in-Refused.ensures.fits.classes in
+    subst (λ classes. IfSome (lines.class_named c.in-Refused.reason) (λ n. n < class_count classes)) (sym are)
+    (named_fits (task_for (meaning_of c.args.files.now) c.args.plan.now) c.args.plan.now.evidence c.in-Refused.reason c.in-Refused.ensures.refused)

@@ -1,0 +1,23 @@
+use Rattle.std.proofs.Common.{◌∙◌, arith, Some}
+use Rattle.std.proofs.lemmas.Result.{err_from_is_err_and}
+use Rattle.planner_cli.specs.Answers.{upgrade_dialogue}
+use Rattle.planner_cli.proofs.GoingOn.{on_and_on, on_ends}
+use Rattle.planner_cli.proofs.upgrading.upgrade.Goals as goal
+
+pub returns-in_err-net-clause-meets : goal.returns-in_err-net-clause-meets
+unfolding upgrade_dialogue
+returns-in_err-net-clause-meets g c =
+    let p = err_from_is_err_and c.from_residual.result c.from_residual.ensures.1 in
+    rw (p.1, p.2) (c.in_err-net.ensures.stops _ _)
+
+pub returns-in_err-plan-clause-meets : goal.returns-in_err-plan-clause-meets
+unfolding upgrade_dialogue
+returns-in_err-plan-clause-meets g c =
+    let p = err_from_is_err_and c.from_residual-in_err-plan.result c.from_residual-in_err-plan.ensures.1 in
+    rw (p.1, p.2) (on_ends _ _ _ _ c.read_topology.ensures.held c.read_topology.ensures.later (c.in_ok-net.ensures.goes_on _ _) (c.in_err-plan.ensures.stops _ _))
+
+pub returns-clause-meets : goal.returns-clause-meets
+unfolding upgrade_dialogue
+returns-clause-meets g c =
+    let two = on_and_on c.read_topology.ensures.held (c.in_ok-net.ensures.goes_on _ _) (c.in_ok-plan.ensures.goes_on _ _) in
+    two.leads _ _ (c.in_ok-plan_reply.ensures, c.in_ok-plan.ensures.count)
