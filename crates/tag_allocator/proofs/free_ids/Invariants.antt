@@ -1,0 +1,8 @@
+use Rattle.std.proofs.Common.{◌≡◌, ◌-◌}
+use Rattle.std.specs.Prelude.{filter, not}
+use Rattle.std.specs.List.{list_any}
+use Rattle.tag_allocator.specs.Tags.{has_id, numbers_from}
+use Rattle.tag_allocator.proofs.free_ids.Given as goal
+
+abbrev pub invariant-loop-id : goal.invariant-loop-id
+invariant-loop-id l = l.tags.items ≡ filter (λ n. not (list_any (has_id n) l.net.vlans)) (numbers_from l.first (l.id - l.first))

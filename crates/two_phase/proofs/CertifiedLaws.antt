@@ -1,0 +1,62 @@
+-- The two-phase plan is certified.
+use Rattle.std.proofs.Common.{ℕ, ◌^◌, ◌<◌, List, ◌∷◌, length, refl, inl, inr, arith}
+use Rattle.std.specs.Prelude.{nat_lt, filter, flat_map}
+use Rattle.std.proofs.lemmas.Bool.{ltb-true}
+use Rattle.net_base.specs.Blocks.{Block}
+use Rattle.net_base.specs.Places.{stop_of}
+use Rattle.net_base.proofs.MemberLaws.{in_from_filter}
+use Rattle.topology.specs.Networks.{Network, IsNetwork, IsEntry}
+use Rattle.flow_rules.specs.declared.rules.Rule.{Rule}
+use Rattle.path_walk.specs.UserConfigs.{IsUserConfig}
+use Rattle.dest_classes.specs.Classes.{classes_of, block_ends, boundaries, IsClass}
+use Rattle.dest_classes.specs.declared.Class.{Class}
+use Rattle.update_model.specs.Changes.{round_after}
+use Rattle.update_model.specs.Mixtures.{Update, tables_before}
+use Rattle.update_model.proofs.MadeLaws.{in_from_get}
+use Rattle.certificates.specs.Certified.{blocks_of}
+use Rattle.two_phase.specs.TwoPhasePlan.{two_phase_rounds}
+use Rattle.two_phase.specs.Laws.{two_phase_evidence, TwoPhasePlansAreCertified}
+use Rattle.two_phase.proofs.TagLaws.{tagging}
+use Rattle.two_phase.proofs.StageLaws.{IsSound}
+use Rattle.two_phase.proofs.CertificateLaws.{IsStage, certificate}
+use Rattle.two_phase.proofs.RankLaws.{from_ascent}
+use Rattle.two_phase.proofs.PlanLaws.{plan_sound, sound_at, ends_at}
+
+-- a class is one of an entry, and its first address is an address
+class_entry : (net : Network) (blocks : List Block) (n : ℕ) (class : Class) → IsClass (classes_of net blocks) n class → IsEntry net class.entry
+class_entry net blocks n class is = record {
+  host = in_from_get net.hosts is.host (stop_of class.entry) is.host_is;
+  declared = in_from_get net.vlans is.vlan class.entry.vlan is.vlan_is;
+}
+
+class_small : (net : Network) (blocks : List Block) (n : ℕ) (class : Class) → IsClass (classes_of net blocks) n class → class.first < 2 ^ 32
+class_small net blocks n class is =
+    let i = in_from_get (boundaries blocks) is.atom class.first is.atom_is in
+    elim (from_ascent class.first (0 ∷ filter (λ a. nat_lt a (2 ^ 32)) (flat_map block_ends blocks)) i) [
+      | inl e ↦ omega arith
+      | inr j ↦ ltb-true class.first (2 ^ 32) (in_from_filter (λ a. nat_lt a (2 ^ 32)) class.first (flat_map block_ends blocks) j).1
+    ]
+
+module _ (net : Network) (net_is : IsNetwork net) (old new : List (List Rule)) (old_user : IsUserConfig net old) (new_user : IsUserConfig net new) where
+  pub two_phase_certified : TwoPhasePlansAreCertified net old new
+  two_phase_certified fits demands tried old_good new_good =
+      let tags = tagging net net_is fits.tags in
+      let u : Update = record { net = net; old = old; rounds = two_phase_rounds net old new } in
+      let all = plan_sound net net_is tags old new old_user new_user fits.room in
+      let at : (k : ℕ) → k < length u.rounds → IsSound net net_is tags old new old_user new_user k (tables_before u k) (round_after k u.rounds) =
+      λ k less. sound_at net net_is tags old new old_user new_user fits.room u.rounds old 0 k k (omega arith) all less in
+      record {
+        old_good = old_good;
+        new_good = new_good;
+        good = λ k less. (at k less).good;
+        clear = λ k less s mixed held. (at k less).clear s mixed held;
+        fits = λ k s less inside. (at k less).fits s inside;
+        keeps = tt;
+        certificates = λ k n class less is_class.
+            let sound = at k less in
+            let stage : IsStage u new k sound.version = record { banded = sound.banded; raws = sound.raws; tagged = sound.laid } in
+            certificate u new k net_is tags old_user new_user sound.version stage class.first
+            (class_small net (blocks_of old new demands u.rounds) n class is_class) (two_phase_evidence net new tried) refl refl sound.of class.entry
+            (class_entry net (blocks_of old new demands u.rounds) n class is_class);
+        ends = ends_at net net_is tags old new old_user new_user fits.room u.rounds old 0 all;
+      }

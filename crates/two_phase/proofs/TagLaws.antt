@@ -1,0 +1,106 @@
+-- The tags of declared VLANs: each has one, different ones have different tags, and no tag is declared.
+use Rattle.std.proofs.Common.{◌≡◌, ◌⊎◌, ℕ, zero, suc, ◌+◌, ◌<◌, ◌≤◌, Bool, List, [], ◌∷◌, map, length, refl, sym, subst, ap, inl, inr, arith}
+use Rattle.std.specs.Prelude.{filter, not, Option, Some, None}
+use Rattle.std.specs.List.{list_any}
+use Rattle.std.proofs.lemmas.Bool.{both_ways, not-true, eq-eqb, cond_both}
+use Rattle.net_base.specs.Members.{IsIn, IsDistinct}
+use Rattle.net_base.proofs.MemberLaws.{in_from_filter, in_from_map}
+use Rattle.net_base.specs.declared.ids.Vlan.{Vlan}
+use Rattle.net_base.specs.declared.ids.Vlan.TheVariants as vlan
+use Rattle.topology.specs.Networks.{Network, IsNetwork, TagRange}
+use Rattle.tag_allocator.specs.Tags.{numbers_from, ids_of, has_id, available_tags, Tagged, paired, tags_of}
+use Rattle.net_base.proofs.ListLaws.{any_in, IsTold, told_from_distinct, distinct_members}
+
+numbers_above : (n count x : ℕ) → IsIn x (numbers_from n count) → n ≤ x
+numbers_above n zero x i = absurd i
+numbers_above n (suc count) x (inl e) = omega arith
+numbers_above n (suc count) x (inr i) = let h = numbers_above (suc n) count x i in omega arith
+
+pub numbers_distinct : (n count : ℕ) → IsDistinct (numbers_from n count)
+numbers_distinct n zero = tt
+numbers_distinct n (suc count) = (λ i. let h = numbers_above (suc n) count n i in absurd (omega arith), numbers_distinct (suc n) count)
+
+pub in_numbers : (n count x : ℕ) → n ≤ x → x < n + count → IsIn x (numbers_from n count)
+in_numbers n zero x low high = absurd (omega arith)
+in_numbers n (suc count) x low high = elim (cases_le n x low) [ inl e ↦ inl (sym e) | inr more ↦ inr (in_numbers (suc n) count x more (omega arith)) ]
+  where
+    cases_le : (n x : ℕ) → n ≤ x → (n ≡ x) ⊎ (n < x)
+    cases_le zero zero le = inl refl
+    cases_le zero (suc x) le = inr (omega arith)
+    cases_le (suc n) zero le = absurd (omega arith)
+    cases_le (suc n) (suc x) le = elim (cases_le n x (omega arith)) [ inl e ↦ inl (ap suc e) | inr h ↦ inr (omega arith) ]
+
+pub numbers_below : (n count x : ℕ) → IsIn x (numbers_from n count) → x < n + count
+numbers_below n zero x i = absurd i
+numbers_below n (suc count) x (inl e) = omega arith
+numbers_below n (suc count) x (inr i) = let h = numbers_below (suc n) count x i in omega arith
+
+distinct_filter : {A : Type 0} (p : A → Bool) (xs : List A) → IsDistinct xs → IsDistinct (filter p xs)
+distinct_filter p [] distinct = tt
+distinct_filter p (x ∷ xs) distinct =
+    cond_both (p x) (x ∷ filter p xs) (filter p xs) IsDistinct (λ _. (λ i. distinct.0 (in_from_filter p x xs i).0, distinct_filter p xs distinct.1)) (λ _. distinct_filter p xs distinct.1)
+
+ids_distinct : (tags : Option TagRange) → IsDistinct (ids_of tags)
+ids_distinct None = tt
+ids_distinct (Some t) = numbers_distinct t.first _
+
+pub tags_distinct : (net : Network) → IsDistinct (available_tags net)
+tags_distinct net = distinct_filter _ (ids_of net.tags) (ids_distinct net.tags)
+
+pub tag_undeclared : (net : Network) (id : ℕ) → IsIn id (available_tags net) → ¬ IsIn (vlan.Id id) net.vlans
+tag_undeclared net id i declared =
+    let passes = (in_from_filter (λ n. not (list_any (has_id n) net.vlans)) id (ids_of net.tags) i).1 in
+    both_ways (list_any (has_id id) net.vlans) (not-true (list_any (has_id id) net.vlans) passes) (any_in (has_id id) (vlan.Id id) net.vlans declared (eq-eqb id id refl))
+
+pub paired_user : (vs : List Vlan) (ts : List ℕ) (x : Tagged) → IsIn x (paired vs ts) → IsIn x.user vs
+paired_user [] ts x i = absurd i
+paired_user (v ∷ vs) [] x i = absurd i
+paired_user (v ∷ vs) (t ∷ ts) x (inl e) = inl (ap (λ y. y.user) e)
+paired_user (v ∷ vs) (t ∷ ts) x (inr i) = inr (paired_user vs ts x i)
+
+pub paired_tag : (vs : List Vlan) (ts : List ℕ) (x : Tagged) → IsIn x (paired vs ts) → IsIn x.tag ts
+paired_tag [] ts x i = absurd i
+paired_tag (v ∷ vs) [] x i = absurd i
+paired_tag (v ∷ vs) (t ∷ ts) x (inl e) = inl (ap (λ y. y.tag) e)
+paired_tag (v ∷ vs) (t ∷ ts) x (inr i) = inr (paired_tag vs ts x i)
+
+paired_users : (vs : List Vlan) (ts : List ℕ) → IsDistinct vs → IsDistinct (map (λ x. x.user) (paired vs ts))
+paired_users [] ts distinct = tt
+paired_users (v ∷ vs) [] distinct = tt
+paired_users (v ∷ vs) (t ∷ ts) distinct = (
+  λ i. let (x, j, e) = in_from_map (λ y. y.user) v (paired vs ts) i in distinct.0 (subst (λ w. IsIn w vs) (sym e) (paired_user vs ts x j)),
+  paired_users vs ts distinct.1,
+)
+
+paired_tags : (vs : List Vlan) (ts : List ℕ) → IsDistinct ts → IsDistinct (map (λ x. x.tag) (paired vs ts))
+paired_tags [] ts distinct = tt
+paired_tags (v ∷ vs) [] distinct = tt
+paired_tags (v ∷ vs) (t ∷ ts) distinct = (
+  λ i. let (x, j, e) = in_from_map (λ y. y.tag) t (paired vs ts) i in distinct.0 (subst (λ w. IsIn w ts) (sym e) (paired_tag vs ts x j)),
+  paired_tags vs ts distinct.1,
+)
+
+each_paired : (vs : List Vlan) (ts : List ℕ) → length vs ≤ length ts → (v : Vlan) → IsIn v vs → (x : Tagged) × IsIn x (paired vs ts) × (x.user ≡ v)
+each_paired [] ts enough v i = absurd i
+each_paired (w ∷ vs) [] enough v i = absurd (omega arith)
+each_paired (w ∷ vs) (t ∷ ts) enough v (inl e) = (record { user = w; tag = t }, inl refl, sym e)
+each_paired (w ∷ vs) (t ∷ ts) enough v (inr i) = let rest = each_paired vs ts (omega arith) v i in (rest.0, inr rest.1, rest.2)
+
+-- what the tags of a network are worth
+pub record IsTagging (net : Network) : Type 0 where
+  pub by_user : IsTold (λ x. x.user) (tags_of net)
+  pub by_tag : IsTold (λ x. x.tag) (tags_of net)
+  pub distinct : IsDistinct (tags_of net)
+  pub declared : (x : Tagged) → IsIn x (tags_of net) → IsIn x.user net.vlans
+  pub undeclared : (x : Tagged) → IsIn x (tags_of net) → ¬ IsIn (vlan.Id x.tag) net.vlans
+  pub each : (v : Vlan) → IsIn v net.vlans → (x : Tagged) × IsIn x (tags_of net) × (x.user ≡ v)
+
+pub tagging : (net : Network) → IsNetwork net → length net.vlans ≤ length (available_tags net) → IsTagging net
+tagging net is enough = record {
+  by_user = told_from_distinct (λ x. x.user) (tags_of net) (paired_users net.vlans (available_tags net) is.vlans_once);
+  by_tag = told_from_distinct (λ x. x.tag) (tags_of net) (paired_tags net.vlans (available_tags net) (tags_distinct net));
+  distinct = distinct_members (λ x. x.tag) (tags_of net) (paired_tags net.vlans (available_tags net) (tags_distinct net));
+  declared = paired_user net.vlans (available_tags net);
+  undeclared = λ x i. tag_undeclared net x.tag (paired_tag net.vlans (available_tags net) x i);
+  each = each_paired net.vlans (available_tags net) enough;
+}

@@ -1,0 +1,4 @@
+//! What the two-phase plan is worth.
+#![tactic(auto)]
+
+pub mod laws;
