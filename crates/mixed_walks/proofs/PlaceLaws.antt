@@ -31,7 +31,7 @@ use Rattle.update_model.specs.Mixtures.{Update, IsMixture, MayHold, MayGo, IsOnM
 use Rattle.update_model.specs.declared.Change.{Change}
 use Rattle.update_model.proofs.HeldLaws.{each_held, EachRuleOf}
 use Rattle.certificates.specs.Certified.{KeepsVlan}
-use Rattle.mixed_walks.specs.Walks.{KeepVlansUpTo}
+use Rattle.mixed_walks.specs.Walks.{KeepVlansUpTo, TablesKeepVlans}
 use Rattle.mixed_walks.proofs.MarkedLaws.{length-map_of}
 
 -- ---- the rounds up to one
@@ -81,7 +81,8 @@ each_table : (Q : List Rule → Type 0) (tables : List (List Rule)) → ((n : �
 each_table Q [] all = tt
 each_table Q (table ∷ tables) all = (all 0, each_table Q tables (λ n. all (suc n)))
 
-tables_keep : (net : Network) (tables : List (List Rule)) → IsUserConfig net tables → AllByRecursion (AllByRecursion KeepsRule) tables
+-- all rules of a user configuration do
+pub tables_keep : (net : Network) (tables : List (List Rule)) → IsUserConfig net tables → TablesKeepVlans tables
 tables_keep net tables user =
     each_table (AllByRecursion KeepsRule) tables (λ n.
     let s : SwitchId = record { 0 = n } in
@@ -170,10 +171,10 @@ places_within net entry is within p (inr i) =
     let h = each_at (IsWithin net) (ends_of net.links) stop (each_last (IsWithin net) net.hosts (ends_of net.links) is.ports) j in
     subst (λ (x : Place). x.switch.0 < switch_count net) (sym e) h.0
 
-module _ (u : Update) (k dst : ℕ) (entry : Place) (user : IsUserConfig u.net u.old) (keeps : KeepVlansUpTo u k) where
+module _ (u : Update) (k dst : ℕ) (entry : Place) (keeps_old : TablesKeepVlans u.old) (keeps : KeepVlansUpTo u k) where
   goes_at : (place next : Place) → MayGo u k dst place next → IsAtLink u.net place.vlan next
   goes_at place next goes =
-      let all : AllByRecursion KeepsRule goes.mixed = held_up_to KeepsRule u k place.switch goes.mixed (tables_keep u.net u.old user) keeps goes.held in
+      let all : AllByRecursion KeepsRule goes.mixed = held_up_to KeepsRule u k place.switch goes.mixed keeps_old keeps goes.held in
       acted_at u.net place _ next (lookup_each KeepsVlan (header_at place dst) goes.mixed tt all) (sym goes.is)
 
   walk_in : (start : Place) (rest : List Place) → start.vlan ≡ entry.vlan → IsIn start (all_places u.net entry) → IsWalk (MayGo u k dst) start rest

@@ -12,7 +12,6 @@ use Rattle.net_base.specs.declared.ids.Place.{Place}
 use Rattle.topology.specs.Networks.{Network, IsNetwork, switch_count}
 use Rattle.flow_rules.specs.Tables.{rules_at}
 use Rattle.flow_rules.specs.declared.rules.Rule.{Rule}
-use Rattle.path_walk.specs.UserConfigs.{IsUserConfig}
 use Rattle.path_walk.specs.declared.Outcome.{Outcome}
 use Rattle.path_walk.specs.declared.Outcome.TheVariants.{Discard, Leave, Go}
 use Rattle.update_model.specs.Changes.{changes_at, round_after}
@@ -24,7 +23,7 @@ use Rattle.round_mix.specs.declared.MarkedRule.{MarkedRule}
 use Rattle.acyclic_numbering.specs.Heights.{IsEdge}
 use Rattle.acyclic_numbering.specs.declared.Edge.{Edge}
 use Rattle.check_reasons.specs.Loaded.{IsLoaded, AreLoaded}
-use Rattle.mixed_walks.specs.Walks.{WalkState, KeepVlansUpTo, IsWalked}
+use Rattle.mixed_walks.specs.Walks.{WalkState, IsRoundOf, IsWalked}
 use Rattle.mixed_walks.specs.Walking.{IsNoted, AreFew, IsWalkedTo}
 use Rattle.mixed_walks.proofs.MarkedLaws.{in_push}
 use Rattle.mixed_walks.proofs.NotedLaws.{in_take}
@@ -142,31 +141,37 @@ module _ (u : Update) (k dst : ℕ) (entry : Place) where
     pub walked_next : IsWalkedTo u k dst entry (next + 1) new
     walked_next = subst (λ n. IsWalkedTo u k dst entry n new) (sym (add-one next)) walked_more
 
-  module _ (net : IsNetwork u.net) (user : IsUserConfig u.net u.old) (keeps : KeepVlansUpTo u k) (within : entry.switch.0 < switch_count u.net)
+  module _ (net : Network) (mixes : List MixedState) (round : IsRoundOf net mixes u k) (is_net : IsNetwork net) (entry_within : entry.switch.0 < switch_count net)
       (next : ℕ) (noted : WalkState) (so : IsWalkedTo u k dst entry next noted) where
+    network_is : IsNetwork u.net
+    network_is = subst IsNetwork (sym round.net_is) is_net
+
+    within : entry.switch.0 < switch_count u.net
+    within = subst (λ (n : Network). entry.switch.0 < switch_count n) (sym round.net_is) entry_within
+
     place_in : (p : Place) → IsIn p noted.places → IsIn p (all_places u.net entry)
-    place_in p i = on_walk_in u k dst entry user keeps p (so.on_walk p i)
+    place_in p i = on_walk_in u k dst entry round.keeps_old round.keeps p (so.on_walk p i)
 
     -- the places are at switches of the network
     pub place_within : (p : Place) → IsIn p noted.places → p.switch.0 < switch_count u.net
-    place_within p i = places_within u.net entry net within p (place_in p i)
+    place_within p i = places_within u.net entry network_is within p (place_in p i)
 
     -- they are few
     pub few_so_far : length noted.places ≤ 8193
     few_so_far =
         let n = no_longer noted.places (all_places u.net entry) so.once place_in in
-        let m = few_places u.net entry net in
+        let m = few_places u.net entry network_is in
         omega arith
 
     -- with those that a packet may go to
     pub few_found : (place : Place) → IsIn place noted.places → (found : List Outcome) → ((o : Outcome) → IsIn o found → IsPossible u k dst place o) → AreFew noted.places found
     few_found place i found possible = record {
       ends = all_places u.net entry;
-      few = few_places u.net entry net;
+      few = few_places u.net entry network_is;
       once = so.once;
-      near = λ p j. (let a = places_within u.net entry net within p j in let b = net.few in omega arith);
+      near = λ p j. (let a = places_within u.net entry network_is within p j in let b = network_is.few in omega arith);
       stood = place_in;
-      led_to = λ p j. on_walk_in u k dst entry user keeps p (reached_more (MayGo u k dst) entry place p (so.on_walk place i) (possible (Go p) j));
+      led_to = λ p j. on_walk_in u k dst entry round.keeps_old round.keeps p (reached_more (MayGo u k dst) entry place p (so.on_walk place i) (possible (Go p) j));
     }
 
     -- where no place is left, all is walked

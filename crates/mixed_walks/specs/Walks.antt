@@ -1,17 +1,20 @@
 -- The mixed walks of a class in a round: what is noted of them.
-use Rattle.std.specs.Prelude.{◌↔◌, ℕ, ◌<◌, ◌≤◌, List}
+use Rattle.std.specs.Prelude.{◌≡◌, ◌↔◌, ℕ, ◌<◌, ◌≤◌, List}
 use Rattle.std.specs.List.{AllByRecursion}
 use Rattle.net_base.specs.Members.{IsIn}
 use Rattle.net_base.specs.declared.ids.SwitchId.{SwitchId}
 use Rattle.net_base.specs.declared.ids.Place.{Place}
-use Rattle.topology.specs.Networks.{switch_count}
+use Rattle.topology.specs.Networks.{Network, switch_count}
+use Rattle.flow_rules.specs.declared.rules.Rule.{Rule}
 use Rattle.update_model.specs.Changes.{rule_of, round_after}
 use Rattle.update_model.specs.Mixtures.{Update}
+use Rattle.round_mix.specs.Prepared.{MixedState}
 use Rattle.acyclic_numbering.specs.Heights.{IsEdge}
 use Rattle.acyclic_numbering.specs.declared.Edge.{Edge}
 use Rattle.certificates.specs.Steps.{IsMixedStep, MayLeave}
 use Rattle.certificates.specs.Certified.{KeepsVlan}
 use Rattle.check_reasons.specs.Reasons.{DropsAt}
+use Rattle.check_reasons.specs.Loaded.{AreLoaded}
 
 -- the places that were found, the steps between their switches, and the switches where a packet may leave or be discarded
 pub record WalkState : Type 0 where
@@ -23,6 +26,17 @@ pub record WalkState : Type 0 where
 -- the rounds up to round k neither set nor strip
 abbrev pub KeepVlansUpTo : Update → ℕ → Type 0
 KeepVlansUpTo u k = (j : ℕ) → j ≤ k → AllByRecursion (λ c. KeepsVlan (rule_of c).action) (round_after j u.rounds)
+
+-- no rule of the tables sets or strips
+abbrev pub TablesKeepVlans : List (List Rule) → Type 0
+TablesKeepVlans tables = AllByRecursion (AllByRecursion (λ r. KeepsVlan r.action)) tables
+
+-- the switches of the network are prepared for round k of the update, in which no old rule and no change up to there sets or strips
+pub record IsRoundOf (net : Network) (mixes : List MixedState) (u : Update) (k : ℕ) : Type 0 where
+  pub net_is : u.net ≡ net
+  pub loaded : AreLoaded u k mixes
+  pub keeps_old : TablesKeepVlans u.old
+  pub keeps : KeepVlansUpTo u k
 
 -- what is noted are the steps of the mixed walks of an entry, and where a packet on them may leave or be discarded;
 -- all of it at switches of the network

@@ -1,14 +1,12 @@
 // The mixed walks of a class in a round.
-ghost use Rattle.std.specs.Prelude.{◌≡◌, ◌+◌, ◌<◌, [], length, IfOk};
+ghost use Rattle.std.specs.Prelude.{◌≡◌, ℕ, ◌+◌, ◌<◌, [], length, IfOk};
 ghost use Rattle.topology.specs.Networks.{switch_count};
-ghost use Rattle.path_walk.specs.UserConfigs.{IsUserConfig};
-ghost use Rattle.check_reasons.specs.Loaded.{AreLoaded};
-ghost use Rattle.mixed_walks.specs.Walks.{KeepVlansUpTo, IsWalked};
+ghost use Rattle.update_model.specs.Mixtures.{Update};
+ghost use Rattle.mixed_walks.specs.Walks.{IsRoundOf, IsWalked};
 ghost use Rattle.mixed_walks.specs.Walking.{IsWalkedTo};
 
 use crate::noted::Noted;
 use acyclic_numbering::Edge;
-use check_reasons::Case;
 use dest_classes::Class;
 use net_base::{Memory, SwitchId};
 use round_mix::{Mixed, Outcomes};
@@ -33,14 +31,6 @@ impl Model for WalkRoom {
     ghost view = { λ a. a.noted };
 
     ghost invariant = { λ a. 8193 ≤ length a.outcomes.list + a.outcomes.spare };
-}
-
-/// The network of a case.
-fn net_of<'a>(case: &Case<'a>) -> &'a Net
-    ensures value { result.now ≡ case.now.task.update.net }
-    ensures user { IsUserConfig case.now.task.update.net case.now.task.update.old }
-{
-    case.net
 }
 
 impl WalkRoom {
@@ -83,24 +73,22 @@ impl WalkRoom {
     }
 
     /// Begins at the entry of a class.
-    fn start(&mut self, case: &Case, k: usize, class: Class)
-        requires { class.entry.switch.0 < switch_count case.now.task.update.net }
-        ensures { IsWalkedTo case.now.task.update k class.first class.entry 0 self.new }
+    fn start(&mut self, net: &Net, class: Class)
+        requires { class.entry.switch.0 < switch_count net.now }
+        ensures { (u : Update) (k : ℕ) → IsWalkedTo u k class.first class.entry 0 self.new }
     {
-        net_of(case).keeps_rules();
+        net.keeps_rules();
         self.noted.start(class.entry);
     }
 
     /// Notes the possible outcomes of the next place.
-    fn expand(&mut self, case: &Case, mixes: &[Mixed], k: usize, class: Class, next: usize)
-        requires loaded { AreLoaded case.now.task.update k mixes.now }
-        requires entry { class.entry.switch.0 < switch_count case.now.task.update.net }
-        requires keeps { KeepVlansUpTo case.now.task.update k }
-        requires so_far { IsWalkedTo case.now.task.update k class.first class.entry next self.old }
+    fn expand(&mut self, net: &Net, mixes: &[Mixed], class: Class, next: usize)
+        requires round { (u : Update) × (k : ℕ) × IsRoundOf net.now mixes.now u k }
+        requires entry { class.entry.switch.0 < switch_count net.now }
+        requires so_far { (u : Update) (k : ℕ) → IsRoundOf net.now mixes.now u k → IsWalkedTo u k class.first class.entry next self.old }
         requires more { next < length self.old.places }
-        ensures { IsWalkedTo case.now.task.update k class.first class.entry (next + 1) self.new }
+        ensures { (u : Update) (k : ℕ) → IsRoundOf net.now mixes.now u k → IsWalkedTo u k class.first class.entry (next + 1) self.new }
     {
-        let net = net_of(case);
         net.keeps_rules();
         let place = self.noted.place(next);
         let mixed = &mixes[place.switch.0 as usize];
@@ -108,19 +96,21 @@ impl WalkRoom {
         self.noted.note_all(place, self.outcomes.list());
     }
 
-    /// Walks all mixed walks of a class in the round after the first k, and notes their steps and where a packet may
-    /// leave or be discarded. Takes time by the places that they come to and the outcomes there.
-    pub fn walk(&mut self, case: &Case, mixes: &[Mixed], k: usize, class: Class)
-        requires loaded { AreLoaded case.now.task.update k mixes.now }
-        requires entry { class.entry.switch.0 < switch_count case.now.task.update.net }
-        requires keeps { KeepVlansUpTo case.now.task.update k }
-        ensures { IsWalked case.now.task.update k class.first class.entry self.new }
+    /// Walks all mixed walks of a class in the round that the switches of a network are prepared for, and notes their
+    /// steps and where a packet may leave or be discarded. The answer is that of each update and round for which they
+    /// are prepared. Takes time by the places that they come to and the outcomes there.
+    ///
+    /// No old rule of the update and no change up to the round may set or strip a tag: packets keep their entry's VLAN.
+    pub fn walk(&mut self, net: &Net, mixes: &[Mixed], class: Class)
+        requires round { (u : Update) × (k : ℕ) × IsRoundOf net.now mixes.now u k }
+        requires entry { class.entry.switch.0 < switch_count net.now }
+        ensures { (u : Update) (k : ℕ) → IsRoundOf net.now mixes.now u k → IsWalked u k class.first class.entry self.new }
     {
-        net_of(case).keeps_rules();
-        self.start(case, k, class);
+        net.keeps_rules();
+        self.start(net, class);
         let mut next = 0;
         'walking: while next < self.count() {
-            self.expand(case, mixes, k, class, next);
+            self.expand(net, mixes, class, next);
             next += 1;
         }
     }

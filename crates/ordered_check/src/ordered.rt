@@ -102,7 +102,7 @@ fn judge_class(
             class: number,
         });
     };
-    walk.walk(case, mixes, k, class);
+    walk.walk(case.net, mixes, class);
     first_of_class(case, evidence, duties, walk, k, number, class, use_)
 }
 

@@ -1,21 +1,20 @@
-use Rattle.std.proofs.Common.{◌+◌, ◌-◌, ◌<◌, subst, arith}
-use Rattle.topology.specs.Networks.{Network, IsNetwork}
+use Rattle.std.proofs.Common.{◌+◌, ◌-◌, ◌<◌, arith}
 use Rattle.mixed_walks.proofs.WalkedLaws.{few_so_far, walked_all}
 use Rattle.mixed_walks.proofs.walk.WalkRoom.walk.Goals as goal
 
+pub walking-init : goal.walking-init
+walking-init c u k round = c.start.ensures u k
+
 pub walking-smaller : goal.walking-smaller
 walking-smaller c =
-    let u = c.args.case.now.task.update in
-    let net : IsNetwork u.net = subst (λ (n : Network). IsNetwork n) c.net_of.ensures.value c.keeps_rules.ensures in
-    let few = few_so_far u c.args.k c.args.class.first c.args.class.entry net c.net_of.ensures.user c.requires.keeps c.requires.entry c.walking.next c.walking.self c.walking.invariant in
+    let (u, k, round) = c.requires.round in
+    let few = few_so_far u k c.args.class.first c.args.class.entry c.args.net.now c.args.mixes.now round c.keeps_rules.ensures c.requires.entry c.walking.next c.walking.self (c.walking.invariant u k round) in
     let more = c.walking-test.true in
     let count = c.count.ensures in
     let less : 8193 - (c.walking.next + 1) < 8193 - c.walking.next = omega arith in
     less
 
 pub returns : goal.returns
-returns c =
-    let u = c.args.case.now.task.update in
-    let net : IsNetwork u.net = subst (λ (n : Network). IsNetwork n) c.net_of.ensures.value c.keeps_rules.ensures in
-    walked_all u c.args.k c.args.class.first c.args.class.entry net c.net_of.ensures.user c.requires.keeps c.requires.entry c.walking.next c.walking.self c.walking.invariant
+returns c u k round =
+    walked_all u k c.args.class.first c.args.class.entry c.args.net.now c.args.mixes.now round c.keeps_rules.ensures c.requires.entry c.walking.next c.walking.self (c.walking.invariant u k round)
     (let none = c.walking-test.false in let count = c.count.ensures in omega arith)
