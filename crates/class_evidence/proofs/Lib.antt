@@ -1,0 +1,4 @@
+pub mod PositionLaws
+pub mod LeastLaws
+pub mod GuardLaws
+pub mod EvidenceLaws
