@@ -1,0 +1,21 @@
+use Rattle.std.proofs.Common.{[], sym, ap, ◌∙◌, subst}
+use Rattle.certificates.specs.declared.OrderedEvidence.{OrderedEvidence}
+use Rattle.evidence_store.specs.Stored.{IsStored}
+use Rattle.evidence_store.specs.State.{AreInForce}
+use Rattle.evidence_store.proofs.StoredLaws.{nothing_stored}
+use Rattle.evidence_store.proofs.PickLaws.{none_in_force}
+use Rattle.evidence_store.proofs.EvidenceStore.make.Goals as goal
+
+pub invariant_of-result : goal.invariant_of-result
+invariant_of-result c =
+    let is = c.in_ok-no_evidence.ensures in
+    let keys = c.make.ensures in
+    record {
+      stored = subst IsStored (sym is) nothing_stored;
+      keys = record {
+        numberings = keys.numberings ∙ sym (ap (λ (e : OrderedEvidence). e.numberings) is);
+        befores = keys.befores ∙ sym (ap (λ (e : OrderedEvidence). e.befores) is);
+        uses = keys.uses ∙ sym (ap (λ (e : OrderedEvidence). e.uses) is);
+      };
+      in_force = subst (λ (e : OrderedEvidence). AreInForce e.picks c.in_ok-no_uses.field-0.items) (sym is) (subst (AreInForce []) (sym c.in_ok-no_uses.ensures) (none_in_force c.args.classes));
+    }

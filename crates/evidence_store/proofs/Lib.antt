@@ -1,0 +1,6 @@
+pub mod KeyLaws
+pub mod MarkLaws
+pub mod ListLaws
+pub mod NumberLaws
+pub mod StoredLaws
+pub mod PickLaws

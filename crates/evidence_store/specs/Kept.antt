@@ -1,0 +1,11 @@
+-- What a store keeps.
+use Rattle.evidence_store.specs.Stored.{IsStored}
+use Rattle.evidence_store.specs.State.{AreInForce}
+use Rattle.evidence_store.specs.Keys.{AreKeysOf}
+use Rattle.evidence_store.specs.declared.EvidenceStore.TheInside.{Inside}
+
+-- nothing stands twice, the keys are those of the evidence, and the use in force of each class is at hand
+pub record IsKept (s : Inside) : Type 0 where
+  pub stored : IsStored s.evidence
+  pub keys : AreKeysOf s.keys s.evidence
+  pub in_force : AreInForce s.evidence.picks s.in_force.items

@@ -1,0 +1,141 @@
+//! The evidence of an ordered plan while it is made: equal numberings, before sets and uses stand once.
+#![tactic(auto)]
+
+ghost use Rattle.std.specs.Prelude.{◌≡◌, ◌≢◌, ℕ, ◌<◌, ◌≤◌, length, replicate, None, IfOk, IfSome, IfNone};
+ghost use Rattle.std.specs.List.{AllByRecursion};
+ghost use Rattle.net_base.specs.Members.{IsIn};
+ghost use Rattle.certificates.specs.Ordered.{IsPickInForce};
+ghost use Rattle.certificates.specs.Valid.{IsPickBefore};
+ghost use Rattle.certificates.specs.declared.OrderedPick.{OrderedPick};
+ghost use Rattle.evidence_store.specs.Stored.{IsStored, IsWithPick, no_evidence};
+
+mod keys;
+#[cfg(test)]
+mod tests;
+mod uses;
+
+use crate::keys::Keys;
+use crate::uses::add_use;
+use acyclic_numbering::Numbering;
+use certificates::{Befores, Numberings, OrderedEvidence, OrderedPick, OrderedPicks, Uses};
+use net_base::Memory;
+use std::alloc::Global;
+use std::marker::Model;
+
+/// The evidence of an ordered plan so far. Equal numberings, equal before sets and equal uses stand once, in the order of
+/// first use by the picks, and are found by their hashes.
+#[derive(Drop)]
+pub struct EvidenceStore {
+    alloc: Global,
+    keys: Keys,
+    evidence: OrderedEvidence,
+    in_force: Vec<Option<u32>>,
+}
+
+impl Model for EvidenceStore {
+    ghost use Rattle.std.specs.Prelude.{ℕ, length};
+    ghost use Rattle.certificates.specs.declared.OrderedEvidence.{OrderedEvidence};
+    ghost use Rattle.evidence_store.specs.State.{StoreState};
+
+    ghost Value = { StoreState };
+
+    ghost view = { λ s. record { evidence = s.evidence; classes = length s.in_force.items } };
+
+    ghost use Rattle.evidence_store.specs.Kept.{IsKept};
+
+    ghost invariant = { IsKept };
+}
+
+/// Evidence of no picks.
+fn no_evidence(alloc: Global) -> Result<OrderedEvidence, Memory>
+    ensures { IfOk result (λ evidence. evidence ≡ no_evidence) }
+{
+    Ok(OrderedEvidence {
+        numberings: Numberings::make(alloc)?,
+        befores: Befores::make(alloc)?,
+        uses: Uses::make(alloc)?,
+        picks: OrderedPicks::make(alloc)?,
+    })
+}
+
+/// For each class that no use is in force.
+fn no_uses(alloc: Global, classes: u32) -> Result<Vec<Option<u32>>, Memory>
+    ensures { IfOk result (λ uses. uses.items ≡ replicate classes None) }
+{
+    Ok(vec![in alloc; None; classes as usize]?)
+}
+
+impl EvidenceStore {
+    /// Evidence of no picks, of so many classes.
+    pub fn make(alloc: Global, classes: u32) -> Result<EvidenceStore, Memory>
+        ensures { IfOk result (λ s. s ≡ record { evidence = no_evidence; classes = classes }) }
+    {
+        Ok(EvidenceStore {
+            alloc,
+            keys: Keys::make(alloc),
+            evidence: no_evidence(alloc)?,
+            in_force: no_uses(alloc, classes)?,
+        })
+    }
+
+    /// Does nothing: its contract says what every store keeps.
+    pub fn keeps_once(&self)
+        ensures { IsStored self.now.evidence }
+    {
+        let _ = &self.evidence;
+    }
+
+    /// The evidence so far.
+    pub fn evidence(&self) -> &OrderedEvidence
+        ensures { result.now ≡ self.now.evidence }
+    {
+        &self.evidence
+    }
+
+    /// The use of the last pick of a class, if there is a pick of it.
+    pub fn in_force(&self, class: u32) -> Option<u32>
+        requires { class < self.now.classes }
+        ensures none { IfNone result ((pick : OrderedPick) → IsIn pick self.now.evidence.picks → pick.class ≢ class) }
+        ensures some { IfSome result (λ use_. (round : ℕ) → AllByRecursion (λ p. p.round ≤ round) self.now.evidence.picks
+            → (pick : OrderedPick) × IsPickInForce self.now.evidence.picks round class pick × (pick.shared ≡ use_)) }
+    {
+        self.in_force[class as usize]
+    }
+
+    /// The store with one pick more, of a round and a class, behind all others, by what it means. A refusal loses the store.
+    pub fn add(
+        self,
+        round: u32,
+        class: u32,
+        numbering: Numbering,
+        befores: Befores,
+    ) -> Result<EvidenceStore, Memory>
+        requires class { class < self.classes }
+        requires behind { AllByRecursion (λ p. IsPickBefore p (record { round = round; class = class; shared = 0 })) self.evidence.picks }
+        ensures pick { IfOk result (λ s. IsWithPick self.evidence round class numbering befores s.evidence) }
+        ensures classes { IfOk result (λ s. s.classes ≡ self.classes) }
+    {
+        let mut store = self;
+        let shared = add_use(
+            store.alloc,
+            &mut store.keys,
+            &mut store.evidence,
+            numbering,
+            &befores,
+        )?;
+        store.evidence.picks.add(OrderedPick {
+            round,
+            class,
+            shared,
+        })?;
+        store.in_force[class as usize] = Some(shared);
+        Ok(store)
+    }
+
+    /// The evidence.
+    pub fn into_evidence(self) -> OrderedEvidence
+        ensures { result ≡ self.evidence }
+    {
+        self.evidence
+    }
+}

@@ -1,0 +1,134 @@
+// One use more of a numbering and before sets: what stands there is found, and what doesn't is added.
+ghost use Rattle.std.specs.Prelude.{◌≡◌, IfOk, OnOk};
+ghost use Rattle.evidence_store.specs.Keys.{AreKeysOf};
+ghost use Rattle.evidence_store.specs.Numbers.{IsNumbered, AreNumbered, IsWithUse};
+
+use crate::keys::{BeforeKeys, Keys, NumberingKeys, UseKeys};
+use acyclic_numbering::Numbering;
+use certificates::{Befores, IndexList, Numberings, OrderedEvidence, Shared, Uses};
+use net_base::{Memory, SwitchId};
+use std::alloc::Global;
+use waypoint_evidence::Before;
+
+/// The number in 32 bits.
+fn fitted(number: usize) -> Result<u32, Memory>
+    ensures { IfOk result (λ n. n ≡ number) }
+{
+    u32::try_from(number).ok().ok_or(Memory)
+}
+
+/// The number of a numbering. The keys are those of the numberings so far.
+fn add_numbering(
+    alloc: Global,
+    keys: &mut NumberingKeys,
+    numberings: &mut Numberings,
+    numbering: Numbering,
+) -> Result<u32, Memory>
+    requires { keys.old ≡ numberings.old }
+    ensures number { IfOk result (λ n. IsNumbered numberings.old numbering n numberings.new) }
+    ensures keys { OnOk result (keys.new ≡ numberings.new) }
+{
+    let (number, is_new) = keys.number(alloc, &numbering)?;
+    if is_new {
+        numberings.add(numbering)?;
+    }
+    fitted(number)
+}
+
+/// The same set once more.
+fn copied(before: &Before) -> Before
+    ensures { result ≡ before.now }
+{
+    let marks = before.marks();
+    let mut copy = Before::none();
+    for (switch, is_member) in marks.iter().enumerate() {
+        if *is_member {
+            copy.put(SwitchId(switch as u32));
+        }
+    }
+    copy
+}
+
+/// The number of a before set. The keys are those of the before sets so far.
+fn add_before(
+    alloc: Global,
+    keys: &mut BeforeKeys,
+    befores: &mut Befores,
+    before: &Before,
+) -> Result<usize, Memory>
+    requires { keys.old ≡ befores.old }
+    ensures number { IfOk result (λ n. IsNumbered befores.old before.now n befores.new) }
+    ensures keys { OnOk result (keys.new ≡ befores.new) }
+{
+    let (number, is_new) = keys.number(alloc, before)?;
+    if is_new {
+        befores.add(copied(before))?;
+    }
+    Ok(number)
+}
+
+/// The numbers of before sets, in order. The keys are those of the before sets so far.
+fn add_befores(
+    alloc: Global,
+    keys: &mut BeforeKeys,
+    befores: &mut Befores,
+    sets: &[Before],
+) -> Result<IndexList, Memory>
+    requires { keys.old ≡ befores.old }
+    ensures numbers { IfOk result (λ numbers. AreNumbered befores.old sets.now numbers befores.new) }
+    ensures keys { OnOk result (keys.new ≡ befores.new) }
+{
+    let mut numbers = IndexList::make(alloc)?;
+    for set in sets {
+        let number = add_before(alloc, keys, befores, set)?;
+        numbers.add(number as u64)?;
+    }
+    Ok(numbers)
+}
+
+/// The number of a use. The keys are those of the uses so far.
+fn add_shared(
+    alloc: Global,
+    keys: &mut UseKeys,
+    uses: &mut Uses,
+    shared: Shared,
+) -> Result<u32, Memory>
+    requires { keys.old ≡ uses.old }
+    ensures number { IfOk result (λ n. IsNumbered uses.old shared n uses.new) }
+    ensures keys { OnOk result (keys.new ≡ uses.new) }
+{
+    let (number, is_new) = keys.number(alloc, &shared)?;
+    if is_new {
+        uses.add(shared)?;
+    }
+    fitted(number)
+}
+
+/// The number of the use of a numbering and before sets. The keys are those of the evidence so far.
+pub(crate) fn add_use(
+    alloc: Global,
+    keys: &mut Keys,
+    evidence: &mut OrderedEvidence,
+    numbering: Numbering,
+    befores: &Befores,
+) -> Result<u32, Memory>
+    requires { AreKeysOf keys.old evidence.old }
+    ensures number { IfOk result (λ n. IsWithUse evidence.old numbering befores.now n evidence.new) }
+    ensures keys { OnOk result (AreKeysOf keys.new evidence.new) }
+{
+    let shared = Shared {
+        numbering: add_numbering(
+            alloc,
+            &mut keys.numberings,
+            &mut evidence.numberings,
+            numbering,
+        )?,
+        befores: add_befores(
+            alloc,
+            &mut keys.befores,
+            &mut evidence.befores,
+            befores.list(),
+        )?,
+    };
+    add_shared(alloc, &mut keys.uses, &mut evidence.uses, shared)
+}
