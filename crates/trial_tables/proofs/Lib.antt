@@ -1,0 +1,3 @@
+pub mod AloneLaws
+pub mod TrialLaws
+pub mod EmptyLaws
