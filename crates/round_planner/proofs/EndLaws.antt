@@ -1,0 +1,368 @@
+-- What the end of a search is worth: the plan is valid and certified.
+use Rattle.std.proofs.Common.{◌≡◌, ℕ, zero, suc, ◌+◌, ◌<◌, ◌≤◌, true, false, cond, List, [], ◌∷◌, ◌++◌, length, get_or, refl, sym, ◌∙◌, subst, ap, inl, inr, arith, length-append}
+use Rattle.std.proofs.lemmas.List.{length-map}
+use Rattle.std.proofs.lemmas.List.Sums.{sum_by-cons}
+use Rattle.std.specs.Prelude.{sum_by, filter_map, Option, Some, None}
+use Rattle.std.specs.List.{AllByRecursion, cons_option}
+use Rattle.std.specs.Ordering.{is_lt}
+use Rattle.std.proofs.lemmas.Bool.{cases_lt}
+use Rattle.net_base.specs.Members.{IsIn, IsSameSet}
+use Rattle.net_base.proofs.MemberLaws.{each_at, each_weaker, each_from_in, in_map, in_append_left, in_append_right}
+use Rattle.net_base.proofs.ListLaws.{in_filter_map}
+use Rattle.net_base.specs.Blocks.{Block}
+use Rattle.net_base.specs.declared.ids.SwitchId.{SwitchId}
+use Rattle.topology.specs.Networks.{IsNetwork, switch_count, capacity_of}
+use Rattle.flow_rules.specs.Order.{key_cmp}
+use Rattle.flow_rules.specs.Patterns.{key_eq}
+use Rattle.flow_rules.specs.Same.{action_eq}
+use Rattle.flow_rules.specs.Tables.{rules_at, keys_of, table_blocks}
+use Rattle.flow_rules.specs.declared.rules.Key.{Key}
+use Rattle.flow_rules.specs.declared.rules.Rule.{Rule}
+use Rattle.path_walk.specs.UserConfigs.{IsUserConfig}
+use Rattle.dest_classes.specs.Classes.{IsClass}
+use Rattle.dest_classes.specs.declared.Class.{Class}
+use Rattle.demands.specs.Good.{HasGoodPaths}
+use Rattle.update_model.specs.Changes.{switch_of, rule_of, Applies, tables_after, tables_after_change, round_after, settled_tables, round_blocks, IsGoodRound}
+use Rattle.update_model.specs.Mixtures.{Update, tables_before, AreGoodRounds, AreClearRounds, need_of}
+use Rattle.update_model.specs.Ranges.{IsPlanChange}
+use Rattle.update_model.specs.Remaining.{rule_with, difference, changes_between, changes_from, with_key, keys_in_order, remaining}
+use Rattle.update_model.specs.declared.Change.{Change}
+use Rattle.update_model.specs.declared.Change.TheVariants.{Insert, Delete, Replace}
+use Rattle.update_model.proofs.DifferenceLaws.{rule_same, remaining_in}
+use Rattle.update_model.proofs.KeyOrderLaws.{in_order}
+use Rattle.update_model.proofs.RemainingLaws.{rule_is, rule_told}
+use Rattle.update_model.proofs.RoundLaws.{settled_start}
+use Rattle.certificates.proofs.TreeTables.{unique_in_table}
+use Rattle.flow_rules.proofs.TableLaws.{action_eq-true}
+use Rattle.certificates.specs.Certified.{Task, classes_for, KeepsVlan, IsCertified}
+use Rattle.certificates.specs.Valid.{IsValidPick, IsValidPlan}
+use Rattle.certificates.specs.declared.Evidence.TheVariants.{Ordered}
+use Rattle.certificates.specs.declared.OrderedPick.{OrderedPick}
+use Rattle.certificates.specs.declared.OrderedEvidence.{OrderedEvidence}
+use Rattle.certificates.specs.declared.Plan.{Plan}
+use Rattle.dest_classes.proofs.MapLaws.{number_fits}
+use Rattle.dest_classes.specs.Classes.{class_count}
+use Rattle.evidence_store.specs.Stored.{IsStored}
+use Rattle.plan_classes.specs.SameClasses.{HasSameClasses, classes_before, BringNoPrefix, MakeNoClasses}
+use Rattle.trial_tables.specs.Trials.{single, HasRoomAlone}
+use Rattle.round_planner.specs.Search.{Aim, update_by, single_rounds, IsFirstQualifying, AreFirstQualifying}
+use Rattle.round_planner.specs.Standing.{Stands}
+use Rattle.round_planner.specs.Ends.{MayBeTried}
+use Rattle.round_planner.proofs.ClassKept.{class_kept}
+use Rattle.round_planner.proofs.SameRound.{IsSameRound, same_back, same_alone, held_same, need_same}
+use Rattle.round_planner.proofs.StandingLaws.{length_rounds}
+use Rattle.round_planner.proofs.SearchLaws.{first_remains}
+use Rattle.round_planner.proofs.UserTables.{AreUserTables, IsUserChange, plan_change, keeps_user, user_start, user_along, changes_along, remaining_applies, remaining_count}
+
+some_not_none : {A : Type 0} {x : A} → ¬ (Some x ≡ None)
+some_not_none e = cc
+
+get_or_past : (tables : List (List Rule)) (n : ℕ) → length tables ≤ n → get_or tables n [] ≡ []
+get_or_past [] n le = refl
+get_or_past (rules ∷ tables) zero le = absurd (let f : suc (length tables) ≤ 0 = le in omega arith)
+get_or_past (rules ∷ tables) (suc n) le = get_or_past tables n (omega arith)
+
+-- ---- a change among the changes of a search
+
+-- the change at a place, with those before and behind it
+record IsSplit (changes : List Change) (k : ℕ) : Type 0 where
+  front : List Change
+  c : Change
+  rest : List Change
+  are : changes ≡ front ++ c ∷ rest
+  length_is : length front ≡ k
+
+split_at : (changes : List Change) (k : ℕ) → k < length changes → IsSplit changes k
+split_at [] k less = absurd (let f : k < 0 = less in omega arith)
+split_at (d ∷ changes) zero less = record { front = []; c = d; rest = changes; are = refl; length_is = refl }
+split_at (d ∷ changes) (suc k) less =
+    let s = split_at changes k (omega arith) in
+    record { front = d ∷ s.front; c = s.c; rest = s.rest; are = ap (λ xs. d ∷ xs) s.are; length_is = ap suc s.length_is }
+
+first_there : (aim : Aim) (tables : List (List Rule)) (front : List Change) (c : Change) (rest : List Change) → AreFirstQualifying aim tables (front ++ c ∷ rest)
+    → IsFirstQualifying aim (tables_after front tables) (remaining (tables_after front tables) aim.new) c
+first_there aim tables [] c rest found = found.0
+first_there aim tables (d ∷ front) c rest found = first_there aim (tables_after_change d tables) front c rest found.1
+
+front_found : (aim : Aim) (tables : List (List Rule)) (front rest : List Change) → AreFirstQualifying aim tables (front ++ rest) → AreFirstQualifying aim tables front
+front_found aim tables [] rest found = tt
+front_found aim tables (d ∷ front) rest found = (found.0, front_found aim (tables_after_change d tables) front rest found.1)
+
+-- ---- few changes
+
+length_with_key : (k : Key) (ks : List Key) → length (with_key k ks) ≤ suc (length ks)
+length_with_key k [] = omega arith
+length_with_key k (q ∷ ks) =
+    elim (is_lt (key_cmp k q)) as (λ b. length (cond b (k ∷ q ∷ ks) (cond (key_eq k q) (q ∷ ks) (q ∷ with_key k ks))) ≤ suc (suc (length ks))) [
+      | true ↦ omega arith
+      | false ↦ elim (key_eq k q) as (λ b. length (cond b (q ∷ ks) (q ∷ with_key k ks)) ≤ suc (suc (length ks))) [
+        | true ↦ omega arith
+        | false ↦ (let rest = length_with_key k ks in omega arith)
+      ]
+    ]
+
+length_in_order : (ks : List Key) → length (keys_in_order ks) ≤ length ks
+length_in_order [] = omega arith
+length_in_order (k ∷ ks) = let first = length_with_key k (keys_in_order ks) in let rest = length_in_order ks in omega arith
+
+length_filter_map : {A B : Type 0} (f : A → Option B) (xs : List A) → length (filter_map f xs) ≤ length xs
+length_filter_map f [] = omega arith
+length_filter_map {A} {B} f (x ∷ xs) =
+    let rest = length_filter_map f xs in
+    elim (f x) as (λ (o : Option B). length (cons_option o (filter_map f xs)) ≤ suc (length xs)) [ None ↦ omega arith | Some y ↦ omega arith ]
+
+length_between : (s : SwitchId) (now new : List Rule) → length (changes_between s now new) ≤ length now + length new
+length_between s now new =
+    let kept = length_filter_map (λ k. difference s (rule_with k now) (rule_with k new)) (keys_in_order (keys_of now ++ keys_of new)) in
+    let keys = length_in_order (keys_of now ++ keys_of new) in
+    let both = length-append (keys_of now) (keys_of new) in
+    let first = length-map now (λ (r : Rule). r.key) in
+    let second = length-map new (λ (r : Rule). r.key) in
+    omega arith
+
+length_from : (n : ℕ) (nows news : List (List Rule)) → length (changes_from n nows news) ≤ sum_by length nows + sum_by length news
+length_from n [] news = omega arith
+length_from n (now ∷ nows) [] = omega arith
+length_from n (now ∷ nows) (new ∷ news) =
+    let here = length_between (record { 0 = n }) now new in
+    let rest = length_from (suc n) nows news in
+    let both : length (changes_from n (now ∷ nows) (new ∷ news)) ≡ length (changes_between (record { 0 = n }) now new) + length (changes_from (suc n) nows news) =
+    length-append (changes_between (record { 0 = n }) now new) (changes_from (suc n) nows news) in
+    let olds = sum_by-cons length now nows in
+    let news_too = sum_by-cons length new news in
+    omega arith
+
+-- no more changes remain than both configurations have rules
+pub few_remain : (old new : List (List Rule)) → length (remaining old new) ≤ sum_by length old + sum_by length new
+few_remain old new = length_from 0 old new
+
+-- ---- where nothing remains
+
+module _ (aim : Aim) (old : List (List Rule)) (new_user : IsUserConfig aim.net aim.new) (tables : List (List Rule)) (user : AreUserTables aim old tables) (none : remaining tables aim.new ≡ []) where
+  no_change : (c : Change) → ¬ IsIn c (remaining tables aim.new)
+  no_change c i = subst (IsIn c) none i
+
+  module _ (s : SwitchId) (within : s.0 < switch_count aim.net) where
+    abbrev now : List Rule
+    now = rules_at tables s
+
+    abbrev next : List Rule
+    next = rules_at aim.new s
+
+    not_between : (c : Change) → ¬ IsIn c (changes_between s now next)
+    not_between c i = no_change c (remaining_in tables aim.new s c (subst (λ n. s.0 < n) (sym user.count) within) (subst (λ n. s.0 < n) (sym new_user.count) within) i)
+
+    -- what stands under a key in both tables is the same
+    same_under : (k : Key) → IsIn k (keys_in_order (keys_of now ++ keys_of next)) → (o p : Option Rule) → rule_with k now ≡ o → rule_with k next ≡ p → difference s o p ≡ None
+    same_under k i o p e f =
+        elim (difference s o p) as (λ d. difference s o p ≡ d → d ≡ None) [
+          | None ↦ λ _. refl
+          | Some c ↦ λ g. absurd (not_between c (in_filter_map (λ x. difference s (rule_with x now) (rule_with x next)) k c (keys_in_order (keys_of now ++ keys_of next)) i
+              (ap (λ x. difference s x (rule_with k next)) e ∙ ap (difference s o) f ∙ g)))
+        ] refl
+
+    there : (r : Rule) → IsIn r now → IsIn r next
+    there r i =
+        let k = in_order r.key (keys_of now ++ keys_of next) (in_append_left r.key (keys_of now) (keys_of next) (in_map (λ x. x.key) r now i)) in
+        let here = rule_is now (user.unique s) r.key r i refl in
+        elim (rule_with r.key next) as (λ p. rule_with r.key next ≡ p → IsIn r next) [
+          | None ↦ λ f. (let e : Some (Delete s r) ≡ None = same_under r.key k (Some r) None here f in absurd (some_not_none e))
+          | Some q ↦ λ f.
+              let told = rule_told next r.key q f in
+              let e = same_under r.key k (Some r) (Some q) here f in
+              elim (action_eq r.action q.action) as (λ b. action_eq r.action q.action ≡ b → cond b None (Some (Replace s q)) ≡ None → IsIn r next) [
+                | true ↦ λ same _. subst (λ x. IsIn x next) (rule_same q r told.1 (sym (action_eq-true r.action q.action same))) told.0
+                | false ↦ λ _ g. absurd (some_not_none g)
+              ] refl e
+        ] refl
+
+    back : (r : Rule) → IsIn r next → IsIn r now
+    back r i =
+        let k = in_order r.key (keys_of now ++ keys_of next) (in_append_right r.key (keys_of now) (keys_of next) (in_map (λ x. x.key) r next i)) in
+        let here = rule_is next (unique_in_table next (new_user.distinct s)) r.key r i refl in
+        elim (rule_with r.key now) as (λ o. rule_with r.key now ≡ o → IsIn r now) [
+          | None ↦ λ f. (let e : Some (Insert s r) ≡ None = same_under r.key k None (Some r) f here in absurd (some_not_none e))
+          | Some q ↦ λ f.
+              let told = rule_told now r.key q f in
+              let e = same_under r.key k (Some q) (Some r) f here in
+              elim (action_eq q.action r.action) as (λ b. action_eq q.action r.action ≡ b → cond b None (Some (Replace s r)) ≡ None → IsIn r now) [
+                | true ↦ λ same _. subst (λ x. IsIn x now) (rule_same q r told.1 (action_eq-true q.action r.action same)) told.0
+                | false ↦ λ _ g. absurd (some_not_none g)
+              ] refl e
+        ] refl
+
+  -- where no change remains the tables are the new ones, as sets
+  pub same_when_none : (s : SwitchId) → IsSameSet (rules_at tables s) (rules_at aim.new s)
+  same_when_none s =
+      elim (cases_lt s.0 (switch_count aim.net)) [
+        | inl within ↦ λ r. (there s within r, back s within r)
+        | inr past ↦
+            let first : rules_at tables s ≡ [] = get_or_past tables s.0 (let n = user.count in omega arith) in
+            let second : rules_at aim.new s ≡ [] = get_or_past aim.new s.0 (let n = new_user.count in omega arith) in
+            subst (λ xs. IsSameSet xs (rules_at aim.new s)) (sym first) (subst (λ ys. IsSameSet [] ys) (sym second) (λ r. (λ i. i, λ i. i)))
+      ]
+
+-- ---- the rounds of a search
+
+module _ (aim : Aim) (old : List (List Rule)) (net : IsNetwork aim.net) (old_user : IsUserConfig aim.net old) (new_user : IsUserConfig aim.net aim.new)
+    (changes : List Change) (found : AreFirstQualifying aim old changes) where
+  abbrev u : Update
+  u = update_by aim old changes
+
+  pub found_user : AreUserTables aim old (tables_after changes old)
+  found_user = user_along aim old new_user old (user_start aim old new_user old_user) changes found
+
+  found_changes : AllByRecursion (IsUserChange aim old) changes
+  found_changes = changes_along aim old new_user old (user_start aim old new_user old_user) changes found
+
+  -- the change of round k, which applies, and is clear and within capacity alone
+  record IsRoundAt (k : ℕ) : Type 0 where
+    front : List Change
+    c : Change
+    rest : List Change
+    same : IsSameRound u k (single aim.net (tables_after front old) c) 0
+    round_is : round_after k u.rounds ≡ c ∷ []
+    applies : Applies (tables_before u k) c
+    stands : HasRoomAlone aim.net (tables_after front old) c
+
+  round_of : (k : ℕ) → k < length u.rounds → IsRoundAt k
+  round_of k less =
+      let count = length_rounds changes in
+      let s = split_at changes k (omega arith) in
+      let first = first_there aim old s.front s.c s.rest (subst (AreFirstQualifying aim old) s.are found) in
+      let user = user_along aim old new_user old (user_start aim old new_user old_user) s.front (front_found aim old s.front (s.c ∷ s.rest) (subst (AreFirstQualifying aim old) s.are found)) in
+      let i = first_remains aim (tables_after s.front old) (remaining (tables_after s.front old) aim.new) s.c first in
+      let same : IsSameRound u k (single aim.net (tables_after s.front old) s.c) 0 =
+      subst (λ cs. IsSameRound (update_by aim old cs) k (single aim.net (tables_after s.front old) s.c) 0) (sym s.are)
+      (subst (λ j. IsSameRound (update_by aim old (s.front ++ s.c ∷ s.rest)) j (single aim.net (tables_after s.front old) s.c) 0) s.length_is
+      (same_back (single aim.net (tables_after s.front old) s.c) 0 (update_by aim old (s.front ++ s.c ∷ s.rest)) (length s.front) (same_alone aim old s.front s.c s.rest))) in
+      record {
+        front = s.front;
+        c = s.c;
+        rest = s.rest;
+        same = same;
+        round_is = same.round;
+        applies = subst (λ ts. Applies ts s.c) (sym (same.tables ∙ settled_start ((s.c ∷ []) ∷ []) (tables_after s.front old))) (remaining_applies aim old new_user (tables_after s.front old) user s.c i);
+        stands = first.qualifies.stands;
+      }
+
+  good : AreGoodRounds u
+  good k less =
+      let r = round_of k less in
+      subst (IsGoodRound (tables_before u k)) (sym r.round_is) (record { applies = (r.applies, tt); distinct = (λ i. i, tt) })
+
+  clear : AreClearRounds u
+  clear k less s mixed held =
+      let r = round_of k less in
+      r.stands.clear s mixed (held_same u k (single aim.net (tables_after r.front old) r.c) 0 r.same s mixed held)
+
+  fits : (k : ℕ) (s : SwitchId) → k < length u.rounds → s.0 < switch_count aim.net → need_of u k s ≤ capacity_of aim.net s
+  fits k s less within =
+      let r = round_of k less in
+      subst (λ n. n ≤ capacity_of aim.net s) (sym (need_same u k (single aim.net (tables_after r.front old) r.c) 0 r.same s)) (r.stands.fits s within)
+
+  each_round : (P : Change → Type 0) (cs : List Change) → AllByRecursion P cs → AllByRecursion (AllByRecursion P) (single_rounds cs)
+  each_round P [] all = tt
+  each_round P (c ∷ cs) all = ((all.0, tt), each_round P cs all.1)
+
+  keeps : AllByRecursion (AllByRecursion (λ c. KeepsVlan (rule_of c).action)) u.rounds
+  keeps = each_round (λ c. KeepsVlan (rule_of c).action) changes
+      (each_weaker (IsUserChange aim old) (λ c. KeepsVlan (rule_of c).action) (λ c is. keeps_user aim.net (switch_of c) (rule_of c).action is.rule.action) changes found_changes)
+
+  pub ranges : AllByRecursion (AllByRecursion (IsPlanChange aim.net)) u.rounds
+  ranges = each_round (IsPlanChange aim.net) changes (each_weaker (IsUserChange aim old) (IsPlanChange aim.net) (λ c is. plan_change aim.net net c is.within is.rule) changes found_changes)
+
+  tables_last : (cs : List Change) (tables : List (List Rule)) → settled_tables (single_rounds cs) (length (single_rounds cs)) tables ≡ tables_after cs tables
+  tables_last [] tables = refl
+  tables_last (c ∷ cs) tables = tables_last cs (tables_after (c ∷ []) tables)
+
+  -- what remained at first was made or remains, and is little
+  pub found_count : length changes + length (remaining (tables_after changes old) aim.new) ≡ length (remaining old aim.new)
+  found_count = remaining_count aim old new_user old (user_start aim old new_user old_user) changes found
+
+  pub found_few : length (remaining old aim.new) ≤ 4096
+  found_few = let few = few_remain old aim.new in let first = old_user.few in let second = new_user.few in omega arith
+
+  length_singles : length u.rounds ≡ length changes
+  length_singles = length_rounds changes
+
+  single_each : (cs : List Change) → AllByRecursion (λ (round : List Change). length round ≡ 1) (single_rounds cs)
+  single_each [] = tt
+  single_each (c ∷ cs) = (refl, single_each cs)
+
+  sum_singles : (cs : List Change) → sum_by length (single_rounds cs) ≡ length cs
+  sum_singles [] = refl
+  sum_singles (c ∷ cs) = let first = sum_by-cons length (c ∷ []) (single_rounds cs) in let rest = sum_singles cs in omega arith
+
+  pub may_be_tried : MayBeTried aim.net u.rounds
+  may_be_tried = record {
+    few = (let count = length_singles in let all = found_count in let few = found_few in omega arith);
+    single = single_each changes;
+    ranges = ranges;
+  }
+
+  -- the rounds bring in no prefix of their own
+  blocks_known : (cs : List Change) → AllByRecursion (IsUserChange aim old) cs → (b : Block) → IsIn b (round_blocks (single_rounds cs)) → IsIn b (table_blocks old ++ table_blocks aim.new)
+  blocks_known [] all b i = absurd i
+  blocks_known (c ∷ cs) all b (inl e) = subst (λ x. IsIn x (table_blocks old ++ table_blocks aim.new)) (sym e) all.0.known
+  blocks_known (c ∷ cs) all b (inr i) = blocks_known cs all.1 b i
+
+  pub no_prefix : BringNoPrefix old aim.new u.rounds
+  no_prefix b i = inl (blocks_known changes found_changes b i)
+
+  -- ---- the plan
+
+  module _ (e : OrderedEvidence) (stands : Stands aim old changes e) (stored : IsStored e) where
+    abbrev pub plan_of : Plan
+    plan_of = record { rounds = single_rounds changes; evidence = Ordered e }
+
+    valid_pick : (p : OrderedPick) → IsIn p e.picks → class_count aim.classes ≤ 8192 → IsValidPick (length u.rounds) (length e.uses) p
+    valid_pick p i few =
+        let least = stands.evidence.picked p i in
+        let within = each_at (λ (q : OrderedPick). (q.shared < length e.uses) × (q.shared ≤ 4294967295)) e.picks p stored.picks i in
+        let number = number_fits aim.classes p.class least.class least.class_is in
+        let round = least.round_is in
+        let less = least.within in
+        (omega arith, omega arith, omega arith, within.0, within.1)
+
+    pub plan_valid : class_count aim.classes ≤ 8192 → IsValidPlan aim.net plan_of
+    plan_valid few = record {
+      few_rounds = (let count = length_singles in let all = found_count in let most = found_few in omega arith);
+      few_changes = (let sum = sum_singles changes in let all = found_count in let most = found_few in omega arith);
+      rounds = ranges;
+      evidence = record {
+        numberings = stands.numberings;
+        befores = stands.befores;
+        uses = stored.uses;
+        picks = each_from_in (IsValidPick (length u.rounds) (length e.uses)) e.picks (λ p i. valid_pick p i few);
+        ascending = stored.ascending;
+      };
+    }
+
+    -- the plan of a search for the classes of the configurations and the demands
+    module _ (classes_are : aim.classes ≡ classes_before aim.net old aim.new aim.demands) (no_classes : MakeNoClasses aim.net old aim.new)
+        (old_good : HasGoodPaths aim.net old aim.demands aim.classes) (new_good : HasGoodPaths aim.net aim.new aim.demands aim.classes) (none : remaining (tables_after changes old) aim.new ≡ []) where
+      abbrev pub task : Task
+      task = record { update = u; new = aim.new; demands = aim.demands }
+
+      pub plan_classes : HasSameClasses (classes_for task) aim.classes
+      plan_classes = subst (HasSameClasses (classes_for task)) (sym classes_are) (no_classes aim.demands u.rounds no_prefix)
+
+      class_of : (n : ℕ) (class : Class) → IsClass (classes_for task) n class → IsClass aim.classes n class
+      class_of n class is = class_kept (classes_for task) aim.classes plan_classes n class is
+
+      pub plan_certified : IsCertified task (Ordered e)
+      plan_certified = record {
+        old_good = λ n class is. old_good n class (class_of n class is);
+        new_good = λ n class is. new_good n class (class_of n class is);
+        good = good;
+        clear = clear;
+        fits = fits;
+        keeps = keeps;
+        certificates = λ k n class less is. stands.certificates k n class (let count = length_singles in omega arith) (class_of n class is);
+        ends = λ s. subst (λ ts. IsSameSet (rules_at ts s) (rules_at aim.new s)) (sym (tables_last changes old)) (same_when_none aim old new_user (tables_after changes old) found_user none s);
+      }
+
+      -- one round for each change that remained at first
+      pub plan_count : length (single_rounds changes) ≡ length (remaining old aim.new)
+      plan_count = let count = length_singles in let all = found_count in let nothing : length (remaining (tables_after changes old) aim.new) ≡ 0 = ap length none in omega arith

@@ -1,0 +1,150 @@
+-- What is found for the classes, class by class, and what the pick in force says of a class.
+use Rattle.std.proofs.Common.{◌≡◌, ◌≢◌, ◌⊎◌, ◌↔◌, ℕ, suc, ◌+◌, ◌<◌, ◌≤◌, List, [], ◌∷◌, ◌++◌, length, get_or, Some, refl, sym, ◌∙◌, subst, ap, inl, inr, arith}
+use Rattle.std.specs.Prelude.{slice_get}
+use Rattle.std.specs.List.{AllByRecursion, AllZip}
+use Rattle.std.proofs.lemmas.Option.{same_Some, slice_get-get_or}
+use Rattle.std.proofs.lemmas.Bool.{cases_lt}
+use Rattle.net_base.specs.Members.{IsIn}
+use Rattle.net_base.proofs.MemberLaws.{each_at, each_weaker, each_append, in_append_left, in_append_right}
+use Rattle.dest_classes.specs.Classes.{IsClass, class_count}
+use Rattle.dest_classes.specs.declared.Class.{Class}
+use Rattle.dest_classes.proofs.MapLaws.{class_exists}
+use Rattle.update_model.specs.Mixtures.{Update}
+use Rattle.certificates.specs.Ordered.{IsSafe, IsPickInForce, IsMeant}
+use Rattle.certificates.specs.Valid.{IsChain, IsPickBefore, IsValidUse}
+use Rattle.certificates.specs.declared.Shared.{Shared}
+use Rattle.certificates.specs.declared.OrderedPick.{OrderedPick}
+use Rattle.certificates.specs.declared.OrderedEvidence.{OrderedEvidence}
+use Rattle.class_evidence.specs.Found.{IsSafeEvidence}
+use Rattle.evidence_store.specs.Stored.{IsStored}
+use Rattle.evidence_store.proofs.ListLaws.{chain_push}
+use Rattle.ordered_check.proofs.MeaningLaws.{one_in_force, one_meaning, at_place}
+use Rattle.round_planner.specs.declared.judging.Found.{Found}
+use Rattle.round_planner.specs.Search.{Aim, duties_in}
+use Rattle.round_planner.specs.Standing.{IsCertifiedClass, HasFound, HasNotFound, AreSafeBelow, HasUnsafe}
+
+-- ---- the pick in force
+
+-- all picks are of rounds up to some round
+pub some_round : (picks : List OrderedPick) → (round : ℕ) × AllByRecursion (λ p. p.round ≤ round) picks
+some_round [] = (0, tt)
+some_round (p ∷ picks) =
+    let (round, all) = some_round picks in (
+      p.round + round,
+      (omega arith, each_weaker (λ (q : OrderedPick). q.round ≤ round) (λ (q : OrderedPick). q.round ≤ p.round + round) (λ q le. omega arith) picks all),
+    )
+
+module _ (aim : Aim) (u : Update) (e : OrderedEvidence) (k n : ℕ) (class : Class) where
+  -- a class without a pick has no certificate
+  pub not_without_pick : ((pick : OrderedPick) → IsIn pick e.picks → pick.class ≢ n) → ¬ IsCertifiedClass aim u e k n class
+  not_without_pick none h = none h.pick h.in_force.stands h.in_force.of_class
+
+  -- what the pick in force means decides
+  pub certified_by : IsChain IsPickBefore e.picks → (pick : OrderedPick) (numbers : List ℕ) (sets : List (List ℕ)) → IsPickInForce e.picks (suc k) n pick → IsMeant e pick numbers sets
+      → IsSafe u k class.first class.entry (duties_in aim class) numbers sets ↔ IsCertifiedClass aim u e k n class
+  certified_by in_order pick numbers sets force meant = (
+    λ safe. record { pick = pick; numbers = numbers; sets = sets; in_force = force; meant = meant; safe = safe },
+    λ h.
+        let same : h.pick ≡ pick = one_in_force e.picks in_order (suc k) n h.pick pick h.in_force force in
+        let meant_too : IsMeant e pick h.numbers h.sets = subst (λ (p : OrderedPick). IsMeant e p h.numbers h.sets) same h.meant in
+        let (same_numbers, same_sets) = one_meaning e pick h.numbers numbers h.sets sets meant_too meant in
+        subst (λ (xs : List (List ℕ)). IsSafe u k class.first class.entry (duties_in aim class) numbers xs) same_sets
+        (subst (λ (xs : List ℕ). IsSafe u k class.first class.entry (duties_in aim class) xs h.sets) same_numbers h.safe),
+  )
+
+-- numbers of before sets that there are have before sets
+sets_at : (befores : List (List ℕ)) (indices : List ℕ) → AllByRecursion (λ i. i < length befores) indices → (sets : List (List ℕ)) × AllZip (λ i set. slice_get befores i ≡ Some set) indices sets
+sets_at befores [] h = ([], tt)
+sets_at befores (i ∷ indices) h =
+    let (sets, are) = sets_at befores indices h.1 in
+    (get_or befores i [] ∷ sets, (slice_get-get_or befores i [] h.0, are))
+
+-- each pick means a numbering and before sets
+pub pick_means : (e : OrderedEvidence) → IsStored e → (pick : OrderedPick) → IsIn pick e.picks → (numbers : List ℕ) × (sets : List (List ℕ)) × IsMeant e pick numbers sets
+pick_means e stored pick i =
+    let named = each_at (λ (p : OrderedPick). (p.shared < length e.uses) × (p.shared ≤ 4294967295)) e.picks pick stored.picks i in
+    let no_use : Shared = record { numbering = 0; befores = [] } in
+    let use_ = get_or e.uses pick.shared no_use in
+    let use_is : slice_get e.uses pick.shared ≡ Some use_ = slice_get-get_or e.uses pick.shared no_use named.0 in
+    let valid = at_place (IsValidUse (length e.numberings) (length e.befores)) e.uses pick.shared use_ stored.uses use_is in
+    let (sets, sets_are) = sets_at e.befores use_.befores valid.2 in
+    (get_or e.numberings use_.numbering [], sets, record { use_ = use_; use_is = use_is; numbers_are = slice_get-get_or e.numberings use_.numbering [] valid.0; sets_are = sets_are })
+
+-- what a pick means, by its use
+pub means_use : (e : OrderedEvidence) (pick : OrderedPick) (numbers : List ℕ) (sets : List (List ℕ)) → IsMeant e pick numbers sets
+    → (number : ℕ) (use_ : Shared) (numbering : List ℕ) → pick.shared ≡ number → slice_get e.uses number ≡ Some use_ → slice_get e.numberings use_.numbering ≡ Some numbering
+    → (numbers ≡ numbering) × AllZip (λ i set. slice_get e.befores i ≡ Some set) use_.befores sets
+means_use e pick numbers sets meant number use_ numbering is use_is numbering_is =
+    let same : meant.use_ ≡ use_ = same_Some meant.use_ use_ (sym meant.use_is ∙ ap (slice_get e.uses) is ∙ use_is) in (
+      same_Some numbers numbering (sym meant.numbers_are ∙ ap (λ (s : Shared). slice_get e.numberings s.numbering) same ∙ numbering_is),
+      subst (λ (s : Shared). AllZip (λ i set. slice_get e.befores i ≡ Some set) s.befores sets) same meant.sets_are,
+    )
+
+-- ---- class by class
+
+-- each number that isn't above the last is that or below it
+below_or_last : (n m : ℕ) → n < m + 1 → (n < m) ⊎ (n ≡ m)
+below_or_last n m less = elim (cases_lt n m) [ inl below ↦ inl below | inr above ↦ inr (omega arith) ]
+
+module _ (aim : Aim) (u : Update) (e : OrderedEvidence) (k : ℕ) where
+  pub safe_none : AreSafeBelow aim u e k 0 []
+  safe_none = record { each = λ n class less is. absurd (omega arith); within = tt; ascending = tt }
+
+  within_more : (m : ℕ) (found : List Found) → AllByRecursion (λ (f : Found). f.class < m) found → AllByRecursion (λ (f : Found). f.class < m + 1) found
+  within_more m found h = each_weaker (λ (f : Found). f.class < m) (λ (f : Found). f.class < m + 1) (λ f less. omega arith) found h
+
+  not_found_above : (m : ℕ) (found : List Found) → AllByRecursion (λ (f : Found). f.class < m) found → HasNotFound m found
+  not_found_above m found h = each_weaker (λ (f : Found). f.class < m) (λ (f : Found). ¬ (f.class ≡ m)) (λ f less same. absurd (omega arith)) found h
+
+  -- the pick in force keeps the next class safe
+  pub safe_kept : (m : ℕ) (found : List Found) → AreSafeBelow aim u e k m found → ((class : Class) → IsClass aim.classes m class → IsCertifiedClass aim u e k m class) → AreSafeBelow aim u e k (m + 1) found
+  safe_kept m found h kept = record { each = each; within = within_more m found h.within; ascending = h.ascending }
+    where
+      each : (n : ℕ) (class : Class) → n < m + 1 → IsClass aim.classes n class
+          → (IsCertifiedClass aim u e k n class × HasNotFound n found) ⊎ ((¬ IsCertifiedClass aim u e k n class) × HasFound aim u k n class found)
+      each n class less is = elim (below_or_last n m less) [
+        | inl below ↦ h.each n class below is
+        | inr last ↦
+            inl (
+              subst (λ (i : ℕ). IsCertifiedClass aim u e k i class) (sym last) (kept class (subst (λ (i : ℕ). IsClass aim.classes i class) last is)),
+              subst (λ (i : ℕ). HasNotFound i found) (sym last) (not_found_above m found h.within),
+            )
+      ]
+
+  -- new evidence keeps the next class safe, for which the pick in force fails
+  pub safe_new : (m : ℕ) (found : List Found) (new : Found) → new.class ≡ m → AreSafeBelow aim u e k m found
+      → ((class : Class) → IsClass aim.classes m class → (¬ IsCertifiedClass aim u e k m class) × IsSafeEvidence u k class (duties_in aim class) new.evidence)
+      → AreSafeBelow aim u e k (m + 1) (found ++ new ∷ [])
+  safe_new m found new number h judged = record {
+    each = each;
+    within = each_append (λ (f : Found). f.class < m + 1) found (new ∷ []) (within_more m found h.within) (omega arith, tt);
+    ascending = chain_push (λ (f g : Found). f.class < g.class) found new h.ascending
+        (each_weaker (λ (f : Found). f.class < m) (λ (f : Found). f.class < new.class) (λ f less. omega arith) found h.within);
+  }
+    where
+      each : (n : ℕ) (class : Class) → n < m + 1 → IsClass aim.classes n class
+          → (IsCertifiedClass aim u e k n class × HasNotFound n (found ++ new ∷ [])) ⊎ ((¬ IsCertifiedClass aim u e k n class) × HasFound aim u k n class (found ++ new ∷ []))
+      each n class less is = elim (below_or_last n m less) [
+        | inl below ↦
+            elim (h.each n class below is) [
+              | inl kept ↦ inl (kept.0, each_append (λ (f : Found). ¬ (f.class ≡ n)) found (new ∷ []) kept.1 (λ same. absurd (omega arith), tt))
+              | inr fails ↦
+                  inr (
+                    fails.0,
+                    record { new = fails.1.new; stands = in_append_left fails.1.new found (new ∷ []) fails.1.stands; class_is = fails.1.class_is; safe = fails.1.safe },
+                  )
+            ]
+        | inr last ↦
+            let found_here = judged class (subst (λ (i : ℕ). IsClass aim.classes i class) last is) in
+            inr (
+              subst (λ (i : ℕ). ¬ IsCertifiedClass aim u e k i class) (sym last) found_here.0,
+              record { new = new; stands = in_append_right new found (new ∷ []) (inl refl); class_is = number ∙ sym last; safe = found_here.1 },
+            )
+      ]
+
+  -- the class with a number is not safe by any evidence
+  pub unsafe_at : (m : ℕ) → m < class_count aim.classes
+      → ((class : Class) → IsClass aim.classes m class → (numbers : List ℕ) (sets : List (List ℕ)) → ¬ IsSafe u k class.first class.entry (duties_in aim class) numbers sets) → HasUnsafe aim u k
+  unsafe_at m less never =
+      let (class, is) = class_exists aim.classes m less in
+      record { number = m; class = class; is_class = is; never = never class is }

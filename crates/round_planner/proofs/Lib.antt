@@ -1,0 +1,16 @@
+pub mod SameRound
+pub mod GrowthLaws
+pub mod StandingLaws
+pub mod ClassKept
+pub mod SearchLaws
+pub mod DifferingLaws
+pub mod TreeSearch
+pub mod UserTables
+pub mod EndLaws
+pub mod JudgingLaws
+pub mod PickingLaws
+pub mod SearchingLaws
+pub mod RunLaws
+pub mod OrderLaws
+pub mod OneSearch
+pub mod AnswerLaws

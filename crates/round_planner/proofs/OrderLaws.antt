@@ -1,0 +1,83 @@
+-- What the search of an update hands out.
+use Rattle.std.proofs.Common.{◌≡◌, ◌≤◌, List, [], length, refl, sym, ◌∙◌, subst, ap}
+use Rattle.topology.specs.Networks.{IsNetwork}
+use Rattle.flow_rules.specs.declared.rules.Rule.{Rule}
+use Rattle.path_walk.specs.UserConfigs.{IsUserConfig}
+use Rattle.dest_classes.specs.Classes.{ClassList}
+use Rattle.demands.specs.Good.{HasGoodPaths}
+use Rattle.update_model.specs.Remaining.{remaining}
+use Rattle.update_model.specs.declared.Change.{Change}
+use Rattle.certificates.specs.Certified.{Task, classes_for, IsCertified}
+use Rattle.certificates.specs.Trees.{IsTreeUpdate}
+use Rattle.certificates.specs.Valid.{IsValidPlan}
+use Rattle.certificates.specs.declared.Evidence.TheVariants.{Ordered}
+use Rattle.certificates.specs.declared.Plan.{Plan}
+use Rattle.evidence_store.specs.Stored.{IsStored}
+use Rattle.plan_classes.specs.SameClasses.{HasSameClasses, classes_before, MakeNoClasses}
+use Rattle.round_planner.specs.Search.{Aim, single_rounds, EndsOrdered, EndsStuck}
+use Rattle.round_planner.specs.Searching.{SearchState, IsAt}
+use Rattle.round_planner.specs.Ends.{aim_of, IsPlanOf, AreStuck, MayBeTried}
+use Rattle.round_planner.proofs.EndLaws.{plan_valid, plan_classes, plan_certified, plan_count, may_be_tried}
+use Rattle.round_planner.proofs.TreeSearch.{not_stuck}
+
+module _ (aim : Aim) (old : List (List Rule)) (classes_are : aim.classes ≡ classes_before aim.net old aim.new aim.demands) where
+  same_aim : aim ≡ aim_of aim.net old aim.new aim.demands
+  same_aim = ap (λ (cs : ClassList). record { net = aim.net; new = aim.new; demands = aim.demands; classes = cs }) classes_are
+
+  module _ (net : IsNetwork aim.net) (old_user : IsUserConfig aim.net old) (new_user : IsUserConfig aim.net aim.new) (s : SearchState) (changes : List Change) (at : IsAt aim old changes s) where
+    -- ---- ordered
+
+    abbrev pub plan_now : Plan
+    plan_now = record { rounds = s.rounds; evidence = Ordered s.store.evidence }
+
+    same_plan : plan_now ≡ record { rounds = single_rounds changes; evidence = Ordered s.store.evidence }
+    same_plan = ap (λ (rounds : List (List Change)). record { rounds = rounds; evidence = Ordered s.store.evidence }) at.rounds
+
+    module _ (ends : EndsOrdered aim old changes) where
+      pub plan_searched : IsPlanOf (aim_of aim.net old aim.new aim.demands) old plan_now
+      plan_searched = subst (λ (a : Aim). IsPlanOf a old plan_now) same_aim (record {
+        changes = changes;
+        evidence = s.store.evidence;
+        plan_is = same_plan;
+        searched = record { ends = ends; evidence = at.stands.evidence };
+      })
+
+      module _ (stored : IsStored s.store.evidence) where
+        pub now_valid : s.store.classes ≤ 8192 → IsValidPlan aim.net plan_now
+        now_valid few =
+            subst (IsValidPlan aim.net) (sym same_plan)
+            (plan_valid aim old net old_user new_user changes at.stands.found s.store.evidence at.stands stored (subst (λ n. n ≤ 8192) at.classes few))
+
+        module _ (no_classes : MakeNoClasses aim.net old aim.new) (old_good : HasGoodPaths aim.net old aim.demands aim.classes) (new_good : HasGoodPaths aim.net aim.new aim.demands aim.classes) where
+          abbrev pub task_by : Plan → Task
+          task_by p = record { update = record { net = aim.net; old = old; rounds = p.rounds }; new = aim.new; demands = aim.demands }
+
+          pub now_certified : IsCertified (task_by plan_now) plan_now.evidence
+          now_certified =
+              subst (λ (p : Plan). IsCertified (task_by p) p.evidence) (sym same_plan)
+              (plan_certified aim old net old_user new_user changes at.stands.found s.store.evidence at.stands stored classes_are no_classes old_good new_good ends.none_remains)
+
+          pub now_classes : HasSameClasses (classes_for (task_by plan_now)) aim.classes
+          now_classes =
+              subst (λ (p : Plan). HasSameClasses (classes_for (task_by p)) aim.classes) (sym same_plan)
+              (plan_classes aim old net old_user new_user changes at.stands.found s.store.evidence at.stands stored classes_are no_classes old_good new_good ends.none_remains)
+
+          pub now_count : length plan_now.rounds ≡ length (remaining old aim.new)
+          now_count =
+              ap length at.rounds
+              ∙ plan_count aim old net old_user new_user changes at.stands.found s.store.evidence at.stands stored classes_are no_classes old_good new_good ends.none_remains
+
+    -- ---- stuck
+
+    pub rounds_stuck : EndsStuck aim old changes → AreStuck (aim_of aim.net old aim.new aim.demands) old s.rounds
+    rounds_stuck ends = subst (λ (a : Aim). AreStuck a old s.rounds) same_aim (record { changes = changes; rounds_are = at.rounds; ends = ends })
+
+    pub rounds_tried : MayBeTried aim.net s.rounds
+    rounds_tried = subst (MayBeTried aim.net) (sym at.rounds) (may_be_tried aim old net old_user new_user changes at.stands.found)
+
+    -- the task of no rounds
+    abbrev pub no_rounds : Task
+    no_rounds = record { update = record { net = aim.net; old = old; rounds = [] }; new = aim.new; demands = aim.demands }
+
+    pub tree_not_stuck : IsTreeUpdate no_rounds → ¬ EndsStuck aim old changes
+    tree_not_stuck tree = not_stuck no_rounds tree net old_user new_user aim.classes (subst (HasSameClasses aim.classes) classes_are (record { hosts = refl; vlans = refl; atoms = refl })) changes

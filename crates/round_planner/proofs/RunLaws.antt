@@ -1,0 +1,36 @@
+-- Where a search begins, goes on and ends.
+use Rattle.std.proofs.Common.{◌≡◌, ◌<◌, true, false, List, [], ◌∷◌, ◌++◌, length, subst, ap, arith, length-append}
+use Rattle.std.specs.Prelude.{◌≢◌}
+use Rattle.topology.specs.Networks.{IsNetwork}
+use Rattle.flow_rules.specs.Tables.{rules_of_all}
+use Rattle.flow_rules.specs.declared.rules.Rule.{Rule}
+use Rattle.path_walk.specs.UserConfigs.{IsUserConfig}
+use Rattle.update_model.specs.Remaining.{remaining}
+use Rattle.update_model.specs.declared.Change.{Change}
+use Rattle.round_planner.specs.Search.{Aim}
+use Rattle.round_planner.specs.Searching.{SearchState, IsAt, IsMoved, IsEnded}
+use Rattle.round_planner.proofs.EndLaws.{found_count}
+
+-- one change more leaves one less
+pub one_less : (aim : Aim) (old : List (List Rule)) → IsNetwork aim.net → IsUserConfig aim.net old → IsUserConfig aim.net aim.new
+    → (changes : List Change) (c : Change) (s t : SearchState) → IsAt aim old changes s → IsAt aim old (changes ++ c ∷ []) t
+    → length (remaining (rules_of_all t.trial.tables) aim.new) < length (remaining (rules_of_all s.trial.tables) aim.new)
+one_less aim old net old_user new_user changes c s t at next =
+    let before = found_count aim old net old_user new_user changes at.stands.found in
+    let after = found_count aim old net old_user new_user (changes ++ c ∷ []) next.stands.found in
+    let more = length-append changes (c ∷ []) in
+    let here = ap (λ ts. length (remaining ts aim.new)) at.tables in
+    let there = ap (λ ts. length (remaining ts aim.new)) next.tables in
+    omega arith
+
+-- the search ends ordered where no change remains
+pub ends_ordered : (aim : Aim) (old : List (List Rule)) (changes : List Change) (s : SearchState) → IsAt aim old changes s
+    → remaining (rules_of_all s.trial.tables) aim.new ≡ [] → IsEnded aim old s true
+ends_ordered aim old changes s at none =
+    (changes, at, record { found = at.stands.found; none_remains = subst (λ ts. remaining ts aim.new ≡ []) at.tables none })
+
+-- it ends stuck where some remain and none of them qualifies
+pub ends_stuck : (aim : Aim) (old : List (List Rule)) (changes : List Change) (s t : SearchState) → IsAt aim old changes s
+    → remaining (rules_of_all s.trial.tables) aim.new ≢ [] → IsMoved aim old changes t false → IsEnded aim old t false
+ends_stuck aim old changes s t at some (none, still) =
+    (changes, still, record { found = at.stands.found; some_remain = subst (λ ts. remaining ts aim.new ≢ []) at.tables some; none_qualifies = none })

@@ -1,0 +1,257 @@
+-- A change that is tried, and what comes of it.
+use Rattle.std.proofs.Common.{◌≡◌, ℕ, zero, suc, ◌+◌, ◌<◌, ◌≤◌, true, false, List, [], ◌∷◌, ◌++◌, length, take, drop, get_or, refl, sym, ◌∙◌, subst, ap, inl, inr, arith, length-append}
+use Rattle.std.specs.Prelude.{Some, slice_get}
+use Rattle.std.specs.List.{AllByRecursion}
+use Rattle.net_base.specs.Members.{IsIn}
+use Rattle.net_base.proofs.MemberLaws.{each_weaker, each_append}
+use Rattle.net_base.specs.declared.ids.SwitchId.{SwitchId}
+use Rattle.topology.specs.Networks.{switch_count}
+use Rattle.flow_rules.specs.Tables.{rules_at, rules_of_all}
+use Rattle.flow_rules.specs.declared.rules.Rule.{Rule}
+use Rattle.path_walk.specs.UserConfigs.{IsUserConfig}
+use Rattle.dest_classes.specs.Classes.{class_count}
+use Rattle.dest_classes.specs.declared.Class.{Class}
+use Rattle.update_model.specs.Changes.{switch_of, rule_of, Applies, tables_after, tables_after_change, changes_at, round_after, with_change}
+use Rattle.update_model.specs.Mixtures.{Update, tables_before}
+use Rattle.update_model.specs.Remaining.{remaining}
+use Rattle.update_model.specs.declared.Change.{Change}
+use Rattle.round_mix.specs.Prepared.{MixedState, IsPrepared}
+use Rattle.round_mix.specs.declared.MarkedRule.{MarkedRule}
+use Rattle.certificates.specs.Certified.{KeepsVlan}
+use Rattle.certificates.specs.Ordered.{IsSafe}
+use Rattle.certificates.specs.declared.OrderedPick.{OrderedPick}
+use Rattle.certificates.specs.declared.OrderedEvidence.{OrderedEvidence}
+use Rattle.check_reasons.specs.Loaded.{AreLoaded, IsLoaded}
+use Rattle.mixed_walks.specs.Walks.{IsRoundOf}
+use Rattle.mixed_walks.proofs.PlaceLaws.{tables_keep}
+use Rattle.evidence_store.specs.State.{StoreState}
+use Rattle.evidence_store.specs.Stored.{IsStored, no_evidence}
+use Rattle.trial_tables.specs.Trials.{TrialState, single, HasRoomAlone, IsSettled, IsTrying}
+use Rattle.round_planner.specs.declared.judging.Found.{Found}
+use Rattle.round_planner.specs.Search.{Aim, duties_in, update_by, single_rounds, CanBeSafe, Qualifies, IsFirstQualifying}
+use Rattle.round_planner.specs.Standing.{Stands, AreSafeBelow, HasUnsafe, AreWithPicks}
+use Rattle.round_planner.specs.Searching.{SearchState, IsAt, IsTryingAt, IsTried, IsMoved}
+use Rattle.round_planner.proofs.SameRound.{IsSameRound, same_back, same_alone, safe_same}
+use Rattle.round_planner.proofs.EndLaws.{few_remain}
+use Rattle.round_planner.proofs.SearchLaws.{first_remains}
+use Rattle.round_planner.proofs.StandingLaws.{begun, length_rounds, stands_none, stands_more}
+use Rattle.round_planner.proofs.UserTables.{AreUserTables, IsUserChange, keeps_user, user_start, user_along, changes_along, remaining_user, remaining_applies, remaining_count}
+use Rattle.dest_classes.proofs.MapLaws.{number_fits}
+
+-- ---- prepared switches and rounds
+
+loaded_as : (u v : Update) (k j : ℕ) → IsSameRound u k v j → (mixes : List MixedState) → AreLoaded u k mixes → AreLoaded v j mixes
+loaded_as u v k j same mixes h = record { count = h.count ∙ ap switch_count same.net; each = each }
+  where
+    prepared_as : (s : SwitchId) (marks : List MarkedRule) → IsPrepared (rules_at (tables_before u k) s) (changes_at s (round_after k u.rounds)) marks
+        → IsPrepared (rules_at (tables_before v j) s) (changes_at s (round_after j v.rounds)) marks
+    prepared_as s marks p =
+        subst (λ ts. IsPrepared (rules_at ts s) (changes_at s (round_after j v.rounds)) marks) same.tables
+        (subst (λ cs. IsPrepared (rules_at (tables_before u k) s) (changes_at s cs) marks) same.round p)
+
+    each : (s : SwitchId) (mixed : MixedState) → slice_get mixes s.0 ≡ Some mixed → IsLoaded v j s mixed
+    each s mixed at = let l = h.each s mixed at in record { marks = l.marks; is = l.is; prepared = prepared_as s l.marks l.prepared; few = l.few }
+
+round_keeps : (cs : List Change) → AllByRecursion (λ d. KeepsVlan (rule_of d).action) cs → (j : ℕ) → AllByRecursion (λ d. KeepsVlan (rule_of d).action) (round_after j (single_rounds cs))
+round_keeps [] all j = tt
+round_keeps (d ∷ cs) all zero = (all.0, tt)
+round_keeps (d ∷ cs) all (suc j) = round_keeps cs all.1 j
+
+-- ---- the round of a change that is tried
+
+module _ (aim : Aim) (old : List (List Rule)) (old_user : IsUserConfig aim.net old) (new_user : IsUserConfig aim.net aim.new) (changes : List Change) (c : Change) (e : OrderedEvidence)
+    (stands : Stands aim old changes e) (remains : IsIn c (remaining (tables_after changes old) aim.new)) where
+  abbrev pub next : Update
+  next = update_by aim old (changes ++ c ∷ [])
+
+  user : AreUserTables aim old (tables_after changes old)
+  user = user_along aim old new_user old (user_start aim old new_user old_user) changes stands.found
+
+  change : IsUserChange aim old c
+  change = remaining_user aim old new_user (tables_after changes old) user c remains
+
+  pub applies_here : Applies (tables_after changes old) c
+  applies_here = remaining_applies aim old new_user (tables_after changes old) user c remains
+
+  same : IsSameRound (single aim.net (tables_after changes old) c) 0 next (length changes)
+  same = same_alone aim old changes c []
+
+  -- all classes are safe: the change qualifies
+  pub qualifies : HasRoomAlone aim.net (tables_after changes old) c → (found : List Found) → AreSafeBelow aim next e (length changes) (class_count aim.classes) found → Qualifies aim (tables_after changes old) c
+  qualifies room found safe = record {
+    stands = room;
+    safe = λ n class is. elim (safe.each n class (number_fits aim.classes n class is) is) [
+      | inl (kept, none) ↦ can class kept.numbers kept.sets kept.safe
+      | inr (fails, has) ↦ can class has.new.evidence.numbering has.new.evidence.befores has.safe.safe
+    ];
+  }
+    where
+      can : (class : Class) (numbers : List ℕ) (sets : List (List ℕ)) → IsSafe next (length changes) class.first class.entry (duties_in aim class) numbers sets → CanBeSafe aim (tables_after changes old) c class
+      can class numbers sets h = record {
+        numbers = numbers;
+        sets = sets;
+        safe = safe_same next (length changes) (single aim.net (tables_after changes old) c) 0 (same_back (single aim.net (tables_after changes old) c) 0 next (length changes) same)
+            class.first class.entry (duties_in aim class) numbers sets h;
+      }
+
+  -- some class isn't: it doesn't
+  pub qualifies_not : HasUnsafe aim next (length changes) → ¬ Qualifies aim (tables_after changes old) c
+  qualifies_not unsafe q =
+      let can = q.safe unsafe.number unsafe.class unsafe.is_class in
+      unsafe.never can.numbers can.sets
+      (safe_same (single aim.net (tables_after changes old) c) 0 next (length changes) same unsafe.class.first unsafe.class.entry (duties_in aim unsafe.class) can.numbers can.sets can.safe)
+
+  -- the switches are prepared for it as the next round of the search
+  pub round_of : (tables : List (List Rule)) → tables ≡ tables_after changes old → (mixes : List MixedState) → AreLoaded (single aim.net tables c) 0 mixes → IsRoundOf aim.net mixes next (length changes)
+  round_of tables are mixes loaded = record {
+    net_is = refl;
+    loaded = loaded_as (single aim.net (tables_after changes old) c) next 0 (length changes) same mixes (subst (λ ts. AreLoaded (single aim.net ts c) 0 mixes) are loaded);
+    keeps_old = tables_keep aim.net old old_user;
+    keeps = λ j le. round_keeps (changes ++ c ∷ [])
+        (each_append (λ d. KeepsVlan (rule_of d).action) changes (c ∷ [])
+        (each_weaker (IsUserChange aim old) (λ d. KeepsVlan (rule_of d).action) keeps_change changes (changes_along aim old new_user old (user_start aim old new_user old_user) changes stands.found))
+        (keeps_change c change, tt)) j;
+  }
+    where
+      keeps_change : (d : Change) → IsUserChange aim old d → KeepsVlan (rule_of d).action
+      keeps_change d is = keeps_user aim.net (switch_of d) (rule_of d).action is.rule.action
+
+  -- where a search goes on with it
+  pub taken : (more : OrderedEvidence) (found : List Found) → IsStored e → AreSafeBelow aim next e (length changes) (class_count aim.classes) found
+      → AreWithPicks e (suc (length changes)) found more → IsStored more → IsFirstQualifying aim (tables_after changes old) (remaining (tables_after changes old) aim.new) c → Stands aim old (changes ++ c ∷ []) more
+  taken more found stored_old safe added stored first = stands_more aim old changes c e more found stands first stored_old safe added stored
+
+-- the rounds after one more
+pub rounds_more : (changes : List Change) (c : Change) → single_rounds changes ++ (c ∷ []) ∷ [] ≡ single_rounds (changes ++ c ∷ [])
+rounds_more [] c = refl
+rounds_more (d ∷ changes) c = ap (λ rs. (d ∷ []) ∷ rs) (rounds_more changes c)
+
+-- a change put into an empty last round
+pub change_put : (c : Change) (rounds : List (List Change)) → with_change c (rounds ++ [] ∷ []) ≡ rounds ++ (c ∷ []) ∷ []
+change_put c [] = refl
+change_put c (round ∷ []) = refl
+change_put c (round ∷ next ∷ rest) = ap (λ rs. round ∷ rs) (change_put c (next ∷ rest))
+
+-- the tables after one more
+pub tables_more : (changes : List Change) (c : Change) (tables : List (List Rule)) → tables_after (changes ++ c ∷ []) tables ≡ tables_after_change c (tables_after changes tables)
+tables_more [] c tables = refl
+tables_more (d ∷ changes) c tables = tables_more changes c (tables_after_change d tables)
+
+-- so many rounds
+pub round_number : (rounds : List (List Change)) (changes : List Change) (c : Change) → rounds ≡ single_rounds changes → length (with_change c (rounds ++ [] ∷ [])) ≡ suc (length changes)
+round_number rounds changes c are =
+    let put = change_put c rounds in
+    let more = ap (λ rs. rs ++ (c ∷ []) ∷ []) are ∙ rounds_more changes c in
+    ap length (put ∙ more) ∙ length_rounds (changes ++ c ∷ []) ∙ length-append changes (c ∷ []) ∙ (omega arith)
+
+-- a search makes few changes
+pub made_few : (aim : Aim) (old : List (List Rule)) → IsUserConfig aim.net old → IsUserConfig aim.net aim.new → (changes : List Change) (e : OrderedEvidence) → Stands aim old changes e → length changes ≤ 4096
+made_few aim old old_user new_user changes e stands =
+    let all = remaining_count aim old new_user old (user_start aim old new_user old_user) changes stands.found in
+    let few = few_remain old aim.new in
+    let first = old_user.few in
+    let second = new_user.few in
+    omega arith
+
+-- the search has made the change that was tried
+pub made_at : (aim : Aim) (old : List (List Rule)) → IsUserConfig aim.net old → IsUserConfig aim.net aim.new → (changes : List Change) (c : Change) (s new : SearchState) (found : List Found) (round : ℕ) (between : List (List Change))
+    → IsTryingAt aim old changes c s → AreSafeBelow aim (update_by aim old (changes ++ c ∷ [])) s.store.evidence (length changes) (class_count aim.classes) found
+    → IsFirstQualifying aim (tables_after changes old) (remaining (tables_after changes old) aim.new) c
+    → between ≡ s.rounds ++ [] ∷ [] → new.rounds ≡ with_change c between → round ≡ length new.rounds
+    → rules_of_all new.trial.tables ≡ tables_after_change c (rules_of_all s.trial.tables) → IsSettled aim.net new.trial
+    → AreWithPicks s.store.evidence round found new.store.evidence → new.store.classes ≡ s.store.classes → IsStored s.store.evidence → IsStored new.store.evidence
+    → IsAt aim old (changes ++ c ∷ []) new
+made_at aim old old_user new_user changes c s new found round between at safe first added_round put counted tables settled added classes stored_old stored =
+    let rounds_are : new.rounds ≡ with_change c (s.rounds ++ [] ∷ []) = put ∙ ap (with_change c) added_round in
+    let round_is : round ≡ suc (length changes) = counted ∙ ap length rounds_are ∙ round_number s.rounds changes c at.rounds in
+    let remains = first_remains aim (tables_after changes old) (remaining (tables_after changes old) aim.new) c first in
+    record {
+      rounds = rounds_are ∙ change_put c s.rounds ∙ ap (λ rs. rs ++ (c ∷ []) ∷ []) at.rounds ∙ rounds_more changes c;
+      tables = tables ∙ ap (tables_after_change c) at.tables ∙ sym (tables_more changes c old);
+      settled = settled;
+      stands = stands_more aim old changes c s.store.evidence new.store.evidence found at.stands first stored_old safe
+          (subst (λ n. AreWithPicks s.store.evidence n found new.store.evidence) round_is added) stored;
+      classes = classes ∙ at.classes;
+    }
+
+-- what a found change needs of the store
+pub picks_before : (aim : Aim) (old : List (List Rule)) (changes : List Change) (c : Change) (s : SearchState) (round : ℕ) (between after : List (List Change)) → IsTryingAt aim old changes c s
+    → between ≡ s.rounds ++ [] ∷ [] → after ≡ with_change c between → round ≡ length after → AllByRecursion (λ p. p.round < round) s.store.evidence.picks
+picks_before aim old changes c s round between after at added_round put counted =
+    let round_is : round ≡ suc (length changes) = counted ∙ ap length (put ∙ ap (with_change c) added_round) ∙ round_number s.rounds changes c at.rounds in
+    subst (λ n. AllByRecursion (λ p. p.round < n) s.store.evidence.picks) (sym round_is) (begun aim old changes s.store.evidence at.stands)
+
+-- ---- a change that is tried
+
+module _ (aim : Aim) (old : List (List Rule)) (old_user : IsUserConfig aim.net old) (new_user : IsUserConfig aim.net aim.new) (changes : List Change) (c : Change) (s : SearchState) (trial : TrialState)
+    (at : IsAt aim old changes s) (remains : IsIn c (remaining (tables_after changes old) aim.new)) (rules : rules_of_all trial.tables ≡ rules_of_all s.trial.tables) (trying : IsTrying aim.net c trial) where
+  -- the switches are prepared for it
+  pub tried_round : IsRoundOf aim.net trial.mixes (update_by aim old (changes ++ c ∷ [])) (length changes)
+  tried_round = round_of aim old old_user new_user changes c s.store.evidence at.stands remains (rules_of_all trial.tables) (rules ∙ at.tables) trial.mixes trying.loaded
+
+  pub tried_at : IsTryingAt aim old changes c (record { trial = trial; rounds = s.rounds; store = s.store })
+  tried_at = record { rounds = at.rounds; tables = rules ∙ at.tables; trying = trying; stands = at.stands; classes = at.classes }
+
+  pub picks_begun : AllByRecursion (λ p. p.round ≤ suc (length changes)) s.store.evidence.picks
+  picks_begun = each_weaker (λ (p : OrderedPick). p.round < suc (length changes)) (λ (p : OrderedPick). p.round ≤ suc (length changes)) (λ p less. omega arith) s.store.evidence.picks
+      (begun aim old changes s.store.evidence at.stands)
+
+  room_alone : HasRoomAlone aim.net (tables_after changes old) c
+  room_alone = subst (λ ts. HasRoomAlone aim.net ts c) (rules ∙ at.tables) trying.stands
+
+  pub tried_qualifies : (found : List Found) → AreSafeBelow aim (update_by aim old (changes ++ c ∷ [])) s.store.evidence (length changes) (class_count aim.classes) found → Qualifies aim (tables_after changes old) c
+  tried_qualifies found safe = qualifies aim old old_user new_user changes c s.store.evidence at.stands remains room_alone found safe
+
+  pub tried_fails : HasUnsafe aim (update_by aim old (changes ++ c ∷ [])) (length changes) → ¬ Qualifies aim (tables_after changes old) c
+  tried_fails unsafe = qualifies_not aim old old_user new_user changes c s.store.evidence at.stands remains unsafe
+
+-- the tables are those before again
+pub given_up : (aim : Aim) (old : List (List Rule)) (changes : List Change) (s : SearchState) (trial : TrialState) → IsAt aim old changes s → rules_of_all trial.tables ≡ rules_of_all s.trial.tables → IsSettled aim.net trial
+    → IsAt aim old changes (record { trial = trial; rounds = s.rounds; store = s.store })
+given_up aim old changes s trial at rules settled = record { rounds = at.rounds; tables = rules ∙ at.tables; settled = settled; stands = at.stands; classes = at.classes }
+
+-- ---- a change among those that remain
+
+module _ {A : Type 0} where
+  pub in_at : (xs : List A) (i : ℕ) (x : A) → i < length xs → x ≡ get_or xs i x → IsIn x xs
+  in_at [] i x less is = absurd (let f : i < 0 = less in omega arith)
+  in_at (y ∷ xs) zero x less is = inl is
+  in_at (y ∷ xs) (suc i) x less is = inr (in_at xs i x (omega arith) is)
+
+  pub split_there : (xs : List A) (i : ℕ) (x : A) → i < length xs → x ≡ get_or xs i x → xs ≡ take i xs ++ x ∷ drop (suc i) xs
+  split_there [] i x less is = absurd (let f : i < 0 = less in omega arith)
+  split_there (y ∷ xs) zero x less is = ap (λ z. z ∷ xs) (sym is)
+  split_there (y ∷ xs) (suc i) x less is = ap (λ zs. y ∷ zs) (split_there xs i x (omega arith) is)
+
+  take_suc : (xs : List A) (i : ℕ) (x : A) → i < length xs → x ≡ get_or xs i x → take (suc i) xs ≡ take i xs ++ x ∷ []
+  take_suc [] i x less is = absurd (let f : i < 0 = less in omega arith)
+  take_suc (y ∷ xs) zero x less is = ap (λ z. z ∷ []) (sym is)
+  take_suc (y ∷ xs) (suc i) x less is = ap (λ zs. y ∷ zs) (take_suc xs i x (omega arith) is)
+
+  pub take_more : (xs : List A) (i : ℕ) (x : A) → i < length xs → x ≡ get_or xs i x → take (i + 1) xs ≡ take i xs ++ x ∷ []
+  take_more xs i x less is = ap (λ n. take n xs) (let e : i + 1 ≡ suc i = omega arith in e) ∙ take_suc xs i x less is
+
+-- none of the changes so far qualifies, and the next one does
+pub moved : (aim : Aim) (old : List (List Rule)) (changes left : List Change) (i : ℕ) (c : Change) (s : SearchState) → left ≡ remaining (tables_after changes old) aim.new → i < length left → c ≡ get_or left i c
+    → AllByRecursion (λ d. ¬ Qualifies aim (tables_after changes old) d) (take i left) → IsTried aim old changes c s true → IsMoved aim old changes s true
+moved aim old changes left i c s are less is none (q, go) =
+    (c, go (record { earlier = take i left; later = drop (suc i) left; are = sym are ∙ split_there left i c less is; none_earlier = none; qualifies = q }))
+
+-- nor does the next one
+pub none_more : (aim : Aim) (old : List (List Rule)) (changes left : List Change) (i : ℕ) (c : Change) (s : SearchState) → i < length left → c ≡ get_or left i c
+    → AllByRecursion (λ d. ¬ Qualifies aim (tables_after changes old) d) (take i left) → IsTried aim old changes c s false
+    → AllByRecursion (λ d. ¬ Qualifies aim (tables_after changes old) d) (take (i + 1) left) × IsAt aim old changes s
+none_more aim old changes left i c s less is none (fails, at) =
+    (subst (AllByRecursion (λ d. ¬ Qualifies aim (tables_after changes old) d)) (sym (take_more left i c less is)) (each_append (λ d. ¬ Qualifies aim (tables_after changes old) d) (take i left) (c ∷ []) none (fails, tt)), at)
+
+-- ---- a search that begins
+
+pub begins_at : (aim : Aim) (old : List (List Rule)) (s : SearchState) → s.rounds ≡ [] → rules_of_all s.trial.tables ≡ old → IsSettled aim.net s.trial
+    → (classes : ℕ) → classes ≡ class_count aim.classes → s.store ≡ record { evidence = no_evidence; classes = classes } → IsAt aim old [] s
+begins_at aim old s rounds tables settled classes count store = record {
+  rounds = rounds;
+  tables = tables;
+  settled = settled;
+  stands = subst (λ (st : StoreState). Stands aim old [] st.evidence) (sym store) (stands_none aim old);
+  classes = ap (λ (st : StoreState). st.classes) store ∙ count;
+}

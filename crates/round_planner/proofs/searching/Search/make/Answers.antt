@@ -1,0 +1,19 @@
+use Rattle.std.proofs.Common.{◌≤◌, sym, ◌∙◌, subst, ap}
+use Rattle.topology.specs.Networks.{Network}
+use Rattle.flow_rules.specs.Tables.{rules_of_all}
+use Rattle.dest_classes.specs.Classes.{class_count}
+use Rattle.evidence_store.specs.State.{StoreState}
+use Rattle.trial_tables.specs.Trials.{IsSettled}
+use Rattle.round_planner.specs.Search.{Aim}
+use Rattle.round_planner.proofs.SearchingLaws.{begins_at}
+use Rattle.round_planner.proofs.searching.Search.make.Goals as goal
+
+pub returns-clause-at : goal.returns-clause-at
+returns-clause-at c =
+    let aim = c.args.goal.now in
+    let settled = subst (λ (n : Network). IsSettled n c.in_ok-trial.trial) (ap (λ (a : Aim). a.net) c.goal.view_is) c.in_ok-trial.ensures.settled in
+    let count = c.count-count.ensures.count ∙ ap (λ (a : Aim). class_count a.classes) c.goal.view_is in
+    begins_at aim (rules_of_all c.args.old.now) _ c.in_ok-rounds.ensures c.in_ok-trial.ensures.rules settled c.count-count.result count c.in_ok-store.ensures
+
+pub returns-clause-few : goal.returns-clause-few
+returns-clause-few c = subst (λ (s : StoreState). s.classes ≤ 8192) (sym c.in_ok-store.ensures) c.count-count.ensures.few

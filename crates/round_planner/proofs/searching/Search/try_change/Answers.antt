@@ -1,0 +1,89 @@
+use Rattle.std.proofs.Common.{◌++◌, ◌∷◌, [], List, Option, Vec, Global, length, sym, ◌∙◌, subst, ap}
+use Rattle.std.specs.Prelude.{option_map}
+use Rattle.topology.specs.Networks.{Network}
+use Rattle.flow_rules.specs.declared.rules.Rule.{Rule}
+use Rattle.path_walk.specs.UserConfigs.{IsUserConfig}
+use Rattle.update_model.specs.Changes.{Applies}
+use Rattle.round_mix.specs.Prepared.{MixedState}
+use Rattle.mixed_walks.specs.Walks.{IsRoundOf}
+use Rattle.trial_tables.specs.Trials.{IsSettled, IsTrying}
+use Rattle.round_planner.specs.declared.judging.Found.{Found}
+use Rattle.round_planner.specs.Search.{Aim, update_by}
+use Rattle.round_planner.specs.Standing.{AreJudged}
+use Rattle.round_planner.specs.Searching.{IsAt}
+use Rattle.round_planner.proofs.SearchingLaws.{applies_here, tried_round, tried_at, picks_begun, tried_qualifies, tried_fails, given_up}
+use Rattle.round_planner.proofs.searching.Search.try_change.Goals as goal
+
+pub begin-requires-clause-applies : goal.begin-requires-clause-applies
+begin-requires-clause-applies c =
+    let (old, changes, user, at, i) = c.requires in
+    let new_user = subst (λ (a : Aim). IsUserConfig a.net a.new) c.goal.view_is c.goal.invariant.user in
+    let here = subst (IsAt c.args.goal.now old changes) (sym c.self.view_is) at in
+    subst (λ (ts : List (List Rule)). Applies ts c.args.change.now) (sym here.tables)
+    (applies_here c.args.goal.now old user new_user changes c.args.change.now c.self.inside.store.evidence here.stands i)
+
+pub judge_all-requires-clause-round : goal.judge_all-requires-clause-round
+judge_all-requires-clause-round c =
+    let aim = c.args.goal.now in
+    let (old, changes, user, at, i) = c.requires in
+    let new_user = subst (λ (a : Aim). IsUserConfig a.net a.new) c.goal.view_is c.goal.invariant.user in
+    let here = subst (IsAt aim old changes) (sym c.self.view_is) at in
+    let trying = subst (λ (n : Network). IsTrying n c.args.change.now c.begin.new.self) (ap (λ (a : Aim). a.net) c.goal.view_is) (c.begin.ensures.yes c.if-not-begin.false) in
+    let round = tried_round aim old user new_user changes c.args.change.now _ c.begin.new.self here i c.begin.ensures.rules trying in (
+      update_by aim old (changes ++ c.args.change.now ∷ []),
+      length changes,
+      subst (λ (ms : List MixedState). IsRoundOf aim.net ms (update_by aim old (changes ++ c.args.change.now ∷ [])) (length changes)) (sym c.mixes.ensures) round,
+    )
+
+pub take-requires : goal.take-requires
+take-requires c =
+    let aim = c.args.goal.now in
+    let (old, changes, user, at, i) = c.requires in
+    let new_user = subst (λ (a : Aim). IsUserConfig a.net a.new) c.goal.view_is c.goal.invariant.user in
+    let here = subst (IsAt aim old changes) (sym c.self.view_is) at in
+    let trying = subst (λ (n : Network). IsTrying n c.args.change.now c.begin.new.self) (ap (λ (a : Aim). a.net) c.goal.view_is) (c.begin.ensures.yes c.if-not-begin.false) in
+    let round = tried_round aim old user new_user changes c.args.change.now _ c.begin.new.self here i c.begin.ensures.rules trying in
+    let next = update_by aim old (changes ++ c.args.change.now ∷ []) in
+    let prepared = subst (λ (ms : List MixedState). IsRoundOf aim.net ms next (length changes)) (sym c.mixes.ensures) round in
+    let begun = picks_begun aim old user new_user changes c.args.change.now _ c.begin.new.self here i c.begin.ensures.rules trying in (
+      old,
+      changes,
+      user,
+      tried_at aim old user new_user changes c.args.change.now _ c.begin.new.self here i c.begin.ensures.rules trying,
+      subst (λ (o : Option (Vec Found Global)). AreJudged aim next c.self.inside.store.evidence (length changes) (option_map (λ v. v.items) o)) c.in-Some.is
+          (c.in_ok-found.ensures next (length changes) prepared begun),
+    )
+
+pub returns-in_ok-take-in-Some : goal.returns-in_ok-take-in-Some
+returns-in_ok-take-in-Some c old changes user at i =
+    let aim = c.args.goal.now in
+    let new_user = subst (λ (a : Aim). IsUserConfig a.net a.new) c.goal.view_is c.goal.invariant.user in
+    let here = subst (IsAt aim old changes) (sym c.self.view_is) at in
+    let trying = subst (λ (n : Network). IsTrying n c.args.change.now c.begin.new.self) (ap (λ (a : Aim). a.net) c.goal.view_is) (c.begin.ensures.yes c.if-not-begin.false) in
+    let round = tried_round aim old user new_user changes c.args.change.now _ c.begin.new.self here i c.begin.ensures.rules trying in
+    let next = update_by aim old (changes ++ c.args.change.now ∷ []) in
+    let prepared = subst (λ (ms : List MixedState). IsRoundOf aim.net ms next (length changes)) (sym c.mixes.ensures) round in
+    let begun = picks_begun aim old user new_user changes c.args.change.now _ c.begin.new.self here i c.begin.ensures.rules trying in
+    let safe = subst (λ (o : Option (Vec Found Global)). AreJudged aim next c.self.inside.store.evidence (length changes) (option_map (λ v. v.items) o)) c.in-Some.is
+    (c.in_ok-found.ensures next (length changes) prepared begun) in (
+      tried_qualifies aim old user new_user changes c.args.change.now _ c.begin.new.self here i c.begin.ensures.rules trying c.in-Some.found.items safe,
+      λ first.
+          c.in_ok-take-in-Some.ensures old changes user (tried_at aim old user new_user changes c.args.change.now _ c.begin.new.self here i c.begin.ensures.rules trying) safe first,
+    )
+
+pub returns-in-None : goal.returns-in-None
+returns-in-None c old changes user at i =
+    let aim = c.args.goal.now in
+    let new_user = subst (λ (a : Aim). IsUserConfig a.net a.new) c.goal.view_is c.goal.invariant.user in
+    let here = subst (IsAt aim old changes) (sym c.self.view_is) at in
+    let trying = subst (λ (n : Network). IsTrying n c.args.change.now c.begin.new.self) (ap (λ (a : Aim). a.net) c.goal.view_is) (c.begin.ensures.yes c.if-not-begin.false) in
+    let round = tried_round aim old user new_user changes c.args.change.now _ c.begin.new.self here i c.begin.ensures.rules trying in
+    let next = update_by aim old (changes ++ c.args.change.now ∷ []) in
+    let prepared = subst (λ (ms : List MixedState). IsRoundOf aim.net ms next (length changes)) (sym c.mixes.ensures) round in
+    let begun = picks_begun aim old user new_user changes c.args.change.now _ c.begin.new.self here i c.begin.ensures.rules trying in
+    let unsafe = subst (λ (o : Option (Vec Found Global)). AreJudged aim next c.self.inside.store.evidence (length changes) (option_map (λ v. v.items) o)) c.in-None.is
+    (c.in_ok-found.ensures next (length changes) prepared begun) in (
+      tried_fails aim old user new_user changes c.args.change.now _ c.begin.new.self here i c.begin.ensures.rules trying unsafe,
+      given_up aim old changes _ c.give_up.new.self here (c.give_up.ensures.rules ∙ c.begin.ensures.rules)
+          (subst (λ (n : Network). IsSettled n c.give_up.new.self) (ap (λ (a : Aim). a.net) c.goal.view_is) c.give_up.ensures.settled),
+    )

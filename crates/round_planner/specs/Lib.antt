@@ -1,0 +1,4 @@
+pub mod Search
+pub mod Ends
+pub mod Standing
+pub mod Searching

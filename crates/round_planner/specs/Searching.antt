@@ -1,0 +1,77 @@
+-- What a search is for, and where it is.
+use Rattle.std.specs.Prelude.{◌≡◌, Bool, true, false, List, [], ◌∷◌, ◌++◌}
+use Rattle.std.specs.List.{AllByRecursion}
+use Rattle.topology.specs.Networks.{Network}
+use Rattle.flow_rules.specs.Tables.{TableState, rules_of_all}
+use Rattle.flow_rules.specs.declared.rules.Rule.{Rule}
+use Rattle.path_walk.specs.UserConfigs.{IsUserConfig}
+use Rattle.dest_classes.specs.Classes.{ClassList, class_count}
+use Rattle.demands.specs.Duties.{ClassDuties}
+use Rattle.update_model.specs.Changes.{tables_after}
+use Rattle.update_model.specs.Remaining.{remaining}
+use Rattle.update_model.specs.declared.Change.{Change}
+use Rattle.certificates.specs.declared.Evidence.TheVariants as evidence
+use Rattle.certificates.specs.declared.Plan.{Plan}
+use Rattle.evidence_store.specs.State.{StoreState}
+use Rattle.trial_tables.specs.Trials.{TrialState, IsSettled, IsTrying}
+use Rattle.round_planner.specs.declared.Ordered.{Ordered}
+use Rattle.round_planner.specs.declared.Ordered.TheVariants.{Rounds, Stuck}
+use Rattle.round_planner.specs.Search.{Aim, single_rounds, Qualifies, IsFirstQualifying, EndsOrdered, EndsStuck}
+use Rattle.round_planner.specs.Standing.{Stands}
+
+-- the new tables are a user configuration, the classes are of the network, and the duties are theirs
+pub record IsGoal (net : Network) (new : List TableState) (duties : ClassDuties) (classes : ClassList) : Type 0 where
+  pub user : IsUserConfig net (rules_of_all new)
+  pub duties_of_them : duties.classes ≡ classes
+  pub hosts : classes.hosts ≡ net.hosts
+  pub vlans : classes.vlans ≡ net.vlans
+
+-- the tables with what is prepared of them, the rounds, and their evidence
+pub record SearchState : Type 0 where
+  pub trial : TrialState
+  pub rounds : List (List Change)
+  pub store : StoreState
+
+-- the search has made these changes, each as a round of its own, and no change is tried
+pub record IsAt (aim : Aim) (old : List (List Rule)) (changes : List Change) (s : SearchState) : Type 0 where
+  pub rounds : s.rounds ≡ single_rounds changes
+  pub tables : rules_of_all s.trial.tables ≡ tables_after changes old
+  pub settled : IsSettled aim.net s.trial
+  pub stands : Stands aim old changes s.store.evidence
+  pub classes : s.store.classes ≡ class_count aim.classes
+
+-- the search has made these changes, and one that remains is tried
+pub record IsTryingAt (aim : Aim) (old : List (List Rule)) (changes : List Change) (c : Change) (s : SearchState) : Type 0 where
+  pub rounds : s.rounds ≡ single_rounds changes
+  pub tables : rules_of_all s.trial.tables ≡ tables_after changes old
+  pub trying : IsTrying aim.net c s.trial
+  pub stands : Stands aim old changes s.store.evidence
+  pub classes : s.store.classes ≡ class_count aim.classes
+
+-- what trying a change leads to: it qualifies and, if it is the first that does, the search has made it;
+-- or it doesn't qualify and the search is where it was
+abbrev pub IsTried : Aim → List (List Rule) → List Change → Change → SearchState → Bool → Type 0
+IsTried aim old changes c s true =
+    Qualifies aim (tables_after changes old) c
+    × (IsFirstQualifying aim (tables_after changes old) (remaining (tables_after changes old) aim.new) c → IsAt aim old (changes ++ c ∷ []) s)
+IsTried aim old changes c s false = (¬ Qualifies aim (tables_after changes old) c) × IsAt aim old changes s
+
+-- what going through the remaining changes leads to: the search has made one more, or none of them qualifies
+abbrev pub IsMoved : Aim → List (List Rule) → List Change → SearchState → Bool → Type 0
+IsMoved aim old changes s true = (c : Change) × IsAt aim old (changes ++ c ∷ []) s
+IsMoved aim old changes s false =
+    AllByRecursion (λ d. ¬ Qualifies aim (tables_after changes old) d) (remaining (tables_after changes old) aim.new) × IsAt aim old changes s
+
+-- where the search ends: ordered, as no change remains, or stuck, as none of those that remain qualifies
+abbrev pub IsEnded : Aim → List (List Rule) → SearchState → Bool → Type 0
+IsEnded aim old s true = (changes : List Change) × IsAt aim old changes s × EndsOrdered aim old changes
+IsEnded aim old s false = (changes : List Change) × IsAt aim old changes s × EndsStuck aim old changes
+
+-- the plan of the rounds so far
+abbrev pub plan_by : SearchState → Plan
+plan_by s = record { rounds = s.rounds; evidence = evidence.Ordered s.store.evidence }
+
+-- the answer of a search that has ended: the plan where no change remains, the rounds where it is stuck
+abbrev pub answer_by : SearchState → Bool → Ordered
+answer_by s true = Rounds (plan_by s)
+answer_by s false = Stuck s.rounds

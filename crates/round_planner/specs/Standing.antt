@@ -1,0 +1,74 @@
+-- Where a search stands, and what is found while a change is tried.
+use Rattle.std.specs.Prelude.{◌≡◌, ◌⊎◌, ℕ, ◌<◌, List, [], ◌∷◌, length, Option, Some, None}
+use Rattle.std.specs.List.{AllByRecursion}
+use Rattle.net_base.specs.Members.{IsIn}
+use Rattle.flow_rules.specs.declared.rules.Rule.{Rule}
+use Rattle.dest_classes.specs.Classes.{IsClass, class_count}
+use Rattle.dest_classes.specs.declared.Class.{Class}
+use Rattle.update_model.specs.Mixtures.{Update}
+use Rattle.update_model.specs.declared.Change.{Change}
+use Rattle.certificates.specs.Ordered.{IsSafe, OrderedCertificate}
+use Rattle.certificates.specs.Valid.{IsChain, IsValidNumbering, IsValidBefore}
+use Rattle.certificates.specs.declared.OrderedEvidence.{OrderedEvidence}
+use Rattle.class_evidence.specs.Found.{IsSafeEvidence}
+use Rattle.evidence_store.specs.Stored.{IsWithPick}
+use Rattle.round_planner.specs.declared.judging.Found.{Found}
+use Rattle.round_planner.specs.declared.judging.Judged.{Judged}
+use Rattle.round_planner.specs.declared.judging.Judged.TheVariants.{Kept, New, Unsafe}
+use Rattle.round_planner.specs.Search.{Aim, duties_in, update_by, AreFirstQualifying, IsSearchEvidence}
+
+-- the class has its certificate in round k by the evidence so far
+abbrev pub IsCertifiedClass : Aim → Update → OrderedEvidence → ℕ → ℕ → Class → Type 0
+IsCertifiedClass aim u e k n class = OrderedCertificate u e k n class.first class.entry (duties_in aim class)
+
+-- where the search stands after these changes: each is the first that qualified, the evidence is that of the search,
+-- and each class has its certificate in each round
+pub record Stands (aim : Aim) (old : List (List Rule)) (changes : List Change) (e : OrderedEvidence) : Type 0 where
+  pub found : AreFirstQualifying aim old changes
+  pub evidence : IsSearchEvidence aim (update_by aim old changes) e
+  pub certificates : (k n : ℕ) (class : Class) → k < length changes → IsClass aim.classes n class → IsCertifiedClass aim (update_by aim old changes) e k n class
+  pub numberings : AllByRecursion (IsValidNumbering aim.net) e.numberings
+  pub befores : AllByRecursion (IsValidBefore aim.net) e.befores
+
+-- what is found for a class in round k: the pick in force keeps it safe, or it fails and new evidence does, or nothing does
+abbrev pub IsJudged : Aim → Update → OrderedEvidence → ℕ → ℕ → Class → Judged → Type 0
+IsJudged aim u e k n class Kept = IsCertifiedClass aim u e k n class
+IsJudged aim u e k n class (New evidence) = (¬ IsCertifiedClass aim u e k n class) × IsSafeEvidence u k class (duties_in aim class) evidence
+IsJudged aim u e k n class Unsafe = (numbers : List ℕ) (sets : List (List ℕ)) → ¬ IsSafe u k class.first class.entry (duties_in aim class) numbers sets
+
+-- new evidence was found for class n
+pub record HasFound (aim : Aim) (u : Update) (k n : ℕ) (class : Class) (found : List Found) : Type 0 where
+  pub new : Found
+  pub stands : IsIn new found
+  pub class_is : new.class ≡ n
+  pub safe : IsSafeEvidence u k class (duties_in aim class) new.evidence
+
+-- no evidence was found for class n
+abbrev pub HasNotFound : ℕ → List Found → Type 0
+HasNotFound n found = AllByRecursion (λ (f : Found). ¬ (f.class ≡ n)) found
+
+-- each class below a number is safe in round k: the pick in force keeps it safe and nothing new was found for it,
+-- or it fails and new evidence was found; what was found is of these classes, ascending
+pub record AreSafeBelow (aim : Aim) (u : Update) (e : OrderedEvidence) (k below : ℕ) (found : List Found) : Type 0 where
+  pub each : (n : ℕ) (class : Class) → n < below → IsClass aim.classes n class
+      → (IsCertifiedClass aim u e k n class × HasNotFound n found) ⊎ ((¬ IsCertifiedClass aim u e k n class) × HasFound aim u k n class found)
+  pub within : AllByRecursion (λ (f : Found). f.class < below) found
+  pub ascending : IsChain (λ (f g : Found). f.class < g.class) found
+
+-- some class is not safe by any evidence
+pub record HasUnsafe (aim : Aim) (u : Update) (k : ℕ) : Type 0 where
+  pub number : ℕ
+  pub class : Class
+  pub is_class : IsClass aim.classes number class
+  pub never : (numbers : List ℕ) (sets : List (List ℕ)) → ¬ IsSafe u k class.first class.entry (duties_in aim class) numbers sets
+
+-- what is found for all classes in round k
+abbrev pub AreJudged : Aim → Update → OrderedEvidence → ℕ → Option (List Found) → Type 0
+AreJudged aim u e k (Some found) = AreSafeBelow aim u e k (class_count aim.classes) found
+AreJudged aim u e k None = HasUnsafe aim u k
+
+-- the evidence with a pick more for each class for which new evidence was found
+abbrev pub AreWithPicks : OrderedEvidence → ℕ → List Found → OrderedEvidence → Type 0
+AreWithPicks old round [] new = new ≡ old
+AreWithPicks old round (f ∷ found) new =
+    (mid : OrderedEvidence) × IsWithPick old round f.class f.evidence.numbering f.evidence.befores mid × AreWithPicks mid round found new

@@ -1,0 +1,85 @@
+//! Ordered plans: rounds of one change each, found by a search for changes that are safe.
+#![tactic(auto)]
+
+mod goal;
+mod judging;
+pub mod laws;
+mod picking;
+mod searching;
+
+ghost use Rattle.std.specs.Prelude.{◌≡◌, [], length, IfOk};
+ghost use Rattle.flow_rules.specs.Tables.{rules_of_all};
+ghost use Rattle.path_walk.specs.UserConfigs.{IsUserConfig};
+ghost use Rattle.demands.specs.Good.{HasGoodPaths};
+ghost use Rattle.update_model.specs.Remaining.{remaining};
+ghost use Rattle.certificates.specs.Certified.{IsCertified, classes_for};
+ghost use Rattle.certificates.specs.Laws.{task_of};
+ghost use Rattle.certificates.specs.Trees.{IsTreeUpdate};
+ghost use Rattle.certificates.specs.Valid.{IsValidPlan};
+ghost use Rattle.plan_classes.specs.SameClasses.{HasSameClasses, classes_before};
+ghost use Rattle.round_planner.specs.Ends.{aim_of, IsSearched, OfPlan, OfStuck, MayBeTried, IsNotStuck};
+
+use crate::goal::Goal;
+use crate::searching::Search;
+use certificates::Plan;
+use demands::Duties;
+use dest_classes::ClassMap;
+use flow_rules::Config;
+use net_base::Memory;
+use plan_classes::rounds_make_no_classes;
+use std::alloc::Global;
+use topology::Net;
+use update_model::Rounds;
+
+/// An ordered plan, or the rounds after which no remaining change qualifies.
+#[derive(Drop)]
+pub enum Ordered {
+    Rounds(Plan),
+    Stuck(Rounds),
+}
+
+/// Searches for an ordered plan: again and again it takes the first of the remaining changes that, as a round of its own,
+/// is clear in every mixture, within capacity, and keeps every class safe by some evidence. It ends ordered where no change
+/// remains, and stuck where none of them qualifies. After Mahajan and Wattenhofer (2013).
+///
+/// Takes one walk for each change that is tried and each class, up to the first class that it doesn't keep safe.
+pub fn order(
+    alloc: Global,
+    net: &Net,
+    old: &Config,
+    new: &Config,
+    duties: &Duties,
+    classes: &ClassMap,
+) -> Result<Ordered, Memory>
+    requires old { IsUserConfig net.now (rules_of_all old.now) }
+    requires new { IsUserConfig net.now (rules_of_all new.now) }
+    requires duties { duties.now.classes ≡ classes.now }
+    requires classes { classes.now ≡ classes_before net.now (rules_of_all old.now) (rules_of_all new.now) duties.now.demands }
+    requires old_good { HasGoodPaths net.now (rules_of_all old.now) duties.now.demands classes.now }
+    requires new_good { HasGoodPaths net.now (rules_of_all new.now) duties.now.demands classes.now }
+    ensures searched { IfOk result (IsSearched (aim_of net.now (rules_of_all old.now) (rules_of_all new.now) duties.now.demands) (rules_of_all old.now)) }
+    ensures valid { IfOk result (OfPlan (IsValidPlan net.now)) }
+    ensures certified { IfOk result (OfPlan (λ p. IsCertified (task_of net.now old.now new.now duties.now.demands p) p.evidence)) }
+    ensures classes { IfOk result (OfPlan (λ p. HasSameClasses (classes_for (task_of net.now old.now new.now duties.now.demands p)) classes.now)) }
+
+    // One round for each change that remained at first.
+    ensures count { IfOk result (OfPlan (λ p. length p.rounds ≡ length (remaining (rules_of_all old.now) (rules_of_all new.now)))) }
+    ensures tried { IfOk result (OfStuck (MayBeTried net.now)) }
+
+    // The search of an update of destination trees isn't stuck.
+    ensures tree { IsTreeUpdate (record { update = record { net = net.now; old = rules_of_all old.now; rounds = [] }; new = rules_of_all new.now; demands = duties.now.demands })
+        → IfOk result IsNotStuck }
+{
+    let goal = Goal {
+        net,
+        new,
+        duties,
+        classes,
+    };
+    net.keeps_rules();
+    rounds_make_no_classes(net, old, new);
+    let mut search = Search::make(alloc, &goal, old)?;
+    let none_remains = search.run(alloc, &goal)?;
+    search.store.keeps_once();
+    Ok(search.into_answer(none_remains))
+}

@@ -1,0 +1,178 @@
+// The search, change by change.
+ghost use Rattle.std.specs.Prelude.{◌≡◌, ◌≤◌, ◌++◌, ◌∷◌, [], List, suc, length, IfOk, OnOk};
+ghost use Rattle.std.specs.List.{AllByRecursion};
+ghost use Rattle.net_base.specs.Members.{IsIn};
+ghost use Rattle.flow_rules.specs.Tables.{rules_of_all};
+ghost use Rattle.flow_rules.specs.declared.rules.Rule.{Rule};
+ghost use Rattle.path_walk.specs.UserConfigs.{IsUserConfig};
+ghost use Rattle.dest_classes.specs.Classes.{class_count};
+ghost use Rattle.update_model.specs.Changes.{tables_after};
+ghost use Rattle.update_model.specs.Remaining.{remaining};
+ghost use Rattle.update_model.specs.declared.Change.{Change as ChangeOf};
+ghost use Rattle.trial_tables.specs.Trials.{IsTrying};
+ghost use Rattle.round_planner.specs.declared.judging.Found.{Found as FoundOf};
+ghost use Rattle.round_planner.specs.Search.{IsFirstQualifying, update_by};
+ghost use Rattle.round_planner.specs.Standing.{Stands, AreSafeBelow};
+ghost use Rattle.round_planner.specs.Searching.{IsAt, IsTried, IsMoved, IsTryingAt, IsEnded, plan_by, answer_by};
+
+use crate::Ordered;
+use crate::goal::Goal;
+use crate::judging::{Found, judge_all};
+use crate::picking::add_picks;
+use certificates::{Evidence, Plan};
+use evidence_store::EvidenceStore;
+use flow_rules::Config;
+use mixed_walks::WalkRoom;
+use net_base::Memory;
+use std::alloc::Global;
+use std::marker::Model;
+use std::mem::replace;
+use table_difference::remaining;
+use trial_tables::TrialTables;
+use update_model::{Change, Rounds};
+
+/// A search: the tables so far with what is prepared of them, the rounds that led to them, and their evidence.
+#[derive(Drop)]
+pub(crate) struct Search {
+    pub(crate) trial: TrialTables,
+    pub(crate) rounds: Rounds,
+    pub(crate) store: EvidenceStore,
+    walk: WalkRoom,
+}
+
+impl Model for Search {
+    ghost use Rattle.round_planner.specs.Searching.{SearchState};
+
+    ghost Value = { SearchState };
+
+    ghost view = { λ s. record { trial = s.trial; rounds = s.rounds; store = s.store } };
+}
+
+impl Search {
+    /// A search that has made no change.
+    pub(crate) fn make(alloc: Global, goal: &Goal, old: &Config) -> Result<Search, Memory>
+        requires { IsUserConfig goal.now.net (rules_of_all old.now) }
+        ensures at { IfOk result (IsAt goal.now (rules_of_all old.now) []) }
+        ensures few { IfOk result (λ s. s.store.classes ≤ 8192) }
+    {
+        let trial = TrialTables::make(alloc, goal.net, old)?;
+        let rounds = Rounds::make(alloc)?;
+        let count = goal.classes.count();
+        let store = EvidenceStore::make(alloc, count)?;
+        let walk = WalkRoom::make(alloc)?;
+        Ok(Search {
+            trial,
+            rounds,
+            store,
+            walk,
+        })
+    }
+
+    /// Makes a change that was tried, with new evidence for the classes that need it. After a refusal the search is lost.
+    fn take(
+        &mut self,
+        alloc: Global,
+        goal: &Goal,
+        change: &Change,
+        found: Vec<Found>,
+    ) -> Result<(), Memory>
+        requires { (old : List (List Rule)) × (changes : List ChangeOf) × IsUserConfig goal.now.net old × IsTryingAt goal.now old changes change.now self.old
+            × AreSafeBelow goal.now (update_by goal.now old (changes ++ change.now ∷ [])) self.old.store.evidence (length changes) (class_count goal.now.classes) found.items }
+        ensures { OnOk result ((old : List (List Rule)) (changes : List ChangeOf) → IsUserConfig goal.now.net old → IsTryingAt goal.now old changes change.now self.old
+            → AreSafeBelow goal.now (update_by goal.now old (changes ++ change.now ∷ [])) self.old.store.evidence (length changes) (class_count goal.now.classes) found.items
+            → IsFirstQualifying goal.now (tables_after changes old) (remaining (tables_after changes old) goal.now.new) change.now
+            → IsAt goal.now old (changes ++ change.now ∷ []) self.new) }
+    {
+        self.trial.keep(goal.net, change)?;
+        self.rounds.add_round()?;
+        self.rounds.add_change(*change)?;
+        let round = self.rounds.count() as u32;
+        let store = replace(&mut self.store, EvidenceStore::make(alloc, 0)?);
+        store.keeps_once();
+        let store = add_picks(store, round, found)?;
+        store.keeps_once();
+        self.store = store;
+        Ok(())
+    }
+
+    /// Tries a change, and makes it if it qualifies. The result says whether it does.
+    fn try_change(&mut self, alloc: Global, goal: &Goal, change: &Change) -> Result<bool, Memory>
+        requires { (old : List (List Rule)) × (changes : List ChangeOf) × IsUserConfig goal.now.net old × IsAt goal.now old changes self.old
+            × IsIn change.now (remaining (tables_after changes old) goal.now.new) }
+        ensures { IfOk result (λ taken. (old : List (List Rule)) (changes : List ChangeOf) → IsUserConfig goal.now.net old → IsAt goal.now old changes self.old
+            → IsIn change.now (remaining (tables_after changes old) goal.now.new) → IsTried goal.now old changes change.now self.new taken) }
+    {
+        if !self.trial.begin(goal.net, change) {
+            return Ok(false);
+        }
+        match judge_all(alloc, goal, &mut self.walk, self.trial.mixes(), &self.store)? {
+            Some(found) => {
+                self.take(alloc, goal, change, found)?;
+                Ok(true)
+            }
+            None => {
+                self.trial.give_up(goal.net, change);
+                Ok(false)
+            }
+        }
+    }
+
+    /// Tries the changes that remain, in order, up to the first that qualifies. The result says whether one does.
+    pub(crate) fn take_first(
+        &mut self,
+        alloc: Global,
+        goal: &Goal,
+        left: &[Change],
+    ) -> Result<bool, Memory>
+        requires { (old : List (List Rule)) × (changes : List ChangeOf) × IsUserConfig goal.now.net old × IsAt goal.now old changes self.old
+            × (left.now ≡ remaining (tables_after changes old) goal.now.new) }
+        ensures { IfOk result (λ taken. (old : List (List Rule)) (changes : List ChangeOf) → IsUserConfig goal.now.net old → IsAt goal.now old changes self.old
+            → left.now ≡ remaining (tables_after changes old) goal.now.new → IsMoved goal.now old changes self.new taken) }
+    {
+        for change in left {
+            if self.try_change(alloc, goal, change)? {
+                return Ok(true);
+            }
+        }
+        Ok(false)
+    }
+
+    /// Goes on until no change remains, or until none of those that remain qualifies. The result says whether none remains.
+    pub(crate) fn run(&mut self, alloc: Global, goal: &Goal) -> Result<bool, Memory>
+        requires { (old : List (List Rule)) × (changes : List ChangeOf) × IsUserConfig goal.now.net old × IsAt goal.now old changes self.old }
+        ensures { IfOk result (λ none_remains. (old : List (List Rule)) (changes : List ChangeOf) → IsUserConfig goal.now.net old → IsAt goal.now old changes self.old
+            → IsEnded goal.now old self.new none_remains) }
+    {
+        goal.net.keeps_rules();
+        'searching: loop {
+            let left = remaining(alloc, self.trial.tables(), goal.new)?;
+            if left.is_empty() {
+                return Ok(true);
+            }
+            if !self.take_first(alloc, goal, &left)? {
+                return Ok(false);
+            }
+        }
+    }
+
+    /// The plan of the rounds so far.
+    fn into_plan(self) -> Plan
+        ensures { result ≡ plan_by self }
+    {
+        Plan {
+            rounds: self.rounds,
+            evidence: Evidence::Ordered(self.store.into_evidence()),
+        }
+    }
+
+    /// The answer: the plan where no change remains, otherwise the rounds.
+    pub(crate) fn into_answer(self, none_remains: bool) -> Ordered
+        ensures { result ≡ answer_by self none_remains }
+    {
+        if none_remains {
+            Ordered::Rounds(self.into_plan())
+        } else {
+            Ordered::Stuck(self.rounds)
+        }
+    }
+}
