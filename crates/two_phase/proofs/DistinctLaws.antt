@@ -310,7 +310,7 @@ in_with_rule r q (x ∷ rs) i =
     cond_both (is_lt (key_cmp r.key x.key)) (r ∷ x ∷ rs) (x ∷ with_rule r rs) (IsIn q) (λ _. i)
     (λ _. elim i [ inl e ↦ inr (in_with_rule r q rs (inl e)) | inr j ↦ elim j [ inl e ↦ inl e | inr k ↦ inr (in_with_rule r q rs (inr k)) ] ])
 
-from_with_rule : (r q : Rule) (rs : List Rule) → IsIn q (with_rule r rs) → (q ≡ r) ⊎ IsIn q rs
+pub from_with_rule : (r q : Rule) (rs : List Rule) → IsIn q (with_rule r rs) → (q ≡ r) ⊎ IsIn q rs
 from_with_rule r q [] i = i
 from_with_rule r q (x ∷ rs) i =
     cond_both (is_lt (key_cmp r.key x.key)) (r ∷ x ∷ rs) (x ∷ with_rule r rs) (λ zs. IsIn q zs → (q ≡ r) ⊎ IsIn q (x ∷ rs)) (λ _ j. j)

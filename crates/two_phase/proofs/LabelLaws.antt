@@ -24,24 +24,24 @@ in_with_label l m (x ∷ ls) i =
     (λ _. elim i [ inl e ↦ inl e | inr j ↦ inr j ])
     (λ _. elim i [ inl e ↦ inr (in_with_label l m ls (inl e)) | inr j ↦ elim j [ inl e ↦ inl e | inr k ↦ inr (in_with_label l m ls (inr k)) ] ])
 
-from_with_label : (l m : Label) (ls : List Label) → IsIn m (with_label l ls) → (m ≡ l) ⊎ IsIn m ls
+pub from_with_label : (l m : Label) (ls : List Label) → IsIn m (with_label l ls) → (m ≡ l) ⊎ IsIn m ls
 from_with_label l m [] i = i
 from_with_label l m (x ∷ ls) i =
     cond_both (nat_lt (vlan_number l.vlan) (vlan_number x.vlan)) (l ∷ x ∷ ls) (x ∷ with_label l ls) (λ zs. IsIn m zs → (m ≡ l) ⊎ IsIn m (x ∷ ls))
     (λ _ j. j)
     (λ _ j. elim j [ inl e ↦ inr (inl e) | inr k ↦ elim (from_with_label l m ls k) [ inl e ↦ inl e | inr n ↦ inr (inr n) ] ]) i
 
-in_labels : (m : Label) (ls : List Label) → IsIn m ls → IsIn m (labels_in_order ls)
+pub in_labels : (m : Label) (ls : List Label) → IsIn m ls → IsIn m (labels_in_order ls)
 in_labels m [] i = i
 in_labels m (l ∷ ls) (inl e) = in_with_label l m (labels_in_order ls) (inl e)
 in_labels m (l ∷ ls) (inr i) = in_with_label l m (labels_in_order ls) (inr (in_labels m ls i))
 
-from_labels : (m : Label) (ls : List Label) → IsIn m (labels_in_order ls) → IsIn m ls
+pub from_labels : (m : Label) (ls : List Label) → IsIn m (labels_in_order ls) → IsIn m ls
 from_labels m [] i = i
 from_labels m (l ∷ ls) i = elim (from_with_label l m (labels_in_order ls) i) [ inl e ↦ inl e | inr j ↦ inr (from_labels m ls j) ]
 
 module _ (net : Network) (version : Bool) where
-  abbrev both_of : Tagged → List Label
+  abbrev pub both_of : Tagged → List Label
   both_of v = label v.user version v.user ∷ label (vlan.Id v.tag) true v.user ∷ []
 
   pub user_labelled : (v : Tagged) → IsIn v (tags_of net) → IsIn (label v.user version v.user) (label_table net version)

@@ -1,0 +1,17 @@
+use Rattle.std.proofs.Common.{◌∙◌, sym, subst, ap}
+use Rattle.flow_rules.specs.Tables.{IsTable, rules_of_all}
+use Rattle.two_phase.specs.TwoPhasePlan.{ingress_rules_by, in_key_order}
+use Rattle.two_phase.proofs.MadeLaws.{ingress_table, ingress_made}
+use Rattle.two_phase.proofs.ranks.ingress_at.Goals as goal
+
+pub put_in_key_order-requires : goal.put_in_key_order-requires
+put_in_key_order-requires c =
+    let made = ingress_made c.args.net.now c.args.tags.now c.requires.tags c.args.new.now c.args.s c.table-table.result.now c.table-table.ensures c.in_ok-rules.rules.items
+    (c.in_ok-rules.ensures ∙ ap (ingress_rules_by c.args.tags.now c.args.net.now c.args.s) c.rules.ensures.value) in
+    subst IsTable (sym made) (ingress_table c.args.net.now c.keeps_rules.ensures c.requires.enough (rules_of_all c.args.new.now) c.requires.new c.args.s)
+
+pub returns : goal.returns
+returns c =
+    c.put_in_key_order.ensures
+    ∙ ap in_key_order (ingress_made c.args.net.now c.args.tags.now c.requires.tags c.args.new.now c.args.s c.table-table.result.now c.table-table.ensures c.in_ok-rules.rules.items
+    (c.in_ok-rules.ensures ∙ ap (ingress_rules_by c.args.tags.now c.args.net.now c.args.s) c.rules.ensures.value))

@@ -1,0 +1,189 @@
+// The two-phase plan, or why there is none.
+ghost use Rattle.std.specs.Prelude.{◌≡◌, ◌≤◌, ◌+◌, ◌∷◌, [], IfOk, IfErr, OnOk, map, length};
+ghost use Rattle.flow_rules.specs.Tables.{rules_of_all};
+ghost use Rattle.path_walk.specs.UserConfigs.{IsUserConfig};
+ghost use Rattle.certificates.specs.Valid.{IsValidPlan};
+ghost use Rattle.two_phase.specs.Laws.{FitsTwoPhase, two_phase_task};
+ghost use Rattle.two_phase.specs.Plans.{two_phase_plan, AreTried, IsTwoCause, IsCertifiedTwoPhase};
+ghost use Rattle.plan_classes.specs.SameClasses.{HasSameClasses, classes_before};
+ghost use Rattle.certificates.specs.Certified.{classes_for};
+ghost use Rattle.demands.specs.Duties.{DemandView};
+ghost use Rattle.std.specs.Prelude.{List};
+ghost use Rattle.flow_rules.specs.declared.rules.Rule.{Rule};
+ghost use Rattle.tag_allocator.specs.Tags.{tags_of, available_tags};
+ghost use Rattle.two_phase.specs.TwoPhasePlan.{label_tables};
+
+use crate::labels::make_labels;
+use crate::needs::need;
+use crate::rounds::make_rounds;
+use certificates::{Evidence, LabelPick, LabelPicks, LabelTables, Plan, TwoPhaseEvidence};
+use flow_rules::Config;
+use net_base::{Memory, SwitchId};
+use plan_classes::rounds_make_no_classes;
+use std::alloc::Global;
+use tag_allocator::{TagFault, TagMap, allot};
+use topology::Net;
+use update_model::Rounds;
+
+/// Why there is no two-phase plan.
+#[derive(Clone, Copy, Debug, PartialEq, Eq)]
+pub enum TwoFault {
+    /// More VLANs are declared than tags are available: the number of declared VLANs, and the number of available tags.
+    TooFewTags {
+        need: u32,
+        has: u32,
+    },
+    /// The least switch at which the plan needs more entries than its capacity.
+    TooSmall {
+        switch: SwitchId,
+        need: u64,
+        capacity: u32,
+    },
+    /// Memory was wanting.
+    Memory,
+}
+
+impl From<Memory> for TwoFault {
+    ghost use Rattle.std.specs.Prelude.{◌≡◌};
+    ghost use Rattle.two_phase.specs.declared.planning.TwoFault.TheVariants.{Memory};
+
+    ghost from_gives = { λ _ e. e ≡ Memory };
+
+    fn from(_: Memory) -> Self {
+        TwoFault::Memory
+    }
+}
+
+/// The tags of the declared VLANs.
+fn allot_tags(alloc: Global, net: &Net) -> Result<TagMap, TwoFault>
+    ensures tags { IfOk result (λ tags. tags ≡ map (λ t. t.tag) (tags_of net.now)) }
+    ensures enough { IfOk result (λ _. length net.now.vlans ≤ length (available_tags net.now)) }
+    ensures cause { IfErr result (λ e. (old new : List (List Rule)) → IsTwoCause net.now old new e) }
+{
+    match allot(alloc, net) {
+        Ok(tags) => Ok(tags),
+        Err(TagFault::TooFew { need, has }) => Err(TwoFault::TooFewTags { need, has }),
+        Err(TagFault::Memory) => Err(TwoFault::Memory),
+    }
+}
+
+/// Whether each switch has room for what the plan needs there.
+fn check_room(net: &Net, old: &Config, new: &Config) -> Result<(), TwoFault>
+    requires old { IsUserConfig net.now (rules_of_all old.now) }
+    requires new { IsUserConfig net.now (rules_of_all new.now) }
+    requires tags { length net.now.vlans ≤ length (available_tags net.now) }
+    ensures fits { OnOk result (FitsTwoPhase net.now (rules_of_all old.now) (rules_of_all new.now)) }
+    ensures cause { IfErr result (IsTwoCause net.now (rules_of_all old.now) (rules_of_all new.now)) }
+{
+    for number in 0..net.switches() {
+        let switch = SwitchId(number);
+        let need = need(net, old, new, switch);
+        let capacity = net.capacity(switch);
+        if need > u64::from(capacity) {
+            return Err(TwoFault::TooSmall {
+                switch,
+                need,
+                capacity,
+            });
+        }
+    }
+    Ok(())
+}
+
+/// The label tables: the declared VLANs stand for the old version in the first and for the new one in the second.
+fn make_tables(alloc: Global, net: &Net, tags: &TagMap) -> Result<LabelTables, Memory>
+    requires tags { tags.now ≡ map (λ t. t.tag) (tags_of net.now) }
+    requires enough { length net.now.vlans ≤ length (available_tags net.now) }
+    ensures { IfOk result (λ tables. tables ≡ label_tables net.now) }
+{
+    let mut tables = LabelTables::make(alloc)?;
+    tables.add(make_labels(alloc, net, tags, false)?)?;
+    tables.add(make_labels(alloc, net, tags, true)?)?;
+    Ok(tables)
+}
+
+/// The picks of the label tables: the first from round 1, the second from the round of the exchange, which comes after
+/// one round for the tagged rules and one for each rank.
+fn make_picks(alloc: Global, ranks: usize) -> Result<LabelPicks, Memory>
+    requires { ranks ≤ 2049 }
+    ensures { IfOk result (λ picks. picks ≡ record { round = 1; labels = 0 } ∷ record { round = ranks + 2; labels = 1 } ∷ []) }
+{
+    let mut picks = LabelPicks::make(alloc)?;
+    picks.add(LabelPick {
+        round: 1,
+        labels: 0,
+    })?;
+    picks.add(LabelPick {
+        round: ranks as u32 + 2,
+        labels: 1,
+    })?;
+    Ok(picks)
+}
+
+/// The same rounds again.
+fn copy_rounds(alloc: Global, rounds: &Rounds) -> Result<Rounds, Memory>
+    ensures { IfOk result (λ copy. copy ≡ rounds.now) }
+{
+    let mut copy = Rounds::make(alloc)?;
+    for k in 0..rounds.count() {
+        copy.push_round(Vec::from_slice(alloc, rounds.round(k))?)?;
+    }
+    Ok(copy)
+}
+
+/// The evidence of the plan.
+fn make_evidence(
+    alloc: Global,
+    net: &Net,
+    tags: &TagMap,
+    ranks: usize,
+    tried: &Rounds,
+) -> Result<TwoPhaseEvidence, Memory>
+    requires tags { tags.now ≡ map (λ t. t.tag) (tags_of net.now) }
+    requires enough { length net.now.vlans ≤ length (available_tags net.now) }
+    requires few { ranks ≤ 2049 }
+    ensures labels { IfOk result (λ e. e.labels ≡ label_tables net.now) }
+    ensures picks { IfOk result (λ e. e.picks ≡ record { round = 1; labels = 0 } ∷ record { round = ranks + 2; labels = 1 } ∷ []) }
+    ensures tried { IfOk result (λ e. e.tried ≡ tried.now) }
+{
+    Ok(TwoPhaseEvidence {
+        labels: make_tables(alloc, net, tags)?,
+        picks: make_picks(alloc, ranks)?,
+        tried: copy_rounds(alloc, tried)?,
+    })
+}
+
+/// The versioned two-phase plan of an update (Reitblatt and others, 2012), with the rounds that were tried before copied
+/// into its evidence: tagged copies of the new rules, the ingress rules by rank, the exchange of the old rules, and the way
+/// back.
+///
+/// Takes time by the rules of the plan and the logarithm of their number.
+pub fn two_phase(
+    alloc: Global,
+    net: &Net,
+    old: &Config,
+    new: &Config,
+    tried: &Rounds,
+) -> Result<Plan, TwoFault>
+    requires old { IsUserConfig net.now (rules_of_all old.now) }
+    requires new { IsUserConfig net.now (rules_of_all new.now) }
+    requires tried { AreTried net.now tried.now }
+    ensures plan { IfOk result (λ p. p ≡ two_phase_plan net.now (rules_of_all old.now) (rules_of_all new.now) tried.now) }
+    ensures fits { IfOk result (λ _. FitsTwoPhase net.now (rules_of_all old.now) (rules_of_all new.now)) }
+    ensures valid { IfOk result (IsValidPlan net.now) }
+    ensures certified { IfOk result (IsCertifiedTwoPhase net.now (rules_of_all old.now) (rules_of_all new.now)) }
+    ensures classes { (demands : List DemandView) → HasSameClasses (classes_for (two_phase_task net.now (rules_of_all old.now) (rules_of_all new.now) demands))
+        (classes_before net.now (rules_of_all old.now) (rules_of_all new.now) demands) }
+    ensures cause { IfErr result (IsTwoCause net.now (rules_of_all old.now) (rules_of_all new.now)) }
+{
+    net.keeps_rules();
+    rounds_make_no_classes(net, old, new);
+    let tags = allot_tags(alloc, net)?;
+    check_room(net, old, new)?;
+    let (rounds, ranks) = make_rounds(alloc, net, old, new, &tags)?;
+    let evidence = make_evidence(alloc, net, &tags, ranks, tried)?;
+    Ok(Plan {
+        rounds,
+        evidence: Evidence::TwoPhase(evidence),
+    })
+}
