@@ -9,10 +9,10 @@ use Rattle.planner_cli.specs.Lines.{classes_line}
 use Rattle.planner_cli.specs.Verdicts.{Answer, IsJudgement, SaysTooMany, SaysHolds, SaysWhyNot, most_classes}
 use Rattle.planner_cli.proofs.Over.{IsBadLine}
 
-status_of : (answer : Answer) (s : Status) (text : List ℕ) → answer ≡ record { status = s; text = text } → answer.status ≡ s
+pub status_of : (answer : Answer) (s : Status) (text : List ℕ) → answer ≡ record { status = s; text = text } → answer.status ≡ s
 status_of answer s text is = ap (λ (a : Answer). a.status) is
 
-text_of : (answer : Answer) (s : Status) (text : List ℕ) → answer ≡ record { status = s; text = text } → answer.text ≡ text
+pub text_of : (answer : Answer) (s : Status) (text : List ℕ) → answer ≡ record { status = s; text = text } → answer.text ≡ text
 text_of answer s text is = ap (λ (a : Answer). a.text) is
 
 -- a judgement in each of its cases
@@ -53,11 +53,11 @@ module _ (count : ℕ) (good then : Type 0) (text : List ℕ) (why : List ℕ �
   never_usage (inr (inl v)) = λ is. let e = status_of answer _ _ v.answer_is in cc
   never_usage (inr (inr v)) = λ is. let e = status_of answer _ _ v.answer_is in cc
 
-abbrev first_byte : List ℕ → ℕ
+abbrev pub first_byte : List ℕ → ℕ
 first_byte [] = 0
 first_byte (b ∷ bytes) = b
 
-texts_same : (before : List ℕ) (new : Option (List ℕ)) (s t : List ℕ) → Appends (Some before) new s → Appends (Some before) new t → s ≡ t
+pub texts_same : (before : List ℕ) (new : Option (List ℕ)) (s t : List ℕ) → Appends (Some before) new s → Appends (Some before) new t → s ≡ t
 texts_same before None s t p q = absurd p
 texts_same before (Some after) s t p q = append_cancel_left before s t (sym p ∙ q)
 

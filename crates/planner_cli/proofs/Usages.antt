@@ -8,12 +8,13 @@ use Rattle.demands.specs.Duties.{DemandView}
 use Rattle.planner_cli.specs.declared.status.Status.TheVariants as status
 use Rattle.planner_cli.specs.declared.kinds.FileKind.{FileKind}
 use Rattle.planner_cli.specs.Lines.{FaultWords}
-use Rattle.planner_cli.specs.Asked.{Asked, UpdateNames, Config, Check, Upgrade, Usage}
+use Rattle.planner_cli.specs.Asked.{Asked, UpdateNames, Config, Check, Planning, Upgrade, Usage}
 use Rattle.planner_cli.specs.Verdicts.{Answer}
 use Rattle.planner_cli.specs.Updates.{UpdateMeaning}
 use Rattle.planner_cli.specs.Dialogue.{Dialogue, Says, Reads, LeadsTo, Never}
-use Rattle.planner_cli.specs.Answers.{reading, reading_policy, reading_update, with_meaning, config_dialogue, check_dialogue, upgrade_dialogue, dialogue_of}
+use Rattle.planner_cli.specs.Answers.{reading, reading_policy, reading_update, with_meaning, config_dialogue, check_dialogue, plan_dialogue, upgrade_dialogue, dialogue_of}
 use Rattle.planner_cli.proofs.Judged.{never_usage}
+use Rattle.planner_cli.proofs.PlannedLaws.{planned_no_usage}
 
 -- what is never said is never the answer
 pub never_leads : (held : Option Files) (last : Option FileKind) (dialogue : Dialogue) (answer : Answer) (taken : ℕ) → Never status.Usage dialogue → LeadsTo held last dialogue answer taken → answer.status ≢ status.Usage
@@ -50,6 +51,11 @@ check_never : (names : UpdateNames) (plan : List ℕ) → Never status.Usage (ch
 unfolding check_dialogue
 check_never names plan = never_update names _ (λ u. never_reading _ _ _ _ _ (λ p answer. never_usage _ _ _ _ _ answer))
 
+-- plan
+plan_never : (names : UpdateNames) → Never status.Usage (plan_dialogue names)
+unfolding plan_dialogue
+plan_never names = never_update names _ (λ u answer. planned_no_usage u answer)
+
 -- upgrade
 upgrade_never : (topology plan : List ℕ) → Never status.Usage (upgrade_dialogue topology plan)
 unfolding upgrade_dialogue
@@ -59,5 +65,6 @@ pub usage_exact : (held : Option Files) (a : Asked) (answer : Answer) (taken : �
 usage_exact held (Config topology config policy) answer taken leads =
     (λ is. absurd (never_leads held None _ answer taken (config_never topology config policy) leads is), λ is. cc)
 usage_exact held (Check names plan) answer taken leads = (λ is. absurd (never_leads held None _ answer taken (check_never names plan) leads is), λ is. cc)
+usage_exact held (Planning names) answer taken leads = (λ is. absurd (never_leads held None _ answer taken (plan_never names) leads is), λ is. cc)
 usage_exact held (Upgrade topology plan) answer taken leads = (λ is. absurd (never_leads held None _ answer taken (upgrade_never topology plan) leads is), λ is. cc)
 usage_exact held Usage answer taken leads = (λ is. refl, λ is. ap (λ (a : Answer). a.status) leads.0)

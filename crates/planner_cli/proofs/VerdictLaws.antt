@@ -40,7 +40,7 @@ demands_next [] n b at = absurd (cc)
 demands_next (x ∷ demands) zero b at = let same : x.dst ≡ b = cc in ap (λ y. y ∷ []) same
 demands_next (x ∷ demands) (suc n) b at = ap (λ bs. x.dst ∷ bs) (demands_next demands n b at)
 
-each_there : (demands : List DemandView) (blocks : List Block) → ((b : Block) → IsIn b (map (λ (d : DemandView). d.dst) demands) → IsIn b blocks) → AllByRecursion (λ d. IsIn d.dst blocks) demands
+pub each_there : (demands : List DemandView) (blocks : List Block) → ((b : Block) → IsIn b (map (λ (d : DemandView). d.dst) demands) → IsIn b blocks) → AllByRecursion (λ d. IsIn d.dst blocks) demands
 each_there [] blocks there = tt
 each_there (d ∷ demands) blocks there = (there d.dst (inl refl), each_there demands blocks (λ b i. there b (inr i)))
 

@@ -13,8 +13,8 @@ use Rattle.certificates.specs.declared.Plan.{Plan}
 use Rattle.plan_format.specs.Plans.{plan_in}
 use Rattle.planner_cli.specs.Lines.{FaultWords, net_words, config_words, demand_words, plan_words, bad_line, usage_line}
 use Rattle.planner_cli.specs.Updates.{UpdateMeaning, task_for}
-use Rattle.planner_cli.specs.Dialogue.{Dialogue, Says, Reads, Line, OnConfig, OnPlan, ThePlan}
-use Rattle.planner_cli.specs.Asked.{Asked, UpdateNames, Config, Check, Upgrade, Usage, asked}
+use Rattle.planner_cli.specs.Dialogue.{Dialogue, Says, Reads, Line, OnConfig, OnPlan, ThePlan, NewPlan}
+use Rattle.planner_cli.specs.Asked.{Asked, UpdateNames, Config, Check, Planning, Upgrade, Usage, asked}
 
 -- goes on with what the bytes mean, or says that the file is bad
 abbrev pub with_meaning : {A E : Type 0} → FileKind → (E → FaultWords) → Result A E → (A → Dialogue) → Dialogue
@@ -57,6 +57,10 @@ config_dialogue topology config policy =
 unfoldable pub check_dialogue : UpdateNames → List ℕ → Dialogue
 check_dialogue names plan = reading_update names (λ u. reading_plan u.net plan (λ p. Says (OnPlan (task_for u p) p.evidence)))
 
+-- reads an update, and says a new plan of it, or why there is none
+unfoldable pub plan_dialogue : UpdateNames → Dialogue
+plan_dialogue names = reading_update names (λ u. Says (NewPlan u))
+
 -- reads a network and a plan, and says the plan's text in format 2
 unfoldable pub upgrade_dialogue : List ℕ → List ℕ → Dialogue
 upgrade_dialogue topology plan = reading_topology topology (λ net. reading_plan net plan (λ p. Says (ThePlan net p)))
@@ -69,6 +73,7 @@ usage_dialogue = Says (Line status.Usage usage_line)
 abbrev pub dialogue_of : Asked → Dialogue
 dialogue_of (Config topology config policy) = config_dialogue topology config policy
 dialogue_of (Check names plan) = check_dialogue names plan
+dialogue_of (Planning names) = plan_dialogue names
 dialogue_of (Upgrade topology plan) = upgrade_dialogue topology plan
 dialogue_of Usage = usage_dialogue
 

@@ -18,6 +18,8 @@ pub data Asked : Type 0 where
   Config : List ℕ → List ℕ → Option (List ℕ) → Asked
   -- of an update, and of its plan
   Check : UpdateNames → List ℕ → Asked
+  -- of an update that is to be planned
+  Planning : UpdateNames → Asked
   -- of the network and the plan
   Upgrade : List ℕ → List ℕ → Asked
   -- the words are none of the listed forms
@@ -34,6 +36,11 @@ abbrev pub asked_check : List (List ℕ) → Asked
 asked_check (topology ∷ old ∷ new ∷ policy ∷ plan ∷ []) = Check (record { topology = topology; old = old; new = new; policy = policy }) plan
 asked_check _ = Usage
 
+-- TOPO OLD NEW POLICY
+abbrev pub asked_plan : List (List ℕ) → Asked
+asked_plan (topology ∷ old ∷ new ∷ policy ∷ []) = Planning (record { topology = topology; old = old; new = new; policy = policy })
+asked_plan _ = Usage
+
 -- TOPO PLAN
 abbrev pub asked_upgrade : List (List ℕ) → Asked
 asked_upgrade (topology ∷ plan ∷ []) = Upgrade topology plan
@@ -45,6 +52,7 @@ asked [] = Usage
 asked (name ∷ words) =
     if bytes_eq name (codes "config") then asked_config words
     else if bytes_eq name (codes "check") then asked_check words
+    else if bytes_eq name (codes "plan") then asked_plan words
     else if bytes_eq name (codes "upgrade") then asked_upgrade words
     else Usage
 
@@ -56,5 +64,6 @@ names_seen names = record { topology = names.topology.now; old = names.old.now; 
 abbrev pub seen : Command → Asked
 seen (command.Config topology config policy) = Config topology.now config.now (option_map (λ p. p.now) policy)
 seen (command.Check names plan) = Check (names_seen names) plan.now
+seen (command.Plan names) = Planning (names_seen names)
 seen (command.Upgrade topology plan) = Upgrade topology.now plan.now
 seen command.Usage = Usage

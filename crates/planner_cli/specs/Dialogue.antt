@@ -13,7 +13,8 @@ use Rattle.planner_cli.specs.declared.kinds.FileKind.{FileKind}
 use Rattle.planner_cli.specs.Kinds.{limit_of}
 use Rattle.planner_cli.specs.Lines.{too_long_line}
 use Rattle.planner_cli.specs.Verdicts.{Answer, IsVerdict}
-use Rattle.planner_cli.specs.Updates.{IsPlanVerdict, SaysPlan}
+use Rattle.planner_cli.specs.Updates.{UpdateMeaning, IsPlanVerdict, SaysPlan}
+use Rattle.planner_cli.specs.Planned.{IsPlanned}
 
 -- how a dialogue ends
 pub data Say : Type 0 where
@@ -25,6 +26,8 @@ pub data Say : Type 0 where
   OnPlan : Task → Evidence → Say
   -- with the text of a plan
   ThePlan : Network → Plan → Say
+  -- with a new plan of an update, or why there is none
+  NewPlan : UpdateMeaning → Say
 
 -- what an ending says
 abbrev pub IsSaid : Say → Answer → Type 0
@@ -32,6 +35,7 @@ IsSaid (Line status text) answer = answer ≡ record { status = status; text = t
 IsSaid (OnConfig net tables demands) answer = IsVerdict net tables demands answer
 IsSaid (OnPlan task evidence) answer = IsPlanVerdict task evidence answer
 IsSaid (ThePlan net plan) answer = SaysPlan net plan answer
+IsSaid (NewPlan update) answer = IsPlanned update answer
 
 pub data Dialogue : Type 0 where
   Says : Say → Dialogue

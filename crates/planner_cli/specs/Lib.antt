@@ -4,9 +4,12 @@ pub mod Lines
 pub mod ReasonLines
 pub mod Verdicts
 pub mod Updates
+pub mod NoPlanLines
+pub mod Planned
 pub mod Dialogue
 pub mod Answers
 pub mod Replies
 pub mod Runs
 pub mod Configs
 pub mod Plans
+pub mod NewPlans

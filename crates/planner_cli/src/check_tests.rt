@@ -3,9 +3,14 @@ use crate::run::run;
 use crate::status::Status;
 use crate::tests::{wide_topology, words};
 use crate::{example_files as files, example_plans as plans};
+use config_files::read_config;
+use demands::read_demands;
 use net_base::{MemorySink, MemorySource};
+use plan_checker::{CheckRoom, Verdict, check};
+use plan_format::read_plan;
 use std::alloc::Global;
 use std::test::Fail;
+use topology::read_net;
 
 // The files of an update and of its plan. The call of the given number fails.
 fn source(alloc: Global, held: [&[u8]; 5], failing: u64) -> Result<MemorySource, Fail> {
@@ -61,41 +66,41 @@ fn certified_plans_are_accepted(rt: HostRuntime) -> Result<(), Fail> {
     let rows: [([&[u8]; 5], &[u8]); 4] = [
         (
             [
-                files::S_TOPO,
-                files::S_OLD,
-                plans::S_NEW,
-                files::S_POLICY,
-                plans::FIRST_PLAN,
+                files::s_topo(),
+                files::s_old(),
+                plans::s_new(),
+                files::s_policy(),
+                plans::first_plan(),
             ],
             b"accepted: ordered, 2 rounds, 12 classes\n",
         ),
         (
             [
-                files::S_TOPO,
-                files::S_OLD,
-                plans::S_NEW,
-                files::S_POLICY,
-                plans::SAME_PLAN,
+                files::s_topo(),
+                files::s_old(),
+                plans::s_new(),
+                files::s_policy(),
+                plans::same_plan(),
             ],
             b"accepted: ordered, 2 rounds, 12 classes\n",
         ),
         (
             [
-                files::L_TOPO,
-                files::L_OLD,
-                plans::L_ADD,
-                files::L_CHAIN,
-                plans::CHAIN_PLAN,
+                files::l_topo(),
+                files::l_old(),
+                plans::l_add(),
+                files::l_chain(),
+                plans::chain_plan(),
             ],
             b"accepted: ordered, 1 rounds, 6 classes\n",
         ),
         (
             [
-                files::L_TOPO,
-                files::L_OLD,
-                files::L_NEW,
-                files::L_POLICY,
-                plans::DETOUR_PLAN,
+                files::l_topo(),
+                files::l_old(),
+                files::l_new(),
+                files::l_policy(),
+                plans::detour_plan(),
             ],
             b"accepted: two-phase, 8 rounds, 6 classes\n",
         ),
@@ -109,61 +114,61 @@ fn bad_changes_are_refused(rt: HostRuntime) -> Result<(), Fail> {
     let rows: [([&[u8]; 5], &[u8]); 6] = [
         (
             [
-                files::K_TOPO,
-                files::K_LOOP,
-                files::K_LOOP,
-                plans::NO_DEMANDS,
-                plans::NO_ROUNDS,
+                files::k_topo(),
+                files::k_loop(),
+                files::k_loop(),
+                plans::no_demands(),
+                plans::no_rounds(),
             ],
             b"refused: 1 EndBreaks old at h:1 untagged 10.0.0.0 Loop a\n",
         ),
         (
             [
-                files::S_TOPO,
-                files::S_OLD,
-                plans::S_NEW,
-                files::S_POLICY,
-                plans::NOTHING_TO_DELETE,
+                files::s_topo(),
+                files::s_old(),
+                plans::s_new(),
+                files::s_policy(),
+                plans::nothing_to_delete(),
             ],
             b"refused: 2 BadChange round 1 switch s1 change 0\n",
         ),
         (
             [
-                plans::A_UNTAGGED_TOPO,
-                plans::A_UNTAGGED_OLD,
-                plans::A_UNTAGGED_NEW,
-                plans::A_UNTAGGED_POLICY,
-                plans::UNCLEAR,
+                plans::a_untagged_topo(),
+                plans::a_untagged_old(),
+                plans::a_untagged_new(),
+                plans::a_untagged_policy(),
+                plans::unclear(),
             ],
             b"refused: 3 Ambiguous round 1 switch a\n",
         ),
         (
             [
-                plans::A_SMALL_TOPO,
-                plans::A_SMALL_OLD,
-                plans::A_SMALL_NEW,
-                plans::A_SMALL_POLICY,
-                plans::TOO_FULL,
+                plans::a_small_topo(),
+                plans::a_small_old(),
+                plans::a_small_new(),
+                plans::a_small_policy(),
+                plans::too_full(),
             ],
             b"refused: 4 OverCapacity round 1 switch a need 2\n",
         ),
         (
             [
-                files::S_TOPO,
-                files::S_OLD,
-                plans::S_NEW,
-                files::S_POLICY,
-                plans::REWRITES,
+                files::s_topo(),
+                files::s_old(),
+                plans::s_new(),
+                files::s_policy(),
+                plans::rewrites(),
             ],
             b"refused: 5 Rewrites round 1 switch s1\n",
         ),
         (
             [
-                files::S_TOPO,
-                files::S_OLD,
-                plans::S_NEW,
-                files::S_POLICY,
-                plans::NO_ROUNDS,
+                files::s_topo(),
+                files::s_old(),
+                plans::s_new(),
+                files::s_policy(),
+                plans::no_rounds(),
             ],
             b"refused: 13 WrongEnd switch s1\n",
         ),
@@ -177,61 +182,61 @@ fn ordered_plans_without_evidence_are_refused(rt: HostRuntime) -> Result<(), Fai
     let rows: [([&[u8]; 5], &[u8]); 6] = [
         (
             [
-                files::S_TOPO,
-                files::S_OLD,
-                plans::S_NEW,
-                files::S_POLICY,
-                plans::A_PICK_TOO_FEW,
+                files::s_topo(),
+                files::s_old(),
+                plans::s_new(),
+                files::s_policy(),
+                plans::a_pick_too_few(),
             ],
             b"refused: 6 NoNumbering round 1 at s1:1 untagged 0.0.0.0\n",
         ),
         (
             [
-                files::S_TOPO,
-                files::S_OLD,
-                plans::S_NEW,
-                files::S_POLICY,
-                plans::BOTH_AT_ONCE,
+                files::s_topo(),
+                files::s_old(),
+                plans::s_new(),
+                files::s_policy(),
+                plans::both_at_once(),
             ],
             b"refused: 7 NotLower round 1 at s1:1 untagged 10.0.0.0 switch s3\n",
         ),
         (
             [
-                plans::A_TOPO,
-                plans::A_OLD,
-                plans::A_NEW,
-                plans::A_POLICY,
-                plans::MAY_DROP,
+                plans::a_topo(),
+                plans::a_old(),
+                plans::a_new(),
+                plans::a_policy(),
+                plans::may_drop(),
             ],
             b"refused: 8 MayDrop round 1 at a:1 untagged 10.0.0.0 switch a\n",
         ),
         (
             [
-                files::L_TOPO,
-                files::L_OLD,
-                files::L_NEW,
-                files::L_POLICY,
-                plans::NO_SET,
+                files::l_topo(),
+                files::l_old(),
+                files::l_new(),
+                files::l_policy(),
+                plans::no_set(),
             ],
             b"refused: 9 NoBefore round 1 at s:1 untagged 10.0.0.0\n",
         ),
         (
             [
-                files::L_TOPO,
-                files::L_OLD,
-                files::L_NEW,
-                files::L_POLICY,
-                plans::PAST_W,
+                files::l_topo(),
+                files::l_old(),
+                files::l_new(),
+                files::l_policy(),
+                plans::past_w(),
             ],
             b"refused: 10 Bypass round 1 at s:1 untagged 10.0.0.0 waypoint w switch s\n",
         ),
         (
             [
-                files::L_TOPO,
-                files::L_OLD,
-                plans::L_ADD,
-                files::L_CHAIN,
-                plans::PAST_Y,
+                files::l_topo(),
+                files::l_old(),
+                plans::l_add(),
+                files::l_chain(),
+                plans::past_y(),
             ],
             b"refused: 10 Bypass round 1 at s:1 untagged 10.0.0.0 waypoint y switch x\n",
         ),
@@ -245,31 +250,31 @@ fn two_phase_plans_without_evidence_are_refused(rt: HostRuntime) -> Result<(), F
     let rows: [([&[u8]; 5], &[u8]); 3] = [
         (
             [
-                plans::A_WIDE_TOPO,
-                plans::A_WIDE_OLD,
-                plans::A_WIDE_NEW,
-                plans::A_WIDE_POLICY,
-                plans::NO_LABELS,
+                plans::a_wide_topo(),
+                plans::a_wide_old(),
+                plans::a_wide_new(),
+                plans::a_wide_policy(),
+                plans::no_labels(),
             ],
             b"refused: 11 BadLabels round 1\n",
         ),
         (
             [
-                plans::A_WIDE_TOPO,
-                plans::A_WIDE_OLD,
-                plans::A_WIDE_NEW,
-                plans::A_WIDE_POLICY,
-                plans::LOWER_RANK_FIRST,
+                plans::a_wide_topo(),
+                plans::a_wide_old(),
+                plans::a_wide_new(),
+                plans::a_wide_policy(),
+                plans::lower_rank_first(),
             ],
             b"refused: 12 MixedPath round 1 at a:1 untagged 10.0.0.0 switch a\n",
         ),
         (
             [
-                plans::M_TOPO,
-                plans::M_OLD,
-                plans::M_NEW,
-                plans::M_POLICY,
-                plans::NO_MASK,
+                plans::m_topo(),
+                plans::m_old(),
+                plans::m_new(),
+                plans::m_policy(),
+                plans::no_mask(),
             ],
             b"refused: 12 MixedPath round 1 at a:1 untagged 10.0.0.0 switch b\n",
         ),
@@ -284,10 +289,10 @@ fn an_update_has_at_most_8192_classes(rt: HostRuntime) -> Result<(), Fail> {
     let topology = wide_topology(alloc)?;
     let held = [
         topology.as_bytes(),
-        files::SOME,
-        files::SOME,
-        plans::NO_DEMANDS,
-        plans::NO_ROUNDS,
+        files::some(),
+        files::some(),
+        plans::no_demands(),
+        plans::no_rounds(),
     ];
     let (status, written) = checked(alloc, held)?;
     assert_eq!(rt; status, Status::BadFile);
@@ -304,9 +309,9 @@ fn upgraded(alloc: Global, topology: &[u8], plan: &[u8]) -> Result<(Status, Vec<
 fn a_plan_is_upgraded_to_format_2(rt: HostRuntime) -> Result<(), Fail> {
     let alloc = rt.alloc();
     let rows = [
-        (files::S_TOPO, plans::FIRST_PLAN, plans::SAME_PLAN),
-        (files::S_TOPO, plans::SAME_PLAN, plans::SAME_PLAN),
-        (files::L_TOPO, plans::CHAIN_PLAN, plans::CHAIN_PLAN_2),
+        (files::s_topo(), plans::first_plan(), plans::same_plan()),
+        (files::s_topo(), plans::same_plan(), plans::same_plan()),
+        (files::l_topo(), plans::chain_plan(), plans::chain_plan_2()),
     ];
     for (topology, plan, text) in rows {
         let (status, written) = upgraded(alloc, topology, plan)?;
@@ -335,7 +340,7 @@ fn first_unseen(
 ) -> Result<Option<usize>, Fail> {
     for (i, (part, other, line)) in rows.iter().enumerate() {
         let plan = damaged(alloc, plan, part, other)?;
-        let (status, written) = upgraded(alloc, files::S_TOPO, &plan)?;
+        let (status, written) = upgraded(alloc, files::s_topo(), &plan)?;
         if status != Status::BadFile || written.as_slice() != *line {
             return Ok(Some(i));
         }
@@ -378,7 +383,7 @@ fn damaged_plans_are_named(rt: HostRuntime) -> Result<(), Fail> {
             b"bad plan: 6 BadIndex at 1\n",
         ),
     ];
-    assert_eq!(rt; first_unseen(rt.alloc(), plans::FIRST_PLAN, &rows)?, None);
+    assert_eq!(rt; first_unseen(rt.alloc(), plans::first_plan(), &rows)?, None);
     Ok(())
 }
 
@@ -396,7 +401,7 @@ fn damaged_plans_of_format_2_are_named(rt: HostRuntime) -> Result<(), Fail> {
             b"bad plan: 6 BadIndex at 0\n",
         ),
     ];
-    assert_eq!(rt; first_unseen(rt.alloc(), plans::SAME_PLAN, &rows)?, None);
+    assert_eq!(rt; first_unseen(rt.alloc(), plans::same_plan(), &rows)?, None);
     Ok(())
 }
 
@@ -407,11 +412,11 @@ fn a_check_that_fails_to_read_writes_nothing(rt: HostRuntime) -> Result<(), Fail
     // Of each file a select, a take and the end.
     for failing in 1..=16u64 {
         let held = [
-            files::S_TOPO,
-            files::S_OLD,
-            plans::S_NEW,
-            files::S_POLICY,
-            plans::FIRST_PLAN,
+            files::s_topo(),
+            files::s_old(),
+            plans::s_new(),
+            files::s_policy(),
+            plans::first_plan(),
         ];
         let (status, written) = answer(alloc, &texts, held, failing)?;
         if failing <= 15 {
@@ -421,5 +426,23 @@ fn a_check_that_fails_to_read_writes_nothing(rt: HostRuntime) -> Result<(), Fail
             assert_eq!(rt; status, Status::Done, "at {failing}");
         }
     }
+    Ok(())
+}
+
+#[test]
+fn a_room_serves_twice(rt: HostRuntime) -> Result<(), Fail> {
+    let alloc = rt.alloc();
+    let net = read_net(alloc, files::s_topo())?;
+    let old = read_config(alloc, &net, files::s_old())?;
+    let new = read_config(alloc, &net, plans::s_new())?;
+    let demands = read_demands(alloc, &net, files::s_policy())?;
+    let plan = read_plan(alloc, &net, plans::first_plan())?;
+    let Ok(mut room) = CheckRoom::make(alloc, &net, &old, &new, &demands, &plan) else {
+        return Err(Fail::from("no room"));
+    };
+    let first = check(&net, &old, &new, &demands, &plan, &mut room);
+    let second = check(&net, &old, &new, &demands, &plan, &mut room);
+    assert_eq!(rt; first, Verdict::Accepted);
+    assert_eq!(rt; second, Verdict::Accepted);
     Ok(())
 }

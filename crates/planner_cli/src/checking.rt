@@ -36,7 +36,8 @@ fn accepted_reply(alloc: Global, plan: &Plan, classes: u32) -> Result<Reply, Mem
     })
 }
 
-fn refused_reply(
+/// The reply on a plan that is refused for this reason; it names this class, if it names one.
+pub fn refused_reply(
     alloc: Global,
     net: &Net,
     class: Option<Class>,

@@ -1,6 +1,6 @@
 // The words of the command line.
 ghost use Rattle.std.specs.Prelude.{◌≡◌, map, string_bytes};
-ghost use Rattle.planner_cli.specs.Asked.{asked, asked_config, asked_check, asked_upgrade, seen};
+ghost use Rattle.planner_cli.specs.Asked.{asked, asked_config, asked_check, asked_plan, asked_upgrade, seen};
 
 /// The names of the files of an update.
 #[derive(Clone, Copy)]
@@ -19,6 +19,7 @@ pub enum Command<'a> {
         policy: Option<&'a str>,
     },
     Check(UpdateNames<'a>, &'a str),
+    Plan(UpdateNames<'a>),
     Upgrade {
         topology: &'a str,
         plan: &'a str,
@@ -36,6 +37,7 @@ pub fn command_of(words: &[String]) -> Command<'_>
     match name.as_str() {
         "config" => config_words(rest),
         "check" => check_words(rest),
+        "plan" => plan_words(rest),
         "upgrade" => upgrade_words(rest),
         _ => Command::Usage,
     }
@@ -74,6 +76,21 @@ fn check_words(words: &[String]) -> Command<'_>
             },
             plan.as_str(),
         ),
+        _ => Command::Usage,
+    }
+}
+
+// The words after `plan`: TOPO OLD NEW POLICY.
+fn plan_words(words: &[String]) -> Command<'_>
+    ensures { seen result ≡ asked_plan (map string_bytes words.now) }
+{
+    match words {
+        [topology, old, new, policy] => Command::Plan(UpdateNames {
+            topology: topology.as_str(),
+            old: old.as_str(),
+            new: new.as_str(),
+            policy: policy.as_str(),
+        }),
         _ => Command::Usage,
     }
 }

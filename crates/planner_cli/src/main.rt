@@ -10,11 +10,17 @@ mod config;
 mod example_files;
 #[cfg(test)]
 mod example_plans;
+#[cfg(test)]
+mod example_updates;
 mod exit;
 mod faults;
 mod files;
 mod kinds;
 mod lines;
+mod no_plan_lines;
+#[cfg(test)]
+mod plan_tests;
+mod planning;
 mod readings;
 mod reason_lines;
 mod reply;

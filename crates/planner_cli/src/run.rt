@@ -1,5 +1,5 @@
 // The top call.
-ghost use Rattle.std.specs.Prelude.{◌≡◌, ◌⊎◌, ◌↔◌, ◌≤◌, ℕ, List, Option, None, Some, map, string_bytes, IfOk};
+ghost use Rattle.std.specs.Prelude.{◌≡◌, ◌⊎◌, ◌↔◌, ◌≤◌, ℕ, List, Option, None, Some, length, map, string_bytes, IfOk};
 ghost use Rattle.std.specs.Io.KnownBytes.{Appends, Keeps};
 ghost use Rattle.net_base.specs.Causes.{Rose};
 ghost use Rattle.net_base.specs.Outside.{Files, AppendsFront};
@@ -11,9 +11,16 @@ ghost use Rattle.planner_cli.specs.Verdicts.{count_under};
 ghost use Rattle.planner_cli.specs.Dialogue.{Line, IsSaid, Lacks};
 ghost use Rattle.certificates.specs.Consistent.{IsConsistent};
 ghost use Rattle.certificates.specs.declared.Plan.{Plan};
-ghost use Rattle.planner_cli.specs.Asked.{UpdateNames, Config, Check, Upgrade, Usage, asked};
+ghost use Rattle.planner_cli.specs.Asked.{UpdateNames, Config, Check, Planning, Upgrade, Usage, asked};
 ghost use Rattle.planner_cli.specs.Updates.{UpdateMeaning, task_for};
-ghost use Rattle.planner_cli.specs.Plans.{FilesMeanPlan, FilesAreCertified, FilesAreRefused, PlanMakesTooMany, NamesFirstReason, FilesMeanOnePlan, FilesAreAPlan, WritesPlan, count_for};
+ghost use Rattle.planner_cli.specs.Plans.{FilesMeanUpdate, FilesMeanPlan, FilesAreCertified, FilesAreRefused, PlanMakesTooMany, NamesFirstReason, FilesMeanOnePlan, FilesAreAPlan, WritesPlan, count_for};
+ghost use Rattle.planner_cli.specs.declared.kinds.FileKind.{FileKind};
+ghost use Rattle.planner_cli.specs.Kinds.{limit_of};
+ghost use Rattle.planner_cli.specs.NoPlanLines.{too_few_lines, too_small_lines};
+ghost use Rattle.planner_cli.specs.Planned.{update_count};
+ghost use Rattle.planner_cli.specs.NewPlans.{FilesHavePlan, FilesBreakAnEnd, FilesLackTags, FilesLackRoom, UpdateMakesTooMany, WritesNewPlan, KeepsConsistent, NamesFirstEndBreak, HoldBeside};
+ghost use Rattle.round_planner.specs.Search.{single_rounds};
+ghost use Rattle.tag_allocator.specs.Tags.{available_tags};
 ghost use Rattle.planner_cli.specs.Answers.{dialogue};
 ghost use Rattle.planner_cli.specs.Replies.{answer_of, Meets};
 ghost use Rattle.planner_cli.specs.Configs.{FilesMean, FilesHold, FilesBreak, FilesMakeTooMany, NamesFirstBreak, KeepsPacketsGood};
@@ -24,10 +31,12 @@ use crate::command::{Command, command_of};
 use crate::config::config;
 use crate::exit::Exit;
 use crate::lines::usage_line;
+use crate::planning::plan;
 use crate::reply::Reply;
 use crate::status::Status;
 use crate::upgrading::upgrade;
 use net_base::{Memory, Sink, Source, WriteFault, pour};
+use round_planner::laws::searches_end_once;
 use std::alloc::Global;
 
 fn usage(alloc: Global) -> Result<Reply, Memory>
@@ -51,6 +60,7 @@ fn reply_to<S: Source>(alloc: Global, words: &[String], source: &mut S) -> Resul
             policy,
         } => config(alloc, source, topology, tables, policy),
         Command::Check(names, plan) => check(alloc, source, &names, plan),
+        Command::Plan(names) => plan(alloc, source, &names),
         Command::Upgrade { topology, plan } => upgrade(alloc, source, topology, plan),
         Command::Usage => Ok(usage(alloc)?),
     }
@@ -178,6 +188,66 @@ pub fn run<S: Source, K: Sink>(
         → K.written sink.old ≡ Some before → result ≡ Status.BadFile → Appends (K.written sink.old) (K.written sink.new) (classes_line classes)
         → PlanMakesTooMany files names plan }
 
+    // Words of `plan` over a source that tells. Done comes exactly where the four files mean an update with at most 8192
+    // classes whose ends are good, and the search ended ordered, or it ended stuck and there are tags and room for two phases.
+    ensures plan_done { (files : Files) (names : UpdateNames)
+        → S.held source.old ≡ Some files → asked (map string_bytes words.now) ≡ Planning names
+        → IsSettled result → ((result ≡ Status.Done) ↔ FilesHavePlan files names) }
+
+    // Then the text of the plan was written: the one of the search, or that of two phases with the rounds of the search as
+    // those that were tried. Reading it gives this plan.
+    ensures plan_writes { (files : Files) (names : UpdateNames) (update : UpdateMeaning)
+        → S.held source.old ≡ Some files → asked (map string_bytes words.now) ≡ Planning names
+        → FilesMeanUpdate files names update → result ≡ Status.Done → WritesNewPlan update (K.written sink.old) (K.written sink.new) }
+
+    // The plan that was written is certified, and so it keeps each packet's trace good in every state of every run.
+    ensures plan_keeps { (files : Files) (names : UpdateNames) (before : List ℕ) (update : UpdateMeaning) (p : Plan)
+        → S.held source.old ≡ Some files → asked (map string_bytes words.now) ≡ Planning names
+        → K.written sink.old ≡ Some before → result ≡ Status.Done → FilesMeanUpdate files names update
+        → WritesPlan update.net p (K.written sink.old) (K.written sink.new) → KeepsConsistent update p }
+
+    // Where what was written has no more bytes than a plan may have, `check` over the same files and this text says Done.
+    ensures plan_checked { (files others : Files) (names : UpdateNames) (before plan text : List ℕ)
+        → S.held source.old ≡ Some files → asked (map string_bytes words.now) ≡ Planning names
+        → K.written sink.old ≡ Some before → result ≡ Status.Done → Appends (K.written sink.old) (K.written sink.new) text
+        → length text ≤ limit_of FileKind.Plan → HoldBeside files others names plan text → FilesAreCertified others names plan }
+
+    // Refused comes exactly where an end isn't good; the line names the first break.
+    ensures plan_refused { (files : Files) (names : UpdateNames)
+        → S.held source.old ≡ Some files → asked (map string_bytes words.now) ≡ Planning names
+        → IsSettled result → ((result ≡ Status.Refused) ↔ FilesBreakAnEnd files names) }
+    ensures plan_first { (files : Files) (names : UpdateNames) (update : UpdateMeaning)
+        → S.held source.old ≡ Some files → asked (map string_bytes words.now) ≡ Planning names
+        → FilesMeanUpdate files names update → result ≡ Status.Refused
+        → NamesFirstEndBreak update (K.written sink.old) (K.written sink.new) }
+
+    // Too few tags, and a switch that is too small, come exactly where the search ended stuck; the lines have the numbers and
+    // the rounds of the search.
+    ensures plan_too_few { (files : Files) (names : UpdateNames)
+        → S.held source.old ≡ Some files → asked (map string_bytes words.now) ≡ Planning names
+        → IsSettled result → ((result ≡ Status.TooFewTags) ↔ FilesLackTags files names) }
+    ensures plan_too_few_lines { (files : Files) (names : UpdateNames)
+        → S.held source.old ≡ Some files → asked (map string_bytes words.now) ≡ Planning names
+        → IsSettled result → (lack : FilesLackTags files names)
+        → Appends (K.written sink.old) (K.written sink.new)
+        (too_few_lines lack.update.net (length lack.update.net.vlans) (length (available_tags lack.update.net)) (single_rounds lack.stuck.changes)) }
+    ensures plan_too_small { (files : Files) (names : UpdateNames)
+        → S.held source.old ≡ Some files → asked (map string_bytes words.now) ≡ Planning names
+        → IsSettled result → ((result ≡ Status.TooSmall) ↔ FilesLackRoom files names) }
+    ensures plan_too_small_lines { (files : Files) (names : UpdateNames)
+        → S.held source.old ≡ Some files → asked (map string_bytes words.now) ≡ Planning names
+        → IsSettled result → (lack : FilesLackRoom files names)
+        → Appends (K.written sink.old) (K.written sink.new)
+        (too_small_lines lack.update.net lack.switch lack.need lack.capacity (single_rounds lack.stuck.changes)) }
+    ensures plan_classes { (files : Files) (names : UpdateNames)
+        → S.held source.old ≡ Some files → asked (map string_bytes words.now) ≡ Planning names
+        → IsSettled result → (many : UpdateMakesTooMany files names)
+        → (result ≡ Status.BadFile) × Appends (K.written sink.old) (K.written sink.new) (classes_line (update_count many.update)) }
+    ensures plan_classes_only { (files : Files) (names : UpdateNames) (before : List ℕ) (classes : ℕ)
+        → S.held source.old ≡ Some files → asked (map string_bytes words.now) ≡ Planning names
+        → K.written sink.old ≡ Some before → result ≡ Status.BadFile → Appends (K.written sink.old) (K.written sink.new) (classes_line classes)
+        → UpdateMakesTooMany files names }
+
     // Words of `upgrade` over a source that tells. Done comes exactly where both files are read; what is written means
     // the same plan.
     ensures upgrade_done { (files : Files) (topology plan : List ℕ)
@@ -188,5 +258,6 @@ pub fn run<S: Source, K: Sink>(
         → FilesMeanOnePlan files topology plan net p → result ≡ Status.Done
         → WritesPlan net p (K.written sink.old) (K.written sink.new) }
 {
+    searches_end_once();
     respond(alloc, words, source, sink)
 }

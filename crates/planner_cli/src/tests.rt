@@ -58,29 +58,39 @@ fn answer(
 fn good_paths_hold(rt: HostRuntime) -> Result<(), Fail> {
     let alloc = rt.alloc();
     let table: [(&[u8], &[u8], Option<&[u8]>, &[u8]); 6] = [
-        (files::S_TOPO, files::S_OLD, None, b"holds: 12 classes\n"),
         (
-            files::S_TOPO,
-            files::S_OLD,
-            Some(files::S_POLICY),
+            files::s_topo(),
+            files::s_old(),
+            None,
             b"holds: 12 classes\n",
         ),
-        (files::K_TOPO, files::K_RING, None, b"holds: 3 classes\n"),
         (
-            files::L_TOPO,
-            files::L_OLD,
-            Some(files::L_POLICY),
+            files::s_topo(),
+            files::s_old(),
+            Some(files::s_policy()),
+            b"holds: 12 classes\n",
+        ),
+        (
+            files::k_topo(),
+            files::k_ring(),
+            None,
+            b"holds: 3 classes\n",
+        ),
+        (
+            files::l_topo(),
+            files::l_old(),
+            Some(files::l_policy()),
             b"holds: 6 classes\n",
         ),
         (
-            files::L_TOPO,
-            files::L_OLD,
-            Some(files::L_CHAIN),
+            files::l_topo(),
+            files::l_old(),
+            Some(files::l_chain()),
             b"holds: 6 classes\n",
         ),
         (
-            files::EMPTY_TOPO,
-            files::EMPTY_RULES,
+            files::empty_topo(),
+            files::empty_rules(),
             None,
             b"holds: 0 classes\n",
         ),
@@ -98,27 +108,27 @@ fn the_first_break_is_named(rt: HostRuntime) -> Result<(), Fail> {
     let alloc = rt.alloc();
     let table: [(&[u8], &[u8], Option<&[u8]>, &[u8]); 4] = [
         (
-            files::K_TOPO,
-            files::K_LOOP,
+            files::k_topo(),
+            files::k_loop(),
             None,
             b"breaks: at h:1 untagged 10.0.0.0 Loop a\n",
         ),
         (
-            files::L_TOPO,
-            files::L_DROP,
-            Some(files::L_POLICY),
+            files::l_topo(),
+            files::l_drop(),
+            Some(files::l_policy()),
             b"breaks: at s:1 untagged 10.0.0.0 Dropped x\n",
         ),
         (
-            files::L_TOPO,
-            files::L_SHORT,
-            Some(files::L_POLICY),
+            files::l_topo(),
+            files::l_short(),
+            Some(files::l_policy()),
             b"breaks: at s:1 untagged 10.0.0.0 Missed w\n",
         ),
         (
-            files::L_TOPO,
-            files::L_NEW,
-            Some(files::L_CHAIN),
+            files::l_topo(),
+            files::l_new(),
+            Some(files::l_chain()),
             b"breaks: at s:1 untagged 10.0.0.0 Missed y\n",
         ),
     ];
@@ -134,41 +144,41 @@ fn the_first_break_is_named(rt: HostRuntime) -> Result<(), Fail> {
 fn bad_files_are_named(rt: HostRuntime) -> Result<(), Fail> {
     let alloc = rt.alloc();
     let table: [(&[u8], &[u8], Option<&[u8]>, &[u8]); 7] = [
-        (files::S_TOPO, b"", None, b"bad config: 1 NotJson at 0\n"),
+        (files::s_topo(), b"", None, b"bad config: 1 NotJson at 0\n"),
         (
-            files::TWICE_TOPO,
-            files::S_OLD,
+            files::twice_topo(),
+            files::s_old(),
             None,
             b"bad topology: 7 PortTwice at 0\n",
         ),
         (
-            files::A_TOPO,
-            files::A_OVERLAP,
+            files::a_topo(),
+            files::a_overlap(),
             None,
             b"bad config: 10 Overlap at 1\n",
         ),
         (
-            files::A_TOPO,
-            files::A_TWICE,
+            files::a_topo(),
+            files::a_twice(),
             None,
             b"bad config: 9 KeyTwice at 1\n",
         ),
         (
-            files::A_TOPO,
-            files::A_RESERVED,
+            files::a_topo(),
+            files::a_reserved(),
             None,
             b"bad config: 7 ReservedVlan at 0\n",
         ),
         (
-            files::A_TOPO,
-            files::A_PORT,
+            files::a_topo(),
+            files::a_port(),
             None,
             b"bad config: 5 BadPort at 0\n",
         ),
         (
-            files::L_TOPO,
-            files::L_OLD,
-            Some(files::L_NOT_HOST),
+            files::l_topo(),
+            files::l_old(),
+            Some(files::l_not_host()),
             b"bad policy: 4 NotHost at 0\n",
         ),
     ];
@@ -197,10 +207,10 @@ pub(crate) fn wide_topology(alloc: Global) -> Result<String, Fail> {
 fn there_are_at_most_8192_classes(rt: HostRuntime) -> Result<(), Fail> {
     let alloc = rt.alloc();
     let topology = wide_topology(alloc)?;
-    let (status, written) = answer(alloc, topology.as_bytes(), files::HALF, None)?;
+    let (status, written) = answer(alloc, topology.as_bytes(), files::half(), None)?;
     assert_eq!(rt; status, Status::Done);
     assert_eq!(rt; written.as_slice(), b"holds: 8192 classes\n".as_slice());
-    let (status, written) = answer(alloc, topology.as_bytes(), files::SOME, None)?;
+    let (status, written) = answer(alloc, topology.as_bytes(), files::some(), None)?;
     assert_eq!(rt; status, Status::BadFile);
     assert_eq!(rt; written.as_slice(), b"too many classes: 12288\n".as_slice());
     Ok(())
@@ -214,9 +224,9 @@ fn a_read_that_fails_leaves_nothing_written(rt: HostRuntime) -> Result<(), Fail>
     for failing in 1..=10u64 {
         let mut source = source(
             alloc,
-            files::S_TOPO,
-            files::S_OLD,
-            files::S_POLICY,
+            files::s_topo(),
+            files::s_old(),
+            files::s_policy(),
             4096,
             failing,
         )?;
@@ -236,7 +246,7 @@ fn a_read_that_fails_leaves_nothing_written(rt: HostRuntime) -> Result<(), Fail>
 fn the_third_take_of_sixteen_bytes_fails(rt: HostRuntime) -> Result<(), Fail> {
     let alloc = rt.alloc();
     let words = words(alloc, &["config", "topology", "config"])?;
-    let mut source = source(alloc, files::S_TOPO, files::S_OLD, b"", 16, 4)?;
+    let mut source = source(alloc, files::s_topo(), files::s_old(), b"", 16, 4)?;
     let mut sink = MemorySink::make(alloc, 200, 200, Vec::new(alloc))?;
     let status = run(alloc, &words, &mut source, &mut sink);
     assert_eq!(rt; status, Status::ReadFault);
@@ -250,7 +260,7 @@ fn a_write_that_fails_leaves_a_front(rt: HostRuntime) -> Result<(), Fail> {
     let words = words(alloc, &["config", "topology", "config"])?;
     let text = b"holds: 12 classes\n";
     for failing in 1..=19u64 {
-        let mut source = source(alloc, files::S_TOPO, files::S_OLD, b"", 4096, 0)?;
+        let mut source = source(alloc, files::s_topo(), files::s_old(), b"", 4096, 0)?;
         let mut sink = MemorySink::make(alloc, 200, 1, vec![in alloc; failing]?)?;
         let status = run(alloc, &words, &mut source, &mut sink);
         let written = sink.bytes();
@@ -269,7 +279,7 @@ fn a_write_that_fails_leaves_a_front(rt: HostRuntime) -> Result<(), Fail> {
 fn a_file_past_its_limit_is_too_long(rt: HostRuntime) -> Result<(), Fail> {
     let alloc = rt.alloc();
     let long = vec![in alloc; b' '; 16777217]?;
-    let (status, written) = answer(alloc, &long, files::S_OLD, None)?;
+    let (status, written) = answer(alloc, &long, files::s_old(), None)?;
     assert_eq!(rt; status, Status::BadFile);
     assert_eq!(rt;
         written.as_slice(),
@@ -297,7 +307,7 @@ fn other_words_and_names(rt: HostRuntime) -> Result<(), Fail> {
     ];
     for (texts, want, text) in table {
         let words = words(alloc, texts)?;
-        let mut source = source(alloc, files::S_TOPO, files::S_OLD, b"", 4096, 0)?;
+        let mut source = source(alloc, files::s_topo(), files::s_old(), b"", 4096, 0)?;
         let mut sink = MemorySink::make(alloc, 200, 200, Vec::new(alloc))?;
         let status = run(alloc, &words, &mut source, &mut sink);
         assert_eq!(rt; status, want, "at {texts:?}");

@@ -33,8 +33,8 @@ fn add_rules(prefixes: &mut Vec<Prefix>, rules: &[Rule]) -> Result<(), Memory>
     Ok(())
 }
 
-// Adds the prefixes of all tables.
-fn add_tables(prefixes: &mut Vec<Prefix>, net: &Net, config: &Config) -> Result<(), Memory>
+/// Adds the prefixes of all tables.
+pub fn add_tables(prefixes: &mut Vec<Prefix>, net: &Net, config: &Config) -> Result<(), Memory>
     requires { length config.now ≡ switch_count net.now }
     ensures { OnOk result (prefixes.new.items ≡ prefixes.old.items ++ table_blocks (rules_of_all config.now)) }
 {
@@ -44,8 +44,8 @@ fn add_tables(prefixes: &mut Vec<Prefix>, net: &Net, config: &Config) -> Result<
     Ok(())
 }
 
-// Adds the prefixes of the demands.
-fn add_demands(prefixes: &mut Vec<Prefix>, demands: &Demands) -> Result<(), Memory>
+/// Adds the prefixes of the demands.
+pub fn add_demands(prefixes: &mut Vec<Prefix>, demands: &Demands) -> Result<(), Memory>
     ensures { OnOk result (prefixes.new.items ≡ prefixes.old.items ++ map (λ d. d.dst) demands.now) }
 {
     for i in 0..demands.count() {

@@ -1,5 +1,5 @@
-use Rattle.std.proofs.Common.{◌≡◌, ◌∙◌, sym, subst, IfSome, ◌<◌}
-use Rattle.dest_classes.specs.Classes.{ClassList, class_count}
+use Rattle.std.proofs.Common.{◌∙◌, sym, subst, IfSome, ◌<◌}
+use Rattle.dest_classes.specs.Classes.{class_count}
 use Rattle.planner_cli.specs.ReasonLines as lines
 use Rattle.planner_cli.specs.Updates.{meaning_of, task_for}
 use Rattle.planner_cli.proofs.ReasonLaws.{named_fits}

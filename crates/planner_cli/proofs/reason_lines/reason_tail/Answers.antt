@@ -1,4 +1,3 @@
-use Rattle.std.proofs.Common.{refl}
 use Rattle.std.proofs.lemmas.List.{append_assoc}
 use Rattle.planner_cli.proofs.reason_lines.reason_tail.Goals as goal
 

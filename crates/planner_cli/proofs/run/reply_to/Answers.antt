@@ -9,6 +9,10 @@ pub returns-in-Check-clause-meets : goal.returns-in-Check-clause-meets
 unfolding dialogue
 returns-in-Check-clause-meets g c = rw (← c.in-Check.ensures) c.check.ensures.meets
 
+pub returns-in-Plan-clause-meets : goal.returns-in-Plan-clause-meets
+unfolding dialogue
+returns-in-Plan-clause-meets g c = rw (← c.in-Plan.ensures) c.plan.ensures.meets
+
 pub returns-in-Upgrade-clause-meets : goal.returns-in-Upgrade-clause-meets
 unfolding dialogue
 returns-in-Upgrade-clause-meets g c = rw (← c.in-Upgrade.ensures) c.upgrade.ensures.meets

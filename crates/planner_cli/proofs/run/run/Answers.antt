@@ -1,7 +1,8 @@
-use Rattle.planner_cli.specs.Asked.{Config, Check, Upgrade}
+use Rattle.planner_cli.specs.Asked.{Config, Check, Planning, Upgrade}
 use Rattle.planner_cli.proofs.Told.{answered}
 use Rattle.planner_cli.proofs.ConfigLaws as config_law
 use Rattle.planner_cli.proofs.PlanLaws as plan_law
+use Rattle.planner_cli.proofs.PlannedLaws as planned_law
 use Rattle.planner_cli.proofs.StillLaws.{keeps_good}
 use Rattle.planner_cli.proofs.Settled.{settled_done, settled_refused, settled_bad}
 use Rattle.planner_cli.proofs.run.run.Goals as goal
@@ -59,6 +60,56 @@ pub returns-clause-check_classes_only : goal.returns-clause-check_classes_only
 returns-clause-check_classes_only g c = λ files names plan before classes tells asks told is line.
     let a = answered _ _ _ _ _ files (Check names plan) (c.respond.ensures.all (settled_bad _ is)) tells asks in
     plan_law.only_too_many files names plan _ _ _ a before told classes is line
+
+pub returns-clause-plan_done : goal.returns-clause-plan_done
+returns-clause-plan_done g c = λ files names tells asks settled.
+    planned_law.done files names _ _ _ (answered _ _ _ _ _ files (Planning names) (c.respond.ensures.all settled) tells asks) c.searches_end_once.ensures.apart
+
+pub returns-clause-plan_writes : goal.returns-clause-plan_writes
+returns-clause-plan_writes g c = λ files names update tells asks mean is.
+    planned_law.writes files names _ _ _ (answered _ _ _ _ _ files (Planning names) (c.respond.ensures.all (settled_done _ is)) tells asks) is update mean
+
+pub returns-clause-plan_keeps : goal.returns-clause-plan_keeps
+returns-clause-plan_keeps g c = λ files names before update p tells asks told is mean writes.
+    planned_law.keeps files names _ _ _ (answered _ _ _ _ _ files (Planning names) (c.respond.ensures.all (settled_done _ is)) tells asks) before told is update p mean writes
+
+pub returns-clause-plan_checked : goal.returns-clause-plan_checked
+returns-clause-plan_checked g c = λ files others names before plan text tells asks told is written within beside.
+    planned_law.checked files names _ _ _ (answered _ _ _ _ _ files (Planning names) (c.respond.ensures.all (settled_done _ is)) tells asks) before told is others plan text written within beside
+
+pub returns-clause-plan_refused : goal.returns-clause-plan_refused
+returns-clause-plan_refused g c = λ files names tells asks settled.
+    planned_law.refused files names _ _ _ (answered _ _ _ _ _ files (Planning names) (c.respond.ensures.all settled) tells asks)
+
+pub returns-clause-plan_first : goal.returns-clause-plan_first
+returns-clause-plan_first g c = λ files names update tells asks mean is.
+    planned_law.first_break files names _ _ _ (answered _ _ _ _ _ files (Planning names) (c.respond.ensures.all (settled_refused _ is)) tells asks) is update mean
+
+pub returns-clause-plan_too_few : goal.returns-clause-plan_too_few
+returns-clause-plan_too_few g c = λ files names tells asks settled.
+    planned_law.too_few files names _ _ _ (answered _ _ _ _ _ files (Planning names) (c.respond.ensures.all settled) tells asks) c.searches_end_once.ensures.apart
+
+pub returns-clause-plan_too_few_lines : goal.returns-clause-plan_too_few_lines
+returns-clause-plan_too_few_lines g c = λ files names tells asks settled lack.
+    planned_law.too_few_written files names _ _ _ (answered _ _ _ _ _ files (Planning names) (c.respond.ensures.all settled) tells asks)
+    c.searches_end_once.ensures.apart c.searches_end_once.ensures.stuck lack
+
+pub returns-clause-plan_too_small : goal.returns-clause-plan_too_small
+returns-clause-plan_too_small g c = λ files names tells asks settled.
+    planned_law.too_small files names _ _ _ (answered _ _ _ _ _ files (Planning names) (c.respond.ensures.all settled) tells asks) c.searches_end_once.ensures.apart
+
+pub returns-clause-plan_too_small_lines : goal.returns-clause-plan_too_small_lines
+returns-clause-plan_too_small_lines g c = λ files names tells asks settled lack.
+    planned_law.too_small_written files names _ _ _ (answered _ _ _ _ _ files (Planning names) (c.respond.ensures.all settled) tells asks)
+    c.searches_end_once.ensures.apart c.searches_end_once.ensures.stuck lack
+
+pub returns-clause-plan_classes : goal.returns-clause-plan_classes
+returns-clause-plan_classes g c = λ files names tells asks settled many.
+    planned_law.too_many files names _ _ _ (answered _ _ _ _ _ files (Planning names) (c.respond.ensures.all settled) tells asks) many
+
+pub returns-clause-plan_classes_only : goal.returns-clause-plan_classes_only
+returns-clause-plan_classes_only g c = λ files names before classes tells asks told is line.
+    planned_law.only_too_many files names _ _ _ (answered _ _ _ _ _ files (Planning names) (c.respond.ensures.all (settled_bad _ is)) tells asks) before told classes is line
 
 pub returns-clause-upgrade_done : goal.returns-clause-upgrade_done
 returns-clause-upgrade_done g c = λ files topology plan tells asks settled.

@@ -1,4 +1,3 @@
-use Rattle.std.proofs.Common.{◌∙◌, arith, Some}
 use Rattle.std.proofs.lemmas.Result.{err_from_is_err_and}
 use Rattle.planner_cli.specs.Answers.{upgrade_dialogue}
 use Rattle.planner_cli.proofs.GoingOn.{on_and_on, on_ends}

@@ -1,4 +1,4 @@
-use Rattle.std.proofs.Common.{◌≡◌, suc, ◌+◌, ◌++◌, ◌∷◌, [], map, take, ap, sym, ◌∙◌, add-one, append_assoc}
+use Rattle.std.proofs.Common.{◌++◌, ◌∷◌, [], map, take, ap, sym, ◌∙◌, add-one, append_assoc}
 use Rattle.planner_cli.proofs.VerdictLaws.{demands_next}
 use Rattle.planner_cli.proofs.verdict.add_demands.Goals as goal
 

@@ -1,4 +1,4 @@
-use Rattle.std.proofs.Common.{◌≡◌, suc, ◌+◌, ◌++◌, map, take, ap, sym, ◌∙◌, add-one, append_assoc}
+use Rattle.std.proofs.Common.{◌++◌, map, take, ap, sym, ◌∙◌, add-one, append_assoc}
 use Rattle.flow_rules.specs.Tables.{rules_of_all, table_blocks}
 use Rattle.planner_cli.proofs.VerdictLaws.{blocks_next}
 use Rattle.planner_cli.proofs.verdict.add_tables.Goals as goal

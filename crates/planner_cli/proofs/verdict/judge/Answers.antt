@@ -1,9 +1,7 @@
 use Rattle.std.proofs.Common.{◌∙◌, refl}
 use Rattle.std.proofs.lemmas.Result.{IfOk-weaker}
 use Rattle.flow_rules.specs.Tables.{rules_of_all}
-use Rattle.demands.specs.Good.{HasGoodPaths}
 use Rattle.planner_cli.specs.Replies.{answer_of}
-use Rattle.planner_cli.specs.Lines.{holds_line}
 use Rattle.planner_cli.proofs.VerdictLaws.{covered, prefixed, holds_law, breaks_law, break_fits, good_of, count_is}
 use Rattle.planner_cli.proofs.verdict.judge.Goals as goal
 
