@@ -3,14 +3,9 @@ use crate::run::run;
 use crate::status::Status;
 use crate::tests::{wide_topology, words};
 use crate::{example_files as files, example_plans as plans};
-use config_files::read_config;
-use demands::read_demands;
 use net_base::{MemorySink, MemorySource};
-use plan_checker::{CheckRoom, Verdict, check};
-use plan_format::read_plan;
 use std::alloc::Global;
 use std::test::Fail;
-use topology::read_net;
 
 // The files of an update and of its plan. The call of the given number fails.
 fn source(alloc: Global, held: [&[u8]; 5], failing: u64) -> Result<MemorySource, Fail> {
@@ -426,23 +421,5 @@ fn a_check_that_fails_to_read_writes_nothing(rt: HostRuntime) -> Result<(), Fail
             assert_eq!(rt; status, Status::Done, "at {failing}");
         }
     }
-    Ok(())
-}
-
-#[test]
-fn a_room_serves_twice(rt: HostRuntime) -> Result<(), Fail> {
-    let alloc = rt.alloc();
-    let net = read_net(alloc, files::s_topo())?;
-    let old = read_config(alloc, &net, files::s_old())?;
-    let new = read_config(alloc, &net, plans::s_new())?;
-    let demands = read_demands(alloc, &net, files::s_policy())?;
-    let plan = read_plan(alloc, &net, plans::first_plan())?;
-    let Ok(mut room) = CheckRoom::make(alloc, &net, &old, &new, &demands, &plan) else {
-        return Err(Fail::from("no room"));
-    };
-    let first = check(&net, &old, &new, &demands, &plan, &mut room);
-    let second = check(&net, &old, &new, &demands, &plan, &mut room);
-    assert_eq!(rt; first, Verdict::Accepted);
-    assert_eq!(rt; second, Verdict::Accepted);
     Ok(())
 }
