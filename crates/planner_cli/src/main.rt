@@ -24,6 +24,8 @@ mod planning;
 mod readings;
 mod reason_lines;
 mod reply;
+#[cfg(test)]
+mod room_tests;
 mod run;
 mod status;
 #[cfg(test)]
