@@ -1,0 +1,178 @@
+"""Tests of build.py: the order of crates, what is ready, what is said, and whole builds over an rt that only waits."""
+import io
+import os
+import signal
+import subprocess
+import sys
+import tempfile
+import time
+import unittest
+
+import build
+
+LISTED = """# lowest first
+base: json
+left: base indexmap   # a side
+right: base
+top: left right base
+top_tests: top
+"""
+CRATES = {"base": [], "left": ["base"], "right": ["base"], "top": ["left", "right", "base"], "top_tests": ["top"]}
+LINES = {"base": 100, "left": 10, "right": 40, "top": 50}
+
+
+class Order(unittest.TestCase):
+    def test_libraries_of_the_kit_are_left_out(self):
+        self.assertEqual(build.read_crates(LISTED), CRATES)
+
+    def test_each_crate_stands_after_those_it_uses_and_tests_are_left_out(self):
+        self.assertEqual(build.needed(CRATES, "top"), ["base", "left", "right", "top"])
+
+    def test_a_ring_is_refused(self):
+        with self.assertRaises(ValueError):
+            build.needed({"one": ["other"], "other": ["one"]}, "one")
+
+    def test_chains_count_the_lines_above(self):
+        self.assertEqual(build.chains(CRATES, ["base", "left", "right", "top"], LINES), {"top": 50, "left": 60, "right": 90, "base": 190})
+
+    def test_ready_are_those_with_all_libraries_done_the_longest_chain_first(self):
+        chain = {"base": 190, "left": 60, "right": 90, "top": 50}
+        for left, running, wanted in [
+            (["base", "left", "right", "top"], {}, ["base"]),
+            (["base", "left", "right", "top"], {"base": 0}, []),
+            (["left", "right", "top"], {}, ["right", "left"]),
+            (["left", "right", "top"], {"right": 0}, ["left"]),
+            (["left", "top"], {"left": 0}, []),
+            (["top"], {}, ["top"]),
+        ]:
+            self.assertEqual(build.ready(CRATES, left, running, chain), wanted)
+
+    def test_processors_are_shared(self):
+        self.assertEqual([build.jobs_for(4, it) for it in (1, 2, 3, 4, 9)], [4, 2, 2, 1, 1])
+
+    def test_copies_have_memory(self):
+        self.assertEqual([build.copies_for(4, it) for it in (0, 2_999_999_999, 6_000_000_000, 99_000_000_000)], [1, 1, 2, 4])
+
+    def test_time_is_that_of_the_chain_or_of_all_work(self):
+        lines = {it: 1000 * number for it, number in LINES.items()}
+        of = lambda left, processors, copies: round(build.foretold(CRATES, left, lines, processors, copies))
+        self.assertEqual(of(["base", "left", "right", "top"], 1, 1), 240)
+        self.assertEqual(of(["base", "left", "right", "top"], 4, 4), 152)
+        self.assertEqual(of(["left"], 4, 1), 8)
+        self.assertEqual(of([], 4, 4), 0)
+
+
+class Words(unittest.TestCase):
+    def test_lines(self):
+        self.assertEqual(
+            build.first_line(30, 30, 24.6, 4),
+            "planner: proving and building the program: 30 crates, about 25 minutes on 4 processors with nothing else to do",
+        )
+        self.assertEqual(
+            build.first_line(30, 1, 0.2, 1),
+            "planner: proving and building the program: 29 of 30 crates done before, 1 to do, about 1 minute on 1 processor with nothing else to do",
+        )
+        self.assertEqual(build.progress(30, 27, ["left", "right"], 119.9), "planner: 3 of 30 crates done, now left, right, 1 minute so far")
+        self.assertEqual(build.progress(30, 1, [], 120), "planner: 29 of 30 crates done, 2 minutes so far")
+
+    def test_a_terminal_has_one_line_that_is_renewed(self):
+        stream = io.StringIO()
+        voice = build.Voice(stream, True, 10)
+        voice.renew("0123456789abc")
+        voice.renew("one")
+        voice.say("end")
+        self.assertEqual(stream.getvalue(), "\r\x1b[K012345678\r\x1b[Kone\r\x1b[Kend\n")
+
+    def test_another_stream_has_a_line_at_each_change(self):
+        stream = io.StringIO()
+        voice = build.Voice(stream, False, 0)
+        for it in ("1 done, now a, 0 minutes", "1 done, now a, 1 minute", "2 done, now b, 1 minute"):
+            voice.renew(it)
+        self.assertEqual(stream.getvalue(), "1 done, now a, 0 minutes\n2 done, now b, 1 minute\n")
+
+
+# An rt that waits: it proves what has no file `bad`, where all listed crates are there, and notes what it was asked for.
+RT = """#!/bin/sh
+[ "$1" = version ] && { echo kit; exit 0; }
+echo "$(basename "$PWD") $*" >> "$ASKED"
+[ -e src/bad ] && { echo "error: bad"; exit 1; }
+for it in base left right top top_tests; do [ -e "../$it/src/lib.rt" ] || { echo "no $it"; exit 2; }; done
+sleep "${WAITS:-0.1}"
+mkdir -p out
+[ "$1" = run ] && { echo built > out/top; echo "unknown command or wrong words"; exit 2; }
+exit 0
+"""
+
+
+class Builds(unittest.TestCase):
+    def setUp(self):
+        self.room = tempfile.TemporaryDirectory()
+        self.root, self.asked = f"{self.room.name}/tree", f"{self.room.name}/asked"
+        os.makedirs(f"{self.root}/tools")
+        os.makedirs(f"{self.room.name}/kit/rattle/bin")
+        for file, text in ((f"{self.root}/crates.txt", LISTED), (f"{self.root}/HANDLES", ""), (f"{self.room.name}/kit/rattle/bin/rt", RT), (self.asked, "")):
+            with open(file, "w") as it:
+                it.write(text)
+        os.chmod(f"{self.room.name}/kit/rattle/bin/rt", 0o755)
+        with open(build.__file__) as one, open(f"{self.root}/tools/build.py", "w") as other:
+            other.write(one.read())
+        for crate in CRATES:
+            os.makedirs(f"{self.root}/crates/{crate}/src")
+            self.write(crate, "one line\n")
+        self.how = {**os.environ, "PATH": f"{self.room.name}/kit/rattle/bin:{os.environ['PATH']}", "ASKED": self.asked, "XDG_CACHE_HOME": f"{self.room.name}/cache"}
+
+    def tearDown(self):
+        self.room.cleanup()
+
+    def write(self, crate, text, name="lib.rt"):
+        with open(f"{self.root}/crates/{crate}/src/{name}", "w") as it:
+            it.write(text)
+
+    def begin(self, **more):
+        words = [sys.executable, "-B", f"{self.root}/tools/build.py", "top"]
+        return subprocess.Popen(words, env={**self.how, **more}, stderr=subprocess.PIPE, text=True)
+
+    def build(self, **more):
+        """Returns the exit status, the lines said, and the crates that rt was asked for."""
+        os.remove(self.asked)
+        ran = self.begin(**more)
+        said = ran.communicate()[1].splitlines()
+        return ran.returncode, said, self.crates_asked()
+
+    def crates_asked(self):
+        with open(self.asked) as it:
+            return [line.split()[0] for line in it]
+
+    def test_builds_all_then_only_what_changed(self):
+        status, said, asked = self.build()
+        self.assertEqual((status, asked[0], sorted(asked[1:3]), asked[3:]), (0, "base", ["left", "right"], ["top"]))
+        self.assertIn("4 crates, about 1 minute on", said[0])
+        self.assertEqual(said[1], "planner: 0 of 4 crates done, now base, 0 minutes so far")
+        self.assertEqual(said[-1], "planner: built, 0 minutes")
+        self.assertEqual(os.listdir(f"{self.room.name}/cache"), [])
+        self.assertEqual(self.build()[2], ["top"])
+        self.write("left", "another line\n")
+        self.assertEqual(self.build()[2], ["left", "top"])
+        self.write("top_tests", "another line\n")
+        self.assertEqual(self.build()[2], ["top"])
+
+    def test_goes_on_where_it_was_stopped(self):
+        ran = self.begin(WAITS="1")
+        while "right" not in self.crates_asked():
+            time.sleep(0.05)
+        ran.send_signal(signal.SIGTERM)
+        said = ran.communicate()[1]
+        self.assertEqual((ran.returncode, said.splitlines()[-1]), (128 + signal.SIGTERM, "planner: stopped; the next run goes on from here"))
+        status, said, asked = self.build()
+        self.assertEqual((status, sorted(asked)), (0, ["left", "right", "top"]))
+        self.assertIn("1 of 4 crates done before, 3 to do", said[0])
+
+    def test_a_crate_that_fails_is_named_with_what_rt_said(self):
+        self.write("left", "", "bad")
+        status, said, asked = self.build()
+        self.assertEqual((status, "top" in asked), (1, False))
+        self.assertEqual(said[-2:], ["error: bad", "planner: the program could not be built: left failed, as told above"])
+
+
+if __name__ == "__main__":
+    unittest.main()
