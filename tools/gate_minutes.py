@@ -1,0 +1,170 @@
+#!/usr/bin/env python3
+"""The minutes of `rt ci` by crate: for its proof, its tests and its must-fail edits.
+
+    tools/gate_minutes.py run LOG [WORD..]    runs `rt ci WORD..` at the top of the repository, writes LOG, and prints the table
+    tools/gate_minutes.py LOG                 prints the table of a log
+
+What `rt ci` says has no times, and of edits it speaks only at its end. So `run` stamps each line with the seconds since the start, and besides looks
+once a second at the processes that rt started: each is the work on one crate, and which work it is stands in its words. For each that ended, the log
+has a line `## SECOND CRATE KIND PROCESSOR-SECONDS SECONDS`. Minutes are processor minutes, also of processes that were started beneath; `long` is how
+many minutes the proof took by the clock. What was kept from an earlier run takes no time: for a whole run the words are `--anew`.
+"""
+import os
+import subprocess
+import sys
+import threading
+import time
+
+KINDS = ("proof", "tests", "edits")
+TICKS = os.sysconf("SC_CLK_TCK")
+
+
+# ---- what a process does
+
+def kind_of(words, folder):
+    """Returns the crate and the kind of work of a process of rattle, or None where it is no work on a crate. Edits are tried on copies elsewhere."""
+    if "--crate-name" not in words or not {"build", "check"} & {*words[1:2]}:
+        return None
+    crate = words[words.index("--crate-name") + 1]
+    return crate, "edits" if not folder.endswith(f"/crates/{crate}") else "tests" if "--test" in words else "proof"
+
+
+def parse_stat(text):
+    """Returns the parent's number and the processor seconds, those of ended children too, from the text of /proc/N/stat."""
+    fields = text.rpartition(")")[2].split()
+    return int(fields[1]), sum(map(int, fields[11:15])) / TICKS
+
+
+def processes():
+    """Returns the parent and the processor seconds of each process by its number."""
+    found = {}
+    for it in filter(str.isdigit, os.listdir("/proc")):
+        try:
+            with open(f"/proc/{it}/stat", errors="replace") as file:
+                found[int(it)] = parse_stat(file.read())
+        except OSError:
+            pass
+    return found
+
+
+def below(top, parents):
+    """Returns the numbers of all processes that the process started, and those that these started."""
+    children = {}
+    for number, (parent, _) in parents.items():
+        children.setdefault(parent, []).append(number)
+    found, open_ = [], [top]
+    while open_:
+        more = children.get(open_.pop(), [])
+        found += more
+        open_ += more
+    return found
+
+
+class Watch:
+    """What is seen of the processes below one: of each that works on a crate, what it does, when it was first seen, and its processor seconds."""
+
+    def __init__(self, top):
+        self.top, self.seen = top, {}
+
+    def look(self, second):
+        """Looks once, and returns the lines of those that ended since."""
+        now = processes()
+        present = below(self.top, now)
+        ended = [self.line(it, second) for it in [*self.seen] if it not in present]
+        # (what such a process started counts with it)
+        inner = {it for number in self.seen for it in below(number, now)}
+        for number in present:
+            if number not in self.seen and number not in inner:
+                self.meet(number, second)
+                inner.update(below(number, now) if number in self.seen else [])
+        for number, about in self.seen.items():
+            about["seconds"] = max(about["seconds"], sum(now[it][1] for it in [number, *below(number, now)]))
+        return ended
+
+    def meet(self, number, second):
+        try:
+            with open(f"/proc/{number}/cmdline", "rb") as file:
+                words = file.read().decode(errors="replace").split("\0")
+            work = kind_of(words, os.readlink(f"/proc/{number}/cwd"))
+        except OSError:
+            return
+        if work:
+            self.seen[number] = {"work": work, "begun": second, "seconds": 0}
+
+    def line(self, number, second):
+        about = self.seen.pop(number)
+        return f"## {second:.0f} {about['work'][0]} {about['work'][1]} {about['seconds']:.0f} {second - about['begun']:.0f}"
+
+
+def run(log, words):
+    """Runs the gate, writes the log, and returns rt's exit status."""
+    root, begun = os.path.dirname(os.path.dirname(os.path.realpath(__file__))), time.monotonic()
+    second, writing = (lambda: time.monotonic() - begun), threading.Lock()
+    with open(log, "w") as out, subprocess.Popen(["rt", "ci", *words], cwd=root, stdout=subprocess.PIPE, stderr=subprocess.STDOUT, text=True, errors="replace") as ran:
+        watch = Watch(ran.pid)
+
+        def stamp():
+            for line in ran.stdout:
+                with writing:
+                    print(f"{second():6.0f} {line}", end="", file=out, flush=True)
+
+        stamping = threading.Thread(target=stamp)
+        stamping.start()
+        while ran.poll() is None:
+            time.sleep(1)
+            ended = watch.look(second())
+            with writing:
+                print(*ended, sep="\n", end="\n" * bool(ended), file=out, flush=True)
+        stamping.join()
+        print(f"## {second():.0f} end", file=out)
+        return ran.returncode
+
+
+# ---- the table
+
+def read_log(lines):
+    """Returns the processor seconds by crate and kind, the seconds of each crate's proof, the seconds of the whole, and rt's last line."""
+    spent, long, whole, last = {}, {}, 0, ""
+    for line in lines:
+        words = line.split()
+        if words[:1] == ["##"] and len(words) == 6:
+            _, _, crate, kind, processor, clock = words
+            by_kind = spent.setdefault(crate, dict.fromkeys(KINDS, 0))
+            by_kind[kind] += int(processor)
+            if kind == "proof":
+                long[crate] = long.get(crate, 0) + int(clock)
+        elif words[:1] == ["##"] and len(words) == 3:
+            whole = int(words[1])
+        elif len(words) > 1:
+            last = line.strip().partition(" ")[2]
+    return spent, long, whole, last
+
+
+def row(name, numbers):
+    return f"{name:24}" + "".join(f"{it / 60:8.1f}" for it in numbers)
+
+
+def table(spent, long, whole, last):
+    """Returns the lines of the table: the crates that took most first, and the sums."""
+    lines = [f"{'minutes':24}{'proof':>8}{'tests':>8}{'edits':>8}{'all':>8}{'long':>8}"]
+    for crate, by_kind in sorted(spent.items(), key=lambda it: -sum(it[1].values())):
+        lines.append(row(crate, [*by_kind.values(), sum(by_kind.values()), long.get(crate, 0)]))
+    sums = [sum(it[kind] for it in spent.values()) for kind in KINDS]
+    lines.append(row("all crates", [*sums, sum(sums)]))
+    return [*lines, f"{whole / 60:.1f} minutes by the clock; {last}"]
+
+
+def main(words):
+    status = 0
+    if words[:1] == ["run"] and len(words) > 1:
+        status, words = run(words[1], words[2:]), words[1:2]
+    if len(words) != 1 or words[0] in ("run", "--help"):
+        print(__doc__, file=sys.stderr)
+        return 2
+    with open(words[0]) as it:
+        print(*table(*read_log(it)), sep="\n")
+    return status
+
+
+if __name__ == "__main__":
+    sys.exit(main(sys.argv[1:]))
