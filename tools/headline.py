@@ -1,0 +1,486 @@
+#!/usr/bin/env python3
+"""Makes docs/HEADLINE.md: all definitions on which the clause of `check` rests, copied from the crates.
+
+    tools/headline.py             writes the page, and prints the counts
+    tools/headline.py --check     writes nothing, and fails where the page is not what this script makes
+
+A definition is found by its name in crates/*/specs. From it the script goes on to each definition that its text names, until only words of the
+standard library are left. A type that is declared in the code (`specs.declared`) is shown as it stands in src/; of one that contracts see as a plain
+value, that value is shown.
+"""
+import os
+import re
+import sys
+
+ROOT = os.path.dirname(os.path.dirname(os.path.realpath(__file__)))
+PAGE = "docs/HEADLINE.md"
+# The parts of the page: a title, what it has, and the definitions that it begins with.
+PARTS = (
+    ("Runs and good traces", "What it means that an update by a plan is consistent: all that the sentence says of runs and packets.", ("IsConsistent",)),
+    (
+        "The certified plan",
+        "Which plans are accepted. That a certified plan is consistent is a proved law (`certified_consistent` in crates/certificates/src/laws.rt), so the sentence can be believed without this part.",
+        ("IsCertified",),
+    ),
+    ("What the files mean", "Which network, configurations, demands and plan the bytes of five files stand for, and when `check` accepts them.", ("FilesAreCertified", "FilesMeanPlan")),
+)
+HEAD = """# The definitions of the headline
+
+> If `planner check` accepts a plan, then in every run that interleaves its single rule changes, in any order within a round, with single packet hops, no packet visits a switch twice, every packet that leaves has met its waypoints in their order, none that must arrive is dropped by a switch, and under a two-phase plan each packet's whole path is that of the old or of the new configuration.
+
+This page has every definition on which the sentence rests, from its words down to numbers and lists. In each part a file stands before those that it rests on, and a definition before those of its file that it is made of; what an earlier part has isn't repeated. `tools/headline.py` copies them from the crates and counts them, and the test command fails where the page is not what the script makes. [THEOREMS.md](THEOREMS.md) leads from the words of the sentence to the first of them, and states the premises.
+"""
+NOTATION = """## How to read it
+
+| Written | Read |
+|---|---|
+| `f x y` | f of x and y |
+| `A → B` | from A to B; between statements: if A, then B |
+| `(x : A) → B` | for every x of A: B |
+| `(x : A) × B` | there is an x of A with B |
+| `A × B`, `A ⊎ B`, `¬ A` | A and B; A or B; not A |
+| `A ↔ B` | A exactly where B |
+| `x ≡ y`, `x ≢ y` | x is y; x isn't y |
+| `Unit {0}`, `⊥` | what always holds; what never holds |
+| `Type 0` | a statement, or a type |
+| `abbrev f : A → B` and lines `f pattern = ..` | f is a function from A to B; the first line whose pattern fits says what it gives |
+| `record R (x : A) : Type 0 where` with lines `pub name : ..` | a statement (or a type) whose parts are these lines, all of which hold |
+| `record { name = x; .. }`, `r.name` | a value of its parts; a part of it |
+| `λ x. e` | the function that gives e for x |
+| `ℕ`, `Bool`, `IsTrue b` | numbers from 0; true or false; b is true |
+| `[]`, `x ∷ xs`, `xs ++ ys` | the empty list; x before the list xs; one list behind the other |
+| `None`, `Some x` | nothing; x |
+| `Ok x`, `Err e` | the value x; the refusal e |
+| `p.0` | the number of a switch or a port |
+
+Texts and bytes are lists of numbers. A definition marked `unfoldable` reads as one marked `abbrev`. A type that is declared in the code stands as it does there: `u32` and the like are numbers below a bound, `Vec` is a list. Of a type whose parts are its crate's own, the page has the value that contracts see, behind "seen as".
+"""
+LIBRARY = """## Words of the libraries
+
+These words are the standard library's (`std`), and for files the JSON tree that its `serde_json` reads. In a crate's folder `rt lemma WORD` prints the definition of each.
+"""
+# What the words of the libraries mean; those that NOTATION has are left out here.
+WORDS = {
+    "AllByRecursion": "`AllByRecursion P xs`: P holds of every item of the list",
+    "AllZip": "`AllZip R xs ys`: the lists are equally long, and R holds of their items place by place",
+    "Data": "a JSON value",
+    "Items": "the items of a JSON list",
+    "List": "`List A`: lists of A",
+    "Option": "`Option A`: nothing, or an A",
+    "Result": "`Result A E`: a value of A, or a refusal of E",
+    "as_array": "the items of a JSON list",
+    "as_bool": "the truth value, where the JSON value is one",
+    "as_number": "the number, where the JSON value is one",
+    "as_object": "the members, where the JSON value is an object",
+    "as_str": "the text, where the JSON value is one",
+    "as_u64": "the whole number below 2^64, where the number is one",
+    "bytes_eq": "whether two texts are the same",
+    "codes": "the bytes of a text",
+    "cond": "`cond b x y`: x where b is true, otherwise y; also `if b then x else y`",
+    "count_by": "how many items pass the test",
+    "digits_value": "`digits_value 10 ds`: the number that the digits write",
+    "drop": "`drop n xs`: the list without its first n items",
+    "filter": "the items that pass the test, in their order",
+    "find": "the first item that passes the test, if there is one",
+    "flat_map": "`flat_map f xs`: the lists that f gives for the items, one behind the other",
+    "get": "`get name d`: the member of a JSON object, the last one of this name",
+    "is_ascii_digit": "whether the byte is a digit",
+    "is_none": "whether there is nothing",
+    "is_some": "whether there is something",
+    "is_utf8": "whether the bytes are text in UTF-8",
+    "length": "how many items a list has",
+    "list_all": "whether each item passes the test",
+    "list_any": "whether some item passes the test",
+    "map": "`map f xs`: f of each item",
+    "max": "the greater of two numbers",
+    "min": "the lesser of two numbers",
+    "nat_eq": "whether two numbers are the same; also `==`",
+    "nat_le": "whether the first number is at most the second",
+    "nat_lt": "whether the first number is below the second",
+    "not": "true for false, false for true",
+    "option_and_then": "`option_and_then f o`: f of the value, where there is one",
+    "option_map": "`option_map f o`: the value that f gives for the one that is there, if one is",
+    "option_map_or": "`option_map_or f o d`: f of the value, where there is one, otherwise d",
+    "option_or": "the first, where there is something, otherwise the second",
+    "pointwise": "`pointwise eq xs ys`: whether the lists are equally long, and eq is true of their items place by place",
+    "position": "the number of the first item that passes the test, from 0, if there is one",
+    "position_or_len": "the number of the first item that passes the test, from 0; the length where there is none",
+    "range_with_len": "`range_with_len a n`: n numbers from a on",
+    "read": "the JSON value that the bytes are, if they are one",
+    "replicate": "`replicate n x`: n times x",
+    "slice_get": "`slice_get xs i`: item i of the list, from 0, if there is one",
+    "slice_index": "`slice_index xs i`: item i of a list of numbers, from 0; 0 past its end",
+    "slice_index_or": "`slice_index_or xs i d`: item i of the list, from 0; d past its end",
+    "slice_set": "`slice_set xs i x`: the list with x as item i; the list itself where there is no item i",
+    "suc": "the next number",
+    "sum_by": "`sum_by f xs`: the sum of what f gives for the items",
+    "⊤": "what always holds",
+    "◌&&◌": "both are true",
+    "◌||◌": "one of them is true",
+}
+# Words that NOTATION explains, or that mean in the page what they mean everywhere.
+PLAIN = {"Bool", "Err", "IsTrue", "None", "Ok", "Some", "false", "true", "ℕ", "tt"}
+
+
+# ---- reading the sources
+
+class Definition:
+    """A definition: its name, the file it stands in, its comment, its text, and the names that its text cites."""
+
+    def __init__(self, name, file, comment, text, language):
+        self.name, self.file, self.comment, self.text, self.language, self.cited = name, file, comment, text, language, []
+
+    def lines(self):
+        return self.text.count("\n") + 1
+
+
+def read(path):
+    with open(path, encoding="utf-8") as it:
+        return it.read()
+
+
+START = re.compile(r"(?:infix[lr]? \d+ \S+\n)?(?:abbrev|unfoldable|def|pub record|pub data|record|data)(?: pub)? (\S+)")
+# A name, an operator, or a sign that stands alone.
+TOKEN = re.compile(r"\"[^\"]*\"|[^\s(){}\[\];,\"]+|[{}(;]")
+USE = re.compile(r"^use (\S+?)(?:\.\{([^}]*)\}| as (\w+))$", re.M)
+
+
+def blocks(text):
+    """Yields the pieces of a file that blank lines part, each as its comment lines and the rest."""
+    for piece in re.split(r"\n\s*\n", text):
+        lines = piece.strip("\n").split("\n")
+        first = next((at for at, line in enumerate(lines) if not line.startswith("--")), len(lines))
+        yield "\n".join(lines[:first]), "\n".join(lines[first:])
+
+
+def definitions_in(file, text):
+    """Returns the definitions of a file of specs/, by name."""
+    found = {}
+    for comment, rest in blocks(text):
+        start = START.match(rest)
+        if start:
+            found[start[1]] = Definition(start[1], file, comment, rest, "text")
+    return found
+
+
+def imports_in(text):
+    """Returns what each name of a file stands for: the path of a module and the name in it, or the path alone for a module under another name."""
+    found = {}
+    for path, names, alias in USE.findall(text):
+        if alias:
+            found[alias] = path, None
+        for name in filter(None, map(str.strip, names.split(","))):
+            found[name] = path, name
+    return found
+
+
+def bound_in(text):
+    """Returns the names that the text itself binds: variables and parameters."""
+    found = set()
+    for names in re.findall(r"[({]([\w ]+) : |λ ([\w ]+)\.|(\w+) ←|let (\w+)", text):
+        found.update(" ".join(names).split())
+    for line in text.split("\n")[1:]:
+        # (a clause: its left side has patterns, whose lower-case words are variables)
+        left = re.match(r"\S+((?: [^=]*)?) =(?: |$)", line)
+        if left and not line.startswith(" "):
+            found.update(it for it in re.findall(r"[^\s(){}\[\];,∷]+", left[1]) if re.fullmatch(r"[a-z]\w*", it))
+    return found
+
+
+def without_parts(text):
+    """Returns the text of a record without the names of its parts: each stands for the part from the next line on."""
+    parts, lines = set(), []
+    for line in text.split("\n"):
+        part = re.match(r"\s+pub (\S+) :", line)
+        line = line[part.end():] if part else line
+        lines.append(re.sub(r"[\w]+", lambda it: "_" if it[0] in parts and line[it.start() - 1:it.start()] != "." else it[0], line) if parts else line)
+        parts.update([part[1]] if part else [])
+    return "\n".join(lines)
+
+
+def words_of(text):
+    """Returns the words of a definition's text that can name another one, in order: no texts, no parts that are named or set."""
+    tokens, found, depth = TOKEN.findall(text), [], []
+    for at, token in enumerate(tokens):
+        after = tokens[at + 1] if at + 1 < len(tokens) else ""
+        if token in "{(":
+            depth.append(token == "{" and at > 0 and (tokens[at - 1] == "record" or "record" in tokens[max(0, at - 2):at]))
+        is_part = after == "=" and depth and depth[-1] and tokens[at - 1] in "{;"
+        if not token.startswith('"') and not is_part:
+            found.append(token)
+    return found
+
+
+def first_word(token):
+    """Returns the name that a word begins with: `p` of `p.switch`, `event` of `event.Start`."""
+    return token if not re.match(r"\w", token) else token.partition(".")[0]
+
+
+# ---- declared types
+
+def source_of(crate, module, root):
+    """Returns the file of src/ in which a module stands."""
+    parts = module.split(".") if module else []
+    places = ["/".join(parts) + ".rt", "/".join([*parts, "mod.rt"])] if parts else ["lib.rt", "main.rt"]
+    return next(f"crates/{crate}/src/{it}" for it in places if os.path.isfile(f"{root}/crates/{crate}/src/{it}"))
+
+
+def item_in(text, name):
+    """Returns the comment and the text of a struct or an enum of a source file, or None."""
+    found = re.search(rf"(?m)((?:^///.*\n|^#\[.*\]\n)*)^((?:pub(?:\(\w+\))? )?(?:struct|enum) {name}\b(?:\([^)]*\);|[^{{;]*;|[^{{]*\{{(?:\n[\s\S]*?^)?\}}))", text)
+    if not found:
+        return None
+    comment = "\n".join(it for it in found[1].splitlines() if it.startswith("///"))
+    return comment, "\n".join(it for it in found[2].splitlines() if not it.lstrip().startswith("#["))
+
+
+def model_in(text, name):
+    """Returns the value that contracts see in place of a type, and the imports beside it, or None where contracts see the type as it stands."""
+    found = re.search(rf"(?m)^impl(?:<[^>]*>)? Model for {name}\b[^{{]*\{{\n([\s\S]*?)^\}}", text)
+    if not found:
+        return None
+    value = re.search(r"ghost Value = \{\s*([\s\S]*?)\s*\};", found[1])[1]
+    return value, imports_in(re.sub(r"(?m)^\s*ghost use (.*);$", r"use \1", found[1]))
+
+
+def rust_imports(text):
+    """Returns the crate that each name of a source file comes from, as its `use` lines say."""
+    found = {}
+    for path, names, name in re.findall(r"(?m)^use (\w+)(?:::\w+)*::(?:\{([^}]*)\}|(\w+));", text):
+        for it in [*map(str.strip, names.split(",")), name]:
+            found[it] = path
+    return found
+
+
+# ---- the repository
+
+class Specs:
+    """All definitions of the repository, and what each cites."""
+
+    def __init__(self, root):
+        self.root, self.files, self.known, self.imports, self.heads, self.library = root, {}, {}, {}, {}, {}
+        for crate in sorted(os.listdir(f"{root}/crates")):
+            for at, folders, names in os.walk(f"{root}/crates/{crate}/specs"):
+                folders.sort()
+                for name in sorted(it for it in names if it.endswith(".antt")):
+                    self.add(os.path.relpath(f"{at}/{name}", root))
+
+    def add(self, file):
+        text = read(f"{self.root}/{file}")
+        self.files[file], self.imports[file] = definitions_in(file, text), imports_in(text)
+        head = re.match(r"((?:-- .*\n)*)use ", text)
+        self.heads[file] = " ".join(it[3:] for it in head[1].splitlines()) if head else ""
+
+    def named(self, name):
+        """Returns the definition of the name, which stands once."""
+        found = [it[name] for it in self.files.values() if name in it]
+        if len(found) != 1:
+            raise LookupError(f"{name} is defined {len(found)} times in crates/*/specs: {', '.join(it.file for it in found) or 'nowhere'}")
+        return found[0]
+
+    def crate_of(self, path):
+        return path.split(".")[1]
+
+    def resolve(self, path, name, by):
+        """Returns the definitions behind a name of a module. A word of a library is noted."""
+        parts = path.split(".")
+        crate, inner = parts[1], parts[3:]
+        if not os.path.isdir(f"{self.root}/crates/{crate}"):
+            if name:
+                self.library.setdefault(by, set()).add((path, name))
+            return []
+        if inner[:1] in (["declared"], ["contracts"]):
+            names = [it for it in inner[1:] if it != "TheVariants"]
+            return [self.declared(crate, ".".join(names[:-1]), names[-1])]
+        file = f"crates/{crate}/specs/{'/'.join(inner)}.antt"
+        if name is None:
+            return []
+        if name not in self.files[file]:
+            # (a module may pass on what another one defines)
+            return self.resolve(*self.imports[file][name], by) if name in self.imports[file] else []
+        return [self.files[file][name]]
+
+    def declared(self, crate, module, name):
+        """Returns the declaration of a type in src/."""
+        key = crate, name
+        if key not in self.known:
+            file = source_of(crate, module, self.root)
+            self.known[key] = self.type_in(crate, file, name)
+        return self.known[key]
+
+    def type_in(self, crate, file, name):
+        text = read(f"{self.root}/{file}")
+        found = item_in(text, name)
+        if not found:
+            raise LookupError(f"{file} declares no type {name}")
+        comment, item = found
+        model = model_in(text, name)
+        if model:
+            made = Definition(name, file, comment, f"{item[:item.index(name)]}{name}, seen as {model[0]}", "rust")
+            made.cites = lambda: [it for word in words_of(model[0]) if word in model[1] for it in self.resolve(*model[1][word], made)]
+        else:
+            made = Definition(name, file, comment, item, "rust")
+            made.cites = lambda: self.types_in(crate, text, item, name)
+        return made
+
+    def types_in(self, crate, text, item, own):
+        """Returns the types of the repository that a declaration names."""
+        brought, found = rust_imports(text), []
+        bare = re.sub(r"(?m)//.*$", "", item)
+        # (in an enum a word that begins a line is a variant)
+        bare = re.sub(r"(?m)^    (?:pub )?\w+(?=[,({:]|\s*$)", "", bare.partition("{")[2]) if "{" in bare else bare.partition(own)[2]
+        for word in re.findall(r"\b[A-Z]\w*", bare):
+            place = brought.get(word, crate)
+            if word != own and os.path.isdir(f"{self.root}/crates/{place}/src"):
+                found += self.search(place, word)
+        return found
+
+    def search(self, crate, name):
+        """Returns the declaration of a type, wherever in src/ of the crate it stands."""
+        if (crate, name) in self.known:
+            return [self.known[crate, name]]
+        for at, folders, names in os.walk(f"{self.root}/crates/{crate}/src"):
+            folders.sort()
+            for it in sorted(names):
+                file = os.path.relpath(f"{at}/{it}", self.root)
+                if item_in(read(f"{self.root}/{file}"), name):
+                    self.known[crate, name] = self.type_in(crate, file, name)
+                    return [self.known[crate, name]]
+        return []
+
+    def cited(self, definition):
+        """Returns the definitions that a definition's text names, in the order of its text, each once."""
+        if hasattr(definition, "cites"):
+            found = definition.cites()
+        else:
+            file, bound, found = definition.file, bound_in(definition.text), []
+            here, brought = self.files[file], self.imports[file]
+            text = without_parts(definition.text) if "record" in definition.text.split("\n")[0] else definition.text
+            for token in words_of(text):
+                for name in (first_word(token), f"◌{token}◌", f"◌{token}") + (("◌>>=◌",) if token == "do" else ()):
+                    # (a variable may have the name of a module, whose words have a capital)
+                    is_bound = name in bound and not re.match(r"\w+\.[A-Z]", token)
+                    if is_bound or name == definition.name:
+                        continue
+                    if name in here:
+                        found.append(here[name])
+                    elif name in brought:
+                        found += self.resolve(*brought[name], definition)
+        return [it for it in dict.fromkeys(found) if it is not definition]
+
+
+# ---- the page
+
+def in_order(starts, follow):
+    """Returns all that is reached from the starts, each before what it leads to where there is no ring, and what is named first early."""
+    done, ended = set(), []
+
+    def go(it):
+        open_ = [(it, iter(reversed(follow(it))))]
+        done.add(it)
+        while open_:
+            top, rest = open_[-1]
+            for other in rest:
+                if other not in done:
+                    done.add(other)
+                    open_.append((other, iter(reversed(follow(other)))))
+                    break
+            else:
+                ended.append(open_.pop()[0])
+
+    for it in reversed(starts):
+        if it not in done:
+            go(it)
+    return ended[::-1]
+
+
+def by_file(definitions, cited):
+    """Returns the definitions by file: files before those that they rest on, and in a file each definition before those that it is made of."""
+    files = {}
+    for it in definitions:
+        files.setdefault(it.file, []).append(it)
+    leads = {file: list(dict.fromkeys(other.file for it in own for other in cited(it) if other.file in files and other.file != file)) for file, own in files.items()}
+    return [(file, files[file]) for file in in_order(list(files), leads.get)]
+
+
+def shown(definition):
+    return f"{definition.comment}\n{definition.text}".lstrip("\n")
+
+
+def file_text(specs, file, definitions):
+    """Returns the section of a file."""
+    language = definitions[0].language
+    head = specs.heads.get(file, "")
+    body = "\n\n".join(map(shown, definitions))
+    return f"### {file}\n\n" + (f"{head}\n\n" if head else "") + f"```{language}\n{body}\n```\n"
+
+
+def counts(definitions):
+    """Returns how many definitions, declared types, lines and files there are."""
+    types = [it for it in definitions if it.language == "rust"]
+    return len(definitions) - len(types), len(types), sum(it.lines() for it in definitions), len({it.file for it in definitions})
+
+
+def library_text(specs, definitions):
+    """Returns the table of the words of libraries, and those of them whose meaning isn't told."""
+    words = {}
+    for it in definitions:
+        for path, name in specs.library.get(it, ()):
+            if name not in PLAIN and (name in WORDS or re.match(r"\w", name)):
+                words.setdefault(name, set()).add(path.replace("Rattle.", "").replace(".specs.", ", ").replace("declared.", ""))
+    shown_as = lambda name: name.replace("◌", "")
+    escaped = lambda text: text.replace("|", "\\|")
+    rows = [f"| `{escaped(shown_as(name))}` | {escaped(WORDS.get(name, ''))} | {'; '.join(sorted(paths))} |" for name, paths in sorted(words.items())]
+    return "\n".join([LIBRARY, "| Word | Meaning | Library and page |", "|---|---|---|", *rows]) + "\n", sorted({*words} - {*WORDS})
+
+
+def page(specs):
+    """Returns the text of the page, the rows of its counts, and the words of libraries whose meaning isn't told."""
+    cited, shown_, parts, rows = {}, set(), [], []
+
+    def follow(it):
+        if it not in cited:
+            cited[it] = specs.cited(it)
+        return cited[it]
+
+    every = []
+    for number, (title, about, names) in enumerate(PARTS, 1):
+        own = [it for it in in_order([specs.named(name) for name in names], follow) if it not in shown_]
+        shown_.update(own)
+        every += own
+        rows.append((title, *counts(own)))
+        sections = [file_text(specs, *it) for it in by_file(own, follow)]
+        parts.append("\n".join([f"## {number}. {title}\n\n{about}\n", *sections]))
+    rows.append(("All", *counts(every)))
+    table = ["| Part | Definitions | Declared types | Lines | Files |", "|---|---|---|---|---|", *[f"| {' | '.join(map(str, it))} |" for it in rows]]
+    note = "Lines are those of the definitions and types, without the comments above them. A file that has something of several parts is counted in each, and once in the last row."
+    words, untold = library_text(specs, every)
+    return "\n".join([HEAD, "\n".join(table), "", note, "", NOTATION, words, *parts]), rows, untold
+
+
+def main(words):
+    if words not in ([], ["--check"]):
+        print(__doc__, file=sys.stderr)
+        return 2
+    try:
+        text, rows, untold = page(Specs(ROOT))
+    except LookupError as it:
+        print(f"headline: {it}", file=sys.stderr)
+        return 1
+    if words:
+        made = os.path.isfile(f"{ROOT}/{PAGE}") and read(f"{ROOT}/{PAGE}")
+        if made != text:
+            print(f"headline: {PAGE} is not what the definitions make: run python3 tools/headline.py", file=sys.stderr)
+            return 1
+    else:
+        with open(f"{ROOT}/{PAGE}", "w", encoding="utf-8") as it:
+            it.write(text)
+        for it in untold:
+            print(f"headline: WORDS in tools/headline.py doesn't say what {it} means", file=sys.stderr)
+    for title, definitions, types, lines, files in rows:
+        print(f"headline: {title}: {definitions} definitions, {types} declared types, {lines} lines, {files} files")
+    return 0
+
+
+if __name__ == "__main__":
+    sys.exit(main(sys.argv[1:]))
