@@ -1,0 +1,207 @@
+#!/usr/bin/env python3
+"""Draws the networks of examples/ from their files: docs/NAME.svg shows the links with their ports, and the old and the new rules for one prefix.
+
+    tools/draw.py             writes the drawings
+    tools/draw.py --check     writes nothing, and fails where a drawing is not what this script makes
+
+Only where a switch stands in the drawing is said here. All else is the example's.
+"""
+import json
+import os
+import sys
+
+ROOT = os.path.dirname(os.path.dirname(os.path.realpath(__file__)))
+# Of each example: the width and the height, the prefix whose rules are drawn, the middle of each switch, where its host ports lie from there, and by
+# how much a link bends aside.
+LAYOUTS = {
+    "square": {
+        "size": (600, 280),
+        "prefix": "10.0.0.0/24",
+        "switches": {"s1": (190, 45), "s2": (410, 45), "s3": (410, 195), "s4": (190, 195)},
+        "hosts": {"s1:1": (-80, 0), "s2:3": (80, 0), "s3:4": (80, 0), "s4:3": (-80, 0)},
+    },
+    "detour": {
+        "size": (760, 240),
+        "prefix": "10.0.0.0/24",
+        "switches": {"s": (120, 105), "x": (250, 105), "w": (380, 105), "y": (510, 105), "d": (640, 105)},
+        "hosts": {"s:1": (-75, 0), "d:3": (75, 0)},
+        "bends": {("s:3", "y:3"): 75, ("x:3", "d:2"): -75},
+    },
+    "leaf-spine": {
+        "size": (700, 300),
+        "prefix": "10.1.1.0/24",
+        "switches": {"p1": (240, 40), "p2": (460, 40), "l1": (90, 180), "l2": (265, 180), "l3": (435, 180), "l4": (610, 180)},
+        "hosts": {f"l{i}:{j}": (-28 if j == 1 else 28, 70) for i in range(1, 5) for j in (1, 2)},
+    },
+}
+BOX = (34, 20)
+OLD, NEW, BOTH = "#c2570c", "#1d4ed8", "#374151"
+
+
+def read(path):
+    with open(f"{ROOT}/{path}", encoding="utf-8") as it:
+        return json.load(it)
+
+
+def port_of(switch, number):
+    return f"{switch}:{number}"
+
+
+def outputs(configuration, prefix):
+    """Returns the output of each switch for the prefix, as its rules in the file say."""
+    return {it["switch"]: it["out"] for it in configuration["rules"] if it["dst"] == prefix}
+
+
+def ends_of(topology):
+    """Returns the port at the other end of each port of a link."""
+    ends = {}
+    for one, other in topology["links"]:
+        ends[one], ends[other] = other, one
+    return ends
+
+
+def curve(one, other, bend):
+    """Returns points of a line between two points that bends aside by so much at its middle."""
+    (x0, y0), (x1, y1) = one, other
+    length = max(((x1 - x0) ** 2 + (y1 - y0) ** 2) ** 0.5, 1)
+    nx, ny = (y1 - y0) / length, -(x1 - x0) / length
+    cx, cy = (x0 + x1) / 2 + 2 * bend * nx, (y0 + y1) / 2 + 2 * bend * ny
+    steps = [it / 60 for it in range(61)]
+    return [((1 - t) ** 2 * x0 + 2 * t * (1 - t) * cx + t * t * x1, (1 - t) ** 2 * y0 + 2 * t * (1 - t) * cy + t * t * y1) for t in steps]
+
+
+def outside(points, middle, box):
+    """Returns the points that lie outside of a box around a middle."""
+    return [(x, y) for x, y in points if abs(x - middle[0]) > box[0] or abs(y - middle[1]) > box[1]]
+
+
+def aside(points, much):
+    """Returns the points moved to their right hand by so much."""
+    (x0, y0), (x1, y1) = points[0], points[-1]
+    length = max(((x1 - x0) ** 2 + (y1 - y0) ** 2) ** 0.5, 1)
+    return [(x - much * (y1 - y0) / length, y + much * (x1 - x0) / length) for x, y in points]
+
+
+def along(points, much):
+    """Returns the point so far along a line."""
+    for (x0, y0), (x1, y1) in zip(points, points[1:]):
+        step = ((x1 - x0) ** 2 + (y1 - y0) ** 2) ** 0.5
+        if much <= step:
+            return x0 + (x1 - x0) * much / step, y0 + (y1 - y0) * much / step
+        much -= step
+    return points[-1]
+
+
+def is_straight(points):
+    (x0, y0), (x1, y1), (x2, y2) = points[0], points[len(points) // 2], points[-1]
+    return abs((x1 - x0) * (y2 - y0) - (y1 - y0) * (x2 - x0)) < 1
+
+
+def path(points, style):
+    points = [points[0], points[-1]] if is_straight(points) else points
+    text = " ".join(f"{'L' if at else 'M'}{x:.1f} {y:.1f}" for at, (x, y) in enumerate(points))
+    return f'<path d="{text}" fill="none" {style}/>'
+
+
+def label(x, y, text, style=""):
+    return f'<text x="{x:.1f}" y="{y:.1f}" {style}>{text}</text>'
+
+
+class Drawing:
+    def __init__(self, name):
+        folder, self.layout = f"examples/{name}", LAYOUTS[name]
+        self.topology = read(f"{folder}/topology.json")
+        self.old, self.new = (outputs(read(f"{folder}/{it}.json"), self.layout["prefix"]) for it in ("old", "new"))
+        self.ends, self.places = ends_of(self.topology), self.layout["switches"]
+        self.bends = {}
+        for (one, other), much in self.layout.get("bends", {}).items():
+            self.bends[one, other], self.bends[other, one] = much, -much
+
+    def middle(self, port):
+        return self.places[port.rpartition(":")[0]]
+
+    def host(self, port):
+        (x, y), (dx, dy) = self.middle(port), self.layout["hosts"][port]
+        return x + dx, y + dy
+
+    def line(self, one):
+        """Returns the points of the line from a port's switch to what is at the port, and the box that each end has."""
+        if one in self.ends:
+            other = self.ends[one]
+            points = curve(self.middle(one), self.middle(other), self.bends.get((one, other), 0))
+            return outside(outside(points, self.middle(one), BOX), self.middle(other), BOX)
+        return outside(outside(curve(self.middle(one), self.host(one), 0), self.middle(one), BOX), self.host(one), (8, 8))
+
+    def links(self):
+        for port in [*[it[0] for it in self.topology["links"]], *self.topology["hosts"]]:
+            yield path(self.line(port), 'stroke="#9ca3af" stroke-width="2"')
+
+    def ports(self):
+        """Yields the number of each port, on its link beside the switch."""
+        for port in [*self.ends, *self.topology["hosts"]]:
+            x, y = along(self.line(port), 11)
+            yield f'<circle cx="{x:.1f}" cy="{y:.1f}" r="6.5" fill="#fff"/>'
+            yield label(x, y + 4, port.rpartition(":")[2], 'class="port"')
+
+    def arrows(self):
+        """Yields an arrow for each rule: beside the link on one side for the old ones, on the other side for the new ones."""
+        for switch in self.places:
+            old, new = self.old.get(switch), self.new.get(switch)
+            shown = [(old, BOTH, 9)] if old == new else [(old, OLD, 9), (new, NEW, 9)]
+            for out, colour, much in shown:
+                if isinstance(out, int):
+                    points = aside(self.line(port_of(switch, out)), much)
+                    cut = max(1, len(points) // 10)
+                    dashes = ' stroke-dasharray="6 4"' if colour == OLD else ""
+                    yield path(points[cut:-cut], f'stroke="{colour}" stroke-width="2.5"{dashes} marker-end="url(#{colour[1:]})"')
+
+    def switches(self):
+        for name, (x, y) in self.places.items():
+            yield f'<rect x="{x - BOX[0]}" y="{y - BOX[1]}" width="{2 * BOX[0]}" height="{2 * BOX[1]}" rx="6" fill="#f3f4f6" stroke="#374151" stroke-width="1.5"/>'
+            yield label(x, y + 5, name, 'class="name"')
+        for port in self.topology["hosts"]:
+            x, y = self.host(port)
+            yield f'<circle cx="{x}" cy="{y}" r="7" fill="#fff" stroke="#374151" stroke-width="1.5"/>'
+
+    def legend(self):
+        width, height = self.layout["size"]
+        y = height - 18
+        parts = [(OLD, "old rule"), (NEW, "new rule"), (BOTH, "in both")]
+        for at, (colour, text) in enumerate(parts):
+            x = 20 + 110 * at
+            dashes = ' stroke-dasharray="6 4"' if colour == OLD else ""
+            yield path([(x, y), (x + 30, y)], f'stroke="{colour}" stroke-width="2.5"{dashes} marker-end="url(#{colour[1:]})"')
+            yield label(x + 42, y + 4, text, 'class="legend"')
+        yield label(20 + 110 * len(parts), y + 4, f"for {self.layout['prefix']}; circles are host ports", 'class="legend"')
+
+    def text(self):
+        width, height = self.layout["size"]
+        markers = "".join(
+            f'<marker id="{it[1:]}" viewBox="0 0 10 10" refX="8" refY="5" markerWidth="6" markerHeight="6" orient="auto"><path d="M0 0L10 5L0 10z" fill="{it}"/></marker>'
+            for it in (OLD, NEW, BOTH)
+        )
+        style = "text{font-family:sans-serif;fill:#111827}.name{font-size:15px;text-anchor:middle}.port{font-size:11px;fill:#4b5563;text-anchor:middle}.legend{font-size:12px}"
+        head = f'<svg xmlns="http://www.w3.org/2000/svg" width="{width}" height="{height}" viewBox="0 0 {width} {height}">'
+        body = [f"<defs>{markers}</defs><style>{style}</style>", f'<rect width="{width}" height="{height}" fill="#ffffff"/>']
+        return "\n".join([head, *body, *self.links(), *self.arrows(), *self.ports(), *self.switches(), *self.legend(), "</svg>"]) + "\n"
+
+
+def main(words):
+    if words not in ([], ["--check"]):
+        print(__doc__, file=sys.stderr)
+        return 2
+    stale = []
+    for name in LAYOUTS:
+        file, text = f"{ROOT}/docs/{name}.svg", Drawing(name).text()
+        if not words:
+            with open(file, "w", encoding="utf-8") as it:
+                it.write(text)
+        elif not os.path.isfile(file) or open(file, encoding="utf-8").read() != text:
+            stale.append(f"docs/{name}.svg")
+    if stale:
+        print(f"draw: not what the examples make, run python3 tools/draw.py: {' '.join(stale)}", file=sys.stderr)
+    return 1 if stale else 0
+
+
+if __name__ == "__main__":
+    sys.exit(main(sys.argv[1:]))
