@@ -1,8 +1,8 @@
 #!/usr/bin/env python3
-"""Makes docs/HEADLINE.md: all definitions on which the clause of `check` rests, copied from the crates.
+"""Makes docs/HEADLINE.md: all definitions on which the clause of `check` rests, copied from the crates; and the counts in README.md.
 
-    tools/headline.py             writes the page, and prints the counts
-    tools/headline.py --check     writes nothing, and fails where the page is not what this script makes
+    tools/headline.py             writes the page and the counts, and prints these
+    tools/headline.py --check     writes nothing, and fails where the page or the counts are not what this script makes
 
 A definition is found by its name in crates/*/specs. From it the script goes on to each definition that its text names, until only words of the
 standard library are left. A type that is declared in the code (`specs.declared`) is shown as it stands in src/; of one that contracts see as a plain
@@ -458,23 +458,32 @@ def page(specs):
     return "\n".join([HEAD, "\n".join(table), "", note, "", NOTATION, words, *parts]), rows, untold
 
 
+def with_counts(readme, rows):
+    """Returns the text of README.md with the counts of the parts between their marks."""
+    parts = [f"for {title[0].lower()}{title[1:]} {definitions} definitions ({lines} lines with the types that they speak of)" for title, definitions, _, lines, _ in rows[:-1]]
+    text, found = re.subn(r"<!-- counts -->.*?<!-- /counts -->", f"<!-- counts -->{', '.join(parts)}<!-- /counts -->", readme, flags=re.S)
+    if found != 1:
+        raise LookupError("README.md has no marks <!-- counts --> and <!-- /counts --> around the counts")
+    return text
+
+
 def main(words):
     if words not in ([], ["--check"]):
         print(__doc__, file=sys.stderr)
         return 2
     try:
         text, rows, untold = page(Specs(ROOT))
+        wanted = {PAGE: text, "README.md": with_counts(read(f"{ROOT}/README.md"), rows)}
     except LookupError as it:
         print(f"headline: {it}", file=sys.stderr)
         return 1
-    if words:
-        made = os.path.isfile(f"{ROOT}/{PAGE}") and read(f"{ROOT}/{PAGE}")
-        if made != text:
-            print(f"headline: {PAGE} is not what the definitions make: run python3 tools/headline.py", file=sys.stderr)
-            return 1
-    else:
-        with open(f"{ROOT}/{PAGE}", "w", encoding="utf-8") as it:
-            it.write(text)
+    stale = [file for file, made in wanted.items() if not os.path.isfile(f"{ROOT}/{file}") or read(f"{ROOT}/{file}") != made]
+    if words and stale:
+        print(f"headline: {' and '.join(stale)}: not what the definitions make, run python3 tools/headline.py", file=sys.stderr)
+        return 1
+    for file in stale:
+        with open(f"{ROOT}/{file}", "w", encoding="utf-8") as it:
+            it.write(wanted[file])
         for it in untold:
             print(f"headline: WORDS in tools/headline.py doesn't say what {it} means", file=sys.stderr)
     for title, definitions, types, lines, files in rows:

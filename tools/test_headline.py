@@ -140,6 +140,13 @@ class Page(unittest.TestCase):
         self.assertNotIn("Not cited", text)
         self.assertNotIn("unused", text)
 
+    def test_counts_stand_between_their_marks(self):
+        rows = [("One part", 2, 3, 40, 5), ("All", 9, 9, 9, 9)]
+        wanted = "a <!-- counts -->for one part 2 definitions (40 lines with the types that they speak of)<!-- /counts --> b"
+        self.assertEqual(headline.with_counts("a <!-- counts -->old\ntext<!-- /counts --> b", rows), wanted)
+        with self.assertRaises(LookupError):
+            headline.with_counts("no marks", rows)
+
     def test_a_name_that_is_lost_is_told(self):
         with self.assertRaisesRegex(LookupError, "Gone is defined 0 times"):
             self.specs.named("Gone")
