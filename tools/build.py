@@ -268,16 +268,16 @@ class Build:
         self.trees = [Tree(root), *[Tree(f"{place}/{it}") for it in range(1, copies)]]
         self.kept = [*self.trees, *[Tree(it) for it in kept if it not in [tree.root for tree in self.trees]]]
         self.place, self.copies = place, copies
-        self.left = [it for it in self.order if not any(tree.has(it, self.sums[it]) for tree in self.kept)]
-        # (the program's own step also brings all libraries into the repository)
-        self.left = [*[it for it in self.left if it != program], program]
+        self.lacking = [it for it in self.order if not any(tree.has(it, self.sums[it]) for tree in self.kept)]
+        # (the program's own step is made in any case: it also brings all libraries into the repository)
+        self.left = [*[it for it in self.lacking if it != program], program]
 
     def seconds(self):
         return time.monotonic() - self.begun
 
     def run(self):
-        minutes = foretold(self.crates, self.left, self.lines, self.processors, self.copies)
-        self.voice.say(first_line(len(self.order), len(self.left), minutes, self.processors))
+        minutes = foretold(self.crates, self.lacking, self.lines, self.processors, self.copies)
+        self.voice.say(first_line(len(self.order), len(self.lacking), minutes, self.processors))
         if len(self.left) > 1:
             for tree in self.trees[1:]:
                 tree.take_sources(self.root, self.crates)
@@ -337,7 +337,11 @@ class Build:
             except ProcessLookupError:
                 pass
         for _, process in self.running.values():
-            process.wait()
+            try:
+                process.wait(10)
+            except subprocess.TimeoutExpired:
+                os.killpg(process.pid, signal.SIGKILL)
+                process.wait()
 
 
 def stop_at(number, _):
