@@ -51,7 +51,11 @@ NOTATION = """## How to read it
 | `[]`, `x ∷ xs`, `xs ++ ys` | the empty list; x before the list xs; one list behind the other |
 | `None`, `Some x` | nothing; x |
 | `Ok x`, `Err e` | the value x; the refusal e |
-| `p.0` | the number of a switch or a port |
+| `p.0`, `p.1` | the number of a switch or a port; the parts of a pair |
+| `let x : A = e in b` | b, where x stands for e |
+| `do` with lines `x ← a` | each line's value has its name in the lines below; a line that refuses ends with its refusal |
+| `{A : Type 0} →` | for every type A |
+| `◌>>=◌` | the operator that is written `x >>= f` |
 
 Texts and bytes are lists of numbers. A definition marked `unfoldable` reads as one marked `abbrev`. A type that is declared in the code stands as it does there: `u32` and the like are numbers below a bound, `Vec` is a list. Of a type whose parts are its crate's own, the page has the value that contracts see, behind "seen as".
 """
@@ -290,6 +294,7 @@ class Specs:
                 self.library.setdefault(by, set()).add((path, name))
             return []
         if inner[:1] in (["declared"], ["contracts"]):
+            # (its variants, and the name itself, lead to the type)
             names = [it for it in inner[1:] if it != "TheVariants"]
             return [self.declared(crate, ".".join(names[:-1]), names[-1])]
         file = f"crates/{crate}/specs/{'/'.join(inner)}.antt"
@@ -365,7 +370,9 @@ class Specs:
                     if name in here:
                         found.append(here[name])
                     elif name in brought:
-                        found += self.resolve(*brought[name], definition)
+                        path, inner = brought[name]
+                        # (of a module under another name the word behind the point is meant)
+                        found += self.resolve(path, inner or token.partition(".")[2].partition(".")[0] or None, definition)
         return [it for it in dict.fromkeys(found) if it is not definition]
 
 

@@ -68,6 +68,11 @@ use Rattle.std.specs.Prelude.{List, length}
 use Rattle.low.specs.Lists.{◌&◌, opened}
 use Rattle.low.specs.declared.Place.{Place}
 use Rattle.low.specs.declared.Places.{Places}
+use Rattle.low.specs.Lists as lists
+
+-- by a module's other name
+abbrev pub number : ℕ
+number = lists.unused
 
 -- lower than good
 abbrev pub half : List Place → List Place
@@ -111,6 +116,7 @@ class Page(unittest.TestCase):
         self.assertEqual(self.names("IsGood"), ["Places", "half"])
         self.assertEqual(self.names("AreOpen"), ["Place", "opened"])
         self.assertEqual(self.names("half"), ["Place", "◌&◌"])
+        self.assertEqual(self.names("number"), ["unused"])
 
     def test_types_are_shown_as_declared_or_as_contracts_see_them(self):
         places, place = self.specs.declared("low", "", "Places"), self.specs.declared("low", "", "Place")
