@@ -153,7 +153,7 @@ class Drawing:
                     points = aside(self.line(port_of(switch, out)), much)
                     cut = max(1, len(points) // 10)
                     dashes = ' stroke-dasharray="6 4"' if colour == OLD else ""
-                    yield path(points[cut:-cut], f'stroke="{colour}" stroke-width="2.5"{dashes} marker-end="url(#{colour[1:]})"')
+                    yield path(points[cut:-cut], f'stroke="{colour}" stroke-width="2.5"{dashes} marker-end="url(#m{colour[1:]})"')
 
     def switches(self):
         for name, (x, y) in self.places.items():
@@ -170,14 +170,14 @@ class Drawing:
         for at, (colour, text) in enumerate(parts):
             x = 20 + 110 * at
             dashes = ' stroke-dasharray="6 4"' if colour == OLD else ""
-            yield path([(x, y), (x + 30, y)], f'stroke="{colour}" stroke-width="2.5"{dashes} marker-end="url(#{colour[1:]})"')
+            yield path([(x, y), (x + 30, y)], f'stroke="{colour}" stroke-width="2.5"{dashes} marker-end="url(#m{colour[1:]})"')
             yield label(x + 42, y + 4, text, 'class="legend"')
         yield label(20 + 110 * len(parts), y + 4, f"for {self.layout['prefix']}; circles are host ports", 'class="legend"')
 
     def text(self):
         width, height = self.layout["size"]
         markers = "".join(
-            f'<marker id="{it[1:]}" viewBox="0 0 10 10" refX="8" refY="5" markerWidth="6" markerHeight="6" orient="auto"><path d="M0 0L10 5L0 10z" fill="{it}"/></marker>'
+            f'<marker id="m{it[1:]}" viewBox="0 0 10 10" refX="8" refY="5" markerWidth="6" markerHeight="6" orient="auto"><path d="M0 0L10 5L0 10z" fill="{it}"/></marker>'
             for it in (OLD, NEW, BOTH)
         )
         style = "text{font-family:sans-serif;fill:#111827}.name{font-size:15px;text-anchor:middle}.port{font-size:11px;fill:#4b5563;text-anchor:middle}.legend{font-size:12px}"
