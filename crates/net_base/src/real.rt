@@ -1,27 +1,29 @@
 // The files and the standard output of the system. They tell nothing of what they hold.
-ghost use Rattle.std.specs.Prelude.{◌≡◌, None, is_some};
+ghost use Rattle.std.specs.Prelude.{◌≡◌, [], None, is_some, option_map, string_bytes, unwrap_or};
 
 use crate::{Failed, Sink, Source};
 use std::io::{Read, Write};
 use std::rt::Files;
 use std::{fs, io};
 
-/// Files by their paths.
+/// Files by their paths. It keeps the name of the current file: a select that lacks the memory for it fails, and is a fault.
 #[derive(Drop)]
-pub struct FileSource<R: Files> {
+pub struct FileSource<R: Files + AllocGlobal> {
     files: R,
+    name: Option<String>,
     current: Option<R::File>,
     taken: u64,
     faults: u64,
 }
 
-impl<R: Files> FileSource<R> {
+impl<R: Files + AllocGlobal> FileSource<R> {
     /// No file is current, and nothing has failed.
     pub fn make(files: R) -> Self
-        ensures { result ≡ record { files = files; current = None; taken = 0; faults = 0 } }
+        ensures { result ≡ record { files = files; name = None; current = None; taken = 0; faults = 0 } }
     {
         FileSource {
             files,
+            name: None,
             current: None,
             taken: 0,
             faults: 0,
@@ -29,10 +31,12 @@ impl<R: Files> FileSource<R> {
     }
 }
 
-impl<R: Files> Source for FileSource<R> {
+impl<R: Files + AllocGlobal> Source for FileSource<R> {
     ghost held = { λ _. None };
 
     ghost left = { λ _. None };
+
+    ghost selected = { λ s. unwrap_or (option_map string_bytes s.name) [] };
 
     ghost is_current = { λ s. is_some s.current };
 
@@ -42,12 +46,15 @@ impl<R: Files> Source for FileSource<R> {
 
     fn select(&mut self, name: &str) -> Result<(), Failed> {
         self.taken = 0;
-        match fs::open(&self.files, name) {
-            Ok(file) => {
+        let kept = String::from_str(self.files.alloc(), name);
+        match (kept, fs::open(&self.files, name)) {
+            (Ok(kept), Ok(file)) => {
+                self.name = Some(kept);
                 self.current = Some(file);
                 Ok(())
             }
-            Err(_) => {
+            _ => {
+                self.name = None;
                 self.current = None;
                 self.faults = self.faults.saturating_add(1);
                 Err(Failed)

@@ -30,7 +30,8 @@ fn decimal_of(text: &str, most: u64) -> Option<u64>
     }
 }
 
-/// The number that the text is, where it is a decimal of at most `most`.
+/// The number that the text spells, where that is at most `most`: at least one decimal digit (`0` to `9`), no sign, no space,
+/// and no leading zero but in `0` itself. None says that the text spells no such number.
 pub fn read_decimal(text: &str, most: u64) -> Option<u64>
     ensures value { result ≡ texts.decimal_in text.now most }
     // It is the one spelling of the number.

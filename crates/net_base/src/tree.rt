@@ -8,16 +8,20 @@ ghost use Rattle.net_base.specs.Tree as tree;
 ghost use Rattle.net_base.specs.declared.tree.JsonFault.TheVariants.{NotJson, Memory};
 
 use serde_json::Value;
-use std::alloc::{AllocError, Global};
+use std::alloc::Global;
 
-/// Why bytes are no JSON tree.
+/// Why bytes give no JSON tree.
 #[derive(Clone, Copy, Debug, PartialEq, Eq)]
 pub enum JsonFault {
+    /// `serde_json` finds no tree in them: they are no JSON text in UTF-8 with nothing but white space round it (RFC 8259),
+    /// or its nesting is more than 127 levels deep, for example.
     NotJson,
+    /// Memory was wanting for the tree.
     Memory,
 }
 
-/// The tree that the bytes are.
+/// The JSON tree that the bytes are, as `serde_json` reads them: one JSON text in UTF-8, with nothing but white space round
+/// it. `NotJson` says that they are none, and `Memory` that memory was wanting before that was known.
 pub fn parse_json(alloc: Global, bytes: &[u8]) -> Result<Value, JsonFault>
     ensures { Gives Memory view result (need (tree.tree_in bytes.now) NotJson) }
 {
@@ -76,8 +80,9 @@ pub fn list_at<'v>(value: &'v Value, name: &str) -> Option<&'v [Value]>
     value.get(name).and_then(list_in)
 }
 
-/// The compact text of a tree, and a line end.
-pub fn write_line(alloc: Global, value: &Value) -> Result<Vec<u8>, AllocError>
+/// The compact text of a tree, without white space between its parts, and a line end (byte 10) behind it. It reads back as
+/// the same tree. The tree has no number of a floating point, and at most 127 levels. Err says that memory was wanting.
+pub fn write_line(alloc: Global, value: &Value) -> Result<Vec<u8>, crate::Memory>
     requires no_float { has_float (view value.now) ≡ false }
     requires shallow { depth (view value.now) ≤ 127 }
     ensures text { IfOk result (λ b. b.items ≡ compact_text (view value.now) ++ 10 ∷ []) }
