@@ -8,7 +8,7 @@ ghost use Rattle.net_base.specs.Members.{IsIn};
 ghost use Rattle.net_base.specs.declared.ids.SwitchId.{SwitchId};
 
 use net_base::{Memory, SwitchId};
-use std::alloc::{AllocError, Global};
+use std::alloc::Global;
 use std::marker::Model;
 
 /// An edge between switches.
@@ -242,7 +242,7 @@ fn closed_walk(
     pending: &[bool],
     left: &mut [bool],
     start: SwitchId,
-) -> Result<Vec<SwitchId>, AllocError>
+) -> Result<Vec<SwitchId>, Memory>
     requires edges { All (λ e. (e.from.0 < length pending.now) × (e.to.0 < length pending.now)) edges.now }
     requires stuck { IsStuck (IsEdge edges.now) pending.now }
     requires start { IsOpen pending.now start }
@@ -280,7 +280,7 @@ fn first_open(pending: &[bool]) -> Option<SwitchId>
 
 /// The heights of the switches, where the edges have no cycle, or a closed walk of edges.
 /// For each switch it looks at the edges once for each switch at most.
-pub fn number(alloc: Global, switches: u32, edges: &[Edge]) -> Result<Numbered, AllocError>
+pub fn number(alloc: Global, switches: u32, edges: &[Edge]) -> Result<Numbered, Memory>
     requires switches { switches ≤ 128 }
     requires edges { All (λ e. (e.from.0 < switches) × (e.to.0 < switches)) edges.now }
     ensures { IfOk result (λ found. IsNumbered (IsEdge edges.now) switches found) }

@@ -11,8 +11,8 @@ ghost use Rattle.waypoint_evidence.specs.Grown.{AreChained, IsGrown, IsKnown, Is
 ghost use Rattle.acyclic_numbering.specs.Heights.{IsEdge};
 
 use acyclic_numbering::{Edge, SwitchList};
-use net_base::SwitchId;
-use std::alloc::{AllocError, Global};
+use net_base::{Memory, SwitchId};
+use std::alloc::Global;
 use std::marker::Model;
 
 /// A set of switches below 128.
@@ -212,7 +212,7 @@ fn grow(
     edges: &[Edge],
     waypoint: SwitchId,
     earlier: Option<&Before>,
-) -> Result<Vec<Edge>, AllocError>
+) -> Result<Vec<Edge>, Memory>
     requires empty { before.old ≡ [] }
     requires start { start.0 < 128 }
     requires edges { All (λ e. (e.from.0 < 128) × (e.to.0 < 128)) edges.now }
@@ -234,7 +234,7 @@ fn walk_to(
     start: SwitchId,
     steps: &[Edge],
     end: SwitchId,
-) -> Result<Vec<SwitchId>, AllocError>
+) -> Result<Vec<SwitchId>, Memory>
     requires chained { AreChained start steps.now }
     requires known { IsKnown start steps.now end }
     ensures { IfOk result (λ walk. IsWalkTo start (IsEdge steps.now) end walk.items) }
@@ -265,7 +265,7 @@ pub fn before_set(
     leaving: &[SwitchId],
     waypoint: SwitchId,
     earlier: Option<&Before>,
-) -> Result<Befored, AllocError>
+) -> Result<Befored, Memory>
     requires switches { switches ≤ 128 }
     requires start { start.0 < switches }
     requires edges { All (λ e. (e.from.0 < switches) × (e.to.0 < switches)) edges.now }
