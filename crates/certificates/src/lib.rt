@@ -55,25 +55,35 @@ impl IndexList {
     }
 }
 
-/// A numbering and before sets, by their numbers: evidence that several picks share.
+/// A use: a numbering and before sets, by their indices in the lists of the plan's evidence. Several picks may share it.
 #[derive(Drop)]
 pub struct Shared {
+    /// The index of the numbering, from 0 and below the length of the list of numberings.
     pub numbering: u32,
+    /// The indices of the before sets, each from 0 and below the length of the list of before sets: one for each position
+    /// of the class's chains, chain by chain and in each chain by position.
     pub befores: IndexList,
 }
 
-/// The evidence that a class has from a round on.
+/// The evidence that a class has from a round on, until its next pick. In force for a round and a class is the pick of the
+/// class with the greatest round number that isn't above the round.
 #[derive(Clone, Copy, Debug, PartialEq, Eq)]
 pub struct OrderedPick {
+    /// The first round for which it is in force. Rounds count from 1.
     pub round: u32,
+    /// The number of the class, from 0 and at most 8191.
     pub class: u32,
+    /// The index of its use, from 0 and below the length of the list of uses.
     pub shared: u32,
 }
 
-/// The label table that is used from a round on.
+/// The label table that is used from a round on, for all classes, until the next pick. In force for a round is the pick
+/// with the greatest round number that isn't above the round.
 #[derive(Clone, Copy, Debug, PartialEq, Eq)]
 pub struct LabelPick {
+    /// The first round for which it is in force. Rounds count from 1.
     pub round: u32,
+    /// The index of the label table, from 0 and below the length of the list of label tables.
     pub labels: u32,
 }
 

@@ -28,10 +28,14 @@ impl Model for Atoms {
     ghost invariant = { λ a. AreFirsts a.firsts.items };
 }
 
-/// A class: where its packets enter, and the first of its addresses.
+/// A class: the packets that enter at one host port with one declared VLAN, and go to the addresses of one atom. No prefix
+/// of its class map tells these addresses apart. A class is numbered from 0, and at most 8191.
 #[derive(Clone, Copy, Debug, PartialEq, Eq)]
 pub struct Class {
+    /// Where its packets enter: a host port, by its switch and port, and a declared VLAN.
     pub entry: Place,
+    /// The first address of its atom, an IPv4 address as a number of 32 bits, its first byte the highest. It stands for all
+    /// addresses of the class.
     pub first: u32,
 }
 

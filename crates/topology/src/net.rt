@@ -14,11 +14,14 @@ use net_base::{Place, Port, Stop, SwitchId, Vlan};
 use std::alloc::{AllocError, Global};
 use std::marker::Model;
 
-/// What is at a port.
+/// What is at a port of a switch.
 #[derive(Clone, Copy, Debug, PartialEq, Eq)]
 pub enum End {
+    /// A host: packets enter and leave the network here.
     Host,
+    /// One end of a two-way link: the switch and the port at its other end.
     Link(SwitchId, Port),
+    /// Neither. What is sent out here is discarded.
     Nothing,
 }
 
