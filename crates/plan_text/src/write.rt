@@ -157,7 +157,7 @@ pub fn write_plan(alloc: Global, net: &Net, plan: &Plan) -> Result<Vec<u8>, Memo
     ensures again { IfOk result (λ b. plan_in net.now b.items ≡ Ok plan.now) }
 {
     net.keeps_rules();
-    Ok(write_line(alloc, &plan_value(alloc, net, plan)?)?)
+    write_line(alloc, &plan_value(alloc, net, plan)?)
 }
 
 /// The compact JSON list of the rounds, without a line end.

@@ -1,4 +1,5 @@
 use Rattle.std.proofs.Common.{arith}
+use Rattle.std.proofs.lemmas.Result.{IfOk-weaker}
 use Rattle.serde_json.specs.View.{view}
 use Rattle.plan_text.proofs.Shallow.{plan_flat}
 use Rattle.plan_text.proofs.PlanAgain.{text_again}
@@ -12,4 +13,6 @@ write_line-requires-clause-shallow c = let h = (plan_flat c.args.net.now c.args.
 
 pub returns-clause-again : goal.returns-clause-again
 returns-clause-again c =
-    text_again c.args.net.now c.args.plan.now c.in_ok-write_line.field-0.items (view c.in_ok-plan_value.field-0) c.keeps_rules.ensures c.requires.valid c.in_ok-plan_value.ensures c.in_ok-write_line.ensures.reads_back
+    IfOk-weaker c.write_line.result _ _
+    (λ b. text_again c.args.net.now c.args.plan.now b.items (view c.in_ok-plan_value.field-0) c.keeps_rules.ensures c.requires.valid c.in_ok-plan_value.ensures)
+    c.write_line.ensures.reads_back
