@@ -1,0 +1,7 @@
+pub mod ReplayLaws
+pub mod LineTurns
+pub mod Printed
+pub mod LinesAgain
+pub mod EventsAgain
+pub mod TracesAgain
+pub mod RunLines

@@ -1,0 +1,7 @@
+pub mod Faults
+pub mod Lines
+pub mod EventLines
+pub mod Schedules
+pub mod Replays
+pub mod EventTexts
+pub mod Traces

@@ -1,0 +1,123 @@
+// The texts of places and events.
+ghost use Rattle.std.specs.Prelude.{◌≡◌, ◌≤◌, ◌^◌, ◌++◌, ◌∷◌, [], IfOk, OnOk, Ok, length};
+ghost use Rattle.std.specs.List.{AllByRecursion};
+ghost use Rattle.flow_rules.specs.Tables.{rules_of_all};
+ghost use Rattle.update_model.specs.Runs.{IsRun};
+ghost use Rattle.schedule_replay.specs.EventTexts as texts;
+ghost use Rattle.schedule_replay.specs.EventTexts.{HasLine};
+ghost use Rattle.schedule_replay.specs.Schedules.{schedule_in, numbered};
+
+use flow_rules::Config;
+use net_base::{Memory, Place, Stop, SwitchId, addr_text, vlan_text};
+use std::alloc::Global;
+use topology::Net;
+use update_model::{Event, Events, Rounds};
+
+/// The name of a switch; empty where the network has no such switch.
+pub fn switch_text(net: &Net, switch: SwitchId) -> &str
+    ensures { result.now ≡ texts.switch_text net.now switch }
+{
+    if switch.0 < net.switches() {
+        net.name(switch)
+    } else {
+        ""
+    }
+}
+
+/// A port of a switch: `SWITCH:PORT`.
+pub fn stop_text(alloc: Global, net: &Net, stop: Stop) -> Result<Vec<u8>, Memory>
+    ensures { IfOk result (λ t. t.items ≡ texts.stop_text net.now stop) }
+{
+    let name = switch_text(net, stop.switch);
+    let port = stop.port.0;
+    Ok(format!(in alloc; "{name}:{port}")?.into_bytes())
+}
+
+/// A place: `SWITCH:PORT VLAN`.
+pub fn place_text(alloc: Global, net: &Net, place: Place) -> Result<Vec<u8>, Memory>
+    ensures { IfOk result (λ t. t.items ≡ texts.place_text net.now place) }
+{
+    let stop = Stop {
+        switch: place.switch,
+        port: place.port,
+    };
+    let mut text = stop_text(alloc, net, stop)?;
+    text.push(b' ')?;
+    text.extend_from_slice(&vlan_text(alloc, place.vlan)?)?;
+    Ok(text)
+}
+
+/// A packet's entry and its address: `SWITCH:PORT VLAN ADDRESS`.
+pub fn entry_text(alloc: Global, net: &Net, place: Place, dst: u32) -> Result<Vec<u8>, Memory>
+    ensures { IfOk result (λ t. t.items ≡ texts.entry_text net.now place dst) }
+{
+    let mut text = place_text(alloc, net, place)?;
+    text.push(b' ')?;
+    text.extend_from_slice(&addr_text(alloc, dst)?)?;
+    Ok(text)
+}
+
+/// The line of an entry.
+fn enter_text(alloc: Global, net: &Net, place: Place, dst: u32) -> Result<Vec<u8>, Memory>
+    ensures { IfOk result (λ t. t.items ≡ texts.event_text net.now (Event.Enter place dst)) }
+{
+    let mut text = b"enter ".to_vec(alloc)?;
+    text.extend_from_slice(&entry_text(alloc, net, place, dst)?)?;
+    Ok(text)
+}
+
+/// The line of an event.
+fn event_text(alloc: Global, net: &Net, event: Event) -> Result<Vec<u8>, Memory>
+    ensures { IfOk result (λ t. t.items ≡ texts.event_text net.now event) }
+{
+    match event {
+        Event::Start => Ok(b"start".to_vec(alloc)?),
+        Event::Settle => Ok(b"settle".to_vec(alloc)?),
+        Event::Change(i) => Ok(format!(in alloc; "change {i}")?.into_bytes()),
+        Event::Enter(place, dst) => enter_text(alloc, net, place, dst),
+        Event::Hop(i) => Ok(format!(in alloc; "hop {i}")?.into_bytes()),
+        Event::Lose(i) => Ok(format!(in alloc; "lose {i}")?.into_bytes()),
+    }
+}
+
+/// One more line of a text.
+pub fn add_line(text: &mut Vec<u8>, line: &[u8]) -> Result<(), Memory>
+    ensures { OnOk result (text.new.items ≡ text.old.items ++ line.now ++ 10 ∷ []) }
+{
+    text.extend_from_slice(line)?;
+    text.push(b'\n')?;
+    Ok(())
+}
+
+/// Does nothing: its contract says that a line has room for each event of a run, for crates that record runs.
+pub fn runs_have_lines(net: &Net, old: &Config, rounds: &Rounds, events: &Events)
+    requires run { IsRun (record { net = net.now; old = rules_of_all old.now; rounds = rounds.now }) events.now }
+    requires short { AllByRecursion (λ round. length round ≤ 2 ^ 32) rounds.now }
+    requires few { length events.now ≤ 4000000 }
+    ensures { AllByRecursion (HasLine net.now) events.now }
+{
+    net.keeps_rules();
+}
+
+/// The schedule of some events, each in a line of its own. Reading it gives these events back. The cost is that of the text.
+pub fn schedule_text(alloc: Global, net: &Net, events: &Events) -> Result<Vec<u8>, Memory>
+    requires few { length events.now ≤ 4000000 }
+    requires lines { AllByRecursion (HasLine net.now) events.now }
+    ensures text { IfOk result (λ t. t.items ≡ texts.schedule_text net.now events.now) }
+    // What was written is read as these events, in the lines from 1 on.
+    ensures again { IfOk result (λ t. schedule_in net.now t.items ≡ Ok (numbered 1 events.now)) }
+{
+    net.keeps_rules();
+    events_text(alloc, net, events.list())
+}
+
+/// The text of events, each in a line of its own.
+pub fn events_text(alloc: Global, net: &Net, events: &[Event]) -> Result<Vec<u8>, Memory>
+    ensures { IfOk result (λ t. t.items ≡ texts.schedule_text net.now events.now) }
+{
+    let mut text = Vec::new(alloc);
+    for event in events {
+        add_line(&mut text, &event_text(alloc, net, *event)?)?;
+    }
+    Ok(text)
+}
