@@ -1,0 +1,5 @@
+pub mod Offered
+pub mod Agendas
+pub mod Ends
+pub mod Driving
+pub mod Laws

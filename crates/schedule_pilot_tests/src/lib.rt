@@ -1,0 +1,7 @@
+//! Tests of driven runs.
+#![tactic(auto)]
+
+#[cfg(test)]
+mod square;
+#[cfg(test)]
+mod tests;
