@@ -1,0 +1,5 @@
+pub mod DialogueLaws
+pub mod MeaningLaws
+pub mod RunLaws
+pub mod JudgementLaws
+pub mod PrefixLaws

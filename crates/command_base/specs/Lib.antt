@@ -1,0 +1,11 @@
+pub mod Kinds
+pub mod Lines
+pub mod Answers
+pub mod Judgements
+pub mod Dialogues
+pub mod Meanings
+pub mod Readings
+pub mod Replies
+pub mod Runs
+pub mod Names
+pub mod Updates
