@@ -1,0 +1,95 @@
+-- What a run of `check` says of the files of a source that tells.
+use Rattle.std.proofs.Common.{◌≡◌, ◌⊎◌, ◌↔◌, ℕ, List, length, Some, refl, subst, inl, inr}
+use Rattle.std.specs.declared.option.Option.{Option}
+use Rattle.std.specs.Io.KnownBytes.{Appends}
+use Rattle.net_base.specs.Outside.{Files}
+use Rattle.certificates.specs.Certified.{IsCertified}
+use Rattle.certificates.specs.Consistent.{IsConsistent}
+use Rattle.plan_format.specs.Plans.{plan_in}
+use Rattle.command_base.specs.declared.status.Status.{Status}
+use Rattle.command_base.specs.declared.status.Status.TheVariants as status
+use Rattle.command_base.specs.declared.kinds.FileKind.TheVariants as kind
+use Rattle.command_base.specs.Lines.{plan_words, classes_line}
+use Rattle.command_base.specs.Meanings.{Means}
+use Rattle.command_base.specs.Runs.{IsSettled, Answered}
+use Rattle.command_base.proofs.MeaningLaws.{IsBadLine, said_over, over_splits, means_then, means_parts, means_read, read_means, means_update, update_means}
+use Rattle.command_base.proofs.JudgementLaws as law
+use Rattle.command_base.proofs.JudgementLaws.{IsJudged}
+use Rattle.command_base.proofs.RunLaws.{settled_done, settled_refused, settled_bad}
+use Rattle.check_command.specs.Names.{CheckNames}
+use Rattle.check_command.specs.ReasonLines.{accepted_line}
+use Rattle.check_command.specs.Checks.{CheckMeaning, check_dialogue, IsCheckAnswer, IsRefusedLine, FilesMeanPlan, FilesAreCertified, FilesAreRefused, PlanMakesTooMany, NamesFirstReason, check_count, task_in}
+use Rattle.check_command.specs.Promise.{CheckPromise}
+
+-- the dialogue means what the files mean, and nothing else
+pub means_check : (files : Files) (names : CheckNames) (m : CheckMeaning) → FilesMeanPlan files names m → Means files (check_dialogue names) m
+unfolding check_dialogue
+means_check files names m is =
+    means_then files _ _ m.update m (means_update files names.update m.update is.update_is)
+    (means_then files _ _ m.plan m (means_read files kind.Plan plan_words (plan_in m.update.net) names.plan m.plan is.plan_is) refl)
+
+pub check_means : (files : Files) (names : CheckNames) (m : CheckMeaning) → Means files (check_dialogue names) m → FilesMeanPlan files names m
+unfolding check_dialogue
+check_means files names m means =
+    let (u, update_is, second) = means_parts files _ _ m means in
+    let (p, plan_is, same) = means_parts files _ _ m second in
+    let read : FilesMeanPlan files names (record { update = u; plan = p }) = record {
+      update_is = update_means files names.update u update_is;
+      plan_is = read_means files kind.Plan plan_words (plan_in u.net) names.plan p plan_is;
+    } in
+    subst (λ v. FilesMeanPlan files names v) same read
+
+-- of a settled run of `check` over a source that tells
+module _ (files : Files) (names : CheckNames) (old new : Option (List ℕ)) (result : Status) (a : Answered IsCheckAnswer files (check_dialogue names) old new result) where
+  splits : IsBadLine a.answer ⊎ ((m : CheckMeaning) × FilesMeanPlan files names m)
+  splits = elim (over_splits IsCheckAnswer files (check_dialogue names) a.answer a.over) [
+    | inl bad ↦ inl bad
+    | inr (m, means, said) ↦ inr (m, check_means files names m means)
+  ]
+
+  judged : IsJudged {D = CheckMeaning} (λ m. FilesMeanPlan files names m) (λ m. check_count m) (λ m. IsCertified (task_in m) m.plan.evidence) (λ m. IsConsistent (task_in m) m.plan.evidence)
+      (λ m. accepted_line m.plan.evidence (length m.plan.rounds) (check_count m)) (λ m. IsRefusedLine (task_in m) m.plan.evidence) a.answer
+  judged = record {
+    over = λ m means. said_over IsCheckAnswer files (check_dialogue names) a.answer m a.over (means_check files names m means);
+    splits = splits;
+  }
+
+  done : (result ≡ status.Done) ↔ FilesAreCertified files names
+  done =
+      let both = law.done _ _ _ _ _ _ a.answer judged old new result a.status_is a.written in (
+        λ is. let (m, means, few, certified) = both.0 is in record { meaning = m; mean = means; few = few; certified = certified },
+        λ h. both.1 (h.meaning, h.mean, h.few, h.certified),
+      )
+
+  keeps : result ≡ status.Done → (m : CheckMeaning) → FilesMeanPlan files names m → IsConsistent (task_in m) m.plan.evidence
+  keeps is m mean = law.done_then _ _ _ _ _ _ a.answer judged old new result a.status_is a.written is m mean
+
+  refused : (result ≡ status.Refused) ↔ FilesAreRefused files names
+  refused =
+      let both = law.refused _ _ _ _ _ _ a.answer judged old new result a.status_is a.written in (
+        λ is. let (m, means, few, fails) = both.0 is in record { meaning = m; mean = means; few = few; refused = fails },
+        λ h. both.1 (h.meaning, h.mean, h.few, h.refused),
+      )
+
+  first_reason : result ≡ status.Refused → (m : CheckMeaning) → FilesMeanPlan files names m → NamesFirstReason m old new
+  first_reason is m mean =
+      let (line, why, written) = law.refused_why _ _ _ _ _ _ a.answer judged old new result a.status_is a.written is m mean in
+      record { line = line; names = why; written = written }
+
+  too_many : (h : PlanMakesTooMany files names) → (result ≡ status.BadFile) × Appends old new (classes_line (check_count h.meaning))
+  too_many h = law.too_many _ _ _ _ _ _ a.answer judged old new result a.status_is a.written h.meaning h.mean h.many
+
+  only_too_many : (before : List ℕ) → old ≡ Some before → (n : ℕ) → result ≡ status.BadFile → Appends old new (classes_line n) → PlanMakesTooMany files names
+  only_too_many before told n is line =
+      let (m, means, many) = law.only_too_many _ _ _ _ _ _ a.answer judged old new result a.status_is a.written before told n is line in
+      record { meaning = m; mean = means; many = many }
+
+pub promised : (files : Files) (names : CheckNames) (old new : Option (List ℕ)) (result : Status) → (IsSettled result → Answered IsCheckAnswer files (check_dialogue names) old new result) → CheckPromise files names old new result
+promised files names old new result answered = record {
+  done = λ settled. done files names old new result (answered settled);
+  keeps = λ m mean is. keeps files names old new result (answered (settled_done _ is)) is m mean;
+  refused = λ settled. refused files names old new result (answered settled);
+  first = λ m mean is. first_reason files names old new result (answered (settled_refused _ is)) is m mean;
+  classes = λ settled many. too_many files names old new result (answered settled) many;
+  classes_only = λ before n told is line. only_too_many files names old new result (answered (settled_bad _ is)) before told n is line;
+}

@@ -1,0 +1,4 @@
+pub mod Names
+pub mod ReasonLines
+pub mod Checks
+pub mod Promise

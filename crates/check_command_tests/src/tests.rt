@@ -1,0 +1,200 @@
+// `check` over files in memory.
+use check_command::{CheckNames, check};
+use command_base::Status;
+use example_files::{
+    Answer, UpdateTexts, answer_of, detour, detour_plans, four_ports, none, pair, single, square,
+    triangle, update_names, update_source, wide,
+};
+use std::alloc::Global;
+use std::test::Fail;
+
+// What is answered, where the call of the given number fails.
+fn answered(
+    alloc: Global,
+    texts: &UpdateTexts<'_>,
+    plan: &[u8],
+    failing: u64,
+) -> Result<Answer, Fail> {
+    let mut source = update_source(alloc, texts, plan, 4096, failing)?;
+    let names = CheckNames {
+        update: update_names(),
+        plan: "plan",
+    };
+    Ok(answer_of(alloc, check(alloc, &mut source, &names)))
+}
+
+// The first of the plans that isn't answered so, with this text.
+fn first_other(
+    alloc: Global,
+    rows: &[(UpdateTexts<'_>, &[u8], &[u8])],
+    want: Status,
+) -> Result<Option<usize>, Fail> {
+    for (i, (texts, plan, text)) in rows.iter().enumerate() {
+        let answer = answered(alloc, texts, plan, 0)?;
+        if !answer.is(want, text) {
+            return Ok(Some(i));
+        }
+    }
+    Ok(None)
+}
+
+#[test]
+fn certified_plans_are_accepted(rt: HostRuntime) -> Result<(), Fail> {
+    let rows: [(UpdateTexts<'_>, &[u8], &[u8]); 4] = [
+        (
+            square::update(),
+            square::plan_in_format_1(),
+            b"accepted: ordered, 2 rounds, 12 classes\n",
+        ),
+        (
+            square::update(),
+            square::plan(),
+            b"accepted: ordered, 2 rounds, 12 classes\n",
+        ),
+        (
+            detour::chain_update(),
+            detour_plans::chain_in_format_1(),
+            b"accepted: ordered, 1 rounds, 6 classes\n",
+        ),
+        (
+            detour::update(),
+            detour_plans::two_phases(),
+            b"accepted: two-phase, 8 rounds, 6 classes\n",
+        ),
+    ];
+    assert_eq!(rt; first_other(rt.alloc(), &rows, Status::Done)?, None);
+    Ok(())
+}
+
+#[test]
+fn bad_changes_are_refused(rt: HostRuntime) -> Result<(), Fail> {
+    let rows: [(UpdateTexts<'_>, &[u8], &[u8]); 6] = [
+        (
+            triangle::loop_kept(),
+            none::no_rounds_in_format_1(),
+            b"refused: 1 EndBreaks old at h:1 untagged 10.0.0.0 Loop a\n",
+        ),
+        (
+            square::update(),
+            square::nothing_to_delete(),
+            b"refused: 2 BadChange round 1 switch s1 change 0\n",
+        ),
+        (
+            single::untagged_update(),
+            single::ambiguous(),
+            b"refused: 3 Ambiguous round 1 switch a\n",
+        ),
+        (
+            single::small_update(),
+            single::too_full(),
+            b"refused: 4 OverCapacity round 1 switch a need 2\n",
+        ),
+        (
+            square::update(),
+            square::rewrites(),
+            b"refused: 5 Rewrites round 1 switch s1\n",
+        ),
+        (
+            square::update(),
+            none::no_rounds_in_format_1(),
+            b"refused: 13 WrongEnd switch s1\n",
+        ),
+    ];
+    assert_eq!(rt; first_other(rt.alloc(), &rows, Status::Refused)?, None);
+    Ok(())
+}
+
+#[test]
+fn ordered_plans_without_evidence_are_refused(rt: HostRuntime) -> Result<(), Fail> {
+    let rows: [(UpdateTexts<'_>, &[u8], &[u8]); 6] = [
+        (
+            square::update(),
+            square::a_pick_too_few(),
+            b"refused: 6 NoNumbering round 1 at s1:1 untagged 0.0.0.0\n",
+        ),
+        (
+            square::update(),
+            square::both_at_once(),
+            b"refused: 7 NotLower round 1 at s1:1 untagged 10.0.0.0 switch s3\n",
+        ),
+        (
+            single::priority_update(),
+            single::may_drop(),
+            b"refused: 8 MayDrop round 1 at a:1 untagged 10.0.0.0 switch a\n",
+        ),
+        (
+            detour::update(),
+            detour_plans::no_set(),
+            b"refused: 9 NoBefore round 1 at s:1 untagged 10.0.0.0\n",
+        ),
+        (
+            detour::update(),
+            detour_plans::past_the_waypoint(),
+            b"refused: 10 Bypass round 1 at s:1 untagged 10.0.0.0 waypoint w switch s\n",
+        ),
+        (
+            detour::chain_update(),
+            detour_plans::past_the_second_waypoint(),
+            b"refused: 10 Bypass round 1 at s:1 untagged 10.0.0.0 waypoint y switch x\n",
+        ),
+    ];
+    assert_eq!(rt; first_other(rt.alloc(), &rows, Status::Refused)?, None);
+    Ok(())
+}
+
+#[test]
+fn two_phase_plans_without_evidence_are_refused(rt: HostRuntime) -> Result<(), Fail> {
+    let rows: [(UpdateTexts<'_>, &[u8], &[u8]); 3] = [
+        (
+            four_ports::update(),
+            four_ports::no_labels(),
+            b"refused: 11 BadLabels round 1\n",
+        ),
+        (
+            four_ports::update(),
+            four_ports::lower_priority_first(),
+            b"refused: 12 MixedPath round 1 at a:1 untagged 10.0.0.0 switch a\n",
+        ),
+        (
+            pair::update(),
+            pair::no_mask(),
+            b"refused: 12 MixedPath round 1 at a:1 untagged 10.0.0.0 switch b\n",
+        ),
+    ];
+    assert_eq!(rt; first_other(rt.alloc(), &rows, Status::Refused)?, None);
+    Ok(())
+}
+
+#[test]
+fn an_update_has_at_most_8192_classes(rt: HostRuntime) -> Result<(), Fail> {
+    let alloc = rt.alloc();
+    let topology = wide::topology(alloc)?;
+    let texts = UpdateTexts {
+        topology: &topology,
+        old: wide::three_blocks(),
+        new: wide::three_blocks(),
+        policy: none::no_demands(),
+    };
+    let answer = answered(alloc, &texts, none::no_rounds_in_format_1(), 0)?;
+    assert!(rt; answer.is(Status::BadFile, b"too many classes: 12288\n"));
+    Ok(())
+}
+
+#[test]
+fn a_read_that_fails_is_a_read_fault(rt: HostRuntime) -> Result<(), Fail> {
+    // Of each file a select, a take and the end.
+    for failing in 1..=16u64 {
+        let answer = answered(
+            rt.alloc(),
+            &square::update(),
+            square::plan_in_format_1(),
+            failing,
+        )?;
+        if failing <= 15 {
+            assert!(rt; answer.is(Status::ReadFault, b""), "at {failing}");
+        } else {
+            assert_eq!(rt; answer.status, Status::Done, "at {failing}");
+        }
+    }
+    Ok(())
+}

@@ -1,0 +1,3 @@
+pub mod ConfigLaws
+pub mod StillLaws
+pub mod VerdictLaws

@@ -1,0 +1,11 @@
+//! The command `config`: says whether the paths of a configuration are good, with its promise.
+#![tactic(auto)]
+
+mod command;
+pub mod laws;
+mod lines;
+mod names;
+mod verdict;
+
+pub use crate::command::config;
+pub use crate::names::{ConfigNames, config_names};

@@ -1,0 +1,5 @@
+//! Tests of the command `config`.
+#![tactic(auto)]
+
+#[cfg(test)]
+mod tests;

@@ -1,0 +1,174 @@
+// `config` over files in memory.
+use command_base::Status;
+use config_command::{ConfigNames, config};
+use example_files::{
+    Answer, ConfigTexts, answer_of, config_source, detour, none, single, square, triangle, wide,
+};
+use std::alloc::Global;
+use std::test::Fail;
+
+// What is answered, where the call of the given number fails.
+fn answered(alloc: Global, texts: &ConfigTexts<'_>, failing: u64) -> Result<Answer, Fail> {
+    let mut source = config_source(alloc, texts, 4096, failing)?;
+    let names = ConfigNames {
+        topology: "topology",
+        config: "config",
+        policy: texts.policy.map(|_| "policy"),
+    };
+    Ok(answer_of(alloc, config(alloc, &mut source, &names)))
+}
+
+// The texts, without a policy.
+fn free<'a>(topology: &'a [u8], config: &'a [u8]) -> ConfigTexts<'a> {
+    ConfigTexts {
+        topology,
+        config,
+        policy: None,
+    }
+}
+
+// The texts, with a policy.
+fn under<'a>(topology: &'a [u8], config: &'a [u8], policy: &'a [u8]) -> ConfigTexts<'a> {
+    ConfigTexts {
+        topology,
+        config,
+        policy: Some(policy),
+    }
+}
+
+// The first of the configurations that isn't answered so, with this text.
+fn first_other(
+    alloc: Global,
+    rows: &[(ConfigTexts<'_>, &[u8])],
+    want: Status,
+) -> Result<Option<usize>, Fail> {
+    for (i, (texts, text)) in rows.iter().enumerate() {
+        let answer = answered(alloc, texts, 0)?;
+        if !answer.is(want, text) {
+            return Ok(Some(i));
+        }
+    }
+    Ok(None)
+}
+
+#[test]
+fn good_paths_hold(rt: HostRuntime) -> Result<(), Fail> {
+    let rows: [(ConfigTexts<'_>, &[u8]); 6] = [
+        (
+            free(square::topology(), square::old()),
+            b"holds: 12 classes\n",
+        ),
+        (
+            under(square::topology(), square::old(), square::policy()),
+            b"holds: 12 classes\n",
+        ),
+        (
+            free(triangle::topology(), triangle::unreached_loop()),
+            b"holds: 3 classes\n",
+        ),
+        (
+            under(detour::topology(), detour::old(), detour::policy()),
+            b"holds: 6 classes\n",
+        ),
+        (
+            under(detour::topology(), detour::old(), detour::chain_policy()),
+            b"holds: 6 classes\n",
+        ),
+        (
+            free(none::no_switches(), none::no_rules()),
+            b"holds: 0 classes\n",
+        ),
+    ];
+    assert_eq!(rt; first_other(rt.alloc(), &rows, Status::Done)?, None);
+    Ok(())
+}
+
+#[test]
+fn the_first_break_is_named(rt: HostRuntime) -> Result<(), Fail> {
+    let rows: [(ConfigTexts<'_>, &[u8]); 4] = [
+        (
+            free(triangle::topology(), triangle::reached_loop()),
+            b"breaks: at h:1 untagged 10.0.0.0 Loop a\n",
+        ),
+        (
+            under(detour::topology(), detour::dropping(), detour::policy()),
+            b"breaks: at s:1 untagged 10.0.0.0 Dropped x\n",
+        ),
+        (
+            under(detour::topology(), detour::short(), detour::policy()),
+            b"breaks: at s:1 untagged 10.0.0.0 Missed w\n",
+        ),
+        (
+            under(detour::topology(), detour::new(), detour::chain_policy()),
+            b"breaks: at s:1 untagged 10.0.0.0 Missed y\n",
+        ),
+    ];
+    assert_eq!(rt; first_other(rt.alloc(), &rows, Status::Refused)?, None);
+    Ok(())
+}
+
+#[test]
+fn bad_files_are_named(rt: HostRuntime) -> Result<(), Fail> {
+    let rows: [(ConfigTexts<'_>, &[u8]); 7] = [
+        (
+            free(square::topology(), b""),
+            b"bad config: 1 NotJson at 0\n",
+        ),
+        (
+            free(square::joined_to_itself(), square::old()),
+            b"bad topology: 7 PortTwice at 0\n",
+        ),
+        (
+            free(single::topology(), single::overlap()),
+            b"bad config: 10 Overlap at 1\n",
+        ),
+        (
+            free(single::topology(), single::rule_twice()),
+            b"bad config: 9 KeyTwice at 1\n",
+        ),
+        (
+            free(single::topology(), single::reserved_vlan()),
+            b"bad config: 7 ReservedVlan at 0\n",
+        ),
+        (
+            free(single::topology(), single::unused_port()),
+            b"bad config: 5 BadPort at 0\n",
+        ),
+        (
+            under(
+                detour::topology(),
+                detour::old(),
+                detour::policy_of_no_host(),
+            ),
+            b"bad policy: 4 NotHost at 0\n",
+        ),
+    ];
+    assert_eq!(rt; first_other(rt.alloc(), &rows, Status::BadFile)?, None);
+    Ok(())
+}
+
+#[test]
+fn there_are_at_most_8192_classes(rt: HostRuntime) -> Result<(), Fail> {
+    let alloc = rt.alloc();
+    let topology = wide::topology(alloc)?;
+    let most = answered(alloc, &free(&topology, wide::two_blocks()), 0)?;
+    assert!(rt; most.is(Status::Done, b"holds: 8192 classes\n"));
+    let more = answered(alloc, &free(&topology, wide::three_blocks()), 0)?;
+    assert!(rt; more.is(Status::BadFile, b"too many classes: 12288\n"));
+    Ok(())
+}
+
+#[test]
+fn a_read_that_fails_is_a_read_fault(rt: HostRuntime) -> Result<(), Fail> {
+    let texts = under(square::topology(), square::old(), square::policy());
+    // Of each file a select, a take and the end.
+    for failing in 1..=10u64 {
+        let answer = answered(rt.alloc(), &texts, failing)?;
+        if failing <= 9 {
+            assert!(rt; answer.is(Status::ReadFault, b""), "at {failing}");
+        } else {
+            assert_eq!(rt; answer.status, Status::Done, "at {failing}");
+        }
+    }
+    Ok(())
+}

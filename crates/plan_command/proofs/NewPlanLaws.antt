@@ -1,0 +1,78 @@
+-- What the answer on an update stands on.
+use Rattle.std.proofs.Common.{◌≡◌, ◌<◌, ◌≤◌, Bool, true, List, [], ◌++◌, map, Some, refl, sym, subst}
+use Rattle.flow_rules.specs.Tables.{table_blocks}
+use Rattle.flow_rules.specs.declared.rules.Rule.{Rule}
+use Rattle.dest_classes.specs.Classes.{ClassList, IsClass, class_count}
+use Rattle.dest_classes.proofs.MapLaws.{number_fits}
+use Rattle.net_base.proofs.MemberLaws.{in_append_left, in_append_right}
+use Rattle.update_model.specs.Changes.{round_blocks}
+use Rattle.demands.specs.OfClass.{AreCovered}
+use Rattle.command_base.proofs.PrefixLaws.{each_there}
+use Rattle.dest_classes.specs.declared.Class.{Class}
+use Rattle.demands.specs.Duties.{ClassDuties}
+use Rattle.demands.specs.Good.{HasGoodPaths}
+use Rattle.config_check.specs.declared.Breaks.{Breaks}
+use Rattle.config_check.specs.Broken.{IsFirstBreak}
+use Rattle.update_model.specs.declared.Change.{Change}
+use Rattle.certificates.specs.Certified.{IsCertified}
+use Rattle.certificates.specs.declared.Plan.{Plan}
+use Rattle.check_reasons.specs.declared.reason.Reason.TheVariants.{EndBreaks}
+use Rattle.two_phase.specs.Laws.{two_phase_task}
+use Rattle.two_phase.specs.Plans.{two_phase_plan, IsCertifiedTwoPhase}
+use Rattle.command_base.specs.declared.status.Status.TheVariants as status
+use Rattle.check_command.specs.ReasonLines.{refused_line}
+use Rattle.command_base.specs.Answers.{Answer}
+use Rattle.command_base.specs.Judgements.{SaysWhyNot, most_classes}
+use Rattle.command_base.specs.Updates.{UpdateMeaning, task_for}
+use Rattle.plan_command.specs.Planned.{update_classes, update_count, EndsAreGood, IsFirstEndBreak, IsEndLine}
+
+module _ (u : UpdateMeaning) where
+  pub end_law : (new : Bool) (break : Breaks) (class : Class) (answer : Answer) → update_count u ≤ most_classes → ¬ EndsAreGood u → IsFirstEndBreak u new break → IsClass (update_classes u) break.class class
+      → answer ≡ record { status = status.Refused; text = refused_line u.net (Some class) (EndBreaks new break) } → SaysWhyNot (update_count u) (EndsAreGood u) (IsEndLine u) answer
+  end_law new break class answer few broken first is_class is = record {
+    few = few;
+    fails = broken;
+    line = refused_line u.net (Some class) (EndBreaks new break);
+    is_why = record { new = new; break = break; first = first; class = class; is_class = is_class; line_is = refl };
+    answer_is = is;
+  }
+
+  -- the plan of two phases after a search that was stuck
+  module _ (p : Plan) (rounds : List (List Change)) (plan_is : p ≡ two_phase_plan u.net u.old u.new rounds) where
+    pub two_certified : IsCertifiedTwoPhase u.net u.old u.new p → EndsAreGood u → IsCertified (task_for u p) p.evidence
+    two_certified certified good =
+        let there : IsCertified (two_phase_task u.net u.old u.new u.demands) p.evidence = certified u.demands good.old_good good.new_good in
+        subst (λ q. IsCertified (task_for u q) q.evidence) (sym plan_is)
+        (subst (λ (q : Plan). IsCertified (two_phase_task u.net u.old u.new u.demands) q.evidence) plan_is there)
+
+  module _ (classes : ClassList) (are : classes ≡ update_classes u) where
+    pub covered : AreCovered u.demands classes
+    covered = subst (λ c. AreCovered u.demands c) (sym are) (each_there u.demands (update_classes u).prefixes
+        (λ b i. in_append_left b (table_blocks u.old ++ table_blocks u.new ++ map (λ d. d.dst) u.demands) (round_blocks [])
+        (in_append_right b (table_blocks u.old ++ table_blocks u.new) (map (λ d. d.dst) u.demands) i)))
+
+    pub break_fits : (tables : List (List Rule)) (b : Breaks) → IsFirstBreak u.net tables u.demands (update_classes u) b → b.class < class_count classes
+    break_fits tables b first = subst (λ c. b.class < class_count c) (sym are) (number_fits (update_classes u) b.class first.class first.is_class)
+
+  -- what is known of the ends, for the classes and the duties that were made
+  module _ (classes : ClassList) (are : classes ≡ update_classes u) (duties : ClassDuties) (made : duties ≡ record { demands = u.demands; classes = classes }) where
+    good_as : (tables : List (List Rule)) → HasGoodPaths u.net tables duties.demands classes → HasGoodPaths u.net tables u.demands (update_classes u)
+    good_as tables good = subst (λ c. HasGoodPaths u.net tables u.demands c) are (subst (λ d. HasGoodPaths u.net tables d.demands classes) made good)
+
+    pub good_back : (tables : List (List Rule)) → HasGoodPaths u.net tables u.demands (update_classes u) → HasGoodPaths u.net tables duties.demands classes
+    good_back tables good = subst (λ d. HasGoodPaths u.net tables d.demands classes) (sym made) (subst (λ c. HasGoodPaths u.net tables u.demands c) (sym are) good)
+
+    pub new_break : (b : Breaks) → HasGoodPaths u.net u.old duties.demands classes → IsFirstBreak u.net u.new duties.demands classes b → IsFirstEndBreak u true b
+    new_break b old_good first = record {
+      first = subst (λ c. IsFirstBreak u.net u.new u.demands c b) are (subst (λ d. IsFirstBreak u.net u.new d.demands classes b) made first);
+      old_good = λ holds. good_as u.old old_good;
+    }
+
+    pub old_not_good : ¬ HasGoodPaths u.net u.old duties.demands classes → ¬ EndsAreGood u
+    old_not_good broken = λ ends. broken (good_back u.old ends.old_good)
+
+    pub new_not_good : ¬ HasGoodPaths u.net u.new duties.demands classes → ¬ EndsAreGood u
+    new_not_good broken = λ ends. broken (good_back u.new ends.new_good)
+
+    pub both_good : HasGoodPaths u.net u.old duties.demands classes → HasGoodPaths u.net u.new duties.demands classes → EndsAreGood u
+    both_good old_good new_good = record { old_good = good_as u.old old_good; new_good = good_as u.new new_good }

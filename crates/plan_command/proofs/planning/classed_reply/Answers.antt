@@ -1,0 +1,34 @@
+use Rattle.std.proofs.Common.{refl, inr}
+use Rattle.std.proofs.lemmas.Result.{IfOk-weaker}
+use Rattle.command_base.specs.Updates.{meaning_of}
+use Rattle.plan_command.proofs.NewPlanLaws.{covered, old_not_good, new_not_good, new_break, both_good}
+use Rattle.plan_command.proofs.planning.classed_reply.Goals as goal
+
+pub make-requires : goal.make-requires
+make-requires c = covered (meaning_of c.args.files.now) c.args.classes.now c.requires.classes
+
+pub end_reply-requires-clause-broken : goal.end_reply-requires-clause-broken
+end_reply-requires-clause-broken c =
+    old_not_good (meaning_of c.args.files.now) c.args.classes.now c.requires.classes c.in_ok-duties.duties c.in_ok-duties.ensures (λ good. let e = c.in-Err.ensures.ok.1 good in cc)
+
+pub end_reply-requires-in-Err-check_config-clause-broken :
+    goal.end_reply-requires-in-Err-check_config-clause-broken
+end_reply-requires-in-Err-check_config-clause-broken c =
+    new_not_good (meaning_of c.args.files.now) c.args.classes.now c.requires.classes c.in_ok-duties.duties c.in_ok-duties.ensures (λ good. let e = c.in-Err-check_config.ensures.ok.1 good in cc)
+
+pub end_reply-requires-in-Err-check_config-clause-first :
+    goal.end_reply-requires-in-Err-check_config-clause-first
+end_reply-requires-in-Err-check_config-clause-first c =
+    new_break (meaning_of c.args.files.now) c.args.classes.now c.requires.classes c.in_ok-duties.duties c.in_ok-duties.ensures c.in-Err-check_config.breaks
+    (c.in_default.ensures.ok.0 refl) c.in-Err-check_config.ensures.err
+
+pub search_reply-requires-clause-good : goal.search_reply-requires-clause-good
+search_reply-requires-clause-good c =
+    both_good (meaning_of c.args.files.now) c.args.classes.now c.requires.classes c.in_ok-duties.duties c.in_ok-duties.ensures
+    (c.in_default.ensures.ok.0 refl) (c.in_default-check_config.ensures.ok.0 refl)
+
+pub returns : goal.returns
+returns c =
+    let good = both_good (meaning_of c.args.files.now) c.args.classes.now c.requires.classes c.in_ok-duties.duties c.in_ok-duties.ensures
+    (c.in_default.ensures.ok.0 refl) (c.in_default-check_config.ensures.ok.0 refl) in
+    IfOk-weaker c.search_reply.result _ _ (λ r said. inr (inr (record { few = c.requires.few; good = good; searched = said }))) c.search_reply.ensures

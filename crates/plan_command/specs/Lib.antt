@@ -1,0 +1,4 @@
+pub mod NoPlanLines
+pub mod Planned
+pub mod NewPlans
+pub mod Promise

@@ -1,0 +1,47 @@
+-- What a run of `plan` promises over the files of a source that tells.
+use Rattle.std.specs.Prelude.{◌≡◌, ◌↔◌, ◌≤◌, ℕ, List, length, Option, Some}
+use Rattle.std.specs.Io.KnownBytes.{Appends}
+use Rattle.net_base.specs.Outside.{Files}
+use Rattle.certificates.specs.declared.Plan.{Plan}
+use Rattle.round_planner.specs.Search.{single_rounds}
+use Rattle.tag_allocator.specs.Tags.{available_tags}
+use Rattle.command_base.specs.declared.status.Status.{Status}
+use Rattle.command_base.specs.declared.status.Status.TheVariants as status
+use Rattle.command_base.specs.declared.kinds.FileKind.TheVariants as kind
+use Rattle.command_base.specs.Kinds.{limit_of}
+use Rattle.command_base.specs.Lines.{classes_line}
+use Rattle.command_base.specs.Names.{UpdateNames}
+use Rattle.command_base.specs.Updates.{UpdateMeaning, FilesMeanUpdate, WritesPlan}
+use Rattle.command_base.specs.Runs.{IsSettled}
+use Rattle.check_command.specs.Checks.{FilesAreCertified}
+use Rattle.plan_command.specs.NoPlanLines as lines
+use Rattle.plan_command.specs.Planned.{update_count}
+use Rattle.plan_command.specs.NewPlans.{FilesHavePlan, FilesBreakAnEnd, FilesLackTags, FilesLackRoom, UpdateMakesTooMany, WritesNewPlan, KeepsConsistent, NamesFirstEndBreak, HoldBeside}
+
+-- the files and their names, what was written before and after the run, and how it ended
+pub record PlanPromise (files : Files) (names : UpdateNames) (old new : Option (List ℕ)) (result : Status) : Type 0 where
+  -- Done comes exactly where the four files mean an update with at most 8192 classes whose ends are good, and the search ended
+  -- ordered, or it ended stuck and there are tags and room for two phases.
+  pub done : IsSettled result → ((result ≡ status.Done) ↔ FilesHavePlan files names)
+  -- Then the text of the plan was written: the one of the search, or that of two phases with the rounds of the search as those that
+  -- were tried. Reading it gives this plan.
+  pub writes : (u : UpdateMeaning) → FilesMeanUpdate files names u → result ≡ status.Done → WritesNewPlan u old new
+  -- The plan that was written is certified, and so it keeps each packet's trace good in every state of every run.
+  pub keeps : (before : List ℕ) (u : UpdateMeaning) (p : Plan) → old ≡ Some before → result ≡ status.Done → FilesMeanUpdate files names u → WritesPlan u.net p old new → KeepsConsistent u p
+  -- Where what was written has no more bytes than a plan may have, `check` over the same files and this text says Done.
+  pub checked : (others : Files) (before plan text : List ℕ) → old ≡ Some before → result ≡ status.Done → Appends old new text
+      → length text ≤ limit_of kind.Plan → HoldBeside files others names plan text → FilesAreCertified others (record { update = names; plan = plan })
+  -- Refused comes exactly where an end isn't good; the line names the first break.
+  pub refused : IsSettled result → ((result ≡ status.Refused) ↔ FilesBreakAnEnd files names)
+  pub first : (u : UpdateMeaning) → FilesMeanUpdate files names u → result ≡ status.Refused → NamesFirstEndBreak u old new
+  -- Too few tags, and a switch that is too small, come exactly where the search ended stuck; the lines have the numbers and the
+  -- rounds of the search.
+  pub too_few : IsSettled result → ((result ≡ status.TooFewTags) ↔ FilesLackTags files names)
+  pub too_few_lines : IsSettled result → (lack : FilesLackTags files names)
+      → Appends old new (lines.too_few_lines lack.update.net (length lack.update.net.vlans) (length (available_tags lack.update.net)) (single_rounds lack.stuck.changes))
+  pub too_small : IsSettled result → ((result ≡ status.TooSmall) ↔ FilesLackRoom files names)
+  pub too_small_lines : IsSettled result → (lack : FilesLackRoom files names)
+      → Appends old new (lines.too_small_lines lack.update.net lack.switch lack.need lack.capacity (single_rounds lack.stuck.changes))
+  -- Too many classes are a bad file, and their line is written for no other cause.
+  pub classes : IsSettled result → (many : UpdateMakesTooMany files names) → (result ≡ status.BadFile) × Appends old new (classes_line (update_count many.update))
+  pub classes_only : (before : List ℕ) (classes : ℕ) → old ≡ Some before → result ≡ status.BadFile → Appends old new (classes_line classes) → UpdateMakesTooMany files names

@@ -1,0 +1,5 @@
+//! Tests of the command `plan`, and of `check` on what it planned.
+#![tactic(auto)]
+
+#[cfg(test)]
+mod tests;

@@ -1,0 +1,219 @@
+// `plan` over files in memory, and `check` of what it planned.
+use check_command::{CheckNames, check};
+use command_base::Status;
+use example_files::{
+    Answer, UpdateTexts, answer_of, detour, detour_plans, leaves, none, single, square, triangle,
+    update_names, update_source, wide,
+};
+use plan_command::plan;
+use std::alloc::Global;
+use std::test::Fail;
+
+// What is answered, where the call of the given number fails.
+fn planned(alloc: Global, texts: &UpdateTexts<'_>, failing: u64) -> Result<Answer, Fail> {
+    let mut source = update_source(alloc, texts, b"", 4096, failing)?;
+    Ok(answer_of(alloc, plan(alloc, &mut source, &update_names())))
+}
+
+// What `check` answers to the update and the plan.
+fn checked(alloc: Global, texts: &UpdateTexts<'_>, plan: &[u8]) -> Result<Answer, Fail> {
+    let mut source = update_source(alloc, texts, plan, 4096, 0)?;
+    let names = CheckNames {
+        update: update_names(),
+        plan: "plan",
+    };
+    Ok(answer_of(alloc, check(alloc, &mut source, &names)))
+}
+
+// The first of the updates whose plan isn't this text, or isn't accepted by this line.
+fn first_other_plan(
+    alloc: Global,
+    rows: &[(UpdateTexts<'_>, &[u8], &[u8])],
+) -> Result<Option<usize>, Fail> {
+    for (i, (texts, text, line)) in rows.iter().enumerate() {
+        let planned = planned(alloc, texts, 0)?;
+        if !planned.is(Status::Done, text) {
+            return Ok(Some(i));
+        }
+        let checked = checked(alloc, texts, &planned.text)?;
+        if !checked.is(Status::Done, line) {
+            return Ok(Some(i));
+        }
+    }
+    Ok(None)
+}
+
+// The first of the updates that isn't answered so.
+fn first_other_answer(
+    alloc: Global,
+    rows: &[(UpdateTexts<'_>, Status, &[u8])],
+) -> Result<Option<usize>, Fail> {
+    for (i, (texts, want, text)) in rows.iter().enumerate() {
+        let answer = planned(alloc, texts, 0)?;
+        if !answer.is(*want, text) {
+            return Ok(Some(i));
+        }
+    }
+    Ok(None)
+}
+
+#[test]
+fn ordered_plans_are_found_and_accepted(rt: HostRuntime) -> Result<(), Fail> {
+    let rows: [(UpdateTexts<'_>, &[u8], &[u8]); 6] = [
+        (
+            square::update(),
+            square::plan(),
+            b"accepted: ordered, 2 rounds, 12 classes\n",
+        ),
+        (
+            square::no_change(),
+            none::no_rounds(),
+            b"accepted: ordered, 0 rounds, 12 classes\n",
+        ),
+        (
+            detour::update_above(),
+            detour_plans::ten_rounds(),
+            b"accepted: ordered, 10 rounds, 6 classes\n",
+        ),
+        (
+            single::untagged_update(),
+            single::narrowing_plan(),
+            b"accepted: ordered, 2 rounds, 6 classes\n",
+        ),
+        (
+            single::small_update(),
+            single::one_place_plan(),
+            b"accepted: ordered, 2 rounds, 6 classes\n",
+        ),
+        (
+            detour::chain_update(),
+            detour_plans::chain(),
+            b"accepted: ordered, 1 rounds, 6 classes\n",
+        ),
+    ];
+    assert_eq!(rt; first_other_plan(rt.alloc(), &rows)?, None);
+    Ok(())
+}
+
+#[test]
+fn an_update_of_leaves_is_ordered_with_tags_and_without(rt: HostRuntime) -> Result<(), Fail> {
+    let rows: [(UpdateTexts<'_>, &[u8], &[u8]); 2] = [
+        (
+            leaves::update(),
+            leaves::plan(),
+            b"accepted: ordered, 12 rounds, 96 classes\n",
+        ),
+        (
+            leaves::update_without_tags(),
+            leaves::plan(),
+            b"accepted: ordered, 12 rounds, 96 classes\n",
+        ),
+    ];
+    assert_eq!(rt; first_other_plan(rt.alloc(), &rows)?, None);
+    Ok(())
+}
+
+#[test]
+fn a_stuck_search_leads_to_two_phases(rt: HostRuntime) -> Result<(), Fail> {
+    let rows: [(UpdateTexts<'_>, &[u8], &[u8]); 3] = [
+        (
+            detour::update(),
+            detour_plans::two_phases(),
+            b"accepted: two-phase, 8 rounds, 6 classes\n",
+        ),
+        (
+            detour::update_of_five_entries(),
+            detour_plans::two_phases(),
+            b"accepted: two-phase, 8 rounds, 6 classes\n",
+        ),
+        (
+            detour::open_update(),
+            detour_plans::two_phases_after_two_rounds(),
+            b"accepted: two-phase, 8 rounds, 6 classes\n",
+        ),
+    ];
+    assert_eq!(rt; first_other_plan(rt.alloc(), &rows)?, None);
+    Ok(())
+}
+
+#[test]
+fn a_stuck_search_without_tags_or_room_says_so(rt: HostRuntime) -> Result<(), Fail> {
+    let rows: [(UpdateTexts<'_>, Status, &[u8]); 4] = [
+        (
+            detour::update_of_four_entries(),
+            Status::TooSmall,
+            b"too small: switch s need 5 capacity 4\ntried: []\n",
+        ),
+        (
+            detour::update_of_one_tag(),
+            Status::TooFewTags,
+            b"too few tags: need 2, has 1\ntried: []\n",
+        ),
+        (
+            detour::open_update_without_tags(),
+            Status::TooFewTags,
+            br#"too few tags: need 1, has 0
+tried: [[{"do":"replace","dst":"10.0.0.0/24","out":1,"priority":100,"switch":"w"}],[{"do":"replace","dst":"10.0.0.0/24","out":1,"priority":100,"switch":"y"}]]
+"#,
+        ),
+        (
+            single::untagged_update_with_demand(),
+            Status::TooFewTags,
+            b"too few tags: need 1, has 0\ntried: []\n",
+        ),
+    ];
+    assert_eq!(rt; first_other_answer(rt.alloc(), &rows)?, None);
+    Ok(())
+}
+
+#[test]
+fn an_end_that_is_not_good_is_refused(rt: HostRuntime) -> Result<(), Fail> {
+    let rows: [(UpdateTexts<'_>, Status, &[u8]); 3] = [
+        (
+            triangle::loop_kept(),
+            Status::Refused,
+            b"refused: 1 EndBreaks old at h:1 untagged 10.0.0.0 Loop a\n",
+        ),
+        (
+            triangle::loop_made(),
+            Status::Refused,
+            b"refused: 1 EndBreaks new at h:1 untagged 10.0.0.0 Loop a\n",
+        ),
+        (
+            detour::dropping_update(),
+            Status::Refused,
+            b"refused: 1 EndBreaks new at s:1 untagged 10.0.0.0 Dropped x\n",
+        ),
+    ];
+    assert_eq!(rt; first_other_answer(rt.alloc(), &rows)?, None);
+    Ok(())
+}
+
+#[test]
+fn a_plan_is_made_for_at_most_8192_classes(rt: HostRuntime) -> Result<(), Fail> {
+    let alloc = rt.alloc();
+    let topology = wide::topology(alloc)?;
+    let texts = UpdateTexts {
+        topology: &topology,
+        old: wide::three_blocks(),
+        new: wide::three_blocks(),
+        policy: none::no_demands(),
+    };
+    let answer = planned(alloc, &texts, 0)?;
+    assert!(rt; answer.is(Status::BadFile, b"too many classes: 12288\n"));
+    Ok(())
+}
+
+#[test]
+fn a_read_that_fails_is_a_read_fault(rt: HostRuntime) -> Result<(), Fail> {
+    // Of each file a select, a take and the end.
+    for failing in 1..=13u64 {
+        let answer = planned(rt.alloc(), &square::update(), failing)?;
+        if failing <= 12 {
+            assert!(rt; answer.is(Status::ReadFault, b""), "at {failing}");
+        } else {
+            assert_eq!(rt; answer.status, Status::Done, "at {failing}");
+        }
+    }
+    Ok(())
+}

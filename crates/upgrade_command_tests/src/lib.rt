@@ -1,0 +1,5 @@
+//! Tests of the command `upgrade`.
+#![tactic(auto)]
+
+#[cfg(test)]
+mod tests;
