@@ -1,0 +1,132 @@
+-- What a run of `replay` says of the files of a source that tells.
+use Rattle.std.proofs.Common.{◌≡◌, ◌⊎◌, ◌↔◌, ◌≢◌, ℕ, List, [], ◌∷◌, ◌++◌, map, Some, refl, sym, ap, ◌∙◌, subst, inl, inr}
+use Rattle.std.specs.declared.option.Option.{Option}
+use Rattle.std.specs.Io.KnownBytes.{Appends}
+use Rattle.net_base.specs.Outside.{Files}
+use Rattle.topology.specs.Networks.{Network}
+use Rattle.topology.specs.Topology.{network_in}
+use Rattle.config_files.specs.Configuration.{configuration_in}
+use Rattle.plan_format.specs.Plans.{plan_in}
+use Rattle.update_model.specs.declared.Change.{Change}
+use Rattle.update_model.specs.declared.Event.{Event}
+use Rattle.update_model.specs.Runs.{IsRun, AreEnabled, state_after}
+use Rattle.update_model.specs.States.{State, IsEnabled, state_after_event}
+use Rattle.schedule_replay.specs.Schedules.{schedule_in, events_of}
+use Rattle.schedule_replay.specs.Replays.{StopsAt}
+use Rattle.schedule_replay.specs.Traces.{traces_text}
+use Rattle.schedule_replay.specs.declared.schedule.ScheduleLine.{ScheduleLine}
+use Rattle.command_base.specs.declared.status.Status.{Status}
+use Rattle.command_base.specs.declared.status.Status.TheVariants as status
+use Rattle.command_base.specs.declared.kinds.FileKind.TheVariants as kind
+use Rattle.command_base.specs.Lines.{net_words, config_words, plan_words}
+use Rattle.command_base.specs.Answers.{Answer}
+use Rattle.command_base.specs.Meanings.{Means}
+use Rattle.command_base.specs.Runs.{IsSettled, Answered}
+use Rattle.command_base.proofs.MeaningLaws.{said_over, over_splits, means_then, means_parts, means_read, read_means}
+use Rattle.command_base.proofs.JudgementLaws.{status_of, text_of}
+use Rattle.command_base.proofs.RunLaws.{settled_done, settled_not_a_run}
+use Rattle.replay_command.specs.Names.{ReplayNames}
+use Rattle.replay_command.specs.Replayed.{ReplayMeaning, replay_dialogue, schedule_words, IsReplayAnswer, SaysTraces, SaysNotARun, FilesMeanReplay, FilesAreARun, FilesAreNoRun, FirstStopsAt, NamesFirstLine, update_in, begun, ended, not_a_run_line}
+use Rattle.replay_command.specs.Promise.{ReplayPromise}
+
+-- the dialogue means what the files mean, and nothing else
+means_replay : (files : Files) (names : ReplayNames) (m : ReplayMeaning) → FilesMeanReplay files names m → Means files (replay_dialogue names) m
+unfolding replay_dialogue
+means_replay files names m is =
+    means_then files _ _ m.net m (means_read files kind.Topology net_words network_in names.topology m.net is.topology_is)
+    (means_then files _ _ m.old m (means_read files kind.Old config_words (configuration_in m.net) names.old m.old is.old_is)
+    (means_then files _ _ m.plan m (means_read files kind.Plan plan_words (plan_in m.net) names.plan m.plan is.plan_is)
+    (means_then files _ _ m.schedule m (means_read files kind.Schedule schedule_words (schedule_in m.net) names.schedule m.schedule is.schedule_is) refl)))
+
+replay_means : (files : Files) (names : ReplayNames) (m : ReplayMeaning) → Means files (replay_dialogue names) m → FilesMeanReplay files names m
+unfolding replay_dialogue
+replay_means files names m means =
+    let (net, topology_is, second) = means_parts files _ _ m means in
+    let (old, old_is, third) = means_parts files _ _ m second in
+    let (plan, plan_is, fourth) = means_parts files _ _ m third in
+    let (schedule, schedule_is, same) = means_parts files _ _ m fourth in
+    let read : FilesMeanReplay files names (record { net = net; old = old; plan = plan; schedule = schedule }) = record {
+      topology_is = read_means files kind.Topology net_words network_in names.topology net topology_is;
+      old_is = read_means files kind.Old config_words (configuration_in net) names.old old old_is;
+      plan_is = read_means files kind.Plan plan_words (plan_in net) names.plan plan plan_is;
+      schedule_is = read_means files kind.Schedule schedule_words (schedule_in net) names.schedule schedule schedule_is;
+    } in
+    subst (λ v. FilesMeanReplay files names v) same read
+
+-- where the events are enabled in turn, so is one behind some of them
+next_enabled : (net : Network) (rounds : List (List Change)) (state : State) (first : List ScheduleLine) (line : ScheduleLine) (rest : List ScheduleLine)
+    → AreEnabled net rounds state (events_of (first ++ line ∷ rest)) → IsEnabled net rounds (state_after net rounds state (events_of first)) line.event
+next_enabled net rounds state [] line rest enabled = enabled.0
+next_enabled net rounds state (l ∷ first) line rest enabled = next_enabled net rounds (state_after_event net rounds state l.event) first line rest enabled.1
+
+-- a schedule that stops is no run
+stops_no_run : (m : ReplayMeaning) (number : ℕ) → FirstStopsAt m number → ¬ IsRun (update_in m) (events_of m.schedule)
+stops_no_run m number at run =
+    let s = at.stops in
+    let all = subst (λ lines. AreEnabled m.net m.plan.rounds (begun m).state (events_of lines)) s.before.parts run in
+    let next = next_enabled m.net m.plan.rounds (begun m).state s.first s.line s.rest all in
+    s.not_enabled (subst (λ w. IsEnabled w.net w.rounds w.state s.line.event) (sym s.before.after) next)
+
+-- what is said of a schedule, by the status
+module _ (m : ReplayMeaning) (answer : Answer) where
+  done_says : IsReplayAnswer m answer → answer.status ≡ status.Done → SaysTraces m answer
+  done_says (inl v) is = v
+  done_says (inr v) is = absurd (let e = status_of answer _ _ v.answer_is in cc)
+
+  stop_says : IsReplayAnswer m answer → answer.status ≡ status.NotARun → SaysNotARun m answer
+  stop_says (inl v) is = absurd (let e = status_of answer _ _ v.answer_is in cc)
+  stop_says (inr v) is = v
+
+  run_says : IsReplayAnswer m answer → IsRun (update_in m) (events_of m.schedule) → SaysTraces m answer
+  run_says (inl v) run = v
+  run_says (inr v) run = absurd (stops_no_run m v.line v.first run)
+
+  no_run_says : IsReplayAnswer m answer → ¬ IsRun (update_in m) (events_of m.schedule) → SaysNotARun m answer
+  no_run_says (inl v) none = absurd (none v.run)
+  no_run_says (inr v) none = v
+
+-- of a settled run of `replay` over a source that tells
+module _ (files : Files) (names : ReplayNames) (old new : Option (List ℕ)) (result : Status) (a : Answered IsReplayAnswer files (replay_dialogue names) old new result) where
+  said : (m : ReplayMeaning) → FilesMeanReplay files names m → IsReplayAnswer m a.answer
+  said m mean = said_over IsReplayAnswer files (replay_dialogue names) a.answer m a.over (means_replay files names m mean)
+
+  meant : (s : Status) → s ≢ status.BadFile → result ≡ s → (m : ReplayMeaning) × FilesMeanReplay files names m
+  meant s other is = elim (over_splits IsReplayAnswer files (replay_dialogue names) a.answer a.over) [
+    | inl bad ↦ absurd (other (sym is ∙ sym a.status_is ∙ status_of a.answer _ _ bad.is))
+    | inr (m, means, says) ↦ (m, replay_means files names m means)
+  ]
+
+  done : (result ≡ status.Done) ↔ FilesAreARun files names
+  done = (
+    λ is.
+        let (m, mean) = meant status.Done (λ e. cc) is in
+        record { meaning = m; mean = mean; run = (done_says m a.answer (said m mean) (a.status_is ∙ is)).run },
+    λ h. sym a.status_is ∙ status_of a.answer _ _ (run_says h.meaning a.answer (said h.meaning h.mean) h.run).answer_is,
+  )
+
+  traces : result ≡ status.Done → (m : ReplayMeaning) → FilesMeanReplay files names m → Appends old new (traces_text m.net (ended m))
+  traces is m mean =
+      let says = done_says m a.answer (said m mean) (a.status_is ∙ is) in
+      subst (λ t. Appends old new t) (text_of a.answer _ _ says.answer_is) a.written
+
+  not_a_run : (result ≡ status.NotARun) ↔ FilesAreNoRun files names
+  not_a_run = (
+    λ is.
+        let (m, mean) = meant status.NotARun (λ e. cc) is in
+        let says = stop_says m a.answer (said m mean) (a.status_is ∙ is) in
+        record { meaning = m; mean = mean; stops = stops_no_run m says.line says.first },
+    λ h. sym a.status_is ∙ status_of a.answer _ _ (no_run_says h.meaning a.answer (said h.meaning h.mean) h.stops).answer_is,
+  )
+
+  first_line : result ≡ status.NotARun → (m : ReplayMeaning) → FilesMeanReplay files names m → NamesFirstLine m old new
+  first_line is m mean =
+      let says = stop_says m a.answer (said m mean) (a.status_is ∙ is) in
+      record { line = says.line; first = says.first; written = subst (λ t. Appends old new t) (text_of a.answer _ _ says.answer_is) a.written }
+
+pub promised : (files : Files) (names : ReplayNames) (old new : Option (List ℕ)) (result : Status) → (IsSettled result → Answered IsReplayAnswer files (replay_dialogue names) old new result) → ReplayPromise files names old new result
+promised files names old new result answered = record {
+  done = λ settled. done files names old new result (answered settled);
+  traces = λ m mean is. traces files names old new result (answered (settled_done _ is)) is m mean;
+  not_a_run = λ settled. not_a_run files names old new result (answered settled);
+  first = λ m mean is. first_line files names old new result (answered (settled_not_a_run _ is)) is m mean;
+}

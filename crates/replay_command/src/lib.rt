@@ -1,0 +1,11 @@
+//! The command `replay`: carries out a recorded schedule on the run machine and writes where each packet went, with its promise.
+#![tactic(auto)]
+
+mod command;
+pub mod laws;
+mod names;
+mod readings;
+mod replaying;
+
+pub use crate::command::replay;
+pub use crate::names::{ReplayNames, replay_names};

@@ -1,0 +1,5 @@
+//! Tests of `replay`.
+#![tactic(auto)]
+
+#[cfg(test)]
+mod tests;
