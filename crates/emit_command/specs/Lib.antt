@@ -1,0 +1,6 @@
+pub mod Requests
+pub mod Lines
+pub mod Written
+pub mod ReadBack
+pub mod Answers
+pub mod Promise

@@ -1,0 +1,20 @@
+-- What a run of `emit` promises over the files of a source that tells.
+use Rattle.std.specs.Prelude.{◌≡◌, ◌↔◌, ℕ, List, Option}
+use Rattle.std.specs.Io.KnownBytes.{Appends}
+use Rattle.net_base.specs.Outside.{Files}
+use Rattle.command_base.specs.declared.status.Status.{Status}
+use Rattle.command_base.specs.declared.status.Status.TheVariants as status
+use Rattle.command_base.specs.Names.{PlanNames}
+use Rattle.command_base.specs.Updates.{PlanMeaning, FilesMeanOnePlan}
+use Rattle.command_base.specs.Runs.{IsSettled}
+use Rattle.emit_command.specs.Lines.{emit_text}
+use Rattle.emit_command.specs.ReadBack.{CarriesOut}
+
+-- the files and their names, what was written before and after the run, and how it ended
+pub record EmitPromise (files : Files) (names : PlanNames) (old new : Option (List ℕ)) (result : Status) : Type 0 where
+  -- Done comes exactly where both files are read.
+  pub done : IsSettled result → ((result ≡ status.Done) ↔ ((m : PlanMeaning) × FilesMeanOnePlan files names m))
+  -- What is written then is one line for each message of the plan.
+  pub lines : (m : PlanMeaning) → FilesMeanOnePlan files names m → result ≡ status.Done → Appends old new (emit_text m.net m.plan.rounds)
+  -- Read back, these lines are the plan's rounds, switch by switch.
+  pub carries_out : (m : PlanMeaning) → FilesMeanOnePlan files names m → result ≡ status.Done → CarriesOut m.net m.plan.rounds (emit_text m.net m.plan.rounds)

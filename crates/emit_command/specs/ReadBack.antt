@@ -1,0 +1,62 @@
+-- What a reader of the lines finds in them.
+use Rattle.std.specs.Prelude.{◌≡◌, ◌==◌, ◌&&◌, ◌+◌, ℕ, List, [], ◌∷◌, ◌++◌, length, map, filter, Some, Ok}
+use Rattle.hex.specs.Hex.{decode_of}
+use Rattle.net_base.specs.Text.{cut_first, decimal_in}
+use Rattle.net_base.specs.declared.ids.SwitchId.{SwitchId}
+use Rattle.topology.specs.Networks.{Network, switch_named}
+use Rattle.update_model.specs.Changes.{changes_at, round_after}
+use Rattle.update_model.specs.declared.Change.{Change}
+use Rattle.openflow10.specs.Messages.{BeginsWith, message_of}
+use Rattle.openflow10.specs.declared.Message.{Message}
+use Rattle.openflow10.specs.declared.Message.TheVariants.{BarrierRequest}
+use Rattle.emit_command.specs.Requests.{Sent}
+
+-- A line is read as a message to a switch in a round: round, name and digits are cut at the first two spaces, and the digits are
+-- the bytes of the message and no more.
+pub record ReadsAs (net : Network) (line : List ℕ) (m : Sent) : Type 0 where
+  pub round : List ℕ
+  pub rest : List ℕ
+  pub name : List ℕ
+  pub digits : List ℕ
+  pub bytes : List ℕ
+  pub first_space : cut_first 32 line ≡ Some (round, rest)
+  pub next_space : cut_first 32 rest ≡ Some (name, digits)
+  pub round_is : decimal_in round 4294967295 ≡ Some (m.round + 1)
+  pub switch_is : switch_named net.names name ≡ Some m.switch.0
+  pub bytes_are : decode_of digits ≡ Ok bytes
+  pub message_is : BeginsWith bytes m.message (length bytes)
+
+-- a text is read as these messages, one a line
+abbrev pub IsReadAs : Network → List ℕ → List Sent → Type 0
+IsReadAs net text [] = text ≡ []
+IsReadAs net text (m ∷ ms) = (line : List ℕ) × (rest : List ℕ) × (cut_first 10 text ≡ Some (line, rest)) × ReadsAs net line m × IsReadAs net rest ms
+
+-- the messages to a switch in round k, in order
+abbrev pub messages_to : ℕ → SwitchId → List Sent → List Message
+messages_to k s sent = map (λ m. m.message) (filter (λ m. m.round == k && m.switch.0 == s.0) sent)
+
+-- each message asks for the change at its place
+abbrev pub AskFor : List Change → List Message → Type 0
+AskFor [] [] = Unit {0}
+AskFor (c ∷ cs) (m ∷ ms) = ((xid : ℕ) × (m ≡ message_of c xid)) × AskFor cs ms
+AskFor _ _ = ⊥
+
+-- messages that ask for these changes, in order, and then one barrier request
+pub record AskAndWait (changes : List Change) (messages : List Message) : Type 0 where
+  pub asking : List Message
+  pub xid : ℕ
+  pub ask : AskFor changes asking
+  pub are : messages ≡ asking ++ BarrierRequest xid ∷ []
+
+-- the messages that a switch with these changes has to get: none where it has no change
+abbrev pub AreFor : List Change → List Message → Type 0
+AreFor [] messages = messages ≡ []
+AreFor (c ∷ cs) messages = AskAndWait (c ∷ cs) messages
+
+-- Read back, the text carries out the rounds: in each round each switch gets just its changes, in their order, and then a barrier
+-- request, and nothing is lost or added.
+pub record CarriesOut (net : Network) (rounds : List (List Change)) (text : List ℕ) : Type 0 where
+  pub sent : List Sent
+  pub read : IsReadAs net text sent
+  pub read_only : (others : List Sent) → IsReadAs net text others → others ≡ sent
+  pub each : (k : ℕ) (s : SwitchId) → AreFor (changes_at s (round_after k rounds)) (messages_to k s sent)

@@ -1,0 +1,5 @@
+//! Tests of the command `emit`.
+#![tactic(auto)]
+
+#[cfg(test)]
+mod tests;
