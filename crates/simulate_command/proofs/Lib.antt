@@ -1,0 +1,4 @@
+pub mod TrafficLaws
+pub mod CourseLaws
+pub mod RecordLaws
+pub mod SimulateLaws

@@ -1,0 +1,4 @@
+pub mod Names
+pub mod Simulations
+pub mod Simulated
+pub mod Promise

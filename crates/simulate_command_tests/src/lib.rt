@@ -1,0 +1,5 @@
+//! Tests of the command `simulate`.
+#![tactic(auto)]
+
+#[cfg(test)]
+mod tests;
