@@ -1,13 +1,1 @@
-pub mod GoingOn
-pub mod Told
-pub mod Over
-pub mod Judged
-pub mod ConfigLaws
-pub mod PlanLaws
-pub mod PlannedLaws
-pub mod NewPlanLaws
-pub mod Usages
-pub mod StillLaws
-pub mod Settled
-pub mod VerdictLaws
-pub mod ReasonLaws
+pub mod Answered

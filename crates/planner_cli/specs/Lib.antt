@@ -1,15 +1,1 @@
-pub mod Kinds
-pub mod Asked
-pub mod Lines
-pub mod ReasonLines
-pub mod Verdicts
-pub mod Updates
-pub mod NoPlanLines
-pub mod Planned
-pub mod Dialogue
-pub mod Answers
-pub mod Replies
-pub mod Runs
-pub mod Configs
-pub mod Plans
-pub mod NewPlans
+pub mod Commands

@@ -1,109 +1,40 @@
 // The words of the command line.
-ghost use Rattle.std.specs.Prelude.{◌≡◌, map, string_bytes};
-ghost use Rattle.planner_cli.specs.Asked.{asked, asked_config, asked_check, asked_plan, asked_upgrade, seen};
+ghost use Rattle.std.specs.Prelude.{◌≡◌, map, string_bytes, option_map};
+ghost use Rattle.planner_cli.specs.Commands.{asked, seen};
 
-/// The names of the files of an update.
+use check_command::{CheckNames, check_names};
+use command_base::{PlanNames, UpdateNames, plan_names, update_names};
+use config_command::{ConfigNames, config_names};
+use replay_command::{ReplayNames, replay_names};
+use simulate_command::{SimulateNames, simulate_names};
+
+/// A command, with the names of its files.
 #[derive(Clone, Copy)]
-pub struct UpdateNames<'a> {
-    pub topology: &'a str,
-    pub old: &'a str,
-    pub new: &'a str,
-    pub policy: &'a str,
-}
-
-/// What the words ask for, with the names of the files.
 pub enum Command<'a> {
-    Config {
-        topology: &'a str,
-        config: &'a str,
-        policy: Option<&'a str>,
-    },
-    Check(UpdateNames<'a>, &'a str),
+    Config(ConfigNames<'a>),
+    Check(CheckNames<'a>),
     Plan(UpdateNames<'a>),
-    Upgrade {
-        topology: &'a str,
-        plan: &'a str,
-    },
-    Usage,
+    Upgrade(PlanNames<'a>),
+    Emit(PlanNames<'a>),
+    Replay(ReplayNames<'a>),
+    Simulate(SimulateNames<'a>),
 }
 
-/// What the words after the program's name ask for.
-pub fn command_of(words: &[String]) -> Command<'_>
-    ensures { seen result ≡ asked (map string_bytes words.now) }
+/// What the words after the program's name ask for; nothing where they are none of the listed forms.
+pub fn command_of(words: &[String]) -> Option<Command<'_>>
+    ensures { option_map seen result ≡ asked (map string_bytes words.now) }
 {
     let [name, rest @ ..] = words else {
-        return Command::Usage;
+        return None;
     };
     match name.as_str() {
-        "config" => config_words(rest),
-        "check" => check_words(rest),
-        "plan" => plan_words(rest),
-        "upgrade" => upgrade_words(rest),
-        _ => Command::Usage,
-    }
-}
-
-// The words after `config`: TOPO CONFIG, or TOPO CONFIG POLICY.
-fn config_words(words: &[String]) -> Command<'_>
-    ensures { seen result ≡ asked_config (map string_bytes words.now) }
-{
-    match words {
-        [topology, config] => Command::Config {
-            topology: topology.as_str(),
-            config: config.as_str(),
-            policy: None,
-        },
-        [topology, config, policy] => Command::Config {
-            topology: topology.as_str(),
-            config: config.as_str(),
-            policy: Some(policy.as_str()),
-        },
-        _ => Command::Usage,
-    }
-}
-
-// The words after `check`: TOPO OLD NEW POLICY PLAN.
-fn check_words(words: &[String]) -> Command<'_>
-    ensures { seen result ≡ asked_check (map string_bytes words.now) }
-{
-    match words {
-        [topology, old, new, policy, plan] => Command::Check(
-            UpdateNames {
-                topology: topology.as_str(),
-                old: old.as_str(),
-                new: new.as_str(),
-                policy: policy.as_str(),
-            },
-            plan.as_str(),
-        ),
-        _ => Command::Usage,
-    }
-}
-
-// The words after `plan`: TOPO OLD NEW POLICY.
-fn plan_words(words: &[String]) -> Command<'_>
-    ensures { seen result ≡ asked_plan (map string_bytes words.now) }
-{
-    match words {
-        [topology, old, new, policy] => Command::Plan(UpdateNames {
-            topology: topology.as_str(),
-            old: old.as_str(),
-            new: new.as_str(),
-            policy: policy.as_str(),
-        }),
-        _ => Command::Usage,
-    }
-}
-
-// The words after `upgrade`: TOPO PLAN.
-fn upgrade_words(words: &[String]) -> Command<'_>
-    ensures { seen result ≡ asked_upgrade (map string_bytes words.now) }
-{
-    match words {
-        [topology, plan] => Command::Upgrade {
-            topology: topology.as_str(),
-            plan: plan.as_str(),
-        },
-        _ => Command::Usage,
+        "config" => config_names(rest).map(Command::Config),
+        "check" => check_names(rest).map(Command::Check),
+        "plan" => update_names(rest).map(Command::Plan),
+        "upgrade" => plan_names(rest).map(Command::Upgrade),
+        "emit" => plan_names(rest).map(Command::Emit),
+        "replay" => replay_names(rest).map(Command::Replay),
+        "simulate" => simulate_names(rest).map(Command::Simulate),
+        _ => None,
     }
 }

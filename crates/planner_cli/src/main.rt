@@ -1,41 +1,13 @@
 //! The program: it reads the words of the command line and the files that they name, and writes one answer.
 #![tactic(auto)]
 
-#[cfg(test)]
-mod check_tests;
-mod checking;
 mod command;
-mod config;
-#[cfg(test)]
-mod example_files;
-#[cfg(test)]
-mod example_plans;
-#[cfg(test)]
-mod example_updates;
-mod exit;
-mod faults;
-mod files;
-mod kinds;
-mod lines;
-mod no_plan_lines;
-#[cfg(test)]
-mod plan_tests;
-mod planning;
-mod readings;
-mod reason_lines;
-mod reply;
-#[cfg(test)]
-mod room_tests;
 mod run;
-mod status;
 #[cfg(test)]
 mod tests;
-mod updates;
-mod upgrading;
-mod verdict;
 
 use crate::run::run;
-use crate::status::Status;
+use command_base::Status;
 use net_base::{FileSource, StdoutSink};
 use std::process::ExitCode;
 use std::rt::Env;

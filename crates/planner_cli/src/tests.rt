@@ -1,14 +1,14 @@
 // Runs of the program over files and a sink in memory.
 ghost use Rattle.std.specs.Prelude.{◌≤◌};
 
-use crate::example_files as files;
 use crate::run::run;
-use crate::status::Status;
+use command_base::Status;
+use example_files::{ConfigTexts, UpdateTexts, config_source, square, update_source};
 use net_base::{MemorySink, MemorySource};
 use std::alloc::Global;
 use std::test::Fail;
 
-pub(crate) fn words(alloc: Global, texts: &[&str]) -> Result<Vec<String>, Fail> {
+fn words(alloc: Global, texts: &[&str]) -> Result<Vec<String>, Fail> {
     let mut words = Vec::new(alloc);
     for text in texts {
         words.push(String::from_str(alloc, text)?)?;
@@ -16,228 +16,130 @@ pub(crate) fn words(alloc: Global, texts: &[&str]) -> Result<Vec<String>, Fail> 
     Ok(words)
 }
 
-// Three files. The call of the given number fails.
-fn source(
-    alloc: Global,
-    topology: &[u8],
-    config: &[u8],
-    policy: &[u8],
-    piece: usize,
-    failing: u64,
-) -> Result<MemorySource, Fail>
+// The topology and a configuration of the square, without a policy. The call of the given number fails.
+fn held(alloc: Global, topology: &[u8], piece: usize, failing: u64) -> Result<MemorySource, Fail>
     requires { 1 ≤ piece }
 {
-    let mut source = MemorySource::make(alloc, piece, vec![in alloc; failing]?)?;
-    source.add(
-        String::from_str(alloc, "topology")?,
-        topology.to_vec(alloc)?,
-    )?;
-    source.add(String::from_str(alloc, "config")?, config.to_vec(alloc)?)?;
-    source.add(String::from_str(alloc, "policy")?, policy.to_vec(alloc)?)?;
-    Ok(source)
+    let texts = ConfigTexts {
+        topology,
+        config: square::old(),
+        policy: None,
+    };
+    Ok(config_source(alloc, &texts, piece, failing)?)
 }
 
-// A run over the files, with the policy if there is one: how it ends, and what it wrote.
-fn answer(
+// A run over the source, into a sink that takes pieces, where the put of the given number fails: how it ends, and what it wrote.
+fn ran(
     alloc: Global,
-    topology: &[u8],
-    config: &[u8],
-    policy: Option<&[u8]>,
-) -> Result<(Status, Vec<u8>), Fail> {
-    let words = match policy {
-        None => words(alloc, &["config", "topology", "config"])?,
-        Some(_) => words(alloc, &["config", "topology", "config", "policy"])?,
-    };
-    let mut source = source(alloc, topology, config, policy.unwrap_or(b""), 4096, 0)?;
-    let mut sink = MemorySink::make(alloc, 200, 200, Vec::new(alloc))?;
-    let status = run(alloc, &words, &mut source, &mut sink);
+    texts: &[&str],
+    source: &mut MemorySource,
+    piece: usize,
+    failing: u64,
+) -> Result<(Status, Vec<u8>), Fail>
+    requires { 1 ≤ piece }
+{
+    let words = words(alloc, texts)?;
+    let mut sink = MemorySink::make(alloc, 4000, piece, vec![in alloc; failing]?)?;
+    let status = run(alloc, &words, source, &mut sink);
     Ok((status, sink.bytes().to_vec(alloc)?))
 }
 
+// A run over the update of the square and its plan in format 1, into a sink that takes single bytes.
+fn ran_over_update(alloc: Global, texts: &[&str], failing: u64) -> Result<(Status, Vec<u8>), Fail> {
+    let mut source = update_source(
+        alloc,
+        &square::update(),
+        square::plan_in_format_1(),
+        4096,
+        0,
+    )?;
+    ran(alloc, texts, &mut source, 1, failing)
+}
+
+// The messages of the plan of the square: s1 to port 4, s3 to port 3, each behind a barrier of its own.
+const SQUARE_LINES: &str =
+    "1 s1 010e005000000001003220ef000000000000000000000000000000000000080000000000000000000a0000000000000000000000000000000002000000000064ffffffffffff00000000000800040000
+1 s1 0112000800000002
+2 s3 010e005000000003003220ef000000000000000000000000000000000000080000000000000000000a0000000000000000000000000000000002000000000064ffffffffffff00000000000800030000
+2 s3 0112000800000004
+";
+
 #[test]
-fn good_paths_hold(rt: HostRuntime) -> Result<(), Fail> {
-    let alloc = rt.alloc();
-    let table: [(&[u8], &[u8], Option<&[u8]>, &[u8]); 6] = [
+fn each_command_runs(rt: HostRuntime) -> Result<(), Fail> {
+    let rows: [(&[&str], &[u8]); 6] = [
+        (&["config", "topology", "old"], b"holds: 12 classes\n"),
         (
-            files::s_topo(),
-            files::s_old(),
-            None,
-            b"holds: 12 classes\n",
+            &["check", "topology", "old", "new", "policy", "plan"],
+            b"accepted: ordered, 2 rounds, 12 classes\n",
         ),
         (
-            files::s_topo(),
-            files::s_old(),
-            Some(files::s_policy()),
-            b"holds: 12 classes\n",
+            &["plan", "topology", "old", "new", "policy"],
+            square::plan(),
         ),
+        (&["upgrade", "topology", "plan"], square::plan()),
+        (&["emit", "topology", "plan"], SQUARE_LINES.as_bytes()),
         (
-            files::k_topo(),
-            files::k_ring(),
-            None,
-            b"holds: 3 classes\n",
-        ),
-        (
-            files::l_topo(),
-            files::l_old(),
-            Some(files::l_policy()),
-            b"holds: 6 classes\n",
-        ),
-        (
-            files::l_topo(),
-            files::l_old(),
-            Some(files::l_chain()),
-            b"holds: 6 classes\n",
-        ),
-        (
-            files::empty_topo(),
-            files::empty_rules(),
-            None,
-            b"holds: 0 classes\n",
+            &[
+                "simulate", "topology", "old", "new", "policy", "plan", "0", "0",
+            ],
+            b"start\nchange 0\nsettle\nstart\nchange 0\nsettle\n# settled 2 of 2\n",
         ),
     ];
-    for (topology, config, policy, text) in table {
-        let (status, written) = answer(alloc, topology, config, policy)?;
-        assert_eq!(rt; status, Status::Done);
-        assert_eq!(rt; written.as_slice(), text);
+    for (texts, text) in rows {
+        let (status, written) = ran_over_update(rt.alloc(), texts, 0)?;
+        assert_eq!(rt; status, Status::Done, "at {texts:?}");
+        assert_eq!(rt; written.as_slice(), text, "at {texts:?}");
     }
     Ok(())
 }
 
+// The schedule is held in the place of the policy.
 #[test]
-fn the_first_break_is_named(rt: HostRuntime) -> Result<(), Fail> {
+fn replay_runs(rt: HostRuntime) -> Result<(), Fail> {
     let alloc = rt.alloc();
-    let table: [(&[u8], &[u8], Option<&[u8]>, &[u8]); 4] = [
-        (
-            files::k_topo(),
-            files::k_loop(),
-            None,
-            b"breaks: at h:1 untagged 10.0.0.0 Loop a\n",
-        ),
-        (
-            files::l_topo(),
-            files::l_drop(),
-            Some(files::l_policy()),
-            b"breaks: at s:1 untagged 10.0.0.0 Dropped x\n",
-        ),
-        (
-            files::l_topo(),
-            files::l_short(),
-            Some(files::l_policy()),
-            b"breaks: at s:1 untagged 10.0.0.0 Missed w\n",
-        ),
-        (
-            files::l_topo(),
-            files::l_new(),
-            Some(files::l_chain()),
-            b"breaks: at s:1 untagged 10.0.0.0 Missed y\n",
-        ),
-    ];
-    for (topology, config, policy, text) in table {
-        let (status, written) = answer(alloc, topology, config, policy)?;
-        assert_eq!(rt; status, Status::Refused);
-        assert_eq!(rt; written.as_slice(), text);
-    }
+    let texts = UpdateTexts {
+        topology: square::topology(),
+        old: square::old(),
+        new: square::new(),
+        policy: b"start\nstart\n",
+    };
+    let mut source = update_source(alloc, &texts, square::plan(), 4096, 0)?;
+    let words = ["replay", "topology", "old", "plan", "policy"];
+    let (status, written) = ran(alloc, &words, &mut source, 4000, 0)?;
+    assert_eq!(rt; status, Status::NotARun);
+    assert_eq!(rt; written.as_slice(), b"not a run: line 2\n".as_slice());
     Ok(())
 }
 
-#[test]
-fn bad_files_are_named(rt: HostRuntime) -> Result<(), Fail> {
-    let alloc = rt.alloc();
-    let table: [(&[u8], &[u8], Option<&[u8]>, &[u8]); 7] = [
-        (files::s_topo(), b"", None, b"bad config: 1 NotJson at 0\n"),
-        (
-            files::twice_topo(),
-            files::s_old(),
-            None,
-            b"bad topology: 7 PortTwice at 0\n",
-        ),
-        (
-            files::a_topo(),
-            files::a_overlap(),
-            None,
-            b"bad config: 10 Overlap at 1\n",
-        ),
-        (
-            files::a_topo(),
-            files::a_twice(),
-            None,
-            b"bad config: 9 KeyTwice at 1\n",
-        ),
-        (
-            files::a_topo(),
-            files::a_reserved(),
-            None,
-            b"bad config: 7 ReservedVlan at 0\n",
-        ),
-        (
-            files::a_topo(),
-            files::a_port(),
-            None,
-            b"bad config: 5 BadPort at 0\n",
-        ),
-        (
-            files::l_topo(),
-            files::l_old(),
-            Some(files::l_not_host()),
-            b"bad policy: 4 NotHost at 0\n",
-        ),
-    ];
-    for (topology, config, policy, text) in table {
-        let (status, written) = answer(alloc, topology, config, policy)?;
-        assert_eq!(rt; status, Status::BadFile);
-        assert_eq!(rt; written.as_slice(), text);
-    }
-    Ok(())
-}
-
-// One switch with 64 host ports and 64 VLANs.
-pub(crate) fn wide_topology(alloc: Global) -> Result<String, Fail> {
-    let mut hosts = String::new(alloc);
-    let mut vlans = String::new(alloc);
-    for i in 1..=64u32 {
-        let comma = if i == 1 { "" } else { "," };
-        hosts.push_str(&format!(in alloc; "{comma}\"a:{i}\"")?)?;
-        vlans.push_str(&format!(in alloc; "{comma}{i}")?)?;
-    }
-    let front = "{\"switches\":[{\"name\":\"a\",\"capacity\":8}],\"links\":[],\"hosts\":[";
-    Ok(format!(in alloc; "{front}{hosts}],\"vlans\":[{vlans}],\"tags\":[]}}")?)
+// Whether the run ends by the fault of that put, with what came before it written.
+fn writes_front(alloc: Global, texts: &[&str], failing: u64, text: &[u8]) -> Result<bool, Fail> {
+    let (status, written) = ran_over_update(alloc, texts, failing)?;
+    Ok(
+        status == Status::WriteFault
+            && written.len() as u64 + 1 == failing
+            && text.starts_with(&written),
+    )
 }
 
 #[test]
-fn there_are_at_most_8192_classes(rt: HostRuntime) -> Result<(), Fail> {
-    let alloc = rt.alloc();
-    let topology = wide_topology(alloc)?;
-    let (status, written) = answer(alloc, topology.as_bytes(), files::half(), None)?;
+fn a_write_that_fails_leaves_a_front(rt: HostRuntime) -> Result<(), Fail> {
+    let texts = ["config", "topology", "old"];
+    let line = b"holds: 12 classes\n";
+    for failing in 1..=18u64 {
+        let front = writes_front(rt.alloc(), &texts, failing, line)?;
+        assert!(rt; front, "at {failing}");
+    }
+    let (status, _) = ran_over_update(rt.alloc(), &texts, 19)?;
     assert_eq!(rt; status, Status::Done);
-    assert_eq!(rt; written.as_slice(), b"holds: 8192 classes\n".as_slice());
-    let (status, written) = answer(alloc, topology.as_bytes(), files::some(), None)?;
-    assert_eq!(rt; status, Status::BadFile);
-    assert_eq!(rt; written.as_slice(), b"too many classes: 12288\n".as_slice());
     Ok(())
 }
 
 #[test]
-fn a_read_that_fails_leaves_nothing_written(rt: HostRuntime) -> Result<(), Fail> {
-    let alloc = rt.alloc();
-    let words = words(alloc, &["config", "topology", "config", "policy"])?;
-    // Of each file a select, a take and the end.
-    for failing in 1..=10u64 {
-        let mut source = source(
-            alloc,
-            files::s_topo(),
-            files::s_old(),
-            files::s_policy(),
-            4096,
-            failing,
-        )?;
-        let mut sink = MemorySink::make(alloc, 200, 200, Vec::new(alloc))?;
-        let status = run(alloc, &words, &mut source, &mut sink);
-        if failing <= 9 {
-            assert_eq!(rt; status, Status::ReadFault, "at {failing}");
-            assert_eq!(rt; sink.bytes().len(), 0, "at {failing}");
-        } else {
-            assert_eq!(rt; status, Status::Done, "at {failing}");
-        }
+fn planning_that_fails_to_write_leaves_a_front(rt: HostRuntime) -> Result<(), Fail> {
+    let texts = ["plan", "topology", "old", "new", "policy"];
+    for failing in [1u64, 2, 100] {
+        let front = writes_front(rt.alloc(), &texts, failing, square::plan())?;
+        assert!(rt; front, "at {failing}");
     }
     Ok(())
 }
@@ -245,33 +147,11 @@ fn a_read_that_fails_leaves_nothing_written(rt: HostRuntime) -> Result<(), Fail>
 #[test]
 fn the_third_take_of_sixteen_bytes_fails(rt: HostRuntime) -> Result<(), Fail> {
     let alloc = rt.alloc();
-    let words = words(alloc, &["config", "topology", "config"])?;
-    let mut source = source(alloc, files::s_topo(), files::s_old(), b"", 16, 4)?;
-    let mut sink = MemorySink::make(alloc, 200, 200, Vec::new(alloc))?;
-    let status = run(alloc, &words, &mut source, &mut sink);
+    let mut source = held(alloc, square::topology(), 16, 4)?;
+    let texts = ["config", "topology", "config"];
+    let (status, written) = ran(alloc, &texts, &mut source, 4000, 0)?;
     assert_eq!(rt; status, Status::ReadFault);
-    assert_eq!(rt; sink.bytes().len(), 0);
-    Ok(())
-}
-
-#[test]
-fn a_write_that_fails_leaves_a_front(rt: HostRuntime) -> Result<(), Fail> {
-    let alloc = rt.alloc();
-    let words = words(alloc, &["config", "topology", "config"])?;
-    let text = b"holds: 12 classes\n";
-    for failing in 1..=19u64 {
-        let mut source = source(alloc, files::s_topo(), files::s_old(), b"", 4096, 0)?;
-        let mut sink = MemorySink::make(alloc, 200, 1, vec![in alloc; failing]?)?;
-        let status = run(alloc, &words, &mut source, &mut sink);
-        let written = sink.bytes();
-        if failing <= 18 {
-            assert_eq!(rt; status, Status::WriteFault, "at {failing}");
-            assert_eq!(rt; written.len() as u64, failing - 1, "at {failing}");
-        } else {
-            assert_eq!(rt; status, Status::Done, "at {failing}");
-        }
-        assert!(rt; text.starts_with(written), "at {failing}");
-    }
+    assert_eq!(rt; written.len(), 0);
     Ok(())
 }
 
@@ -279,7 +159,9 @@ fn a_write_that_fails_leaves_a_front(rt: HostRuntime) -> Result<(), Fail> {
 fn a_file_past_its_limit_is_too_long(rt: HostRuntime) -> Result<(), Fail> {
     let alloc = rt.alloc();
     let long = vec![in alloc; b' '; 16777217]?;
-    let (status, written) = answer(alloc, &long, files::s_old(), None)?;
+    let texts = ["config", "topology", "config"];
+    let mut source = held(alloc, &long, 4096, 0)?;
+    let (status, written) = ran(alloc, &texts, &mut source, 4000, 0)?;
     assert_eq!(rt; status, Status::BadFile);
     assert_eq!(rt;
         written.as_slice(),
@@ -290,7 +172,6 @@ fn a_file_past_its_limit_is_too_long(rt: HostRuntime) -> Result<(), Fail> {
 
 #[test]
 fn other_words_and_names(rt: HostRuntime) -> Result<(), Fail> {
-    let alloc = rt.alloc();
     let usage = b"unknown command or wrong words\n".as_slice();
     let table: [(&[&str], Status, &[u8]); 7] = [
         (&[], Status::Usage, usage),
@@ -306,12 +187,10 @@ fn other_words_and_names(rt: HostRuntime) -> Result<(), Fail> {
         (&["config", "topology", "missing"], Status::ReadFault, b""),
     ];
     for (texts, want, text) in table {
-        let words = words(alloc, texts)?;
-        let mut source = source(alloc, files::s_topo(), files::s_old(), b"", 4096, 0)?;
-        let mut sink = MemorySink::make(alloc, 200, 200, Vec::new(alloc))?;
-        let status = run(alloc, &words, &mut source, &mut sink);
+        let mut source = held(rt.alloc(), square::topology(), 4096, 0)?;
+        let (status, written) = ran(rt.alloc(), texts, &mut source, 4000, 0)?;
         assert_eq!(rt; status, want, "at {texts:?}");
-        assert_eq!(rt; sink.bytes(), text, "at {texts:?}");
+        assert_eq!(rt; written.as_slice(), text, "at {texts:?}");
     }
     Ok(())
 }

@@ -1,22 +1,25 @@
-use Rattle.planner_cli.specs.Answers.{dialogue}
+use Rattle.command_base.proofs.DialogueLaws.{meets_as}
+use Rattle.planner_cli.specs.Commands.{IsSaid, OfConfig, OfCheck, OfPlan, OfUpgrade, OfEmit, OfReplay, OfSimulate}
 use Rattle.planner_cli.proofs.run.reply_to.Goals as goal
 
 pub returns-in-Config-clause-meets : goal.returns-in-Config-clause-meets
-unfolding dialogue
-returns-in-Config-clause-meets g c = rw (← c.in-Config.ensures) c.config.ensures.meets
+returns-in-Config-clause-meets g c = rw c.in-Config.is (meets_as IsSaid OfConfig (λ m answer said. said) c.config.ensures.meets)
 
 pub returns-in-Check-clause-meets : goal.returns-in-Check-clause-meets
-unfolding dialogue
-returns-in-Check-clause-meets g c = rw (← c.in-Check.ensures) c.check.ensures.meets
+returns-in-Check-clause-meets g c = rw c.in-Check.is (meets_as IsSaid OfCheck (λ m answer said. said) c.check.ensures.meets)
 
 pub returns-in-Plan-clause-meets : goal.returns-in-Plan-clause-meets
-unfolding dialogue
-returns-in-Plan-clause-meets g c = rw (← c.in-Plan.ensures) c.plan.ensures.meets
+returns-in-Plan-clause-meets g c = rw c.in-Plan.is (meets_as IsSaid OfPlan (λ m answer said. said) c.plan.ensures.meets)
 
 pub returns-in-Upgrade-clause-meets : goal.returns-in-Upgrade-clause-meets
-unfolding dialogue
-returns-in-Upgrade-clause-meets g c = rw (← c.in-Upgrade.ensures) c.upgrade.ensures.meets
+returns-in-Upgrade-clause-meets g c = rw c.in-Upgrade.is (meets_as IsSaid OfUpgrade (λ m answer said. said) c.upgrade.ensures.meets)
 
-pub returns-in_ok-usage-in-Usage-clause-meets : goal.returns-in_ok-usage-in-Usage-clause-meets
-unfolding dialogue
-returns-in_ok-usage-in-Usage-clause-meets g c = rw (← c.in-Usage.ensures) (c.in_ok-usage-in-Usage.ensures, tt {0})
+pub returns-in-Emit-clause-meets : goal.returns-in-Emit-clause-meets
+returns-in-Emit-clause-meets g c = rw c.in-Emit.is (meets_as IsSaid OfEmit (λ m answer said. said) c.emit.ensures.meets)
+
+pub returns-in-Replay-clause-meets : goal.returns-in-Replay-clause-meets
+returns-in-Replay-clause-meets g c = rw c.in-Replay.is (meets_as IsSaid OfReplay (λ m answer said. said) c.replay.ensures.meets)
+
+pub returns-in-Simulate-clause-meets : goal.returns-in-Simulate-clause-meets
+returns-in-Simulate-clause-meets g c =
+    rw c.in-Simulate.is (meets_as IsSaid (OfSimulate c.in-Simulate.names.start c.in-Simulate.names.count) (λ m answer said. said) c.simulate.ensures.meets)

@@ -1,5 +1,0 @@
-use Rattle.std.proofs.lemmas.List.{append_assoc}
-use Rattle.planner_cli.proofs.reason_lines.accepted_line.Goals as goal
-
-pub returns : goal.returns
-returns c = rw (c.into_bytes.ensures.value, c.in_ok-format.ensures.ok, c.kind_word-kind.ensures) (simp append_assoc)

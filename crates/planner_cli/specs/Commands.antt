@@ -1,0 +1,101 @@
+-- What the words of the command line ask for, and what the program says to it.
+use Rattle.std.specs.Prelude.{◌≡◌, List, [], ◌∷◌, ℕ, codes, if◌then◌else◌, Option, None, Some, option_map}
+use Rattle.std.specs.Str.{bytes_eq}
+use Rattle.command_base.specs.declared.status.Status.TheVariants as status
+use Rattle.command_base.specs.Answers.{Answer}
+use Rattle.command_base.specs.Dialogues.{Dialogue, Ends, and_then}
+use Rattle.command_base.specs.Names as base
+use Rattle.command_base.specs.Names.{UpdateNames, PlanNames}
+use Rattle.command_base.specs.Readings.{reading_update, reading_plan_files}
+use Rattle.command_base.specs.Updates.{UpdateMeaning, PlanMeaning}
+use Rattle.config_command.specs.Names as config
+use Rattle.config_command.specs.Configs.{ConfigMeaning, config_dialogue, IsConfigAnswer}
+use Rattle.check_command.specs.Names as check
+use Rattle.check_command.specs.Checks.{CheckMeaning, check_dialogue, IsCheckAnswer}
+use Rattle.plan_command.specs.Planned.{IsPlanned}
+use Rattle.replay_command.specs.Names as replay
+use Rattle.replay_command.specs.Replayed.{ReplayMeaning, replay_dialogue, IsReplayAnswer}
+use Rattle.simulate_command.specs.Names as simulate
+use Rattle.simulate_command.specs.Simulated.{IsSimulateAnswer}
+use Rattle.upgrade_command.specs.Texts.{IsUpgradeAnswer}
+use Rattle.emit_command.specs.Answers.{IsEmitAnswer}
+use Rattle.planner_cli.specs.declared.command.Command.{Command}
+use Rattle.planner_cli.specs.declared.command.Command.TheVariants as command
+
+-- a command, with the names of its files
+pub data Asked : Type 0 where
+  Config : config.ConfigNames → Asked
+  Check : check.CheckNames → Asked
+  Plan : UpdateNames → Asked
+  Upgrade : PlanNames → Asked
+  Emit : PlanNames → Asked
+  Replay : replay.ReplayNames → Asked
+  Simulate : simulate.SimulateNames → Asked
+
+-- what the words after the program's name ask for; nothing where they are none of the listed forms
+abbrev pub asked : List (List ℕ) → Option Asked
+asked [] = None
+asked (name ∷ words) =
+    if bytes_eq name (codes "config") then option_map Config (config.names_in words)
+    else if bytes_eq name (codes "check") then option_map Check (check.names_in words)
+    else if bytes_eq name (codes "plan") then option_map Plan (base.update_names_in words)
+    else if bytes_eq name (codes "upgrade") then option_map Upgrade (base.plan_names_in words)
+    else if bytes_eq name (codes "emit") then option_map Emit (base.plan_names_in words)
+    else if bytes_eq name (codes "replay") then option_map Replay (replay.names_in words)
+    else if bytes_eq name (codes "simulate") then option_map Simulate (simulate.names_in words)
+    else None
+
+-- a command without where its names lie in memory
+abbrev pub seen : Command → Asked
+seen (command.Config names) = Config (config.names_seen names)
+seen (command.Check names) = Check (check.names_seen names)
+seen (command.Plan names) = Plan (base.names_seen names)
+seen (command.Upgrade names) = Upgrade (base.plan_names_seen names)
+seen (command.Emit names) = Emit (base.plan_names_seen names)
+seen (command.Replay names) = Replay (replay.names_seen names)
+seen (command.Simulate names) = Simulate (simulate.names_seen names)
+
+-- of what a command says its answer
+pub data Ending : Type 0 where
+  OfConfig : ConfigMeaning → Ending
+  OfCheck : CheckMeaning → Ending
+  OfPlan : UpdateMeaning → Ending
+  OfUpgrade : PlanMeaning → Ending
+  OfEmit : PlanMeaning → Ending
+  OfReplay : ReplayMeaning → Ending
+  OfSimulate : ℕ → ℕ → CheckMeaning → Ending
+  OfUsage : Ending
+
+-- on words that are none of the listed forms
+abbrev pub usage_line : List ℕ
+usage_line = codes "unknown command or wrong words\n"
+
+-- what each command says of it
+abbrev pub IsSaid : Ending → Answer → Type 0
+IsSaid (OfConfig m) answer = IsConfigAnswer m answer
+IsSaid (OfCheck m) answer = IsCheckAnswer m answer
+IsSaid (OfPlan u) answer = IsPlanned u answer
+IsSaid (OfUpgrade m) answer = IsUpgradeAnswer m answer
+IsSaid (OfEmit m) answer = IsEmitAnswer m answer
+IsSaid (OfReplay m) answer = IsReplayAnswer m answer
+IsSaid (OfSimulate start count m) answer = IsSimulateAnswer start count m answer
+IsSaid OfUsage answer = answer ≡ record { status = status.Usage; text = usage_line }
+
+-- the dialogue of a command
+abbrev pub dialogue_of : Asked → Dialogue Ending
+dialogue_of (Config names) = and_then (config_dialogue names) (λ m. Ends (OfConfig m))
+dialogue_of (Check names) = and_then (check_dialogue names) (λ m. Ends (OfCheck m))
+dialogue_of (Plan names) = and_then (reading_update names) (λ u. Ends (OfPlan u))
+dialogue_of (Upgrade names) = and_then (reading_plan_files names) (λ m. Ends (OfUpgrade m))
+dialogue_of (Emit names) = and_then (reading_plan_files names) (λ m. Ends (OfEmit m))
+dialogue_of (Replay names) = and_then (replay_dialogue names) (λ m. Ends (OfReplay m))
+dialogue_of (Simulate names) = and_then (check_dialogue names.check) (λ m. Ends (OfSimulate names.start names.count m))
+
+-- the dialogue of what is asked for, if anything is
+abbrev pub dialogue_on : Option Asked → Dialogue Ending
+dialogue_on None = Ends OfUsage
+dialogue_on (Some asked) = dialogue_of asked
+
+-- the program's dialogue with its files on these words
+unfoldable pub dialogue : List (List ℕ) → Dialogue Ending
+dialogue words = dialogue_on (asked words)
