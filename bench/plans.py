@@ -22,20 +22,29 @@ def change(i):
                        "out": 1 + i % 1000, "in_port": 1 + (i >> 16)}, separators=(",", ":"))
 
 
+def great_changes(folder):
+    """Writes a topology of 128 switches, and a plan of it with one round of 2,200,000 changes, to topology.json and plan.json."""
+    switches = [{"name": f"r{i}", "capacity": 8192} for i in range(128)]
+    (folder / "topology.json").write_text(json.dumps({"switches": switches, "links": [], "hosts": [], "vlans": [], "tags": []}))
+    write(folder / "plan.json", '{"format":1,"kind":"two-phase","labels":[],"picks":[],"tried":[],"rounds":[[', (change(i) for i in range(2_200_000)), "]]}")
+    measure.sizes(folder, "plan.json")
+
+
+def great_picks(folder):
+    """Writes an ordered plan of 4200 empty rounds with 3,000,000 picks to plan.json."""
+    front = f'{{"format":1,"kind":"ordered","numberings":[{json.dumps([0] * 128)}],"befores":[[0],[1]],"rounds":[{",".join(["[]"] * 4200)}],"picks":['
+    write(folder / "plan.json", front, (f"[{1 + i // 1000},{i % 1000},0,[{i % 2}]]" for i in range(3_000_000)), "]}")
+    measure.sizes(folder, "plan.json")
+
+
 def main():
     with tempfile.TemporaryDirectory() as name:
         folder = pathlib.Path(name)
-        switches = [{"name": f"r{i}", "capacity": 8192} for i in range(128)]
-        (folder / "topology.json").write_text(json.dumps({"switches": switches, "links": [], "hosts": [], "vlans": [], "tags": []}))
-        plan = folder / "plan.json"
-        write(plan, '{"format":1,"kind":"two-phase","labels":[],"picks":[],"tried":[],"rounds":[[', (change(i) for i in range(2_200_000)), "]]}")
-        measure.sizes(folder, "plan.json")
+        great_changes(folder)
         measure.run("2,200,000 changes", ["upgrade", "topology.json", "plan.json"], folder)
-        front = f'{{"format":1,"kind":"ordered","numberings":[{json.dumps([0] * 128)}],"befores":[[0],[1]],"rounds":[{",".join(["[]"] * 4200)}],"picks":['
-        picks = (f"[{1 + i // 1000},{i % 1000},0,[{i % 2}]]" for i in range(3_000_000))
-        write(plan, front, picks, "]}")
-        measure.sizes(folder, "plan.json")
+        great_picks(folder)
         measure.run("3,000,000 picks", ["upgrade", "topology.json", "plan.json"], folder)
 
 
-main()
+if __name__ == "__main__":
+    main()
