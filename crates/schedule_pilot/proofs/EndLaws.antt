@@ -25,7 +25,8 @@ use Rattle.schedule_pilot.specs.Offered.{counted, next_entry, candidates, AreTho
 use Rattle.schedule_pilot.specs.Ends.{VisitsOnce, AllVisitOnce, AreEntries, entries_left}
 use Rattle.schedule_pilot.specs.declared.Entry.{Entry}
 use Rattle.schedule_pilot.proofs.PendingLaws.{pending_applies, same_count}
-use Rattle.schedule_pilot.proofs.VisitLaws.{few_switches, entry_within, walk_within}
+use Rattle.path_walk.proofs.StayLaws.{few_switches, entry_within}
+use Rattle.schedule_pilot.proofs.VisitLaws.{walk_within}
 use Rattle.schedule_pilot.proofs.MeasureLaws.{left, start_lowers, change_lowers, settle_lowers, hops_append, hops_entered, hop_lowers, left_first}
 
 -- what stands among those that a fact holds of stands among all, and the fact holds of it

@@ -1,119 +1,25 @@
--- A packet that visits no switch twice visits at most as many as there are.
-use Rattle.std.proofs.Common.{◌≡◌, ℕ, zero, suc, ◌<◌, ◌≤◌, true, false, cond, not, List, [], ◌∷◌, map, length, refl, sym, ◌∙◌, subst, ap, inl, inr, arith}
-use Rattle.std.specs.Prelude.{◌==◌, filter, flat_map}
-use Rattle.std.specs.List.{AllByRecursion, list_any}
-use Rattle.std.proofs.lemmas.Bool.{eqb-true, eq-eqb, ne_eqb, cond_both, cases_eq}
-use Rattle.net_base.specs.Members.{IsIn, IsDistinct}
+-- The stops of a mixed walk stay within the network.
+use Rattle.std.proofs.Common.{◌≡◌, ℕ, zero, suc, ◌<◌, List, [], ◌∷◌, map, refl, sym, ◌∙◌, ap}
+use Rattle.std.specs.Prelude.{slice_index_or}
+use Rattle.std.specs.List.{AllByRecursion}
 use Rattle.net_base.specs.Places.{stop_of}
 use Rattle.net_base.specs.Walks.{IsWalk}
-use Rattle.net_base.proofs.MemberLaws.{in_from_filter, each_first, each_last, each_at}
-use Rattle.net_base.specs.declared.ids.SwitchId.{SwitchId}
-use Rattle.net_base.specs.declared.ids.Port.{Port}
-use Rattle.net_base.specs.declared.ids.Stop.{Stop}
 use Rattle.net_base.specs.declared.ids.Place.{Place}
-use Rattle.net_base.specs.declared.ids.Vlan.{Vlan}
-use Rattle.topology.specs.Networks.{Network, IsNetwork, IsEntry, IsPortNumber, switch_count, stop_eq, far_end, end_at}
-use Rattle.topology.specs.declared.net.Link.{Link}
-use Rattle.topology.specs.declared.net.End.{End}
-use Rattle.topology.specs.declared.net.End.TheVariants as at
+use Rattle.topology.specs.Networks.{IsNetwork, switch_count}
 use Rattle.flow_rules.specs.Tables.{lookup}
-use Rattle.flow_rules.specs.declared.rules.Action.{Action}
-use Rattle.flow_rules.specs.declared.rules.Action.TheVariants as action
-use Rattle.path_walk.specs.Outcomes.{header_at, rewritten, sent, acted}
-use Rattle.path_walk.specs.declared.Outcome.TheVariants.{Discard, Leave, Go}
+use Rattle.flow_rules.specs.declared.rules.Rule.{Rule}
+use Rattle.path_walk.specs.Outcomes.{header_at, acted}
+use Rattle.path_walk.proofs.StayLaws.{go_within}
 use Rattle.update_model.specs.Mixtures.{Update, MayGo}
 
--- the switches of a list but one
-abbrev others : ℕ → List SwitchId → List SwitchId
-others n xs = filter (λ s. not (s.0 == n)) xs
+-- the tables of switches 0 to n, each of them this one
+abbrev equal_tables : ℕ → List Rule → List (List Rule)
+equal_tables zero table = table ∷ []
+equal_tables (suc n) table = table ∷ equal_tables n table
 
-none_left_out : (n : ℕ) (x : SwitchId) (xs : List SwitchId) → x.0 ≡ n → ¬ IsIn x xs → length (others n xs) ≡ length xs
-none_left_out n x [] is absent = refl
-none_left_out n x (y ∷ xs) is absent =
-    elim (cases_eq y.0 n) [
-      | inl e ↦ absurd (absent (inl (ap (λ (m : ℕ). let s : SwitchId = record { 0 = m } in s) (is ∙ sym e))))
-      | inr ne ↦ rw (ne_eqb y.0 n ne) (ap suc (none_left_out n x xs is (λ i. absent (inr i))))
-    ]
-
-one_left_out : (n : ℕ) (xs : List SwitchId) → IsDistinct xs → length xs ≤ suc (length (others n xs))
-one_left_out n [] distinct = omega arith
-one_left_out n (x ∷ xs) distinct =
-    elim (x.0 == n) as (λ b. x.0 == n ≡ b → suc (length xs) ≤ suc (length (cond (not b) (x ∷ others n xs) (others n xs)))) [
-      | true ↦ λ e. let same = none_left_out n x xs (eqb-true x.0 n e) distinct.0 in omega arith
-      | false ↦ λ e. let rest = one_left_out n xs distinct.1 in omega arith
-    ] refl
-
-others_distinct : (n : ℕ) (xs : List SwitchId) → IsDistinct xs → IsDistinct (others n xs)
-others_distinct n [] distinct = tt
-others_distinct n (x ∷ xs) distinct =
-    cond_both (not (x.0 == n)) (x ∷ others n xs) (others n xs) IsDistinct
-    (λ _. (λ i. distinct.0 (in_from_filter (λ s. not (s.0 == n)) x xs i).0, others_distinct n xs distinct.1)) (λ _. others_distinct n xs distinct.1)
-
-others_below : (n : ℕ) (xs : List SwitchId) → AllByRecursion (λ s. s.0 < suc n) xs → AllByRecursion (λ s. s.0 < n) (others n xs)
-others_below n [] below = tt
-others_below n (x ∷ xs) below =
-    elim (cases_eq x.0 n) [
-      | inl e ↦ rw (eq-eqb x.0 n e) (others_below n xs below.1)
-      | inr ne ↦ rw (ne_eqb x.0 n ne) (let h = below.0 in omega arith, others_below n xs below.1)
-    ]
-
--- distinct switches below a number are at most so many
-pub few_switches : (n : ℕ) (xs : List SwitchId) → IsDistinct xs → AllByRecursion (λ s. s.0 < n) xs → length xs ≤ n
-few_switches zero [] distinct below = omega arith
-few_switches zero (x ∷ xs) distinct below = absurd (let h = below.0 in omega arith)
-few_switches (suc n) xs distinct below =
-    let rest = few_switches n (others n xs) (others_distinct n xs distinct) (others_below n xs below) in
-    let one = one_left_out n xs distinct in
-    omega arith
-
--- a stop of the network
-abbrev IsWithin : Network → Stop → Type 0
-IsWithin net stop = (stop.switch.0 < switch_count net) × IsPortNumber stop.port.0
-
-module _ (net : Network) (valid : IsNetwork net) where
-  far_within : (stop : Stop) (s : SwitchId) (p : Port) (links : List Link) → AllByRecursion (IsWithin net) (flat_map (λ l. l.one ∷ l.other ∷ []) links)
-      → far_end stop links ≡ at.Link s p → s.0 < switch_count net
-  far_within stop s p [] all e = absurd (let f : at.Nothing ≡ at.Link s p = e in cc)
-  far_within stop s p (l ∷ links) all e =
-      elim (stop_eq stop l.one) as (λ b. cond b (at.Link l.other.switch l.other.port) (cond (stop_eq stop l.other) (at.Link l.one.switch l.one.port) (far_end stop links)) ≡ at.Link s p
-      → s.0 < switch_count net) [
-        | true ↦ λ f. let g : at.Link l.other.switch l.other.port ≡ at.Link s p = f in let h : l.other.switch ≡ s = cc in subst (λ (x : SwitchId). x.0 < switch_count net) h all.1.0.0
-        | false ↦ λ f.
-            elim (stop_eq stop l.other) as (λ b. cond b (at.Link l.one.switch l.one.port) (far_end stop links) ≡ at.Link s p → s.0 < switch_count net) [
-              | true ↦ λ k. let g : at.Link l.one.switch l.one.port ≡ at.Link s p = k in let h : l.one.switch ≡ s = cc in subst (λ (x : SwitchId). x.0 < switch_count net) h all.0.0
-              | false ↦ λ k. far_within stop s p links all.1.1 k
-            ] f
-      ] e
-
-  end_within : (stop : Stop) (s : SwitchId) (p : Port) → end_at net stop ≡ at.Link s p → s.0 < switch_count net
-  end_within stop s p e =
-      elim (list_any (stop_eq stop) net.hosts) as (λ b. cond b at.Host (far_end stop net.links) ≡ at.Link s p → s.0 < switch_count net) [
-        | true ↦ λ f. absurd (let g : at.Host ≡ at.Link s p = f in cc)
-        | false ↦ λ f. far_within stop s p net.links (each_last (IsWithin net) net.hosts (flat_map (λ l. l.one ∷ l.other ∷ []) net.links) valid.ports) f
-      ] e
-
-  sent_within : (stop : Stop) (end : End) (port : Port) (v : Vlan) (next : Place) → end_at net stop ≡ end → sent end port v ≡ Go next → next.switch.0 < switch_count net
-  sent_within stop at.Nothing port v next is e = absurd (let f : Discard ≡ Go next = e in cc)
-  sent_within stop at.Host port v next is e = absurd (let f : Leave port v ≡ Go next = e in cc)
-  sent_within stop (at.Link s p) port v next is e =
-      let place : Place = record { switch = s; port = p; vlan = v } in
-      let f : Go place ≡ Go next = e in
-      let g : place ≡ next = cc in
-      subst (λ (x : Place). x.switch.0 < switch_count net) g (end_within stop s p is)
-
-  acted_within : (place : Place) (a : Action) (next : Place) → acted net place a ≡ Go next → next.switch.0 < switch_count net
-  acted_within place action.Discard next e = absurd (let f : Discard ≡ Go next = e in cc)
-  acted_within place (action.Out port rewrite) next e =
-      let stop : Stop = record { switch = place.switch; port = port } in
-      elim (port.0 == place.port.0) as (λ b. cond b Discard (sent (end_at net stop) port (rewritten rewrite place.vlan)) ≡ Go next → next.switch.0 < switch_count net) [
-        | true ↦ λ f. absurd (let g : Discard ≡ Go next = f in cc)
-        | false ↦ λ f. sent_within stop (end_at net stop) port (rewritten rewrite place.vlan) next refl f
-      ] e
-
-  -- an entry is at a switch of the network
-  pub entry_within : (place : Place) → IsEntry net place → place.switch.0 < switch_count net
-  entry_within place entry =
-      (each_at (IsWithin net) net.hosts (stop_of place) (each_first (IsWithin net) net.hosts (flat_map (λ l. l.one ∷ l.other ∷ []) net.links) valid.ports) entry.host).0
+last_equal : (n : ℕ) (table : List Rule) → slice_index_or (equal_tables n table) n [] ≡ table
+last_equal zero table = refl
+last_equal (suc n) table = last_equal n table
 
 -- each stop of a mixed walk is at a switch of the network
 pub walk_within : (u : Update) → IsNetwork u.net → (k dst : ℕ) (start : Place) (rest : List Place) → start.switch.0 < switch_count u.net → IsWalk (MayGo u k dst) start rest
@@ -121,4 +27,5 @@ pub walk_within : (u : Update) → IsNetwork u.net → (k dst : ℕ) (start : Pl
 walk_within u valid k dst start [] within walk = (within, tt)
 walk_within u valid k dst start (next ∷ rest) within walk =
     let goes = walk.0 in
-    (within, walk_within u valid k dst next rest (acted_within u.net valid start (lookup (header_at start dst) goes.mixed) next (sym goes.is)) walk.1)
+    let mixed = ap (λ table. acted u.net start (lookup (header_at start dst) table)) (last_equal start.switch.0 goes.mixed) in
+    (within, walk_within u valid k dst next rest (go_within u.net valid (equal_tables start.switch.0 goes.mixed) dst start next (mixed ∙ sym goes.is)) walk.1)
