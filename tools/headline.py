@@ -230,8 +230,8 @@ def source_of(crate, module, root):
 
 
 def item_in(text, name):
-    """Returns the comment and the text of a struct or an enum of a source file, or None."""
-    found = re.search(rf"(?m)((?:^///.*\n|^#\[.*\]\n)*)^((?:pub(?:\(\w+\))? )?(?:struct|enum) {name}\b(?:\([^)]*\);|[^{{;]*;|[^{{]*\{{(?:\n[\s\S]*?^)?\}}))", text)
+    """Returns the comment and the text of a struct, an enum or another name of a type in a source file, or None."""
+    found = re.search(rf"(?m)((?:^///.*\n|^#\[.*\]\n)*)^((?:pub(?:\(\w+\))? )?(?:struct|enum|type) {name}\b(?:\([^)]*\);|[^{{;]*;|[^{{]*\{{(?:\n[\s\S]*?^)?\}}))", text)
     if not found:
         return None
     comment = "\n".join(it for it in found[1].splitlines() if it.startswith("///"))
@@ -321,7 +321,7 @@ class Specs:
         comment, item = found
         model = model_in(text, name)
         if model:
-            made = Definition(name, file, comment, f"{item[:item.index(name)]}{name}, seen as {model[0]}", "rust")
+            made = Definition(name, file, comment, f"{re.match(rf'[^;]*?{name}(?:<[^>]*>)?', item)[0]}, seen as {model[0]}", "rust")
             made.cites = lambda: [it for word in words_of(model[0]) if word in model[1] for it in self.resolve(*model[1][word], made)]
         else:
             made = Definition(name, file, comment, item, "rust")

@@ -57,31 +57,3 @@ module _ (edge : SwitchId → SwitchId → Type 0) where
       ]
     ]);
   }
-
-  pub walked_start : (pending : List Bool) (start : SwitchId) (switches : List SwitchId) (left : List Bool) → IsOpen pending start → switches ≡ start ∷ [] → left ≡ pending → IsWalkedSoFar edge pending left start switches
-  walked_start pending start switches left opens is same = record {
-    start = start;
-    rest = [];
-    is = is;
-    walk = tt;
-    ends = refl;
-    at_open = opens;
-    count = ap length same;
-    seen = λ t o. inl (subst (λ (xs : List Bool). IsOpen xs t) (sym same) o);
-  }
-
-  -- nothing has a number at the start, and everything at the end
-  pub so_far_none : (n : ℕ) → AreHeightsSoFar edge (replicate n true) (replicate n 0)
-  so_far_none n =
-      let p = length-replicate n true in
-      record {
-        count = length-replicate n 0 ∙ sym (length-replicate n true);
-        each = λ s within closed. absurd (closed (get_or-replicate n s.0 true false (omega arith)));
-        low = λ s within closed. absurd (closed (get_or-replicate n s.0 true false (omega arith)));
-      }
-
-  pub heights_from_all : (pending : List Bool) (numbers : List ℕ) (n : ℕ) → AreHeightsSoFar edge pending numbers → length pending ≡ n → ((s : SwitchId) → ¬ IsOpen pending s) → AreHeights edge n numbers
-  heights_from_all pending numbers n so_far len none = record {
-    count = so_far.count ∙ len;
-    each = λ s within. so_far.each s (omega arith) (none s);
-  }

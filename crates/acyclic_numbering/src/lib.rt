@@ -7,7 +7,7 @@ ghost use Rattle.acyclic_numbering.specs.Numbered.{IsOpen, open_count, IsReady, 
 ghost use Rattle.net_base.specs.Members.{IsIn};
 ghost use Rattle.net_base.specs.declared.ids.SwitchId.{SwitchId};
 
-use net_base::{Memory, SwitchId};
+use net_base::{ListOf, Memory, SwitchId};
 use std::alloc::Global;
 use std::marker::Model;
 
@@ -33,19 +33,7 @@ impl Model for Numbering {
 }
 
 /// A list of switches.
-#[derive(Drop)]
-pub struct SwitchList {
-    switches: Vec<SwitchId>,
-}
-
-impl Model for SwitchList {
-    ghost use Rattle.std.specs.Prelude.{List};
-    ghost use Rattle.net_base.specs.declared.ids.SwitchId.{SwitchId};
-
-    ghost Value = { List SwitchId };
-
-    ghost view = { λ l. l.switches.items };
-}
+pub type SwitchList = ListOf<SwitchId>;
 
 /// The heights of the switches, or a closed walk of edges.
 #[derive(Drop)]
@@ -78,47 +66,6 @@ impl Numbering {
         ensures { result.now ≡ self.now }
     {
         &self.numbers
-    }
-}
-
-impl SwitchList {
-    /// No switches.
-    pub fn make(alloc: Global) -> Result<SwitchList, Memory>
-        ensures { IfOk result (λ list. list ≡ []) }
-    {
-        Ok(SwitchList {
-            switches: Vec::new(alloc),
-        })
-    }
-
-    /// One more switch. After a refusal the list is as before.
-    pub fn add(&mut self, switch: SwitchId) -> Result<(), Memory>
-        ensures ok { OnOk result (self.new ≡ self.old ++ switch ∷ []) }
-        ensures err { OnErr result (self.new ≡ self.old) }
-    {
-        self.switches.push(switch)?;
-        Ok(())
-    }
-
-    /// The switches, in order.
-    pub fn list(&self) -> &[SwitchId]
-        ensures { result.now ≡ self.now }
-    {
-        &self.switches
-    }
-
-    /// The list of these switches.
-    pub fn of(switches: Vec<SwitchId>) -> SwitchList
-        ensures { result ≡ switches.items }
-    {
-        SwitchList { switches }
-    }
-
-    /// The switches.
-    pub fn switches(&self) -> &[SwitchId]
-        ensures { result.now ≡ self.now }
-    {
-        &self.switches
     }
 }
 

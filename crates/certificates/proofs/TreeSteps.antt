@@ -26,13 +26,11 @@ use Rattle.path_walk.specs.declared.Outcome.{Outcome}
 use Rattle.path_walk.specs.declared.Outcome.TheVariants.{Discard, Go}
 use Rattle.dest_classes.specs.Classes.{ClassList, IsClass, boundaries, atom_count}
 use Rattle.dest_classes.specs.declared.Class.{Class}
-use Rattle.dest_classes.proofs.ClassLaws.{get_from_in}
 use Rattle.demands.specs.Duties.{PacketDuties, duties_of}
 use Rattle.update_model.specs.Changes.{settled_tables, round_after}
 use Rattle.update_model.specs.Mixtures.{Update, IsPossible}
 use Rattle.update_model.specs.declared.Change.{Change}
 use Rattle.update_model.specs.declared.Change.TheVariants.{Replace}
-use Rattle.update_model.proofs.MadeLaws.{in_from_get}
 use Rattle.certificates.specs.Steps.{switches_along}
 use Rattle.certificates.specs.Certified.{Task, classes_for}
 use Rattle.certificates.specs.Trees.{IsTreeUpdate, IsSafeForAll, IsRemainingReplace}
@@ -40,6 +38,7 @@ use Rattle.topology.proofs.LinkLaws.{host_at}
 use Rattle.certificates.proofs.TreeRounds.{blocks, within_at, AllFit, new_fit, same_blocks, same_lookup, rule_differs, possible_single}
 use Rattle.certificates.proofs.TreeWalks.{Steps, FinePath, drop_at_end, fine_same, host_drops, SomeKeepsSafe, safe_on_path, safe_with_tail}
 use Rattle.certificates.proofs.TreePaths.{no_chains, fine_from_good, leaves_or_drops}
+use Rattle.net_base.proofs.ItemLaws.{in_from_get, get_from_in}
 
 cases_rewrite : (a b : Rewrite) → (a ≡ b) ⊎ (¬ (a ≡ b))
 cases_rewrite Keep Keep = inl refl

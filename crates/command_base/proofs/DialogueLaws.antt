@@ -102,16 +102,6 @@ ends_then {A} {B} {held} {new} {last} {mid} {d} {v} {first} {before} {now} {e} {
 pub gives_end : {A : Type 0} (held : Option Files) (last : Option FileRead) (v : A) → Gives held last (Ends v) v last
 gives_end held last v = record { given = (refl, refl) }
 
--- the file of the name is missing
-pub lacks_file : {E : Type 0} (held : Option Files) (kind : FileKind) (name : List ℕ) (next : List ℕ → Dialogue E) → IsMissing held name → Lacks held (Reads kind name next)
-lacks_file None kind name next missing = missing
-lacks_file (Some files) kind name next missing = inl missing
-
--- a file that is too long leads to the line on it
-pub ends_long : (held : Option Files) (last : Option FileRead) (kind : FileKind) (name bytes : List ℕ) (before now : ℕ) (reply : Reply) (selected : List ℕ) (taken : ℕ)
-    → IsFile held name bytes → limit_of kind < length bytes → answer_of reply ≡ too_long kind → selected ≡ name → taken ≡ limit_of kind + 1 → EndsEarly held last (Reads kind name Ends) before now (exit.Says reply) selected taken
-ends_long held last kind name bytes before now reply selected taken file beyond is same count = record { ended = (bytes, file, inr (beyond, is, same, count)) }
-
 -- bytes that mean a value give it
 pub gives_meaning : {A E : Type 0} (held : Option Files) (last : Option FileRead) (kind : FileKind) (words : E → FaultWords) (meaning : List ℕ → Result A E) (name bytes : List ℕ) (value : A)
     → IsFile held name bytes → length bytes ≤ limit_of kind → meaning bytes ≡ Ok value → Gives held last (reading kind words meaning name) value (Some (file_read kind name))

@@ -5,6 +5,7 @@ use Rattle.std.specs.List.{AllByRecursion}
 use Rattle.net_base.specs.Members.{IsIn, IsSubsequence}
 use Rattle.net_base.specs.Places.{stop_of}
 use Rattle.net_base.proofs.MemberLaws.{each_at, in_append_left}
+use Rattle.net_base.proofs.ItemLaws.{in_from_get}
 use Rattle.net_base.specs.declared.ids.SwitchId.{SwitchId}
 use Rattle.net_base.specs.declared.ids.Port.{Port}
 use Rattle.net_base.specs.declared.ids.Place.{Place}
@@ -30,12 +31,6 @@ module _ {A : Type 0} (P : A → Type 0) where
   -- of one member more
   pub each_next : (xs : List A) (i : ℕ) (x : A) → slice_get xs i ≡ Some x → P x → AllByRecursion P (take i xs) → AllByRecursion P (take (i + 1) xs)
   each_next xs i x e p all = subst (λ n. AllByRecursion P (take n xs)) (sym (add-one i)) (each_more xs i x e p all)
-
-  -- of all members
-  pub each_in_all : (xs : List A) (n : ℕ) → length xs ≤ n → AllByRecursion P (take n xs) → AllByRecursion P xs
-  each_in_all [] n le all = tt
-  each_in_all (x ∷ xs) zero le all = absurd (omega arith)
-  each_in_all (x ∷ xs) (suc n) le all = (all.0, each_in_all xs n (omega arith) all.1)
 
 split_at : {A : Type 0} (xs : List A) (i : ℕ) (x : A) → slice_get xs i ≡ Some x → xs ≡ take i xs ++ x ∷ drop (suc i) xs
 split_at [] i x e = absurd (let f : None ≡ Some x = e in cc)
@@ -70,12 +65,6 @@ module _ (net : Network) (tables : List (List Rule)) (demands : List DemandView)
 pub none_holds : {A : Type 0} (o : Option A) (P : Type 0) → P → IfNone o P
 none_holds None P p = p
 none_holds (Some x) P p = tt
-
--- what stands at a place of a list is a member
-in_from_get : {A : Type 0} (xs : List A) (i : ℕ) (x : A) → slice_get xs i ≡ Some x → IsIn x xs
-in_from_get [] i x e = absurd (let f : None ≡ Some x = e in cc)
-in_from_get (y ∷ xs) zero x e = let f : Some y ≡ Some x = e in let g : x ≡ y = cc in inl g
-in_from_get (y ∷ xs) (suc i) x e = inr (in_from_get xs i x e)
 
 -- a class enters at a switch of the network
 pub class_within : (net : Network) → IsNetwork net → (classes : ClassList) (n : ℕ) (class : Class) → classes.hosts ≡ net.hosts → IsClass classes n class → class.entry.switch.0 < switch_count net

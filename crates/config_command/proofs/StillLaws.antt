@@ -19,11 +19,11 @@ use Rattle.path_walk.specs.declared.Ended.TheVariants.{UnderWay, Left, Dropped, 
 use Rattle.demands.specs.Duties.{DemandView, duties_of}
 use Rattle.demands.specs.Good.{IsGood, HasGoodPath}
 use Rattle.demands.proofs.DutyLaws.{distinct_prefix}
+use Rattle.net_base.proofs.ItemLaws.{in_from_get}
 use Rattle.config_check.specs.Everywhere.{HasGoodPathEverywhere}
 use Rattle.update_model.specs.Runs.{AreEnabled, state_after}
 use Rattle.update_model.specs.States.{State, IsEnabled, entered, hopped, lost, with_packet, settled_count, state_after_event}
 use Rattle.update_model.specs.declared.Packet.{Packet}
-use Rattle.update_model.proofs.MadeLaws.{in_from_get}
 use Rattle.update_model.specs.declared.Phase.TheVariants.{Settled, Running}
 use Rattle.update_model.specs.declared.Event.{Event}
 use Rattle.update_model.specs.declared.Event.TheVariants as event

@@ -38,9 +38,6 @@ module _ (net : Network) (tables : List (List Rule)) (demands : List DemandView)
     of_demands = each_there demands (table_blocks tables ++ map (λ d. d.dst) demands) (λ b i. in_append_right b (table_blocks tables) (map (λ d. d.dst) demands) i);
   })
 
-  pub of_network : classes ≡ classes_of net classes.prefixes
-  of_network = subst (λ c. c ≡ classes_of net c.prefixes) (sym are) refl
-
   module _ (duties : ClassDuties) (made : duties ≡ record { demands = demands; classes = classes }) (few : count_under net tables demands ≤ most_classes) (answer : Answer) where
     pub holds_law : HasGoodPaths net tables duties.demands classes → HasGoodPathEverywhere net tables demands → answer ≡ record { status = status.Done; text = holds_line (class_count classes) } → IsVerdict net tables demands answer
     holds_law good everywhere is = inr (inl (record {
@@ -69,10 +66,6 @@ module _ (net : Network) (tables : List (List Rule)) (demands : List DemandView)
 pub break_fits : (net : Network) (tables : List (List Rule)) (demands : List DemandView) (classes : ClassList) (b : Breaks) → IsFirstBreak net tables demands classes b → b.class < class_count classes
 break_fits net tables demands classes b first = number_fits classes b.class first.class first.is_class
 
-pub many_law : (net : Network) (tables : List (List Rule)) (demands : List DemandView) (n : ℕ) (answer : Answer) → n ≡ count_under net tables demands → most_classes < n → answer ≡ record { status = status.BadFile; text = classes_line n } → IsVerdict net tables demands answer
-many_law net tables demands n answer count many is = inl (record {
-  many = subst (λ m. most_classes < m) count many;
-  answer_is = subst (λ m. answer ≡ record { status = status.BadFile; text = classes_line m }) count is;
 })
 
 -- the duties' demands are the demands

@@ -6,21 +6,12 @@ use Rattle.std.proofs.lemmas.Bool.{cond-false}
 use Rattle.net_base.specs.Reading.{Fails}
 use Rattle.net_base.specs.declared.ids.SwitchId.{SwitchId}
 use Rattle.net_base.proofs.Turns.{Fails-bind}
+use Rattle.flow_rules.proofs.TableLaws.{rules_set, rules_get}
 use Rattle.flow_rules.specs.Tables.{TableState, rules_of_all}
 use Rattle.flow_rules.specs.declared.rules.Rule.{Rule}
 use Rattle.config_files.specs.declared.fault.ConfigFault.{ConfigFault}
 use Rattle.config_files.specs.declared.fault.ConfigFault.TheVariants.{Memory}
 use Rattle.config_files.specs.Configuration.{rules_with, with_rule}
-
-pub rules_set : (tables : List TableState) (s : ℕ) (t : TableState) → rules_of_all (set tables s t) ≡ set (rules_of_all tables) s t.rules
-rules_set [] s t = refl
-rules_set (x ∷ tables) zero t = refl
-rules_set (x ∷ tables) (suc s) t = ap (λ l. x.rules ∷ l) (rules_set tables s t)
-
-pub rules_get : (tables : List TableState) (s : ℕ) (t : TableState) → slice_get tables s ≡ Some t → get_or (rules_of_all tables) s [] ≡ t.rules
-rules_get [] s t e = let f : None ≡ Some t = e in absurd (cc)
-rules_get (x ∷ tables) zero t e = let f : Some x ≡ Some t = e in let g : x ≡ t = cc in ap (λ (u : TableState). u.rules) g
-rules_get (x ∷ tables) (suc s) t e = rules_get tables s t e
 
 -- what holds of each table and of the new one, holds of each after the change
 pub each_after : (P : ℕ → List Rule → Type 0) (tables : List (List Rule)) (s : ℕ) (rules : List Rule) → P s rules → ((k : ℕ) → P k (get_or tables k [])) → (k : ℕ) → P k (get_or (set tables s rules) k [])

@@ -4,12 +4,11 @@ ghost use Rattle.std.specs.List.{AllByRecursion};
 ghost use Rattle.net_base.specs.Members.{IsIn};
 ghost use Rattle.demands.specs.Covers.{is_covered};
 ghost use Rattle.demands.specs.Duties.{admits_host};
-ghost use Rattle.flow_rules.specs.Patterns.{admits_vlan};
 ghost use Rattle.net_base.specs.Places.{stop_of};
 
 use crate::{Cover, Demand, Demands};
-use flow_rules::VlanTest;
-use net_base::{Memory, Place, Prefix, Stop, Vlan};
+use flow_rules::admits_vlan;
+use net_base::{Memory, Place, Prefix, Stop};
 use std::alloc::{AllocFailed, Global};
 
 /// Whether any host port is admitted, or this one.
@@ -19,18 +18,6 @@ fn admits_host(from: Option<Stop>, host: Stop) -> bool
     match from {
         None => true,
         Some(stop) => stop.switch.0 == host.switch.0 && stop.port.0 == host.port.0,
-    }
-}
-
-/// Whether the test admits the VLAN.
-fn admits_vlan(test: VlanTest, vlan: Vlan) -> bool
-    ensures { result ≡ admits_vlan test vlan }
-{
-    match (test, vlan) {
-        (VlanTest::Any, _) => true,
-        (VlanTest::Untagged, Vlan::Untagged) => true,
-        (VlanTest::Id(m), Vlan::Id(n)) => m == n,
-        _ => false,
     }
 }
 

@@ -14,8 +14,9 @@ use Rattle.net_base.specs.Members.{IsIn}
 use Rattle.net_base.proofs.MemberLaws.{each_at, each_both, each_from_in, in_from_filter}
 use Rattle.dest_classes.specs.Classes.{ascending, boundaries, block_ends}
 use Rattle.dest_classes.specs.Atoms.{AreFirsts, IsAtomOf, OneAtomIsOneClass, FirstIsOfTheClass}
-use Rattle.dest_classes.proofs.ClassLaws.{get_from_in, in_ascending, each_same}
+use Rattle.dest_classes.proofs.ClassLaws.{in_ascending, each_same}
 use Rattle.dest_classes.proofs.RisingLaws.{contains_from_in, in_from_contains, Rises, in_from_ascending, rises_ascending, same_rising, rises_from_increasing, increasing_from_rises}
+use Rattle.net_base.proofs.ItemLaws.{get_from_in}
 
 -- a sorted list without repetitions is `ascending`
 pub ascending_is : (xs ys : List ℕ) → IsPermutation xs ys → IsSorted nat_cmp ys → dedup (λ a b. a == b) ys ≡ ascending xs

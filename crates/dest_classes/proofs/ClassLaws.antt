@@ -6,14 +6,10 @@ use Rattle.net_base.specs.Blocks.{Block, block_size, in_block, IsSameClass}
 use Rattle.net_base.specs.Members.{IsIn}
 use Rattle.net_base.specs.Places.{stop_of}
 use Rattle.net_base.proofs.MemberLaws.{in_filter, in_append_left, in_append_right}
+use Rattle.net_base.proofs.ItemLaws.{get_from_in}
 use Rattle.net_base.specs.declared.ids.Place.{Place}
 use Rattle.topology.specs.Networks.{Network, IsEntry}
 use Rattle.dest_classes.specs.Classes.{with_number, ascending, block_ends, boundaries, classes_of, atom_count, IsClass}
-
-pub get_from_in : {A : Type 0} (xs : List A) (x : A) → IsIn x xs → (i : ℕ) × (slice_get xs i ≡ Some x)
-get_from_in [] x i = absurd i
-get_from_in (y ∷ xs) x (inl e) = (zero, ap Some (sym e))
-get_from_in (y ∷ xs) x (inr i) = let (n, e) = get_from_in xs x i in (suc n, e)
 
 pub in_with_this : (x : ℕ) (ys : List ℕ) → IsIn x (with_number x ys)
 in_with_this x [] = inl refl

@@ -2,3 +2,4 @@ pub mod ClassLaws
 pub mod RisingLaws
 pub mod AtomLaws
 pub mod MapLaws
+pub mod EntryLaws

@@ -22,11 +22,9 @@ use Rattle.dest_classes.specs.Classes.{ClassList, IsClass, atom_count, class_cou
 use Rattle.dest_classes.specs.Atoms.{IsAtomOf}
 use Rattle.dest_classes.specs.Numbered.{IsClassOf}
 use Rattle.dest_classes.specs.declared.Class.{Class}
-use Rattle.dest_classes.proofs.RisingLaws.{in_from_get, contains_from_in, same_place}
+use Rattle.dest_classes.proofs.RisingLaws.{contains_from_in, same_place}
 use Rattle.dest_classes.proofs.AtomLaws.{are_firsts, first_of_class}
-
-filter_step : {A : Type 0} (p : A → Bool) (x : A) (xs : List A) (n : ℕ) → length (filter p xs) ≤ n → length (filter p (x ∷ xs)) ≤ suc n
-filter_step p x xs n h = elim (p x) as (λ b. length (cond b (x ∷ filter p xs) (filter p xs)) ≤ suc n) [ true ↦ omega arith | false ↦ omega arith ]
+use Rattle.net_base.proofs.ItemLaws.{in_from_get, distinct_first}
 
 -- a filtered list passes a test no more often
 filter_twice : {A : Type 0} (p q : A → Bool) (xs : List A) → length (filter p (filter q xs)) ≤ length (filter p xs)
@@ -97,10 +95,6 @@ module _ (classes : ClassList) (n : ℕ) (c d : Class) (p : IsClass classes n c)
   columns =
       same_from_place p.host p.vlan q.host q.vlan (length classes.vlans) (slice_get_within classes.vlans p.vlan c.entry.vlan p.vlan_is)
       (slice_get_within classes.vlans q.vlan d.entry.vlan q.vlan_is) rows.0
-
-  -- a number has the same places in each of its classes
-  pub places_are : (p.host ≡ q.host) × (p.vlan ≡ q.vlan) × (p.atom ≡ q.atom)
-  places_are = (columns.0, columns.1, rows.1)
 
   -- a number has one class
   pub class_is : c ≡ d
@@ -202,10 +196,6 @@ module _ (classes : ClassList) where
 -- what differs from each member is none
 pub none_in : {A : Type 0} (xs : List A) (x : A) → All (λ y. y ≢ x) xs → IsIn x xs → ⊥
 none_in xs x h i = All-contains (λ y. y ≢ x) xs x h (contains_from_in xs x i) refl
-
-pub distinct_first : {A : Type 0} (xs ys : List A) → IsDistinct (xs ++ ys) → IsDistinct xs
-distinct_first [] ys h = tt
-distinct_first (x ∷ xs) ys h = (λ i. h.0 (in_append_left x xs ys i), distinct_first xs ys h.1)
 
 -- the host ports of a network are distinct
 pub distinct_hosts : (net : Network) → IsNetwork net → IsDistinct net.hosts

@@ -9,12 +9,7 @@ use Rattle.std.proofs.lemmas.List.Kept.{AllPairs-from_increasing}
 use Rattle.net_base.specs.Members.{IsIn, IsSameSet}
 use Rattle.net_base.proofs.MemberLaws.{each_weaker, each_at, each_from_in}
 use Rattle.dest_classes.specs.Classes.{with_number, ascending}
-use Rattle.dest_classes.proofs.ClassLaws.{get_from_in}
-
-pub in_from_get : {A : Type 0} (xs : List A) (k : ℕ) (x : A) → slice_get xs k ≡ Some x → IsIn x xs
-in_from_get [] k x e = absurd (none-some x e)
-in_from_get (y ∷ xs) zero x e = inl (sym (same_Some y x e))
-in_from_get (y ∷ xs) (suc k) x e = inr (in_from_get xs k x e)
+use Rattle.net_base.proofs.ItemLaws.{in_from_get, get_from_in}
 
 pub contains_from_in : {A : Type 0} (xs : List A) (x : A) → IsIn x xs → Contains xs x
 contains_from_in xs x i = let (n, e) = get_from_in xs x i in (n, slice_get_within xs n x e, get_or_from_slice_get xs n x x e)

@@ -11,9 +11,6 @@ use Rattle.emit_command.specs.Lines.{line_of, emit_text}
 use Rattle.emit_command.specs.Written.{AddsLines}
 use Rattle.emit_command.proofs.Requests.{sent_from-append, requests_from-push}
 
-pub none_added : (net : Network) (l : Lines) → AddsLines net [] l l
-none_added net l = record { text_is = sym (append-nil l.text.items); xid_is = omega arith }
-
 -- requests in a row
 pub added_then : (net : Network) (rs ss : List Request) (a b c : Lines) → AddsLines net rs a b → AddsLines net ss b c → AddsLines net (rs ++ ss) a c
 added_then net rs ss a b c p q =

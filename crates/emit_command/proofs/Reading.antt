@@ -28,24 +28,10 @@ use Rattle.emit_command.specs.Lines.{line_of}
 use Rattle.emit_command.specs.ReadBack.{ReadsAs, IsReadAs}
 use Rattle.emit_command.proofs.Requests.{IsSent}
 use Rattle.emit_command.proofs.Texts.{AreAbove, lacks, above_more, decimal_above, name_above, hex_above, bytes_wire}
+use Rattle.net_base.proofs.ItemLaws.{in_at}
+use Rattle.topology.proofs.NamedLaws.{named_at}
 
 -- ---- names
-
-same_bytes : (s : List ℕ) → bytes_eq s s ≡ true
-same_bytes s = (bytes_eq-Decides s s).1 refl
-
-in_at : {A : Type 0} (xs : List A) (i : ℕ) (d : A) → i < length xs → IsIn (get_or xs i d) xs
-in_at [] i d lt = absurd (omega arith)
-in_at (x ∷ xs) zero d lt = inl refl
-in_at (x ∷ xs) (suc i) d lt = inr (in_at xs i d (omega arith))
-
-named_at : (names : List (List ℕ)) (n : ℕ) → IsDistinct names → n < length names → position_or_len (λ m. bytes_eq (get_or names n []) m) names ≡ n
-named_at [] n distinct lt = absurd (omega arith)
-named_at (x ∷ xs) zero distinct lt = rw (same_bytes x) refl
-named_at (x ∷ xs) (suc n) distinct lt =
-    let name : List ℕ = get_or xs n [] in
-    let other : bytes_eq name x ≡ false = false_from_ne_true (bytes_eq name x) (λ e. distinct.0 (subst (λ m. IsIn m xs) ((bytes_eq-Decides name x).0 e) (in_at xs n [] (omega arith)))) in
-    rw (other, named_at xs n distinct.1 (omega arith)) (omega arith)
 
 -- a switch is found by its name
 name_found : (net : Network) (s : SwitchId) → IsDistinct net.names → s.0 < switch_count net → switch_named net.names (switch_name net s) ≡ Some s.0

@@ -8,19 +8,10 @@ use Rattle.net_base.proofs.MemberLaws.{in_append_cases}
 use Rattle.certificates.specs.Valid.{IsChain}
 
 module _ {A : Type 0} where
-  pub prefix_self : (xs : List A) → IsPrefix xs xs
-  prefix_self [] = tt
-  prefix_self (x ∷ xs) = (refl, prefix_self xs)
 
   pub prefix_of_append : (xs ys : List A) → IsPrefix xs (xs ++ ys)
   prefix_of_append [] ys = tt
   prefix_of_append (x ∷ xs) ys = (refl, prefix_of_append xs ys)
-
-  pub prefix_through : (xs ys zs : List A) → IsPrefix xs ys → IsPrefix ys zs → IsPrefix xs zs
-  prefix_through [] ys zs h k = tt
-  prefix_through (x ∷ xs) [] zs h k = absurd h
-  prefix_through (x ∷ xs) (y ∷ ys) [] h k = absurd k
-  prefix_through (x ∷ xs) (y ∷ ys) (z ∷ zs) h k = (h.0 ∙ k.0, prefix_through xs ys zs h.1 k.1)
 
   pub prefix_long : (xs ys : List A) → IsPrefix xs ys → length xs ≤ length ys
   prefix_long [] ys h = omega arith
@@ -37,21 +28,6 @@ module _ {A : Type 0} where
   pub last_at : (xs : List A) (x : A) → slice_get (xs ++ x ∷ []) (length xs) ≡ Some x
   last_at [] x = refl
   last_at (y ∷ xs) x = last_at xs x
-
-  pub in_at : (xs : List A) (n : ℕ) (x : A) → slice_get xs n ≡ Some x → IsIn x xs
-  in_at [] n x e = absurd (none-some x e)
-  in_at (y ∷ xs) zero x e = inl (sym (same_Some y x e))
-  in_at (y ∷ xs) (suc n) x e = inr (in_at xs n x e)
-
-  pub distinct_push : (xs : List A) (x : A) → IsDistinct xs → ¬ IsIn x xs → IsDistinct (xs ++ x ∷ [])
-  distinct_push [] x h new = (λ i. i, tt)
-  distinct_push (y ∷ xs) x h new = (
-    λ i. elim (in_append_cases y xs (x ∷ []) i) [
-      | inl j ↦ h.0 j
-      | inr j ↦ elim j [ inl e ↦ new (inl (sym e)) | inr none ↦ none ]
-    ],
-    distinct_push xs x h.1 (λ i. new (inr i)),
-  )
 
   pub chain_push : (before : A → A → Type 0) (xs : List A) (x : A) → IsChain before xs → AllByRecursion (λ y. before y x) xs → IsChain before (xs ++ x ∷ [])
   chain_push before [] x h k = tt

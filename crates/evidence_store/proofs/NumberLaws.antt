@@ -7,8 +7,8 @@ use Rattle.net_base.specs.Members.{IsIn, IsDistinct, IsPrefix}
 use Rattle.net_base.proofs.MemberLaws.{in_append_cases}
 use Rattle.evidence_store.specs.Stored.{UsesInOrder}
 use Rattle.evidence_store.specs.Numbers.{IsNumbered, AreNumbered}
-use Rattle.evidence_store.proofs.ListLaws.{prefix_self, prefix_of_append, prefix_through, prefix_at, last_at, distinct_push}
-
+use Rattle.evidence_store.proofs.ListLaws.{prefix_of_append, prefix_at, last_at}
+use Rattle.net_base.proofs.ItemLaws.{distinct_push, prefix_refl, prefix_through}
 -- uses in order, and then more of them
 pub in_order_append : (next : ℕ) (is js : List ℕ) (mid last : ℕ) → UsesInOrder next is mid → UsesInOrder mid js last → UsesInOrder next (is ++ js) last
 in_order_append next [] js mid last h k = subst (λ n. UsesInOrder n js last) (sym h) k
@@ -19,7 +19,7 @@ module _ {A : Type 0} where
   -- ---- one member
 
   pub numbered_prefix : (old : List A) (x : A) (n : ℕ) (new : List A) → IsNumbered old x n new → IsPrefix old new
-  numbered_prefix old x n new (inl found) = subst (IsPrefix old) (sym found.1) (prefix_self old)
+  numbered_prefix old x n new (inl found) = subst (IsPrefix old) (sym found.1) (prefix_refl old)
   numbered_prefix old x n new (inr added) = subst (IsPrefix old) (sym added.1) (prefix_of_append old (x ∷ []))
 
   pub numbered_at : (old : List A) (x : A) (n : ℕ) (new : List A) → IsNumbered old x n new → slice_get new n ≡ Some x
@@ -57,7 +57,7 @@ module _ {A : Type 0} where
   are_numbered_more old mid new (y ∷ xs) (m ∷ ns) x n h k = (h.0, h.1, are_numbered_more h.0 mid new xs ns x n h.2 k)
 
   pub all_prefix : (old xs : List A) (ns : List ℕ) (new : List A) → AreNumbered old xs ns new → IsPrefix old new
-  all_prefix old [] [] new h = subst (IsPrefix old) (sym h) (prefix_self old)
+  all_prefix old [] [] new h = subst (IsPrefix old) (sym h) (prefix_refl old)
   all_prefix old [] (n ∷ ns) new h = absurd h
   all_prefix old (x ∷ xs) [] new h = absurd h
   all_prefix old (x ∷ xs) (n ∷ ns) new h = prefix_through old h.0 new (numbered_prefix old x n h.0 h.1) (all_prefix h.0 xs ns new h.2)

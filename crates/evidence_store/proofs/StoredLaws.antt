@@ -12,8 +12,9 @@ use Rattle.certificates.specs.declared.OrderedPick.{OrderedPick}
 use Rattle.certificates.specs.declared.OrderedEvidence.{OrderedEvidence}
 use Rattle.evidence_store.specs.Stored.{UsesInOrder, IsStored, IsWithPick, no_evidence}
 use Rattle.evidence_store.specs.Numbers.{IsWithUse}
-use Rattle.evidence_store.proofs.ListLaws.{prefix_long, in_at, chain_push}
+use Rattle.evidence_store.proofs.ListLaws.{prefix_long, chain_push}
 use Rattle.evidence_store.proofs.NumberLaws.{in_order_append, numbered_prefix, numbered_at, numbered_distinct, numbered_only, numbered_in_order, numbered_old, all_prefix, all_at, all_distinct, all_only, all_in_order, all_within, all_old}
+use Rattle.net_base.proofs.ItemLaws.{in_from_get}
 
 -- evidence of no picks is in order
 pub nothing_stored : IsStored no_evidence
@@ -70,7 +71,7 @@ module _ (old new : OrderedEvidence) (numbers : List ℕ) (sets : List (List ℕ
   -- where the use stood there, nothing is new
   uses_found : slice_get old.uses n ≡ Some used.use_ → new.uses ≡ old.uses → AreUsesKept
   uses_found at same =
-      let is_valid = each_at (IsValidUse (length old.numberings) (length old.befores)) old.uses used.use_ stored.uses (in_at old.uses n used.use_ at) in
+      let is_valid = each_at (IsValidUse (length old.numberings) (length old.befores)) old.uses used.use_ stored.uses (in_from_get old.uses n used.use_ at) in
       let numberings : new.numberings ≡ old.numberings = numbered_old old.numberings numbers used.use_.numbering new.numberings is_valid.0 used.numbering in
       let befores : new.befores ≡ old.befores = all_old old.befores sets used.use_.befores new.befores is_valid.2 used.befores in
       record {

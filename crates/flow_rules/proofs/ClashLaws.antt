@@ -7,16 +7,12 @@ use Rattle.flow_rules.specs.Frees.{IsFree, IsFreeUpTo}
 use Rattle.flow_rules.specs.Overlaps.{IsClash, IsClashAt, IsLeastClash}
 use Rattle.flow_rules.specs.Tables.{IsTable, IsClear, keys_of}
 use Rattle.flow_rules.specs.declared.rules.Rule.{Rule}
+use Rattle.net_base.proofs.ItemLaws.{in_from_get, past_end}
 
 pub rule_at : (rules : List Rule) (i : ℕ) (m : Rule) → i < length rules → m ≡ get_or rules i m → slice_get rules i ≡ Some m
 rule_at [] i m within is = absurd (omega arith)
 rule_at (n ∷ ns) zero m within is = ap Some (sym is)
 rule_at (n ∷ ns) (suc i) m within is = rule_at ns i m (omega arith) is
-
-pub past_end : {A : Type 0} (xs : List A) (i : ℕ) (x : A) → slice_get xs i ≡ Some x → i < length xs
-past_end [] i x e = absurd (let f : None ≡ Some x = e in cc)
-past_end (y ∷ xs) zero x e = omega arith
-past_end (y ∷ xs) (suc i) x e = let h = past_end xs i x e in omega arith
 
 same_some : {x y : Rule} → Some x ≡ Some y → x ≡ y
 same_some e = cc
@@ -52,11 +48,6 @@ place_of [] r i = absurd i
 place_of (q ∷ rules) r (inl e) = (zero, ap Some (sym e))
 place_of (q ∷ rules) r (inr i) = let (k, at) = place_of rules r i in (suc k, at)
 
-in_at : (rules : List Rule) (k : ℕ) (r : Rule) → slice_get rules k ≡ Some r → IsIn r rules
-in_at [] k r e = absurd (let f : None ≡ Some r = e in cc)
-in_at (q ∷ rules) zero r e = inl (sym (same_some e))
-in_at (q ∷ rules) (suc k) r e = inr (in_at rules k r e)
-
 key_in : (rules : List Rule) (r : Rule) → IsIn r rules → IsIn r.key (keys_of rules)
 key_in [] r i = absurd i
 key_in (q ∷ rules) r (inl e) = inl (ap (λ x. x.key) e)
@@ -86,14 +77,14 @@ stands_once : (rules : List Rule) (i j : ℕ) (r : Rule) → IsTable rules → i
 stands_once [] i j r table less e f = let g : None ≡ Some r = e in cc
 stands_once (q ∷ rules) i zero r table less e f = omega arith
 stands_once (q ∷ rules) zero (suc j) r table less e f =
-    table.0 (subst (λ x. IsIn x (keys_of rules)) (ap (λ x. x.key) (sym (same_some e))) (key_in rules r (in_at rules j r f)))
+    table.0 (subst (λ x. IsIn x (keys_of rules)) (ap (λ x. x.key) (sym (same_some e))) (key_in rules r (in_from_get rules j r f)))
 stands_once (q ∷ rules) (suc i) (suc j) r table less e f = stands_once rules i j r table.1 (omega arith) e f
 
 -- a table in which two positions clash isn't clear
 pub clash_not_clear : (rules : List Rule) (i j : ℕ) → IsTable rules → i < j → IsClashAt rules i j → ¬ IsClear rules
 clash_not_clear rules i j table less at clear =
     let c = at.clash in
-    let e : at.one ≡ at.other = clear c.header at.one at.other (in_at rules i at.one at.one_at) (in_at rules j at.other at.other_at) c.first c.second c.priority in
+    let e : at.one ≡ at.other = clear c.header at.one at.other (in_from_get rules i at.one at.one_at) (in_from_get rules j at.other at.other_at) c.first c.second c.priority in
     stands_once rules i j at.one table less at.one_at (subst (λ x. slice_get rules j ≡ Some x) (sym e) at.other_at)
 
 -- where the search finds no two, and only there, the table is clear

@@ -49,7 +49,7 @@ vlan_out (test.Id m) (test.Id n) vlan.Untagged e f = absurd (false≢true e)
 vlan_out (test.Id m) (test.Id n) (vlan.Id i) e f = eq-eqb m n (eqb-true m i e ∙ sym (eqb-true n i f))
 
 -- the first address of a block lies in it
-base_in : (b : Block) → in_block b b.base ≡ true
+pub base_in : (b : Block) → in_block b b.base ≡ true
 base_in b =
     let size : 0 < block_size b = pow_pos (32 - b.len) in
     and_from (nat_le b.base b.base) (nat_lt b.base (b.base + block_size b)) (le-leb b.base b.base (omega arith)) (lt-ltb b.base (b.base + block_size b) (omega arith))

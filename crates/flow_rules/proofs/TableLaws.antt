@@ -1,12 +1,12 @@
 -- A table keeps its keys distinct when a rule is added, taken out or replaced.
 use Rattle.std.proofs.Common.{◌≡◌, ◌⊎◌, ◌↔◌, ℕ, Bool, true, false, cond, IsTrue, List, [], ◌∷◌, ◌++◌, map, set, get_or, take, drop, length, ◌<◌, zero, suc, arith, refl, sym, ◌∙◌, ap, subst, inl, inr, ◌||◌}
-use Rattle.std.specs.Prelude.{filter, find, not, Some, None, option_map, IsNone}
+use Rattle.std.specs.Prelude.{filter, find, not, Some, None, option_map, IsNone, slice_get}
 use Rattle.std.specs.List.{list_any}
 use Rattle.std.proofs.lemmas.Bool.{cond_both, cond-true, cond-false, false≢true, and_parts, and_from, eqb-true, eq-eqb}
 use Rattle.net_base.specs.Members.{IsIn, IsDistinct}
 use Rattle.net_base.proofs.MemberLaws.{in_from_filter, in_map, in_from_map}
 use Rattle.flow_rules.specs.Patterns.{key_eq}
-use Rattle.flow_rules.specs.Tables.{keys_of, IsTable, action_of}
+use Rattle.flow_rules.specs.Tables.{keys_of, IsTable, action_of, TableState, rules_of_all}
 use Rattle.flow_rules.proofs.KeyLaws.{key_eq-true, key_eq-refl, key_eq-false, key_ne}
 use Rattle.flow_rules.specs.Same.{rewrite_eq, action_eq, rule_eq}
 use Rattle.net_base.specs.declared.ids.Port.{Port}
@@ -175,3 +175,14 @@ action_none k (x ∷ rules) =
         λ out. (action_none k rules).1 (λ j. out (inr j)),
       )
     ] refl
+
+-- the rules of all tables when one is changed
+pub rules_set : (tables : List TableState) (s : ℕ) (t : TableState) → rules_of_all (set tables s t) ≡ set (rules_of_all tables) s t.rules
+rules_set [] s t = refl
+rules_set (x ∷ tables) zero t = refl
+rules_set (x ∷ tables) (suc s) t = ap (λ l. x.rules ∷ l) (rules_set tables s t)
+
+pub rules_get : (tables : List TableState) (s : ℕ) (t : TableState) → slice_get tables s ≡ Some t → get_or (rules_of_all tables) s [] ≡ t.rules
+rules_get [] s t e = let f : None ≡ Some t = e in absurd (cc)
+rules_get (x ∷ tables) zero t e = let f : Some x ≡ Some t = e in let g : x ≡ t = cc in ap (λ (u : TableState). u.rules) g
+rules_get (x ∷ tables) (suc s) t e = rules_get tables s t e

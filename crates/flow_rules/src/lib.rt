@@ -7,7 +7,7 @@ mod rules;
 mod tables;
 
 pub use configs::Config;
-pub use rules::{Action, Key, Pattern, Rewrite, Rule, VlanTest};
+pub use rules::{Action, Key, Pattern, Rewrite, Rule, VlanTest, admits_port, admits_vlan};
 pub use tables::Table;
 
 #[cfg(test)]

@@ -54,8 +54,8 @@ pub struct Rule {
     pub action: Action,
 }
 
-/// Whether the choice of a port admits a port.
-fn has_port(choice: Option<Port>, port: Port) -> bool
+/// Whether the choice of an ingress port admits a port: none chooses any.
+pub fn admits_port(choice: Option<Port>, port: Port) -> bool
     ensures { result ≡ admits_port choice port }
 {
     match choice {
@@ -65,7 +65,7 @@ fn has_port(choice: Option<Port>, port: Port) -> bool
 }
 
 /// Whether a test admits a VLAN.
-fn has_vlan(test: VlanTest, vlan: Vlan) -> bool
+pub fn admits_vlan(test: VlanTest, vlan: Vlan) -> bool
     ensures { result ≡ admits_vlan test vlan }
 {
     match (test, vlan) {
@@ -81,7 +81,7 @@ impl Pattern {
     pub fn covers(&self, port: Port, vlan: Vlan, dst: u32) -> bool
         ensures { result ≡ covers self.now (record { port = port; vlan = vlan; dst = dst }) }
     {
-        has_port(self.in_port, port) && has_vlan(self.vlan, vlan) && self.dst.has(dst)
+        admits_port(self.in_port, port) && admits_vlan(self.vlan, vlan) && self.dst.has(dst)
     }
 }
 

@@ -5,8 +5,8 @@ use Rattle.std.proofs.lemmas.List.{length-set, get_or_default, get_or_past, get_
 use Rattle.net_base.specs.Members.{IsIn, IsDistinct}
 use Rattle.net_base.proofs.MemberLaws.{in_append_left, in_append_right, in_append_cases, in_map, in_from_map, map-push}
 use Rattle.net_base.proofs.ListLaws.{no_longer}
-use Rattle.topology.proofs.GrowthLaws.{distinct_push}
 use Rattle.net_base.proofs.NameLaws.{same_switch}
+use Rattle.net_base.proofs.ItemLaws.{distinct_push}
 use Rattle.net_base.specs.declared.ids.SwitchId.{SwitchId}
 use Rattle.net_base.specs.declared.ids.Place.{Place}
 use Rattle.acyclic_numbering.specs.declared.Edge.{Edge}

@@ -31,17 +31,6 @@ in_take (suc n) x (y ∷ xs) (inl e) = inl e
 in_take (suc n) x (y ∷ xs) (inr i) = inr (in_take n x xs i)
 
 module _ (old : WalkState) (place : Place) where
-  -- with no outcomes nothing is noted
-  pub noted_none : IsNoted old place [] old
-  noted_none = record {
-    more = [];
-    behind = sym (append-nil old.places);
-    once = λ h. h;
-    places = λ p. none_more (λ i. i);
-    steps = λ s t. none_more (λ h. h.1.1);
-    leaving = λ s. none_more (λ h. h.1.2);
-    dropping = λ s. none_more (λ h. h.1);
-  }
 
   -- a discard
   pub drop_noted : (put : List SwitchId) → ((s : SwitchId) → IsIn s put ↔ (IsIn s old.dropping ⊎ (s ≡ place.switch))) → IsNoted old place (Discard ∷ []) (record old { dropping = put })

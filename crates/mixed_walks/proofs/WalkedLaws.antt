@@ -28,11 +28,7 @@ use Rattle.mixed_walks.specs.Walking.{IsNoted, AreFew, IsWalkedTo}
 use Rattle.mixed_walks.proofs.MarkedLaws.{in_push}
 use Rattle.mixed_walks.proofs.NotedLaws.{in_take}
 use Rattle.mixed_walks.proofs.PlaceLaws.{all_places, few_places, places_within, on_walk_in}
-
-pub in_get : {A : Type 0} (xs : List A) (n : ℕ) (x : A) → slice_get xs n ≡ Some x → IsIn x xs
-in_get [] n x e = absurd (let f : None ≡ Some x = e in cc)
-in_get (y ∷ xs) zero x e = let f : Some y ≡ Some x = e in let g : y ≡ x = cc in inl (sym g)
-in_get (y ∷ xs) (suc n) x e = inr (in_get xs n x e)
+use Rattle.net_base.proofs.ItemLaws.{in_from_get}
 
 -- one more of the front
 take_at : {A : Type 0} (xs more : List A) (n : ℕ) (x : A) → slice_get xs n ≡ Some x → take (suc n) (xs ++ more) ≡ take n xs ++ x ∷ []
@@ -79,7 +75,7 @@ module _ (u : Update) (k dst : ℕ) (entry : Place) where
   module _ (next : ℕ) (old : WalkState) (so : IsWalkedTo u k dst entry next old) (place : Place) (at : slice_get old.places next ≡ Some place)
       (found : List Outcome) (all : (o : Outcome) → IsIn o found ↔ IsPossible u k dst place o) (new : WalkState) (noted : IsNoted old place found new) where
     here : IsOnMixedWalk u k dst entry place
-    here = so.on_walk place (in_get old.places next place at)
+    here = so.on_walk place (in_from_get old.places next place at)
 
     front : take (suc next) new.places ≡ take next old.places ++ place ∷ []
     front = ap (take (suc next)) noted.behind ∙ take_at old.places noted.more next place at

@@ -1,5 +1,6 @@
 pub mod WalkLaws
 pub mod MemberLaws
+pub mod ItemLaws
 pub mod ListLaws
 pub mod NameLaws
 pub mod Decimals

@@ -5,6 +5,7 @@
 mod field;
 mod ids;
 mod in_memory;
+mod list_of;
 mod outside;
 mod prefix;
 mod real;
@@ -17,6 +18,7 @@ mod wants;
 pub use field::Field;
 pub use ids::{Place, Port, Stop, SwitchId, Vlan};
 pub use in_memory::{MemorySink, MemorySource};
+pub use list_of::ListOf;
 pub use outside::{Failed, Sink, Source};
 pub use prefix::{BadPrefix, Prefix, read_address, read_prefix};
 pub use real::{FileSource, StdoutSink};

@@ -1,15 +1,15 @@
 // The least switches at which something is wrong.
-ghost use Rattle.std.specs.Prelude.{◌≡◌, ◌↔◌, ◌⊎◌, ◌<◌, length, All, IsTrue};
+ghost use Rattle.std.specs.Prelude.{◌≡◌, ◌↔◌, ◌<◌, length, All, IsTrue};
 ghost use Rattle.std.specs.Option.{option_copied};
 ghost use Rattle.net_base.specs.Members.{IsIn};
 ghost use Rattle.net_base.specs.declared.ids.SwitchId.{SwitchId};
 ghost use Rattle.acyclic_numbering.specs.Heights.{IsEdge};
-ghost use Rattle.waypoint_evidence.specs.Befores.{Holds, HoldsEarlier, IsFirst};
+ghost use Rattle.waypoint_evidence.specs.Befores.{Holds};
 ghost use Rattle.ordered_check.specs.Judged.{IsLeastOf, lesser, HasEdgeUp, HasStray, Strays, IsWayRound};
 
 use acyclic_numbering::{Edge, Numbering, lowers};
 use net_base::SwitchId;
-use waypoint_evidence::Before;
+use waypoint_evidence::{Before, begins, meets};
 
 /// The lesser of two switches, where there are two.
 fn lesser(one: Option<SwitchId>, other: Option<SwitchId>) -> Option<SwitchId>
@@ -60,25 +60,6 @@ fn least_held(set: &Before, switches: &[SwitchId]) -> Option<SwitchId>
     least
 }
 
-/// Whether the set of the position before holds a switch.
-fn holds_earlier(earlier: Option<&Before>, s: SwitchId) -> bool
-    requires { s.0 < 128 }
-    ensures { IsTrue result ↔ HoldsEarlier (option_copied earlier.entry) s }
-{
-    match earlier {
-        None => false,
-        Some(set) => set.holds(s),
-    }
-}
-
-/// Whether the step goes to the waypoint from outside the set before.
-fn meets(step: Edge, waypoint: SwitchId, earlier: Option<&Before>) -> bool
-    requires { step.from.0 < 128 }
-    ensures { IsTrue result ↔ ((¬ HoldsEarlier (option_copied earlier.entry) step.from) × (step.to ≡ waypoint)) }
-{
-    step.to.0 == waypoint.0 && !holds_earlier(earlier, step.from)
-}
-
 /// Whether the step leaves the set otherwise than from outside the set before to the waypoint.
 fn strays(set: &Before, step: Edge, waypoint: SwitchId, earlier: Option<&Before>) -> bool
     requires { (step.from.0 < 128) × (step.to.0 < 128) }
@@ -105,21 +86,6 @@ fn least_stray(
         );
     }
     least
-}
-
-/// Whether the position is a first one and the start is its waypoint.
-fn starts_there(start: SwitchId, waypoint: SwitchId, earlier: Option<&Before>) -> bool
-    ensures { IsTrue result ↔ (IsFirst (option_copied earlier.entry) × (start ≡ waypoint)) }
-{
-    earlier.is_none() && start.0 == waypoint.0
-}
-
-/// Whether the set holds the start, or the position is a first one and the start is the waypoint.
-fn begins(set: &Before, start: SwitchId, waypoint: SwitchId, earlier: Option<&Before>) -> bool
-    requires { start.0 < 128 }
-    ensures { IsTrue result ↔ (Holds set.now start ⊎ (IsFirst (option_copied earlier.entry) × (start ≡ waypoint))) }
-{
-    set.holds(start) || starts_there(start, waypoint, earlier)
 }
 
 /// The least of the switches at which the position isn't guarded: at the start where the set doesn't begin as it must,

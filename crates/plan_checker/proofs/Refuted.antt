@@ -30,7 +30,6 @@ use Rattle.update_model.specs.Changes.{switch_of, rule_of, Applies, entry_named,
 use Rattle.update_model.specs.Mixtures.{Update, tables_before, need_of, is_insert}
 use Rattle.update_model.specs.declared.Change.{Change}
 use Rattle.update_model.proofs.ChangeLaws.{length-tables_after}
-use Rattle.update_model.proofs.MadeLaws.{in_from_get}
 use Rattle.certificates.specs.Ordered.{IsMeant, IsSafe, Position, positions, IsPickInForce}
 use Rattle.waypoint_evidence.specs.Befores.{Holds, IsFirst, IsGuard}
 use Rattle.certificates.specs.Steps.{IsMixedStep, MayLeave, MayDrop}
@@ -46,6 +45,7 @@ use Rattle.certificates.specs.declared.Label.{Label}
 use Rattle.check_reasons.specs.Reasons.{IsBadChange, IsUnclear, HasRewrite, IsInForce, HasBadStep, DropsAt, IsBypassed, class_duties, IsTableInForce, IsMixedAtEntry, StraysAt}
 use Rattle.check_reasons.specs.Passed.{ChangesPass, ClassesPass, RoundKeepsVlans}
 use Rattle.plan_checker.proofs.InForce.{one_pick, one_label_pick, one_meaning}
+use Rattle.net_base.proofs.ItemLaws.{in_from_get}
 
 -- a first break is no good configuration
 pub break_refuted : (net : Network) (tables : List (List Rule)) (demands : List DemandView) (classes : ClassList) (b : Breaks)

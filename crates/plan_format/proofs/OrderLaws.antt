@@ -7,19 +7,6 @@ use Rattle.std.proofs.lemmas.Option.{same_Some}
 use Rattle.plan_format.specs.Evidence.{ascends, follows, all_below}
 
 module _ {A : Type 0} (before : A → A → Bool) where
-  -- the list from place k on, where the item at k comes before the next
-  pub ascends_on : (xs : List A) (k : ℕ) (x y : A) → suc k < length xs → x ≡ get_or xs k x → y ≡ get_or xs (suc k) y → before x y ≡ true → ascends before (drop (suc k) xs) ≡ ascends before (drop k xs)
-  ascends_on xs k x y lt at next is =
-      let two : drop (suc k) xs ≡ y ∷ drop (suc (suc k)) xs = drop-cons xs (suc k) y lt ∙ ap (λ z. z ∷ drop (suc (suc k)) xs) (sym next) in
-      let one : drop k xs ≡ x ∷ drop (suc k) xs = drop-cons xs k x (omega arith) ∙ ap (λ z. z ∷ drop (suc k) xs) (sym at) in
-      rw (one, two, is) refl
-
-  -- and where it does not
-  pub ascends_not : (xs : List A) (k : ℕ) (x y : A) → suc k < length xs → x ≡ get_or xs k x → y ≡ get_or xs (suc k) y → before x y ≡ false → ascends before (drop k xs) ≡ false
-  ascends_not xs k x y lt at next is =
-      let two : drop (suc k) xs ≡ y ∷ drop (suc (suc k)) xs = drop-cons xs (suc k) y lt ∙ ap (λ z. z ∷ drop (suc (suc k)) xs) (sym next) in
-      let one : drop k xs ≡ x ∷ drop (suc k) xs = drop-cons xs k x (omega arith) ∙ ap (λ z. z ∷ drop (suc k) xs) (sym at) in
-      rw (one, two, is) refl
 
   -- a list of at most one item ascends
   pub ascends_end : (xs : List A) (k : ℕ) → length xs ≤ suc k → ascends before (drop k xs) ≡ true

@@ -36,6 +36,8 @@ use Rattle.plan_format.specs.declared.changes.Spelling.TheVariants.{Numbers}
 use Rattle.plan_format.specs.Changes.{in_port_word, vlan_word, out_word, set_word, strip_word, is_port, port_choice, test_of, action_of, rule_of, rule_in, numbered_change, change_at, round_in, round_at, rounds_in, rule_at, rules_in}
 use Rattle.plan_text.specs.PlanText.{whole_tree, list_tree, put_some, name_of, in_port_tree, test_tree, out_tree, set_tree, strip_tree, rule_members, rule_tree, plan_rule_of, rule_number, numbered_change_tree, numbered_round_tree, numbered_rounds_tree}
 use Rattle.plan_text.proofs.InTurn.{turns_again}
+use Rattle.net_base.proofs.ItemLaws.{in_at}
+use Rattle.topology.proofs.NamedLaws.{named_at, same_bytes}
 
 -- ---- the members of a rule
 
@@ -44,9 +46,6 @@ abbrev fixed : Network → PlanRule → Members
 fixed net p =
     put (codes "switch") (string (name_of net p.switch)) (put (codes "priority") (whole_tree p.rule.key.priority)
     (put (codes "out") (out_tree p.rule.action) (put (codes "dst") (string (prefix_text p.rule.key.pattern.dst)) no_members)))
-
-same_bytes : (s : List ℕ) → bytes_eq s s ≡ true
-same_bytes s = (bytes_eq-Decides s s).1 refl
 
 apart : (q k : List ℕ) → bytes_eq q k ≡ false → q ≡ k → ⊥
 apart q k other same = false≢true (sym other ∙ subst (λ m. bytes_eq q m ≡ true) same (same_bytes q))
@@ -136,19 +135,6 @@ strip_read (Out port (Set id)) = refl
 strip_read (Out port Strip) = refl
 
 -- ---- names
-
-in_at : {A : Type 0} (xs : List A) (i : ℕ) (d : A) → i < length xs → IsIn (get_or xs i d) xs
-in_at [] i d lt = absurd (omega arith)
-in_at (x ∷ xs) zero d lt = inl refl
-in_at (x ∷ xs) (suc i) d lt = inr (in_at xs i d (omega arith))
-
-named_at : (names : List (List ℕ)) (n : ℕ) → IsDistinct names → n < length names → position_or_len (λ m. bytes_eq (get_or names n []) m) names ≡ n
-named_at [] n distinct lt = absurd (omega arith)
-named_at (x ∷ xs) zero distinct lt = rw (same_bytes x) refl
-named_at (x ∷ xs) (suc n) distinct lt =
-    let name : List ℕ = get_or xs n [] in
-    let other : bytes_eq name x ≡ false = false_from_ne_true (bytes_eq name x) (λ e. distinct.0 (subst (λ m. IsIn m xs) ((bytes_eq-Decides name x).0 e) (in_at xs n [] (omega arith)))) in
-    rw (other, named_at xs n distinct.1 (omega arith)) (omega arith)
 
 name_read : (net : Network) (n : ℕ) → IsDistinct net.names → n < switch_count net → switch_named net.names (unwrap_or (slice_get net.names n) []) ≡ Some n
 name_read net n distinct lt = rw (unwrap_or-slice_get net.names n [], named_at net.names n distinct lt, lt-ltb n (length net.names) lt) refl

@@ -9,6 +9,7 @@ use Rattle.flow_rules.specs.Frees.{IsFree, IsFreeUpTo}
 use Rattle.round_mix.specs.Marks.{rules_of}
 use Rattle.round_mix.specs.Order.{AreInOrder, IsInOrder, may_clash}
 use Rattle.round_mix.proofs.OrderLaws.{order_at, may_clash_between}
+use Rattle.net_base.proofs.ItemLaws.{past_end}
 use Rattle.flow_rules.specs.Overlaps.{IsClashAt}
 use Rattle.round_mix.specs.declared.MarkedRule.{MarkedRule}
 
@@ -16,11 +17,6 @@ pub rule_at : (marks : List MarkedRule) (i : ℕ) (m : MarkedRule) → i < lengt
 rule_at [] i m within is = absurd (omega arith)
 rule_at (n ∷ ns) zero m within is = ap (λ (x : MarkedRule). Some x.rule) (sym is)
 rule_at (n ∷ ns) (suc i) m within is = rule_at ns i m (omega arith) is
-
-pub past_end : {A : Type 0} (xs : List A) (i : ℕ) (x : A) → slice_get xs i ≡ Some x → i < length xs
-past_end [] i x e = absurd (let f : None ≡ Some x = e in cc)
-past_end (y ∷ xs) zero x e = omega arith
-past_end (y ∷ xs) (suc i) x e = let h = past_end xs i x e in omega arith
 
 same_some : {x y : Rule} → Some x ≡ Some y → x ≡ y
 same_some e = cc

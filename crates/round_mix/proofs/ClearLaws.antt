@@ -28,6 +28,7 @@ use Rattle.round_mix.specs.Prepared.{AreGood, AreClear, IsPrepared}
 use Rattle.round_mix.specs.declared.MarkedRule.{MarkedRule}
 use Rattle.round_mix.proofs.OrderLaws.{falling_from_order}
 use Rattle.round_mix.proofs.MarkLaws.{in_permutation, IsInsertOf, in_from_inserted, insert_writes, rules_by-key, all_mixed, available_from}
+use Rattle.net_base.proofs.ItemLaws.{in_from_get}
 
 module _ {A B : Type 0} (f : A → B) where
   -- members that f tells apart are told apart by it
@@ -38,17 +39,12 @@ module _ {A B : Type 0} (f : A → B) where
   one_by (z ∷ zs) x y distinct (inr i) (inl q) e = absurd (distinct.0 (subst (λ w. IsIn w (map f zs)) (e ∙ ap f q) (in_map f x zs i)))
   one_by (z ∷ zs) x y distinct (inr i) (inr j) e = one_by zs x y distinct.1 i j e
 
-get_in : {A : Type 0} (xs : List A) (i : ℕ) (x : A) → slice_get xs i ≡ Some x → IsIn x xs
-get_in [] i x e = absurd (let f : None ≡ Some x = e in cc)
-get_in (y ∷ xs) zero x e = let f : y ≡ x = cc in inl (sym f)
-get_in (y ∷ xs) (suc i) x e = inr (get_in xs i x e)
-
 -- where no member stands twice, no two positions have the same
 one_place : {A B : Type 0} (f : A → B) (xs : List A) (i j : ℕ) (x : A) → IsDistinct (map f xs) → i < j → slice_get xs i ≡ Some x → slice_get xs j ≡ Some x → ⊥
 one_place f [] i j x distinct less e g = let h : None ≡ Some x = e in cc
 one_place f (y ∷ xs) zero zero x distinct less e g = omega arith
 one_place f (y ∷ xs) zero (suc j) x distinct less e g =
-    let h : y ≡ x = cc in distinct.0 (subst (λ z. IsIn (f z) (map f xs)) (sym h) (in_map f x xs (get_in xs j x g)))
+    let h : y ≡ x = cc in distinct.0 (subst (λ z. IsIn (f z) (map f xs)) (sym h) (in_map f x xs (in_from_get xs j x g)))
 one_place f (y ∷ xs) (suc i) zero x distinct less e g = omega arith
 one_place f (y ∷ xs) (suc i) (suc j) x distinct less e g = one_place f xs i j x distinct.1 (omega arith) e g
 
@@ -97,7 +93,7 @@ module _ (table : List Rule) (changes : List Change) (is_table : IsTable table) 
   pub unclear_from_clash : (i j : ℕ) → i < j → IsClashAt (all_rules table changes) i j → ¬ AreClear table changes
   unclear_from_clash i j less at = λ clear.
       let e = clear (all_rules table changes) (all_mixed table changes) at.clash.header at.one at.other
-      (get_in (all_rules table changes) i at.one at.one_at) (get_in (all_rules table changes) j at.other at.other_at) at.clash.first at.clash.second at.clash.priority in
+      (in_from_get (all_rules table changes) i at.one at.one_at) (in_from_get (all_rules table changes) j at.other at.other_at) at.clash.first at.clash.second at.clash.priority in
       one_place (λ r. r.key) (all_rules table changes) i j at.one keys_apart less at.one_at (at.other_at ∙ ap Some (sym e))
 
   -- in a mixture one rule has a key

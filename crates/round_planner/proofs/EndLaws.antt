@@ -53,6 +53,7 @@ use Rattle.round_planner.proofs.SameRound.{IsSameRound, same_back, same_alone, h
 use Rattle.round_planner.proofs.StandingLaws.{length_rounds}
 use Rattle.round_planner.proofs.SearchLaws.{first_remains}
 use Rattle.round_planner.proofs.UserTables.{AreUserTables, IsUserChange, plan_change, keeps_user, user_start, user_along, changes_along, remaining_applies, remaining_count}
+use Rattle.table_difference.proofs.LengthLaws.{few_remain}
 
 some_not_none : {A : Type 0} {x : A} → ¬ (Some x ≡ None)
 some_not_none e = cc
@@ -87,54 +88,6 @@ first_there aim tables (d ∷ front) c rest found = first_there aim (tables_afte
 front_found : (aim : Aim) (tables : List (List Rule)) (front rest : List Change) → AreFirstQualifying aim tables (front ++ rest) → AreFirstQualifying aim tables front
 front_found aim tables [] rest found = tt
 front_found aim tables (d ∷ front) rest found = (found.0, front_found aim (tables_after_change d tables) front rest found.1)
-
--- ---- few changes
-
-length_with_key : (k : Key) (ks : List Key) → length (with_key k ks) ≤ suc (length ks)
-length_with_key k [] = omega arith
-length_with_key k (q ∷ ks) =
-    elim (is_lt (key_cmp k q)) as (λ b. length (cond b (k ∷ q ∷ ks) (cond (key_eq k q) (q ∷ ks) (q ∷ with_key k ks))) ≤ suc (suc (length ks))) [
-      | true ↦ omega arith
-      | false ↦ elim (key_eq k q) as (λ b. length (cond b (q ∷ ks) (q ∷ with_key k ks)) ≤ suc (suc (length ks))) [
-        | true ↦ omega arith
-        | false ↦ (let rest = length_with_key k ks in omega arith)
-      ]
-    ]
-
-length_in_order : (ks : List Key) → length (keys_in_order ks) ≤ length ks
-length_in_order [] = omega arith
-length_in_order (k ∷ ks) = let first = length_with_key k (keys_in_order ks) in let rest = length_in_order ks in omega arith
-
-length_filter_map : {A B : Type 0} (f : A → Option B) (xs : List A) → length (filter_map f xs) ≤ length xs
-length_filter_map f [] = omega arith
-length_filter_map {A} {B} f (x ∷ xs) =
-    let rest = length_filter_map f xs in
-    elim (f x) as (λ (o : Option B). length (cons_option o (filter_map f xs)) ≤ suc (length xs)) [ None ↦ omega arith | Some y ↦ omega arith ]
-
-length_between : (s : SwitchId) (now new : List Rule) → length (changes_between s now new) ≤ length now + length new
-length_between s now new =
-    let kept = length_filter_map (λ k. difference s (rule_with k now) (rule_with k new)) (keys_in_order (keys_of now ++ keys_of new)) in
-    let keys = length_in_order (keys_of now ++ keys_of new) in
-    let both = length-append (keys_of now) (keys_of new) in
-    let first = length-map now (λ (r : Rule). r.key) in
-    let second = length-map new (λ (r : Rule). r.key) in
-    omega arith
-
-length_from : (n : ℕ) (nows news : List (List Rule)) → length (changes_from n nows news) ≤ sum_by length nows + sum_by length news
-length_from n [] news = omega arith
-length_from n (now ∷ nows) [] = omega arith
-length_from n (now ∷ nows) (new ∷ news) =
-    let here = length_between (record { 0 = n }) now new in
-    let rest = length_from (suc n) nows news in
-    let both : length (changes_from n (now ∷ nows) (new ∷ news)) ≡ length (changes_between (record { 0 = n }) now new) + length (changes_from (suc n) nows news) =
-    length-append (changes_between (record { 0 = n }) now new) (changes_from (suc n) nows news) in
-    let olds = sum_by-cons length now nows in
-    let news_too = sum_by-cons length new news in
-    omega arith
-
--- no more changes remain than both configurations have rules
-pub few_remain : (old new : List (List Rule)) → length (remaining old new) ≤ sum_by length old + sum_by length new
-few_remain old new = length_from 0 old new
 
 -- ---- where nothing remains
 

@@ -4,6 +4,7 @@ use Rattle.std.specs.Prelude.{slice_get}
 use Rattle.std.specs.List.{AllByRecursion, AllZip}
 use Rattle.net_base.specs.Members.{IsIn, IsPrefix}
 use Rattle.net_base.proofs.MemberLaws.{each_at, in_append_left, in_append_right, in_append_cases}
+use Rattle.net_base.proofs.ItemLaws.{in_from_get, prefix_refl, prefix_through}
 use Rattle.certificates.specs.Ordered.{IsMeant}
 use Rattle.certificates.specs.declared.OrderedPick.{OrderedPick}
 use Rattle.certificates.specs.declared.OrderedEvidence.{OrderedEvidence}
@@ -14,15 +15,6 @@ use Rattle.round_planner.specs.Standing.{AreWithPicks}
 -- ---- lists that begin with a list
 
 module _ {A : Type 0} where
-  pub prefix_refl : (xs : List A) → IsPrefix xs xs
-  prefix_refl [] = tt
-  prefix_refl (x ∷ xs) = (refl, prefix_refl xs)
-
-  pub prefix_through : (xs ys zs : List A) → IsPrefix xs ys → IsPrefix ys zs → IsPrefix xs zs
-  prefix_through [] ys zs p q = tt
-  prefix_through (x ∷ xs) [] zs p q = absurd p
-  prefix_through (x ∷ xs) (y ∷ ys) [] p q = absurd q
-  prefix_through (x ∷ xs) (y ∷ ys) (z ∷ zs) p q = (p.0 ∙ q.0, prefix_through xs ys zs p.1 q.1)
 
   pub get_more : (xs ys : List A) → IsPrefix xs ys → (i : ℕ) (x : A) → slice_get xs i ≡ Some x → slice_get ys i ≡ Some x
   get_more [] ys p i x e = absurd (none_is x e)
@@ -69,11 +61,6 @@ sets_less xs ys p [] [] within h = tt
 sets_less xs ys p [] (set ∷ sets) within h = absurd h
 sets_less xs ys p (i ∷ is) [] within h = absurd h
 sets_less xs ys p (i ∷ is) (set ∷ sets) within h = (get_less xs ys p i set within.0 h.0, sets_less xs ys p is sets within.1 h.1)
-
-in_from_get : {A : Type 0} (xs : List A) (i : ℕ) (x : A) → slice_get xs i ≡ Some x → IsIn x xs
-in_from_get [] i x e = absurd (let f : None ≡ Some x = e in cc)
-in_from_get (y ∷ xs) zero x e = inl (let f : Some y ≡ Some x = e in cc)
-in_from_get (y ∷ xs) (suc i) x e = inr (in_from_get xs i x e)
 
 pub meant_more : (e more : OrderedEvidence) → Grows e more → (p : OrderedPick) (numbers : List ℕ) (sets : List (List ℕ)) → IsMeant e p numbers sets → IsMeant more p numbers sets
 meant_more e more grows p numbers sets h = record {

@@ -22,15 +22,3 @@ one_less aim old net old_user new_user changes c s t at next =
     let here = ap (λ ts. length (remaining ts aim.new)) at.tables in
     let there = ap (λ ts. length (remaining ts aim.new)) next.tables in
     omega arith
-
--- the search ends ordered where no change remains
-pub ends_ordered : (aim : Aim) (old : List (List Rule)) (changes : List Change) (s : SearchState) → IsAt aim old changes s
-    → remaining (rules_of_all s.trial.tables) aim.new ≡ [] → IsEnded aim old s true
-ends_ordered aim old changes s at none =
-    (changes, at, record { found = at.stands.found; none_remains = subst (λ ts. remaining ts aim.new ≡ []) at.tables none })
-
--- it ends stuck where some remain and none of them qualifies
-pub ends_stuck : (aim : Aim) (old : List (List Rule)) (changes : List Change) (s t : SearchState) → IsAt aim old changes s
-    → remaining (rules_of_all s.trial.tables) aim.new ≢ [] → IsMoved aim old changes t false → IsEnded aim old t false
-ends_stuck aim old changes s t at some (none, still) =
-    (changes, still, record { found = at.stands.found; some_remain = subst (λ ts. remaining ts aim.new ≢ []) at.tables some; none_qualifies = none })

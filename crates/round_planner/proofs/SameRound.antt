@@ -136,18 +136,6 @@ module _ (u : Update) (k : ℕ) (v : Update) (j : ℕ) (same : IsSameRound u k v
         class.entry.switch p.waypoint p.earlier p.set) (positions duties.chains sets) h.least;
   }
 
--- a certificate of the one round is one of the other, where they have the same number
-pub certificate_same : (u v : Update) (k : ℕ) → IsSameRound u k v k → (e : OrderedEvidence) (n dst : ℕ) (entry : Place) (duties : PacketDuties)
-    → OrderedCertificate u e k n dst entry duties → OrderedCertificate v e k n dst entry duties
-certificate_same u v k same e n dst entry duties h = record {
-  pick = h.pick;
-  numbers = h.numbers;
-  sets = h.sets;
-  in_force = h.in_force;
-  meant = h.meant;
-  safe = safe_same u k v k same dst entry duties h.numbers h.sets h.safe;
-}
-
 -- ---- the rounds of a search
 
 rounds_before : (changes : List Change) (rest : List Change) (tables : List (List Rule)) → settled_tables (single_rounds (changes ++ rest)) (length changes) tables ≡ tables_after changes tables

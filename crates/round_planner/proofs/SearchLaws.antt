@@ -29,19 +29,3 @@ unique_then tables d applies unique s =
 
 pub first_remains : (aim : Aim) (tables : List (List Rule)) (changes : List Change) (c : Change) → IsFirstQualifying aim tables changes c → IsIn c changes
 first_remains aim tables changes c h = subst (IsIn c) (sym h.are) (in_append_right c h.earlier (c ∷ h.later) (inl refl))
-
--- what remains at first is what the search takes and what remains after it
-pub search_shortens : (aim : Aim) → AllUnique aim.new → (tables : List (List Rule)) → AllUnique tables → (changes : List Change) → AreFirstQualifying aim tables changes
-    → length (remaining tables aim.new) ≡ length changes + length (remaining (tables_after changes tables) aim.new)
-search_shortens aim new_unique tables unique [] found = omega arith
-search_shortens aim new_unique tables unique (c ∷ changes) found =
-    let (applies, fewer) = remaining_shortens tables aim.new unique new_unique c (first_remains aim tables (remaining tables aim.new) c found.0) in
-    let rest = search_shortens aim new_unique (tables_after_change c tables) (unique_then tables c applies unique) changes found.1 in
-    omega arith
-
--- where it ends ordered, it took as many changes as remained at first
-pub ordered_length : (aim : Aim) → AllUnique aim.new → (old : List (List Rule)) → AllUnique old → (changes : List Change) → EndsOrdered aim old changes → length changes ≡ length (remaining old aim.new)
-ordered_length aim new_unique old unique changes ends =
-    let count = search_shortens aim new_unique old unique changes ends.found in
-    let none : length (remaining (tables_after changes old) aim.new) ≡ 0 = ap length ends.none_remains in
-    omega arith

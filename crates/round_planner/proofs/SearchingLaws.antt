@@ -32,7 +32,7 @@ use Rattle.round_planner.specs.Search.{Aim, duties_in, update_by, single_rounds,
 use Rattle.round_planner.specs.Standing.{Stands, AreSafeBelow, HasUnsafe, AreWithPicks}
 use Rattle.round_planner.specs.Searching.{SearchState, IsAt, IsTryingAt, IsTried, IsMoved}
 use Rattle.round_planner.proofs.SameRound.{IsSameRound, same_back, same_alone, safe_same}
-use Rattle.round_planner.proofs.EndLaws.{few_remain}
+use Rattle.table_difference.proofs.LengthLaws.{few_remain}
 use Rattle.round_planner.proofs.SearchLaws.{first_remains}
 use Rattle.round_planner.proofs.StandingLaws.{begun, length_rounds, stands_none, stands_more}
 use Rattle.round_planner.proofs.UserTables.{AreUserTables, IsUserChange, keeps_user, user_start, user_along, changes_along, remaining_user, remaining_applies, remaining_count}

@@ -25,8 +25,8 @@ use Rattle.round_planner.specs.declared.judging.Found.{Found}
 use Rattle.round_planner.specs.Search.{Aim, duties_in, update_by, evidence_until, single_rounds, IsFirstQualifying, AreFirstQualifying, HasPick, IsLeastPick}
 use Rattle.round_planner.specs.Standing.{IsCertifiedClass, Stands, AreSafeBelow, AreWithPicks}
 use Rattle.round_planner.proofs.SameRound.{IsSameRound, same_back, safe_same, least_same, same_prefix}
-use Rattle.round_planner.proofs.GrowthLaws.{Grows, prefix_refl, meant_more, meant_less, grown, old_pick, pick_cases, pick_for, numbering_cases, before_cases}
-
+use Rattle.round_planner.proofs.GrowthLaws.{Grows, meant_more, meant_less, grown, old_pick, pick_cases, pick_for, numbering_cases, before_cases}
+use Rattle.net_base.proofs.ItemLaws.{prefix_refl}
 -- ---- the changes
 
 -- one more change that is the first that qualifies
@@ -83,9 +83,6 @@ until_meant : (k : ℕ) (e : OrderedEvidence) (p : OrderedPick) (numbers : List 
 until_meant k e p numbers sets h = meant_more (evidence_until k e) e (record { numberings = prefix_refl e.numberings; befores = prefix_refl e.befores; uses = prefix_refl e.uses }) p numbers sets h
 
 -- ---- where a search begins
-
-no_certificate : (u : Update) (e : OrderedEvidence) (k n dst : ℕ) (entry : Place) (duties : PacketDuties) → e.picks ≡ [] → ¬ OrderedCertificate u e k n dst entry duties
-no_certificate u e k n dst entry duties none h = subst (IsIn h.pick) none h.in_force.stands
 
 pub stands_none : (aim : Aim) (old : List (List Rule)) → Stands aim old [] no_evidence
 stands_none aim old = record {

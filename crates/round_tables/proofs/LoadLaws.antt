@@ -14,7 +14,7 @@ use Rattle.update_model.specs.Changes.{switch_of, rule_of, Applies, AppliesTo, E
 use Rattle.update_model.specs.Mixtures.{Update, tables_before, entries_needed, is_insert}
 use Rattle.update_model.specs.declared.Change.{Change}
 use Rattle.update_model.proofs.ChangeLaws.{key_named}
-use Rattle.update_model.proofs.MadeLaws.{in_from_get, same_entry}
+use Rattle.update_model.proofs.MadeLaws.{same_entry}
 use Rattle.round_mix.specs.Faults.{IsAmbiguous, IsGoodAfter}
 use Rattle.round_mix.specs.Marks.{all_rules, marked}
 use Rattle.round_mix.specs.Prepared.{MixedState, AreGood, AreClear, IsPrepared}
@@ -32,6 +32,7 @@ use Rattle.check_reasons.specs.declared.reason.Reason.TheVariants.{BadChange, Am
 use Rattle.round_tables.proofs.PresentLaws.{switch_n, set_each}
 use Rattle.round_tables.proofs.FirstReasons.{first_in_round}
 use Rattle.round_tables.proofs.EndLaws.{shared_reason}
+use Rattle.net_base.proofs.ItemLaws.{in_from_get}
 
 pub filter_few : {A : Type 0} (p : A → Bool) (xs : List A) → length (filter p xs) ≤ length xs
 filter_few p [] = omega arith

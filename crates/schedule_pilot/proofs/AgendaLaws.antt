@@ -7,6 +7,7 @@ use Rattle.std.proofs.Math.Seq.{take-suc}
 use Rattle.std.proofs.lemmas.Bool.{ne_eqb, eq-eqb, true≢false}
 use Rattle.std.proofs.lemmas.List.{map-set}
 use Rattle.net_base.proofs.MemberLaws.{map-push}
+use Rattle.update_model.proofs.CountLaws.{goes_from}
 use Rattle.path_walk.specs.declared.Ended.{Ended}
 use Rattle.path_walk.specs.declared.Ended.TheVariants.{UnderWay, Left, Dropped, Lost}
 use Rattle.path_walk.specs.Paths.{outcome_in}
@@ -14,7 +15,8 @@ use Rattle.update_model.specs.States.{IsUnderWay, IsHopping, settled_count, ente
 use Rattle.update_model.specs.Worlds.{WorldState, world_after}
 use Rattle.update_model.specs.declared.Event.TheVariants as event
 use Rattle.update_model.specs.declared.Packet.{Packet}
-use Rattle.schedule_pilot.specs.Agendas.{numbers_on, goes_on, numbers_under_way, IsAgenda, without}
+use Rattle.update_model.specs.Worlds.{goes_on}
+use Rattle.schedule_pilot.specs.Agendas.{numbers_on, numbers_under_way, IsAgenda, without}
 
 -- one more flag
 numbers_push : (n : ℕ) (flags : List Bool) (b : Bool) → numbers_on n (flags ++ b ∷ []) ≡ numbers_on n flags ++ cond b ((n + length flags) ∷ []) []
@@ -41,10 +43,6 @@ numbers_next flags i d old now less is next =
     ∙ sym (ap (numbers_on 0) (take-suc flags i d less) ∙ numbers_push 0 (take i flags) (get_or flags i d)
     ∙ ap (λ k. numbers_on 0 (take i flags) ++ cond (get_or flags i d) (k ∷ []) []) count)
 
--- the first items through a function, and one more
-pub map_next : {A B : Type 0} (f : A → B) (xs : List A) (i : ℕ) (d : A) (ys zs : List B) → i < length xs → ys ≡ map f (take i xs) → zs ≡ ys ++ f (get_or xs i d) ∷ [] → zs ≡ map f (take (suc i) xs)
-map_next f xs i d ys zs less is next = next ∙ ap (λ l. l ++ f (get_or xs i d) ∷ []) is ∙ sym (ap (map f) (take-suc xs i d less) ∙ map-push f (take i xs) (get_or xs i d))
-
 -- a smaller number isn't among the numbers
 kept_above : (k m : ℕ) (flags : List Bool) → k < m → without k (numbers_on m flags) ≡ numbers_on m flags
 kept_above k m [] less = refl
@@ -67,12 +65,6 @@ change_off i flags old now is next = next ∙ ap (without i) is ∙ sym (numbers
 
 pub goes_from_under : (p : Packet) → IsUnderWay p → goes_on p.ended ≡ true
 goes_from_under p under = ap goes_on under
-
-pub under_from_goes : (e : Ended) → goes_on e ≡ true → e ≡ UnderWay
-under_from_goes UnderWay is = refl
-under_from_goes (Left s p v) is = absurd (true≢false (sym is))
-under_from_goes (Dropped s) is = absurd (true≢false (sym is))
-under_from_goes Lost is = absurd (true≢false (sym is))
 
 length_flags : (f : Packet → Bool) (packets : List Packet) → length (map f packets) ≡ length packets
 length_flags f [] = refl
@@ -120,7 +112,7 @@ hop_on packets more i p q old now at under more_is is next =
     let all : numbers_on 0 (map f more) ≡ numbers_on 0 (set flags i (goes_on q.ended)) =
     ap (λ (xs : List Packet). numbers_on 0 (map f xs)) more_is ∙ ap (numbers_on 0) (map-set f packets i q) in
     elim (goes_on q.ended) as (λ b. goes_on q.ended ≡ b → now ≡ numbers_on 0 (map f more)) [
-      | true ↦ λ e. stays (IsHopping more i) old now (q, there, under_from_goes q.ended e) next ∙ is
+      | true ↦ λ e. stays (IsHopping more i) old now (q, there, goes_from q.ended e) next ∙ is
           ∙ sym (all ∙ ap (λ b. numbers_on 0 (set flags i b)) e ∙ ap (numbers_on 0) (set-same flags i true on))
       | false ↦ λ e. goes_out (IsHopping more i) old now (λ h. not_under h e there) next ∙ ap (without i) is
           ∙ sym (all ∙ ap (λ b. numbers_on 0 (set flags i b)) e ∙ numbers_off 0 i i flags (omega arith))

@@ -17,8 +17,8 @@ use Rattle.schedule_pilot.specs.Driving.{update_of, world_after_all, IsOverAfter
 use Rattle.schedule_pilot.specs.declared.Entry.{Entry}
 use Rattle.schedule_pilot.specs.declared.Ending.{Ending}
 use Rattle.schedule_pilot.specs.declared.Ending.TheVariants.{Finished, OutOfBudget, Blocked}
-use Rattle.schedule_pilot.proofs.EndLaws.{in_those, none_of, in_from_slice, never_blocked, over_in_time}
-
+use Rattle.schedule_pilot.proofs.EndLaws.{in_those, none_of, never_blocked, over_in_time}
+use Rattle.net_base.proofs.ItemLaws.{in_from_get}
 pub state_push : (net : Network) (rounds : List (List Change)) (st : State) (events : List Event) (e : Event)
     → state_after net rounds st (events ++ e ∷ []) ≡ state_after_event net rounds (state_after net rounds st events) e
 state_push net rounds st [] e = refl
@@ -44,7 +44,7 @@ module _ (u : Update) (chooses : ℕ → ℕ → ℕ → Type 0) where
   driven_enabled m st entries [] driven = tt
   driven_enabled m st entries (e ∷ events) driven =
       let (offered, i, are, named, at) = driven.0 in (
-        (in_those (IsEnabled u.net u.rounds st) (candidates st entries) offered are e (in_from_slice offered i e at)).1,
+        (in_those (IsEnabled u.net u.rounds st) (candidates st entries) offered are e (in_from_get offered i e at)).1,
         driven_enabled (suc m) (state_after_event u.net u.rounds st e) (entries_after e entries) events driven.1,
       )
 
@@ -56,8 +56,6 @@ pub record SoFar (w : WorldState) (chooses : ℕ → ℕ → ℕ → Type 0) (en
   pub count : made ≡ length events
 
 module _ (w : WorldState) (chooses : ℕ → ℕ → ℕ → Type 0) (entries : List Entry) where
-  pub so_far_first : SoFar w chooses entries [] w entries 0
-  so_far_first = record { driven = tt; world = refl; rest_is = refl; count = refl }
 
   pub so_far_next : (events : List Event) (after : WorldState) (rest : List Entry) (made : ℕ) (e : Event) (next : WorldState) (left : List Entry)
       → SoFar w chooses entries events after rest made → IsNamed (update_of w) chooses made after.state rest e → next ≡ world_after after e → left ≡ entries_after e rest
@@ -205,7 +203,7 @@ pub named_enabled : (u : Update) (st : State) (rest : List Entry) (offered : Lis
     → IsEnabled u.net u.rounds st e
 named_enabled u st rest offered i n e are count less is =
     let within : i < length offered = omega arith in
-    (in_those (IsEnabled u.net u.rounds st) (candidates st rest) offered are e (in_from_slice offered i e (named_is offered i e within is))).1
+    (in_those (IsEnabled u.net u.rounds st) (candidates st rest) offered are e (in_from_get offered i e (named_is offered i e within is))).1
 
 -- and it goes on by the named event
 pub so_far_named : (w : WorldState) (chooses : ℕ → ℕ → ℕ → Type 0) (entries : List Entry) (events : List Event) (after : WorldState) (rest : List Entry) (made : ℕ)

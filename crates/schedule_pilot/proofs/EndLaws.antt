@@ -28,6 +28,7 @@ use Rattle.schedule_pilot.proofs.PendingLaws.{pending_applies, same_count}
 use Rattle.path_walk.proofs.StayLaws.{few_switches, entry_within}
 use Rattle.schedule_pilot.proofs.VisitLaws.{walk_within}
 use Rattle.schedule_pilot.proofs.MeasureLaws.{left, start_lowers, change_lowers, settle_lowers, hops_append, hops_entered, hop_lowers, left_first}
+use Rattle.net_base.proofs.ItemLaws.{in_from_get}
 
 -- what stands among those that a fact holds of stands among all, and the fact holds of it
 pub in_those : {A : Type 0} (P : A → Type 0) (xs ys : List A) → AreThose P xs ys → (y : A) → IsIn y ys → IsIn y xs × P y
@@ -46,11 +47,6 @@ none_of P (y ∷ xs) those x (inr i) = none_of P xs those.1 x i
 none_from : {A : Type 0} (P : A → Type 0) (xs : List A) → ((x : A) → IsIn x xs → ¬ P x) → AreThose P xs []
 none_from P [] f = tt
 none_from P (x ∷ xs) f = (f x (inl refl), none_from P xs (λ y i. f y (inr i)))
-
-pub in_from_slice : {A : Type 0} (xs : List A) (i : ℕ) (x : A) → slice_get xs i ≡ Some x → IsIn x xs
-in_from_slice [] i x e = absurd (let f : None ≡ Some x = e in cc)
-in_from_slice (y ∷ xs) zero x e = let f : Some y ≡ Some x = e in let g : y ≡ x = cc in inl (sym g)
-in_from_slice (y ∷ xs) (suc i) x e = inr (in_from_slice xs i x e)
 
 in_counted : (n count i : ℕ) → i < count → IsIn (n + i) (counted n count)
 in_counted n zero i less = absurd (omega arith)
@@ -161,7 +157,7 @@ module _ (u : Update) (valid : IsNetwork u.net) (good : AreGoodRounds u) where
       let one = hops_entered (switch_count u.net) place dst (settled_count st.phase) in
       omega arith
   lowers st entries (event.Hop i) steady j may =
-      let short = each_at (λ p. length p.visits ≤ switch_count u.net) st.packets may.0 (few st steady) (in_from_slice st.packets i may.0 may.1) in
+      let short = each_at (λ p. length p.visits ≤ switch_count u.net) st.packets may.0 (few st steady) (in_from_get st.packets i may.0 may.1) in
       let less = hop_lowers (switch_count u.net) st.packets i may.0 (λ q. outcome_in u.net st.tables q.at q.dst) may.1 may.2 short in
       omega arith
   lowers st entries (event.Lose i) steady j may = absurd (lose_none st entries i j)
@@ -230,7 +226,7 @@ module _ (u : Update) (valid : IsNetwork u.net) (good : AreGoodRounds u) where
     Step st entries e m = (offered : List Event) × (i : ℕ) × AreOffered u st entries offered × chooses m (length offered) i × (slice_get offered i ≡ Some e)
 
     pub chosen : (m : ℕ) (st : State) (entries : List Entry) (e : Event) → Step st entries e m → IsIn e (candidates st entries) × IsEnabled u.net u.rounds st e
-    chosen m st entries e step = in_those (IsEnabled u.net u.rounds st) (candidates st entries) step.0 step.2 e (in_from_slice step.0 step.1 e step.4)
+    chosen m st entries e step = in_those (IsEnabled u.net u.rounds st) (candidates st entries) step.0 step.2 e (in_from_get step.0 step.1 e step.4)
 
     rest_entries : (e : Event) (entries : List Entry) → AreEntries u.net entries → AreEntries u.net (entries_after e entries)
     rest_entries event.Start entries h = h

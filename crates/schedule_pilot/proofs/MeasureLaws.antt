@@ -67,11 +67,6 @@ count_all : (n : ℕ) → count_on (replicate n true) ≡ n
 count_all zero = refl
 count_all (suc n) = ap suc (count_all n)
 
-count_none : (flags : List Bool) → AllByRecursion (λ b. b ≡ false) flags → count_on flags ≡ 0
-count_none [] off = refl
-count_none (true ∷ flags) off = absurd (let e : true ≡ false = off.0 in cc)
-count_none (false ∷ flags) off = count_none flags off.1
-
 count_less : (flags : List Bool) (i : ℕ) → slice_get flags i ≡ Some true → suc (count_on (set flags i false)) ≡ count_on flags
 count_less [] i e = absurd (let f : None ≡ Some true = e in cc)
 count_less (true ∷ flags) zero e = refl

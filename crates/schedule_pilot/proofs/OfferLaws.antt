@@ -14,10 +14,11 @@ use Rattle.update_model.specs.declared.Phase.{Phase}
 use Rattle.update_model.specs.declared.Phase.TheVariants.{Settled, Running}
 use Rattle.schedule_pilot.specs.Offered.{counted, next_entry, candidates, AreThose, AreOffered, IsOver}
 use Rattle.schedule_pilot.specs.Ends.{AreEntries}
-use Rattle.schedule_pilot.specs.Agendas.{numbers_on, goes_on, numbers_under_way, IsAgenda, AddsThose}
+use Rattle.update_model.specs.Worlds.{goes_on}
+use Rattle.schedule_pilot.specs.Agendas.{numbers_on, numbers_under_way, IsAgenda, AddsThose}
 use Rattle.schedule_pilot.specs.declared.Entry.{Entry}
-use Rattle.schedule_pilot.proofs.AgendaLaws.{goes_from_under, under_from_goes}
-
+use Rattle.schedule_pilot.proofs.AgendaLaws.{goes_from_under}
+use Rattle.update_model.proofs.CountLaws.{goes_from}
 module _ {A : Type 0} (P : A → Type 0) where
   -- one that the fact doesn't hold of is left out
   those_skip : (x : A) (xs ys : List A) → ¬ P x → AreThose P xs ys → AreThose P (x ∷ xs) ys
@@ -59,13 +60,6 @@ those_counted P f n (false ∷ flags) ys on those =
 pub adds_next : (P : Event → Type 0) (xs zs old now next : List Event) → AddsThose P xs old now → AddsThose P zs now next → AddsThose P (xs ++ zs) old next
 adds_next P xs zs old now next a b =
     (a.0 ++ b.0, those_append P xs a.0 zs b.0 a.1 b.1, b.2 ∙ ap (λ l. l ++ b.0) a.2 ∙ append_assoc old a.0 b.0)
-
-pub adds_none : (P : Event → Type 0) (old : List Event) → AddsThose P [] old old
-adds_none P old = ([], tt, sym (append_nil old))
-  where
-    append_nil : (xs : List Event) → xs ++ [] ≡ xs
-    append_nil [] = refl
-    append_nil (x ∷ xs) = ap (λ l. x ∷ l) (append_nil xs)
 
 -- the first events through a function, and one more
 pub adds_more : (P : Event → Type 0) (f : ℕ → Event) (numbers : List ℕ) (i : ℕ) (old now next : List Event) → i < length numbers → AddsThose P (map f (take i numbers)) old now
@@ -111,7 +105,7 @@ module _ (u : Update) (st : State) (entries : List Entry) (pending under_way : L
       let rest : AllByRecursion May (map event.Hop (numbers_on (suc n) (map (λ q. goes_on q.ended) packets))) =
       hops_may (suc n) packets (λ i q at under. let e : n + suc i ≡ suc n + i = omega arith in subst (λ k. May (event.Hop k)) e (f (suc i) q at under)) in
       elim (goes_on p.ended) as (λ b. goes_on p.ended ≡ b → AllByRecursion May (map event.Hop (numbers_on n (b ∷ map (λ q. goes_on q.ended) packets)))) [
-        | true ↦ λ e. let same : n + 0 ≡ n = omega arith in (subst (λ k. May (event.Hop k)) same (f 0 p refl (under_from_goes p.ended e)), rest)
+        | true ↦ λ e. let same : n + 0 ≡ n = omega arith in (subst (λ k. May (event.Hop k)) same (f 0 p refl (goes_from p.ended e)), rest)
         | false ↦ λ e. rest
       ] refl
 
@@ -168,7 +162,7 @@ none_under_way packets = (λ e. ended packets ((none_on 0 (map (λ p. goes_on p.
     off_one : (p : Packet) → ¬ IsUnderWay p → goes_on p.ended ≡ false
     off_one p h =
         elim (goes_on p.ended) as (λ b. goes_on p.ended ≡ b → goes_on p.ended ≡ false) [
-          | true ↦ λ e. absurd (h (under_from_goes p.ended e))
+          | true ↦ λ e. absurd (h (goes_from p.ended e))
           | false ↦ λ e. e
         ] refl
 
@@ -205,7 +199,7 @@ module _ (k : ℕ) (all : List Packet) where
   young_to n [] f h = tt
   young_to n (p ∷ ps) f h =
       elim (goes_on p.ended) as (λ b. goes_on p.ended ≡ b → AllByRecursion IsYoungAt (numbers_on n (b ∷ map (λ q. goes_on q.ended) ps))) [
-        | true ↦ λ e. (λ q at. same_born q at (h.0 (under_from_goes p.ended e)), young_to (suc n) ps (stand_next n p ps f) h.1)
+        | true ↦ λ e. (λ q at. same_born q at (h.0 (goes_from p.ended e)), young_to (suc n) ps (stand_next n p ps f) h.1)
         | false ↦ λ e. young_to (suc n) ps (stand_next n p ps f) h.1
       ] refl
     where

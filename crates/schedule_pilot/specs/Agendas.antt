@@ -1,8 +1,7 @@
 -- What is under way in a state of a run.
 use Rattle.std.specs.Prelude.{◌≡◌, ◌==◌, ℕ, suc, not, Bool, true, false, List, [], ◌∷◌, ◌++◌, map, filter}
-use Rattle.path_walk.specs.declared.Ended.{Ended}
-use Rattle.path_walk.specs.declared.Ended.TheVariants.{UnderWay, Left, Dropped, Lost}
 use Rattle.update_model.specs.States.{State}
+use Rattle.update_model.specs.Worlds.{goes_on}
 use Rattle.update_model.specs.declared.Event.{Event}
 use Rattle.update_model.specs.declared.Packet.{Packet}
 use Rattle.schedule_pilot.specs.Offered.{AreThose}
@@ -12,13 +11,6 @@ abbrev pub numbers_on : ℕ → List Bool → List ℕ
 numbers_on n [] = []
 numbers_on n (true ∷ flags) = n ∷ numbers_on (suc n) flags
 numbers_on n (false ∷ flags) = numbers_on (suc n) flags
-
--- whether a packet with this end goes on
-abbrev pub goes_on : Ended → Bool
-goes_on UnderWay = true
-goes_on (Left switch port vlan) = false
-goes_on (Dropped switch) = false
-goes_on Lost = false
 
 -- the numbers of the packets that are under way
 abbrev pub numbers_under_way : List Packet → List ℕ

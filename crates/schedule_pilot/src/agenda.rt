@@ -2,7 +2,8 @@
 ghost use Rattle.std.specs.Prelude.{◌≡◌, ◌≤◌, ◌-◌, ◌⊎◌, ◌++◌, ◌∷◌, [], length, map, cond, IfOk, OnOk, IsTrue, ◌↔◌};
 ghost use Rattle.update_model.specs.States.{IsEnabled, IsHopping};
 ghost use Rattle.update_model.specs.Worlds.{world_after};
-ghost use Rattle.schedule_pilot.specs.Agendas.{numbers_on, goes_on, numbers_under_way, IsAgenda, without};
+ghost use Rattle.update_model.specs.Worlds.{goes_on};
+ghost use Rattle.schedule_pilot.specs.Agendas.{numbers_on, numbers_under_way, IsAgenda, without};
 
 use net_base::Memory;
 use path_walk::Ended;

@@ -32,10 +32,6 @@ pub both : {T E : Type 0} (r : Result T E) (P Q R : T → Type 0) → IfOk r P �
 both (Ok v) P Q R p q f = f v p q
 both (Err e) P Q R p q f = tt
 
--- the parts of the budget
-pub visits_few : (entries switches : ℕ) → entries ≤ 1000 → switches ≤ 128 → entries * (switches + 1) ≤ 129000
-visits_few entries switches few small = let a : switches + 1 ≤ 129 = omega arith in mul-le-mul few a
-
 -- a round has no more changes than all
 pub round_within : (rounds : List (List Change)) (k : ℕ) → length (round_after k rounds) ≤ sum_by length rounds
 round_within [] zero = omega arith

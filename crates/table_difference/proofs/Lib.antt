@@ -1,3 +1,4 @@
 pub mod OrderLaws
 pub mod StepLaws
 pub mod SwitchLaws
+pub mod LengthLaws

@@ -7,6 +7,7 @@ use Rattle.std.proofs.lemmas.List.Elements.{filter-append}
 use Rattle.net_base.specs.Members.{IsIn, IsDistinct}
 use Rattle.net_base.proofs.MemberLaws.{in_from_filter, each_from_in}
 use Rattle.net_base.proofs.ListLaws.{any_in}
+use Rattle.net_base.proofs.ItemLaws.{distinct_filter}
 use Rattle.net_base.specs.declared.ids.Vlan.{Vlan}
 use Rattle.net_base.specs.declared.ids.Vlan.TheVariants as vlan
 use Rattle.topology.specs.Networks.{Network, IsNetwork, TagRange, IsVlanId, IsAvailableTag, vlan_eq}
@@ -44,11 +45,6 @@ numbers_more n (suc count) x e = ap (λ ys. n ∷ ys) (numbers_more (suc n) coun
 pub numbers_length : (n count : ℕ) → length (numbers_from n count) ≡ count
 numbers_length n zero = refl
 numbers_length n (suc count) = ap suc (numbers_length (suc n) count)
-
-distinct_filter : {A : Type 0} (p : A → Bool) (xs : List A) → IsDistinct xs → IsDistinct (filter p xs)
-distinct_filter p [] distinct = tt
-distinct_filter p (x ∷ xs) distinct =
-    cond_both (p x) (x ∷ filter p xs) (filter p xs) IsDistinct (λ _. (λ i. distinct.0 (in_from_filter p x xs i).0, distinct_filter p xs distinct.1)) (λ _. distinct_filter p xs distinct.1)
 
 ids_distinct : (tags : Option TagRange) → IsDistinct (ids_of tags)
 ids_distinct None = tt
@@ -103,11 +99,6 @@ paired_firsts (v ∷ vs) (t ∷ ts) = ap (λ ys. t ∷ ys) (paired_firsts vs ts)
 -- the two tests of an id are one
 same_id : (a b : ℕ) → (a == b) ≡ (b == a)
 same_id a b = grind arith
-
-pub declared_id : (id : ℕ) (vs : List Vlan) → list_any (vlan_eq (vlan.Id id)) vs ≡ list_any (has_id id) vs
-declared_id id [] = refl
-declared_id id (vlan.Untagged ∷ vs) = declared_id id vs
-declared_id id (vlan.Id n ∷ vs) = rw (same_id id n, declared_id id vs)
 
 length_filter : {A : Type 0} (p : A → Bool) (xs : List A) → length (filter p xs) ≤ length xs
 length_filter p [] = omega arith

@@ -17,6 +17,7 @@ use Rattle.net_base.specs.declared.ids.Stop.{Stop}
 use Rattle.net_base.specs.declared.ids.Vlan.{Vlan}
 use Rattle.topology.proofs.LinkLaws.{any_from_in, ends_of}
 use Rattle.topology.proofs.EntryLaws.{found, vlan_eq-true, vlan_eq-refl}
+use Rattle.net_base.proofs.ItemLaws.{distinct_push}
 use Rattle.topology.specs.Networks.{Network, TagRange, IsNetwork, IsName, IsPortNumber, IsVlan, IsVlanId, stop_eq, vlan_eq, used_ports, switch_named, is_name_byte}
 use Rattle.topology.specs.Ends.{port_ends, IsPort}
 use Rattle.topology.specs.Topology.{is_name, is_capacity, is_on, with_switch, with_link, with_host, with_vlan, with_tags}
@@ -55,16 +56,6 @@ module _ {A : Type 0} where
       | inr j ↦ once.0 (in_append_right w xs ys j)
     ],
     distinct_insert xs ys x once.1 (λ i. out (inr i)),
-  )
-
-  pub distinct_push : (xs : List A) (x : A) → IsDistinct xs → ¬ IsIn x xs → IsDistinct (xs ++ x ∷ [])
-  distinct_push [] x once out = (λ i. i, tt)
-  distinct_push (w ∷ xs) x once out = (
-    λ i. elim (in_append_cases w xs (x ∷ []) i) [
-      | inl k ↦ once.0 k
-      | inr k ↦ elim k [ inl e ↦ out (inl (sym e)) | inr l ↦ absurd l ]
-    ],
-    distinct_push xs x once.1 (λ i. out (inr i)),
   )
 
   longer : (p : A → Bool) (xs ys : List A) (x : A) → length (filter p ((xs ++ x ∷ []) ++ ys)) ≡ length (filter p (xs ++ ys)) + cond (p x) 1 0
@@ -223,22 +214,6 @@ module _ (net : Network) (is : IsNetwork net) where
         few_vlans = omega arith;
         tags = is.tags;
       }
-
-  pub tags_kept : (range : Option TagRange) → IfSome range (λ t. IsVlanId t.first × IsVlanId t.last × (t.first ≤ t.last)) → IsNetwork (with_tags net range)
-  tags_kept range form = record {
-    same_count = is.same_count;
-    few = is.few;
-    names = is.names;
-    name_forms = is.name_forms;
-    capacities = is.capacities;
-    ports_once = is.ports_once;
-    ports = is.ports;
-    few_ports = is.few_ports;
-    vlans_once = is.vlans_once;
-    vlans = is.vlans;
-    few_vlans = is.few_vlans;
-    tags = form;
-  }
 
 -- ---- what is at the ports
 

@@ -1,15 +1,19 @@
 -- The switches as the code holds them, by name.
-use Rattle.std.proofs.Common.{◌≡◌, ℕ, ◌+◌, Bool, false, cond, not, List, [], ◌∷◌, ◌++◌, map, Option, Some, None, is_some, position, String, string_bytes, Global, refl, sym, ap, ◌∙◌}
+use Rattle.std.proofs.Common.{◌≡◌, ℕ, zero, suc, ◌+◌, ◌<◌, Bool, true, false, cond, not, List, [], ◌∷◌, ◌++◌, map, length, get_or, Option, Some, None, is_some, position, String, string_bytes, Global, refl, sym, ap, ◌∙◌, subst, arith}
 use Rattle.std.specs.Prelude.{string_eq}
 use Rattle.std.specs.Str.{bytes_eq}
 use Rattle.std.specs.List.{position_or_len}
 use Rattle.std.specs.Map.{lookup}
+use Rattle.std.proofs.lemmas.Bool.{false_from_ne_true}
 use Rattle.std.proofs.lemmas.List.{length-map, map_push}
+use Rattle.std.proofs.lemmas.Slice.Eq.{bytes_eq-Decides}
 use Rattle.indexmap.specs.IndexMap.{IndexMap, keys, get, insert_entry}
 use Rattle.indexmap.proofs.MapLemmas.{some_index}
 use Rattle.indexmap.proofs.CallerLemmas.{insert_entry-new}
 use Rattle.std.specs.declared.hash.FoldHasher.{FoldHasher}
 use Rattle.std.specs.declared.hash.BuildHasherDefault.{BuildHasherDefault}
+use Rattle.net_base.specs.Members.{IsIn, IsDistinct}
+use Rattle.net_base.proofs.ItemLaws.{in_at}
 use Rattle.topology.specs.Named.{Named, named}
 use Rattle.topology.specs.Networks.{switch_named}
 
@@ -53,3 +57,16 @@ added_named m n k v name same new e =
     let capacities : (named n).capacities ≡ (named m).capacities ++ v ∷ [] = ap (map (λ (e : Entry). e.1)) entries ∙ map_push _ m.entries (k, v) in
     ap (λ (xs : List (List ℕ)). let r : Named = record { names = xs; capacities = (named n).capacities } in r) (names ∙ ap (λ (b : List ℕ). (named m).names ++ b ∷ []) same)
     ∙ ap (λ (xs : List ℕ). let r : Named = record { names = (named m).names ++ name ∷ []; capacities = xs } in r) capacities
+
+-- ---- a switch is found by its name
+
+pub same_bytes : (s : List ℕ) → bytes_eq s s ≡ true
+same_bytes s = (bytes_eq-Decides s s).1 refl
+
+pub named_at : (names : List (List ℕ)) (n : ℕ) → IsDistinct names → n < length names → position_or_len (λ m. bytes_eq (get_or names n []) m) names ≡ n
+named_at [] n distinct lt = absurd (omega arith)
+named_at (x ∷ xs) zero distinct lt = rw (same_bytes x) refl
+named_at (x ∷ xs) (suc n) distinct lt =
+    let name : List ℕ = get_or xs n [] in
+    let other : bytes_eq name x ≡ false = false_from_ne_true (bytes_eq name x) (λ e. distinct.0 (subst (λ m. IsIn m xs) ((bytes_eq-Decides name x).0 e) (in_at xs n [] (omega arith)))) in
+    rw (other, named_at xs n distinct.1 (omega arith)) (omega arith)

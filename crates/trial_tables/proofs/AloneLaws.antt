@@ -27,12 +27,3 @@ alone_clear rules clear mixed held h a b in_a in_b over_a over_b same =
 pub no_fault : (rules : List Rule) (fault : MixFault) → IsClear rules → IsFault rules [] fault → ⊥
 no_fault rules (BadChange i) clear bad = let f : None ≡ Some bad.change = bad.at in cc
 no_fault rules (Ambiguous i j) clear ambiguous = ambiguous.unclear (alone_clear rules clear)
-
--- the only fault of one change that applies is that some mixture isn't clear
-pub unclear_one : (rules : List Rule) (c : Change) (fault : MixFault) → AppliesTo rules c → IsFault rules (c ∷ []) fault → ¬ AreClear rules (c ∷ [])
-unclear_one rules c (BadChange zero) applies bad =
-    let f : Some c ≡ Some bad.change = bad.at in
-    let e : c ≡ bad.change = cc in
-    absurd (bad.bad (record { applies = subst (AppliesTo rules) e applies; fresh = λ k. k }))
-unclear_one rules c (BadChange (suc i)) applies bad = absurd (let f : None ≡ Some bad.change = bad.at in cc)
-unclear_one rules c (Ambiguous i j) applies ambiguous = ambiguous.unclear

@@ -93,10 +93,6 @@ after_few (Insert s r) rules = let len = length-append rules (r ∷ []) in omega
 after_few (Delete s r) rules = let few = filter_few (λ q. not (key_eq q.key r.key)) rules in omega arith
 after_few (Replace s r) rules = let len = length-map rules (λ q. cond (key_eq q.key r.key) r q) in omega arith
 
--- one change needs one entry more at most
-pub one_needed : (c : Change) (rules : List Rule) → entries_needed rules (c ∷ []) ≤ length rules + 1
-one_needed c rules = let few = few_inserts (c ∷ []) in omega arith
-
 count_rules : (tables : List TableState) → length (rules_of_all tables) ≡ length tables
 count_rules tables = length-map tables (λ (t : TableState). t.rules)
 
@@ -122,9 +118,6 @@ module _ (net : Network) (s : SwitchId) (p q : TrialState) where
   }
 
 module _ (net : Network) (p : TrialState) where
-  -- where all are settled, all but one are
-  pub beside_settled : (s : SwitchId) → s.0 < switch_count net → IsSettled net p → IsSettledBeside net s p
-  beside_settled s within settled = record { fit = settled.fit; within = within; others = λ o less _. settled.alone o less }
 
   -- where the last one is too, all are
   pub settled_last : (s : SwitchId) → IsSettledBeside net s p → IsMixed (rules_there p s) [] (mix_at p.mixes s) → IsSettled net p

@@ -1,14 +1,13 @@
 // Single changes: the preparation of their switch for them, and the tables after them.
-ghost use Rattle.std.specs.Prelude.{◌≡◌, ◌≢◌, ◌+◌, ◌<◌, ◌≤◌, [], ◌∷◌, true, false, length, IfOk, OnErr};
+ghost use Rattle.std.specs.Prelude.{◌≡◌, ◌≢◌, ◌+◌, ◌<◌, ◌≤◌, [], ◌∷◌, true, false, length};
 ghost use Rattle.net_base.specs.declared.ids.SwitchId.{SwitchId as Switch};
-ghost use Rattle.flow_rules.specs.Tables.{rules_of_all};
-ghost use Rattle.update_model.specs.Changes.{Applies, AppliesTo, rules_after_change, tables_after_change};
+ghost use Rattle.update_model.specs.Changes.{AppliesTo};
 ghost use Rattle.round_mix.specs.Prepared.{AreClear};
 ghost use Rattle.trial_tables.specs.Trials.{mix_at};
 ghost use Rattle.trial_tables.specs.Steps.{IsMixed};
 
-use flow_rules::{Config, Table};
-use net_base::{Memory, SwitchId};
+use flow_rules::Table;
+use net_base::SwitchId;
 use round_mix::Mixed;
 use update_model::Change;
 
@@ -39,26 +38,4 @@ pub(crate) fn load_for(
     ensures room { (mix_at mixes.old switch).room ≤ (mix_at mixes.new switch).room }
 {
     load_change(&mut mixes[switch.0 as usize], table, change)
-}
-
-/// Makes a change in the table of its switch, with room for what it inserts.
-fn change_table(table: &mut Table, change: &Change) -> Result<(), Memory>
-    requires { AppliesTo table.old.rules change.now }
-    ensures ok { IfOk result (λ _. table.new.rules ≡ rules_after_change change.now table.old.rules) }
-    ensures err { OnErr result (table.new.rules ≡ table.old.rules) }
-{
-    if let Change::Insert(_, _) = change {
-        table.reserve(1)?;
-    }
-    change.apply_to(table);
-    Ok(())
-}
-
-/// Makes a change in the tables.
-pub(crate) fn change_tables(tables: &mut Config, change: &Change) -> Result<(), Memory>
-    requires { Applies (rules_of_all tables.old) change.now }
-    ensures ok { IfOk result (λ _. rules_of_all tables.new ≡ tables_after_change change.now (rules_of_all tables.old)) }
-    ensures err { OnErr result (rules_of_all tables.new ≡ rules_of_all tables.old) }
-{
-    change_table(tables.table_mut(change.switch()), change)
 }

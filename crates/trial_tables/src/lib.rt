@@ -19,14 +19,14 @@ mod changed;
 mod tests;
 
 use alone::{all_alone, reload};
-use changed::{change_tables, load_for};
+use changed::load_for;
 use flow_rules::Config;
 use net_base::{Memory, SwitchId};
 use round_mix::Mixed;
 use std::alloc::Global;
 use std::marker::Model;
 use topology::Net;
-use update_model::Change;
+use update_model::{Change, change_tables};
 
 /// The tables between rounds, and each switch prepared for its table, or for a change of it that is tried.
 #[derive(Drop)]

@@ -12,30 +12,16 @@ use Rattle.dest_classes.specs.Classes.{classes_of, block_ends, boundaries, IsCla
 use Rattle.dest_classes.specs.declared.Class.{Class}
 use Rattle.update_model.specs.Changes.{round_after}
 use Rattle.update_model.specs.Mixtures.{Update, tables_before}
-use Rattle.update_model.proofs.MadeLaws.{in_from_get}
 use Rattle.certificates.specs.Certified.{blocks_of}
 use Rattle.two_phase.specs.TwoPhasePlan.{two_phase_rounds}
 use Rattle.two_phase.specs.Laws.{two_phase_evidence, TwoPhasePlansAreCertified}
 use Rattle.two_phase.proofs.TagLaws.{tagging}
 use Rattle.two_phase.proofs.StageLaws.{IsSound}
 use Rattle.two_phase.proofs.CertificateLaws.{IsStage, certificate}
-use Rattle.two_phase.proofs.RankLaws.{from_ascent}
 use Rattle.two_phase.proofs.PlanLaws.{plan_sound, sound_at, ends_at}
-
--- a class is one of an entry, and its first address is an address
-class_entry : (net : Network) (blocks : List Block) (n : ℕ) (class : Class) → IsClass (classes_of net blocks) n class → IsEntry net class.entry
-class_entry net blocks n class is = record {
-  host = in_from_get net.hosts is.host (stop_of class.entry) is.host_is;
-  declared = in_from_get net.vlans is.vlan class.entry.vlan is.vlan_is;
-}
-
-class_small : (net : Network) (blocks : List Block) (n : ℕ) (class : Class) → IsClass (classes_of net blocks) n class → class.first < 2 ^ 32
-class_small net blocks n class is =
-    let i = in_from_get (boundaries blocks) is.atom class.first is.atom_is in
-    elim (from_ascent class.first (0 ∷ filter (λ a. nat_lt a (2 ^ 32)) (flat_map block_ends blocks)) i) [
-      | inl e ↦ omega arith
-      | inr j ↦ ltb-true class.first (2 ^ 32) (in_from_filter (λ a. nat_lt a (2 ^ 32)) class.first (flat_map block_ends blocks) j).1
-    ]
+use Rattle.net_base.proofs.ItemLaws.{in_from_get}
+use Rattle.dest_classes.proofs.RisingLaws.{in_from_ascending}
+use Rattle.dest_classes.proofs.EntryLaws.{class_entry, class_small}
 
 module _ (net : Network) (net_is : IsNetwork net) (old new : List (List Rule)) (old_user : IsUserConfig net old) (new_user : IsUserConfig net new) where
   pub two_phase_certified : TwoPhasePlansAreCertified net old new

@@ -46,7 +46,7 @@ each_more f g (x ∷ xs) more =
     omega arith
 
 -- one rule or none, by the test alone
-one_or_none : (b : Bool) (r : Rule) → length (cond b (r ∷ []) []) ≡ cond b 1 0
+pub one_or_none : (b : Bool) (r : Rule) → length (cond b (r ∷ []) []) ≡ cond b 1 0
 one_or_none true r = refl
 one_or_none false r = refl
 

@@ -17,14 +17,10 @@ use Rattle.flow_rules.specs.declared.rules.Action.TheVariants.{Discard}
 use Rattle.flow_rules.specs.declared.rules.VlanTest.TheVariants as test
 use Rattle.tag_allocator.specs.Tags.{Tagged}
 use Rattle.two_phase.specs.TwoPhasePlan.{is_host_bound, tagged_copy, ingress_copy, hosts_of, rule, every_address, tagged_rules_by, ingress_rules_by, counted_tags}
+use Rattle.two_phase.proofs.CountLaws.{one_or_none}
 
 abbrev counted : List Vlan → List Tagged
 counted vs = map (λ (v : Vlan). let t : Tagged = record { user = v; tag = 0 } in t) vs
-
--- one rule or none, by the test alone
-one_or_none : (b : Bool) (r : Rule) → length (cond b (r ∷ []) []) ≡ cond b 1 0
-one_or_none true r = refl
-one_or_none false r = refl
 
 -- a rule for each VLAN that passes a test
 each_passed : (p : Vlan → Bool) (f : Tagged → List Rule) → ((t : Tagged) → length (f t) ≡ cond (p t.user) 1 0) → (vs : List Vlan) → length (flat_map f (counted vs)) ≡ count_by p vs

@@ -27,45 +27,23 @@ use Rattle.update_model.proofs.MadeLaws.{distinct_some}
 use Rattle.tag_allocator.specs.Tags.{Tagged, tags_of, numbers_from}
 use Rattle.two_phase.specs.TwoPhasePlan.{every_address, is_host_bound, test_of, tagged_action, ingress_action, rule, tagged_copy, tagged_rules, ingress_copy, hosts_of, ingress_rules, with_rule, in_key_order, switches, by_switch}
 use Rattle.net_base.proofs.ListLaws.{in_flat_map, in_from_flat_map, in_when, IsTold, told_from_distinct, distinct_append, distinct_members, distinct_map, distinct_flat_map}
-use Rattle.two_phase.proofs.TagLaws.{IsTagging, numbers_distinct, in_numbers, numbers_below}
+use Rattle.two_phase.proofs.TagLaws.{IsTagging}
 use Rattle.net_base.proofs.NameLaws.{same_port, same_switch}
 use Rattle.two_phase.proofs.BandLaws.{header, covers_as, covers_from, names_it, named_is, id_is, IsCopy, tagged_cases, ingress_cases}
 use Rattle.two_phase.proofs.SweepLaws.{IsSweep}
 use Rattle.update_model.proofs.MatchLaws.{some_filter}
-
-power_above : (n : ℕ) → 0 < 2 ^ n
-power_above zero = omega arith
-power_above (suc n) = let h = power_above n in omega arith
-
-pub has_base : (b : Block) → in_block b b.base ≡ true
-has_base b = let h = power_above (32 - b.len) in and_from _ _ (le-leb b.base b.base (omega arith)) (lt-ltb b.base (b.base + block_size b) (omega arith))
+use Rattle.net_base.proofs.ItemLaws.{distinct_first}
+use Rattle.tag_allocator.proofs.TagLaws.{numbers_below, numbers_distinct, in_numbers}
+use Rattle.flow_rules.proofs.OverlapLaws.{base_in}
 
 -- some port, and some VLAN, that a test admits
 abbrev a_port : Option Port → Port
 a_port None = record { 0 = 0 }
 a_port (Some p) = p
 
-abbrev a_vlan : VlanTest → Vlan
-a_vlan test.Any = vlan.Untagged
-a_vlan test.Untagged = vlan.Untagged
-a_vlan (test.Id n) = vlan.Id n
-
 admits_a_port : (o : Option Port) → admits_port o (a_port o) ≡ true
 admits_a_port None = refl
 admits_a_port (Some p) = eq-eqb p.0 p.0 refl
-
-admits_a_vlan : (t : VlanTest) → admits_vlan t (a_vlan t) ≡ true
-admits_a_vlan test.Any = refl
-admits_a_vlan test.Untagged = refl
-admits_a_vlan (test.Id n) = eq-eqb n n refl
-
--- clear rules with one key are one
-pub told_from_clear : (rules : List Rule) → IsClear rules → IsTold (λ r. r.key) rules
-told_from_clear rules clear a b i j e =
-    let p = a.key.pattern in
-    let h : Header = header (a_port p.in_port) (a_vlan p.vlan) p.dst.base in
-    let c : covers a.key.pattern h ≡ true = covers_from p h (admits_a_port p.in_port) (admits_a_vlan p.vlan) (has_base p.dst) in
-    clear h a b i j c (subst (λ k. covers k.pattern h ≡ true) e c) (ap (λ k. k.priority) e)
 
 pub distinct_images : {A B C : Type 0} (f : A → B) (g : B → C) (xs : List A) → IsDistinct xs → ((x y : A) → IsIn x xs → IsIn y xs → g (f x) ≡ g (f y) → x ≡ y) → IsDistinct (map g (map f xs))
 distinct_images f g [] distinct told = tt
@@ -80,15 +58,6 @@ distinct_images f g (x ∷ xs) distinct told = (
 when_distinct : {A B : Type 0} (g : A → B) (b : Bool) (x : A) → IsDistinct (map g (cond b (x ∷ []) []))
 when_distinct g true x = (λ i. i, tt)
 when_distinct g false x = tt
-
-distinct_first : {A : Type 0} (xs ys : List A) → IsDistinct (xs ++ ys) → IsDistinct xs
-distinct_first [] ys distinct = tt
-distinct_first (x ∷ xs) ys distinct = (λ i. distinct.0 (first x xs i), distinct_first xs ys distinct.1)
-  where
-    first : (x : _) (xs : List _) → IsIn x xs → IsIn x (xs ++ ys)
-    first x [] i = absurd i
-    first x (z ∷ xs) (inl e) = inl e
-    first x (z ∷ xs) (inr i) = inr (first x xs i)
 
 pub hosts_distinct : (net : Network) → IsNetwork net → (s : SwitchId) → IsDistinct (hosts_of net s)
 hosts_distinct net is s =
@@ -178,7 +147,7 @@ module _ (net : Network) (is : IsNetwork net) (tags : IsTagging net) (s : Switch
       → admits_vlan x.key.pattern.vlan v ≡ true → admits_vlan y.key.pattern.vlan v ≡ true → x.key.pattern.dst ≡ y.key.pattern.dst → x.key.priority ≡ y.key.priority → x ≡ y
   rules_same x y i j port px py v vx vy dst prio =
       let h = header port v x.key.pattern.dst.base in
-      clear h x y i j (covers_from x.key.pattern h px vx (has_base x.key.pattern.dst)) (covers_from y.key.pattern h py vy (subst (λ b. in_block b x.key.pattern.dst.base ≡ true) dst (has_base x.key.pattern.dst))) prio
+      clear h x y i j (covers_from x.key.pattern h px vx (base_in x.key.pattern.dst)) (covers_from y.key.pattern h py vy (subst (λ b. in_block b x.key.pattern.dst.base ≡ true) dst (base_in x.key.pattern.dst))) prio
 
   list_distinct : IsDistinct new
   list_distinct = distinct_members (λ r. r.key) new table

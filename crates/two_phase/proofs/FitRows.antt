@@ -25,13 +25,13 @@ use Rattle.dest_classes.specs.Classes.{ClassList, boundaries}
 use Rattle.dest_classes.specs.declared.Class.{Class}
 use Rattle.demands.specs.Duties.{DemandView, duties_of}
 use Rattle.demands.specs.Good.{HasGoodPath, HasGoodPaths}
-use Rattle.update_model.proofs.MadeLaws.{in_from_get}
 use Rattle.certificates.specs.Certified.{classes_for, IsCertified}
 use Rattle.certificates.specs.declared.Evidence.TheVariants.{TwoPhase}
 use Rattle.two_phase.specs.TwoPhasePlan.{two_phase_need}
 use Rattle.two_phase.specs.Laws.{FitsTwoPhase, two_phase_task, two_phase_evidence}
 use Rattle.two_phase.proofs.CertifiedLaws.{two_phase_certified}
 use Rattle.two_phase.proofs.Rows.{sw, port, stop, to, P, place, net_L, L_old, L_new}
+use Rattle.net_base.proofs.ItemLaws.{in_from_get}
 
 -- whether no number stands twice
 abbrev are_apart : List ℕ → Bool

@@ -7,7 +7,6 @@ use Rattle.std.proofs.lemmas.Bool.{cond_both, ltb-true, ltb-false, eq-eqb, both_
 use Rattle.std.proofs.lemmas.Bool.Decides.{eqb_tells}
 use Rattle.std.proofs.lemmas.Option.{same_Some}
 use Rattle.std.proofs.lemmas.Grind.{flat_map-append}
-use Rattle.acyclic_numbering.proofs.ListLaws.{in_at}
 use Rattle.std.proofs.lemmas.List.Elements.{recursion_from_All, All-from_recursion}
 use Rattle.std.proofs.lemmas.List.Sorted.{All-permutation, IsPermutation-sym, IsPermutation-map}
 use Rattle.std.proofs.lemmas.Map.Keys.{IsDistinct-IsPermutation}
@@ -22,6 +21,8 @@ use Rattle.tag_allocator.specs.Tags.{Tagged, paired, tags_of, available_tags}
 use Rattle.two_phase.specs.TwoPhasePlan.{vlan_number, with_label, labels_in_order, label_table}
 use Rattle.two_phase.proofs.TagLaws.{IsTagging}
 use Rattle.two_phase.proofs.LabelLaws.{in_labels, from_labels, from_with_label, both_of}
+use Rattle.net_base.proofs.ItemLaws.{in_at}
+use Rattle.two_phase.proofs.MadeLaws.{paired_length}
 
 abbrev pub number_of : Label → ℕ
 number_of l = vlan_number l.vlan
@@ -170,11 +171,6 @@ module _ (net : Network) (version : Bool) (tags : IsTagging net) where
   table_ascends = ascend_in_order (flat_map (both_of net version) (tags_of net)) labels_distinct
 
 -- ---- the labels in the order of the file
-
-pub paired_length : (vs : List Vlan) (ts : List ℕ) → length vs ≤ length ts → length (paired vs ts) ≡ length vs
-paired_length [] ts enough = refl
-paired_length (v ∷ vs) [] enough = absurd (omega arith)
-paired_length (v ∷ vs) (t ∷ ts) enough = ap suc (paired_length vs ts (omega arith))
 
 paired_at : (vs : List Vlan) (ts : List ℕ) (i t : ℕ) (d : Vlan) (e : Tagged) → length vs ≤ length ts → i < length vs → slice_get (map (λ (x : Tagged). x.tag) (paired vs ts)) i ≡ Some t
     → get_or (paired vs ts) i e ≡ record { user = get_or vs i d; tag = t }

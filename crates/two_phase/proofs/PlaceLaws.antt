@@ -30,6 +30,7 @@ use Rattle.certificates.specs.TwoPhase.{outcome_carrying}
 use Rattle.two_phase.specs.TwoPhasePlan.{host_end, link_end, is_host, restore, tagged_action, ingress_action, hosts_of}
 use Rattle.net_base.proofs.ListLaws.{in_from_any}
 use Rattle.net_base.proofs.NameLaws.{same_port, same_switch}
+use Rattle.topology.proofs.LinkLaws.{stop_eq-true}
 
 abbrev pub stop_at : SwitchId → Port → Stop
 stop_at s p = record { switch = s; port = p }
@@ -39,11 +40,6 @@ place_at s p v = record { switch = s; port = p; vlan = v }
 
 abbrev link_ends : Link → List Stop
 link_ends l = l.one ∷ l.other ∷ []
-
-stop_same : (a b : Stop) → stop_eq a b ≡ true → a ≡ b
-stop_same a b e =
-    let (s, p) = and_parts (a.switch.0 == b.switch.0) (a.port.0 == b.port.0) e in
-    ap (λ x. stop_at x a.port) (same_switch a.switch b.switch (eqb-true a.switch.0 b.switch.0 s)) ∙ ap (λ x. stop_at b.switch x) (same_port a.port b.port (eqb-true a.port.0 b.port.0 p))
 
 -- what a port leads to is the end of a link
 far_is_end : (stop : Stop) (ls : List Link) (s : SwitchId) (p : Port) → far_end stop ls ≡ at.Link s p → IsIn (stop_at s p) (flat_map link_ends ls)
@@ -85,7 +81,7 @@ module _ (net : Network) (is : IsNetwork net) where
         let none : list_any (stop_eq (stop_at s p)) net.hosts ≡ false =
         false_from_ne_true (list_any (stop_eq (stop_at s p)) net.hosts) (λ e.
         let (h, j, f) = in_from_any (stop_eq (stop_at s p)) net.hosts e in
-        apart (stop_at s p) net.hosts (flat_map link_ends net.links) is.ports_once (subst (λ x. IsIn x net.hosts) (sym (stop_same (stop_at s p) h f)) j) i) in
+        apart (stop_at s p) net.hosts (flat_map link_ends net.links) is.ports_once (subst (λ x. IsIn x net.hosts) (sym (stop_eq-true (stop_at s p) h f)) j) i) in
         subst (λ b. host_end (cond b at.Host (far_end (stop_at s p) net.links)) ≡ false) (sym none) (far_no_host (stop_at s p) net.links);
   }
 

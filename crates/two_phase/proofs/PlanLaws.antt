@@ -60,9 +60,6 @@ module _ (net : Network) (net_is : IsNetwork net) (tags : IsTagging net) (old ne
   tag_table : (s : SwitchId) → IsTable (tagged_rules net s (rules_at new s))
   tag_table s = tagged_distinct net net_is tags s (rules_at new s) (new_user.distinct s) (new_user.clear s) (new_user.rules s)
 
-  count_of : ℕ
-  count_of = length (ranks net new)
-
   lay_ranks : (todo sure : List ℕ) (k : ℕ) (tables : List (List Rule)) (rest : List (List Change)) → IsFalling todo → ((m n : ℕ) → IsIn m sure → IsIn n todo → n < m)
       → ((s : SwitchId) → s.0 < switch_count net → (r : Rule) → IsIn r (ingress_rules net s (rules_at new s)) → IsIn r.key.priority sure ⊎ IsIn r.key.priority todo)
       → k + length todo ≡ suc (length (ranks net new)) → HoldsThis false true sure tables

@@ -14,18 +14,8 @@ use Rattle.dest_classes.proofs.ClassLaws.{in_ascending}
 use Rattle.tag_allocator.specs.Tags.{numbers_from}
 use Rattle.two_phase.specs.TwoPhasePlan.{ingress_rules, switches, ranks}
 use Rattle.net_base.proofs.ListLaws.{in_flat_map}
-use Rattle.two_phase.proofs.TagLaws.{in_numbers}
-
-pub from_with_number : (x z : ℕ) (ys : List ℕ) → IsIn z (with_number x ys) → (z ≡ x) ⊎ IsIn z ys
-from_with_number x z [] i = i
-from_with_number x z (y ∷ ys) i =
-    cond_both (nat_lt x y) (x ∷ y ∷ ys) (cond (x == y) (y ∷ ys) (y ∷ with_number x ys)) (λ zs. IsIn z zs → (z ≡ x) ⊎ IsIn z (y ∷ ys)) (λ _ j. j)
-    (λ _. cond_both (x == y) (y ∷ ys) (y ∷ with_number x ys) (λ zs. IsIn z zs → (z ≡ x) ⊎ IsIn z (y ∷ ys)) (λ _ j. inr j)
-    (λ _ j. elim j [ inl e ↦ inr (inl e) | inr l ↦ elim (from_with_number x z ys l) [ inl e ↦ inl e | inr m ↦ inr (inr m) ] ])) i
-
-pub from_ascent : (z : ℕ) (xs : List ℕ) → IsIn z (ascending xs) → IsIn z xs
-from_ascent z [] i = i
-from_ascent z (x ∷ xs) i = elim (from_with_number x z (ascending xs) i) [ inl e ↦ inl e | inr j ↦ inr (from_ascent z xs j) ]
+use Rattle.tag_allocator.proofs.TagLaws.{in_numbers}
+use Rattle.dest_classes.proofs.RisingLaws.{in_from_with}
 
 -- each number is less than those after it, or greater
 abbrev pub IsRising : List ℕ → Type 0
@@ -43,7 +33,7 @@ rising_with x (y ∷ ys) rising =
     (λ less. let l = ltb-true x y less in (λ z i. elim i [ inl e ↦ omega arith | inr j ↦ (let h = rising.0 z j in omega arith) ], rising))
     (λ not_less. cond_both (x == y) (y ∷ ys) (y ∷ with_number x ys) IsRising (λ _. rising)
     (λ differ. let l = ltb-false x y not_less in let ne = eqb-false x y differ in (
-      λ z i. elim (from_with_number x z ys i) [ inl e ↦ more y x z e l ne | inr j ↦ rising.0 z j ],
+      λ z i. elim (in_from_with x z ys i) [ inl e ↦ more y x z e l ne | inr j ↦ rising.0 z j ],
       rising_with x ys rising.1,
     )))
   where

@@ -96,10 +96,6 @@ module _ (net : Network) (net_is : IsNetwork net) (tags : IsTagging net) (old ne
   version_clear true s = new_user.clear s
   version_clear false s = old_user.clear s
 
-  pub version_user : (version : Bool) → IsUserConfig net (version_tables version)
-  version_user true = new_user
-  version_user false = old_user
-
   -- with an ingress rank that may be present, each rank above it surely is
   abbrev pub IsUpward : List ℕ → List ℕ → Type 0
   IsUpward sure possible = (s : SwitchId) → s.0 < switch_count net → (p : Rule) → IsIn p (ingress s) → (m : ℕ) → IsIn m possible → m < p.key.priority → IsIn p.key.priority sure

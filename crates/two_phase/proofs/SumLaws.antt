@@ -65,11 +65,6 @@ module _ {A : Type 0} where
         | false ↦ omega arith
       ]
 
-  pub length_some : {B : Type 0} (f : A → Option B) (xs : List A) → length (filter_map f xs) ≤ length xs
-  length_some f [] = omega arith
-  length_some f (x ∷ xs) = let rest = length_some f xs in elim (f x) as (λ o. length (cons_option o (filter_map f xs)) ≤ suc (length xs)) [ None ↦ omega arith | Some y ↦ omega arith ]
-
--- sums of sums, exchanged
 pub sum_swap : {A B : Type 0} (f : A → B → ℕ) (xs : List A) (ys : List B) → sum_by (λ x. sum_by (f x) ys) xs ≡ sum_by (λ y. sum_by (λ x. f x y) xs) ys
 sum_swap f [] ys = sym (sum_none ys)
 sum_swap {B = B} f (x ∷ xs) ys =

@@ -21,12 +21,7 @@ use Rattle.update_model.proofs.MadeLaws.{distinct_some, keys_distinct, apply_the
 use Rattle.update_model.specs.Mixtures.{is_insert}
 use Rattle.net_base.proofs.ListLaws.{told_from_distinct, distinct_append, distinct_members, no_longer}
 use Rattle.net_base.proofs.NameLaws.{same_switch}
-
-replaced_keys : (r : Rule) (rules : List Rule) → keys_of (map (λ q. cond (key_eq q.key r.key) r q) rules) ≡ keys_of rules
-replaced_keys r [] = refl
-replaced_keys r (q ∷ rules) =
-    ap (λ ks. (cond (key_eq q.key r.key) r q).key ∷ ks) (replaced_keys r rules)
-    ∙ ap (λ k. k ∷ keys_of rules) (cond_both (key_eq q.key r.key) r q (λ x. x.key ≡ q.key) (λ e. sym (key_eq-true q.key r.key e)) (λ _. refl))
+use Rattle.flow_rules.proofs.TableLaws.{keys_replaced}
 
 table_after_one : (rules : List Rule) (c : Change) → AppliesTo rules c → IsTable rules → IsTable (rules_after_change c rules)
 table_after_one rules (Insert s r) applies table =
@@ -34,7 +29,7 @@ table_after_one rules (Insert s r) applies table =
     (λ x y i j e. elim j [ inl f ↦ applies (subst (λ k. IsIn k (keys_of rules)) (e ∙ ap (λ z. z.key) f) (in_map (λ z. z.key) x rules i)) | inr k ↦ k ])
 table_after_one rules (Delete s r) applies table =
     distinct_some (λ x. x.key) (filter (λ q. not (key_eq q.key r.key)) rules) rules (some_filter (λ q. not (key_eq q.key r.key)) rules) table
-table_after_one rules (Replace s r) applies table = subst IsDistinct (sym (replaced_keys r rules)) table
+table_after_one rules (Replace s r) applies table = subst IsDistinct (sym (keys_replaced r rules)) table
 
 pub table_after : (cs : List Change) (rules : List Rule) → AllByRecursion (AppliesTo rules) cs → IsDistinct (map key_named cs) → IsTable rules → IsTable (rules_after cs rules)
 table_after [] rules applies distinct table = table

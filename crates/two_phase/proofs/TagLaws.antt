@@ -10,47 +10,7 @@ use Rattle.net_base.specs.declared.ids.Vlan.TheVariants as vlan
 use Rattle.topology.specs.Networks.{Network, IsNetwork, TagRange}
 use Rattle.tag_allocator.specs.Tags.{numbers_from, ids_of, has_id, available_tags, Tagged, paired, tags_of}
 use Rattle.net_base.proofs.ListLaws.{any_in, IsTold, told_from_distinct, distinct_members}
-
-numbers_above : (n count x : ℕ) → IsIn x (numbers_from n count) → n ≤ x
-numbers_above n zero x i = absurd i
-numbers_above n (suc count) x (inl e) = omega arith
-numbers_above n (suc count) x (inr i) = let h = numbers_above (suc n) count x i in omega arith
-
-pub numbers_distinct : (n count : ℕ) → IsDistinct (numbers_from n count)
-numbers_distinct n zero = tt
-numbers_distinct n (suc count) = (λ i. let h = numbers_above (suc n) count n i in absurd (omega arith), numbers_distinct (suc n) count)
-
-pub in_numbers : (n count x : ℕ) → n ≤ x → x < n + count → IsIn x (numbers_from n count)
-in_numbers n zero x low high = absurd (omega arith)
-in_numbers n (suc count) x low high = elim (cases_le n x low) [ inl e ↦ inl (sym e) | inr more ↦ inr (in_numbers (suc n) count x more (omega arith)) ]
-  where
-    cases_le : (n x : ℕ) → n ≤ x → (n ≡ x) ⊎ (n < x)
-    cases_le zero zero le = inl refl
-    cases_le zero (suc x) le = inr (omega arith)
-    cases_le (suc n) zero le = absurd (omega arith)
-    cases_le (suc n) (suc x) le = elim (cases_le n x (omega arith)) [ inl e ↦ inl (ap suc e) | inr h ↦ inr (omega arith) ]
-
-pub numbers_below : (n count x : ℕ) → IsIn x (numbers_from n count) → x < n + count
-numbers_below n zero x i = absurd i
-numbers_below n (suc count) x (inl e) = omega arith
-numbers_below n (suc count) x (inr i) = let h = numbers_below (suc n) count x i in omega arith
-
-distinct_filter : {A : Type 0} (p : A → Bool) (xs : List A) → IsDistinct xs → IsDistinct (filter p xs)
-distinct_filter p [] distinct = tt
-distinct_filter p (x ∷ xs) distinct =
-    cond_both (p x) (x ∷ filter p xs) (filter p xs) IsDistinct (λ _. (λ i. distinct.0 (in_from_filter p x xs i).0, distinct_filter p xs distinct.1)) (λ _. distinct_filter p xs distinct.1)
-
-ids_distinct : (tags : Option TagRange) → IsDistinct (ids_of tags)
-ids_distinct None = tt
-ids_distinct (Some t) = numbers_distinct t.first _
-
-pub tags_distinct : (net : Network) → IsDistinct (available_tags net)
-tags_distinct net = distinct_filter _ (ids_of net.tags) (ids_distinct net.tags)
-
-pub tag_undeclared : (net : Network) (id : ℕ) → IsIn id (available_tags net) → ¬ IsIn (vlan.Id id) net.vlans
-tag_undeclared net id i declared =
-    let passes = (in_from_filter (λ n. not (list_any (has_id n) net.vlans)) id (ids_of net.tags) i).1 in
-    both_ways (list_any (has_id id) net.vlans) (not-true (list_any (has_id id) net.vlans) passes) (any_in (has_id id) (vlan.Id id) net.vlans declared (eq-eqb id id refl))
+use Rattle.tag_allocator.proofs.TagLaws.{numbers_above, numbers_distinct, ids_distinct, tags_distinct, tag_undeclared}
 
 pub paired_user : (vs : List Vlan) (ts : List ℕ) (x : Tagged) → IsIn x (paired vs ts) → IsIn x.user vs
 paired_user [] ts x i = absurd i

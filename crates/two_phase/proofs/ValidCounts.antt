@@ -22,15 +22,16 @@ use Rattle.update_model.specs.Remaining.{remaining, changes_from, changes_betwee
 use Rattle.update_model.specs.declared.Change.{Change}
 use Rattle.update_model.specs.declared.Change.TheVariants.{Insert, Delete}
 use Rattle.tag_allocator.specs.Tags.{numbers_from}
-use Rattle.tag_allocator.proofs.TagLaws.{numbers_length}
+use Rattle.tag_allocator.proofs.TagLaws.{numbers_length, numbers_below}
 use Rattle.two_phase.specs.Plans.{AreTried}
 use Rattle.two_phase.specs.Laws.{FitsTwoPhase}
 use Rattle.two_phase.specs.TwoPhasePlan.{tagged_rules, ingress_rules, with_rule, in_key_order, switches, by_switch, ranks, of_rank, two_phase_rounds}
-use Rattle.two_phase.proofs.TagLaws.{numbers_below}
 use Rattle.two_phase.proofs.CountLaws.{tagged_counted, ingress_counted}
 use Rattle.two_phase.proofs.BandLaws.{ingress_cases}
-use Rattle.two_phase.proofs.RankLaws.{IsRising, from_ascent, ranks_rise}
-use Rattle.two_phase.proofs.SumLaws.{sum_less, sum_most, sum_map, sum_reverse, sum_swap, sum_both, length_split, length_some, parts_most}
+use Rattle.two_phase.proofs.RankLaws.{IsRising, ranks_rise}
+use Rattle.two_phase.proofs.SumLaws.{sum_less, sum_most, sum_map, sum_reverse, sum_swap, sum_both, length_split, parts_most}
+use Rattle.dest_classes.proofs.RisingLaws.{in_from_ascending}
+use Rattle.table_difference.proofs.LengthLaws.{length_from}
 
 -- ---- ranks
 
@@ -54,12 +55,10 @@ few_ranks net new few =
     let size : length (flat_map (map rank_of) new) ≡ sum_by length new = length-flat_map (map rank_of) new ∙ ap (λ (f : List Rule → ℕ). sum_by f new) (λ j rules. length-map rules rank_of j) in
     omega arith
   where
-    of_switch : SwitchId → List ℕ
-    of_switch s = map (λ r. r.key.priority) (ingress_rules net s (rules_at new s))
 
     within : (x : ℕ) → IsIn x (ranks net new) → IsIn x (32768 ∷ flat_map (map rank_of) new)
     within x i =
-        elim (from_ascent x (32768 ∷ flat_map (λ s. map (λ r. r.key.priority) (ingress_rules net s (rules_at new s))) (switches net)) i) [
+        elim (in_from_ascending x (32768 ∷ flat_map (λ s. map (λ r. r.key.priority) (ingress_rules net s (rules_at new s))) (switches net)) i) [
           | inl e ↦ inl e
           | inr j ↦ (
               let (s, k, l) = in_from_flat_map (λ s. map (λ r. r.key.priority) (ingress_rules net s (rules_at new s))) x (switches net) j in
@@ -130,38 +129,6 @@ ranks_length net new change ks distinct =
     let d = sum_less (λ s. sum_by (λ rank. part rank s) ks) (λ s. length (ingress_rules net s (rules_at new s))) (switches net) (λ s _. parts_most (λ (r : Rule). r.key.priority) ks distinct (ingress_rules net s (rules_at new s))) in
     omega arith
 
-with_key_length : (k : Key) (ks : List Key) → length (with_key k ks) ≤ suc (length ks)
-with_key_length k [] = omega arith
-with_key_length k (q ∷ ks) =
-    let rest = with_key_length k ks in
-    cond_both (is_lt (key_cmp k q)) (k ∷ q ∷ ks) (cond (key_eq k q) (q ∷ ks) (q ∷ with_key k ks)) (λ zs. length zs ≤ suc (suc (length ks))) (λ _. omega arith)
-    (λ _. cond_both (key_eq k q) (q ∷ ks) (q ∷ with_key k ks) (λ zs. length zs ≤ suc (suc (length ks))) (λ _. omega arith) (λ _. omega arith))
-
-keys_length : (ks : List Key) → length (keys_in_order ks) ≤ length ks
-keys_length [] = omega arith
-keys_length (k ∷ ks) = let rest = keys_length ks in let more = with_key_length k (keys_in_order ks) in omega arith
-
-between_length : (s : SwitchId) (now new : List Rule) → length (changes_between s now new) ≤ length now + length new
-between_length s now new =
-    let a = length_some (λ k. difference s (rule_with k now) (rule_with k new)) (keys_in_order (keys_of now ++ keys_of new)) in
-    let b = keys_length (keys_of now ++ keys_of new) in
-    let c = length-append (keys_of now) (keys_of new) in
-    let d = length-map now (λ (r : Rule). r.key) in
-    let e = length-map new (λ (r : Rule). r.key) in
-    omega arith
-
-from_length : (n : ℕ) (nows news : List (List Rule)) → length (changes_from n nows news) ≤ sum_by length nows + sum_by length news
-from_length n [] news = omega arith
-from_length n (now ∷ nows) [] = omega arith
-from_length n (now ∷ nows) (new ∷ news) =
-    let s : SwitchId = record { 0 = n } in
-    let a = length-append (changes_between s now new) (changes_from (suc n) nows news) in
-    let b = between_length s now new in
-    let c = from_length (suc n) nows news in
-    let d = sum_by-cons length now nows in
-    let e = sum_by-cons length new news in
-    omega arith
-
 capacity_most : (net : Network) → IsNetwork net → (s : SwitchId) → capacity_of net s ≤ 8192
 capacity_most net is s =
     each_get_or (λ c. c ≤ 8192) net.capacities s.0 0 (each_weaker (λ c. (1 ≤ c) × (c ≤ 8192)) (λ c. c ≤ 8192) (λ c h. h.1) net.capacities is.capacities) (omega arith)
@@ -216,7 +183,7 @@ module _ (net : Network) (is : IsNetwork net) (old new : List (List Rule)) (fits
         let l = ranks_length net new Insert (ranks net new) rising in
         let m = ranks_length net new Delete (ranks net new) rising in
         let n = length_split is_insert (remaining old new) in
-        let o = from_length 0 old new in
+        let o = length_from 0 old new in
         let p = bands_most in
         omega arith
 

@@ -4,31 +4,9 @@ ghost use Rattle.flow_rules.specs.Patterns.{admits_port, admits_vlan};
 ghost use Rattle.two_phase.specs.TwoPhasePlan.{host_end, link_end, is_host_bound, restore, test_of, tagged_action, ingress_action, rule, tagged_copy, ingress_copy, every_address};
 
 use crate::vlan_tags::VlanTag;
-use flow_rules::{Action, Key, Pattern, Rewrite, Rule, VlanTest};
+use flow_rules::{Action, Key, Pattern, Rewrite, Rule, VlanTest, admits_port, admits_vlan};
 use net_base::{Memory, Port, Prefix, SwitchId, Vlan};
 use topology::{End, Net};
-
-/// Whether a test admits a VLAN.
-fn has_vlan(test: VlanTest, vlan: Vlan) -> bool
-    ensures { result ≡ admits_vlan test vlan }
-{
-    match (test, vlan) {
-        (VlanTest::Any, _) => true,
-        (VlanTest::Untagged, Vlan::Untagged) => true,
-        (VlanTest::Id(n), Vlan::Id(id)) => n == id,
-        _ => false,
-    }
-}
-
-/// Whether the choice of a port admits a port.
-fn has_port(choice: Option<Port>, port: Port) -> bool
-    ensures { result ≡ admits_port choice port }
-{
-    match choice {
-        None => true,
-        Some(p) => p.0 == port.0,
-    }
-}
 
 /// Whether a host is there.
 fn is_host_end(end: End) -> bool
@@ -154,7 +132,7 @@ pub(crate) fn add_tagged_copy(
     ensures { OnOk result (rules.new.items ≡ rules.old.items ++ tagged_copy net.now s new.now v.now) }
 {
     let pattern = &new.key.pattern;
-    if has_vlan(pattern.vlan, v.user) {
+    if admits_vlan(pattern.vlan, v.user) {
         rules.push(make_rule(
             16384 + new.key.priority,
             pattern.in_port,
@@ -179,7 +157,7 @@ pub(crate) fn add_ingress_copy(
     ensures { OnOk result (rules.new.items ≡ rules.old.items ++ ingress_copy net.now s host new.now v.now) }
 {
     let pattern = &new.key.pattern;
-    if has_port(pattern.in_port, host) && has_vlan(pattern.vlan, v.user) {
+    if admits_port(pattern.in_port, host) && admits_vlan(pattern.vlan, v.user) {
         rules.push(make_rule(
             32768 + new.key.priority,
             Some(host),

@@ -6,31 +6,9 @@ ghost use Rattle.flow_rules.specs.Tables.{rules_of_all, rules_at};
 ghost use Rattle.path_walk.specs.UserConfigs.{IsUserConfig};
 ghost use Rattle.two_phase.specs.TwoPhasePlan.{is_host_bound, counted_tags, tagged_rules_by, ingress_rules_by, two_phase_need};
 
-use flow_rules::{Config, Rule, VlanTest};
-use net_base::{Port, SwitchId, Vlan};
+use flow_rules::{Config, Rule, VlanTest, admits_port, admits_vlan};
+use net_base::{Port, SwitchId};
 use topology::{End, Net};
-
-/// Whether a test admits a VLAN.
-fn has_vlan(test: VlanTest, vlan: Vlan) -> bool
-    ensures { result ≡ admits_vlan test vlan }
-{
-    match (test, vlan) {
-        (VlanTest::Any, _) => true,
-        (VlanTest::Untagged, Vlan::Untagged) => true,
-        (VlanTest::Id(n), Vlan::Id(id)) => n == id,
-        _ => false,
-    }
-}
-
-/// Whether the choice of a port admits a port.
-fn has_port(choice: Option<Port>, port: Port) -> bool
-    ensures { result ≡ admits_port choice port }
-{
-    match choice {
-        None => true,
-        Some(p) => p.0 == port.0,
-    }
-}
 
 /// Whether a rule is bound to a host port of its switch.
 fn is_bound_to_host(net: &Net, s: SwitchId, rule: &Rule) -> bool
@@ -50,7 +28,7 @@ fn count_vlans(net: &Net, test: VlanTest) -> u64
     net.keeps_rules();
     net.vlans()
         .iter()
-        .filter(|vlan| has_vlan(test, **vlan))
+        .filter(|vlan| admits_vlan(test, **vlan))
         .count() as u64
 }
 
@@ -84,7 +62,7 @@ fn count_entering(net: &Net, host: Port, rule: &Rule) -> u64
     ensures value { result ≡ cond (admits_port rule.now.key.pattern.in_port host) (count_by (admits_vlan rule.now.key.pattern.vlan) net.now.vlans) 0 }
     ensures few { result ≤ 64 }
 {
-    if !has_port(rule.key.pattern.in_port, host) {
+    if !admits_port(rule.key.pattern.in_port, host) {
         return 0;
     }
     count_vlans(net, rule.key.pattern.vlan)

@@ -5,8 +5,7 @@ use Rattle.std.proofs.lemmas.Bool.{cases_lt}
 use Rattle.std.proofs.lemmas.Option.{none-some, same_Some, slice_get-get_or, slice_get_within}
 use Rattle.net_base.specs.Members.{IsIn}
 use Rattle.topology.specs.Networks.{Network}
-use Rattle.dest_classes.proofs.ClassLaws.{get_from_in}
-use Rattle.dest_classes.proofs.RisingLaws.{in_from_get}
+use Rattle.net_base.proofs.ItemLaws.{in_from_get, get_from_in}
 use Rattle.certificates.specs.Valid.{IsChain}
 use Rattle.certificates.specs.TwoPhase.{IsLabelPickInForce}
 use Rattle.certificates.specs.declared.LabelPick.{LabelPick}

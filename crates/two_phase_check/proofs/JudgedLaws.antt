@@ -9,7 +9,6 @@ use Rattle.topology.specs.Networks.{Network}
 use Rattle.path_walk.specs.declared.Outcome.TheVariants.{Go}
 use Rattle.dest_classes.specs.Classes.{IsClass}
 use Rattle.dest_classes.specs.declared.Class.{Class}
-use Rattle.dest_classes.proofs.ClassLaws.{get_from_in}
 use Rattle.certificates.specs.Certified.{Task, classes_for}
 use Rattle.certificates.specs.TwoPhase.{IsLabelPickInForce}
 use Rattle.certificates.specs.declared.Label.{Label}
@@ -27,6 +26,7 @@ use Rattle.two_phase_check.specs.declared.two_phase.MixedClass.{MixedClass}
 use Rattle.check_reasons.specs.declared.reason.Reason.{Reason}
 use Rattle.check_reasons.specs.declared.reason.Reason.TheVariants.{EndBreaks, BadChange, Ambiguous, OverCapacity, Rewrites, NoNumbering, NotLower, MayDrop, NoBefore, Bypass, BadLabels, MixedPath, WrongEnd}
 use Rattle.two_phase_check.proofs.InForceLaws.{Rise, earlier_below}
+use Rattle.net_base.proofs.ItemLaws.{get_from_in}
 
 -- two picks in force are one
 force_one : (picks : List LabelPick) (round : ℕ) (p q : LabelPick) → Rise picks → IsLabelPickInForce picks round p → IsLabelPickInForce picks round q → p ≡ q

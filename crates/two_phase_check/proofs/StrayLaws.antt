@@ -4,11 +4,11 @@ use Rattle.std.specs.Bool.{MatchBool}
 use Rattle.std.specs.List.{AllWithin, HoldsAt}
 use Rattle.std.proofs.lemmas.Option.{slice_get-get_or}
 use Rattle.std.proofs.lemmas.List.Elements.{recursion_from_All, All-from_all_within}
-use Rattle.dest_classes.proofs.RisingLaws.{in_from_get}
 use Rattle.net_base.proofs.MemberLaws.{each_at}
 use Rattle.std.specs.Prelude.{◌≢◌, IsSome, IsSomeAnd, slice_get}
 use Rattle.net_base.specs.Walks.{IsWalk, end_of}
 use Rattle.net_base.proofs.WalkLaws.{IsWalk-push, end_of-push}
+use Rattle.net_base.proofs.ItemLaws.{in_from_get}
 use Rattle.net_base.specs.declared.ids.SwitchId.{SwitchId}
 use Rattle.net_base.specs.declared.ids.Place.{Place}
 use Rattle.net_base.specs.declared.ids.Vlan.{Vlan}

@@ -10,6 +10,7 @@ use Rattle.flow_rules.specs.Tables.{rules_at}
 use Rattle.flow_rules.specs.declared.rules.Key.{Key}
 use Rattle.flow_rules.specs.declared.rules.Rule.{Rule}
 use Rattle.update_model.proofs.ChangeLaws.{key_named}
+use Rattle.net_base.proofs.ItemLaws.{in_from_get}
 use Rattle.update_model.specs.Changes.{switch_of, AppliesTo, Applies, EntryName, entry_named, changes_at}
 use Rattle.update_model.specs.declared.Change.{Change}
 
@@ -76,12 +77,6 @@ made_this (b ∷ bs) [] i c at flag = let f : None ≡ Some c = at in absurd (no
 made_this (b ∷ bs) (x ∷ cs) zero c at flag = let f : x ≡ c = cc in inl (sym f)
 made_this (true ∷ bs) (x ∷ cs) (suc i) c at flag = made_this bs cs i c at flag
 made_this (false ∷ bs) (x ∷ cs) (suc i) c at flag = inr (made_this bs cs i c at flag)
-
--- a change of the round is in it
-pub in_from_get : {A : Type 0} (xs : List A) (i : ℕ) (x : A) → slice_get xs i ≡ Some x → IsIn x xs
-in_from_get [] i x at = absurd (let f : None ≡ Some x = at in cc)
-in_from_get (y ∷ xs) zero x at = let f : y ≡ x = cc in inl (sym f)
-in_from_get (y ∷ xs) (suc i) x at = inr (in_from_get xs i x at)
 
 -- the pending change names an entry that no change that is made names
 pub made_fresh : (flags : List Bool) (cs : List Change) (i : ℕ) (c : Change) → slice_get cs i ≡ Some c → slice_get flags i ≡ Some true

@@ -73,11 +73,6 @@ deletes (Insert s r) = false
 deletes (Delete s r) = true
 deletes (Replace s r) = false
 
-deletes_is : (c : Change) → deletes c ≡ true → IsDelete c
-deletes_is (Insert s r) e = both_ways false refl e
-deletes_is (Delete s r) e = tt
-deletes_is (Replace s r) e = both_ways false refl e
-
 is_deletes : (c : Change) → IsDelete c → deletes c ≡ true
 is_deletes (Insert s r) d = absurd d
 is_deletes (Delete s r) d = refl

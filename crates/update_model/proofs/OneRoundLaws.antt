@@ -29,8 +29,9 @@ use Rattle.update_model.specs.declared.Phase.TheVariants.{Settled, Running}
 use Rattle.update_model.specs.declared.Event.{Event}
 use Rattle.update_model.specs.declared.Event.TheVariants as event
 use Rattle.update_model.proofs.ChangeLaws.{rules_at-after, IsWithin}
-use Rattle.update_model.proofs.MadeLaws.{in_from_get, made_of, made_none, made_every, made_some, at_some}
+use Rattle.update_model.proofs.MadeLaws.{made_of, made_none, made_every, made_some, at_some}
 use Rattle.update_model.proofs.RoundLaws.{settled_start, settled_next, holds_more}
+use Rattle.net_base.proofs.ItemLaws.{in_from_get}
 
 -- the packet entered in time: while it is under way no later round begins than the one after its entry
 abbrev pub InTime : Phase → Packet → Type 0

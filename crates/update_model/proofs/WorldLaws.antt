@@ -12,17 +12,6 @@ use Rattle.update_model.specs.declared.Phase.{Phase}
 use Rattle.update_model.specs.declared.Phase.TheVariants.{Settled, Running}
 use Rattle.update_model.specs.declared.Packet.{Packet}
 
--- the rules of tables of which one is changed
-pub rules_set : (tables : List TableState) (s : ℕ) (t : TableState) → rules_of_all (set tables s t) ≡ set (rules_of_all tables) s t.rules
-rules_set [] s t = refl
-rules_set (x ∷ tables) zero t = refl
-rules_set (x ∷ tables) (suc s) t = ap (λ l. x.rules ∷ l) (rules_set tables s t)
-
-pub rules_get : (tables : List TableState) (s : ℕ) (t : TableState) → slice_get tables s ≡ Some t → get_or (rules_of_all tables) s [] ≡ t.rules
-rules_get [] s t e = let f : None ≡ Some t = e in absurd (cc)
-rules_get (x ∷ tables) zero t e = let f : Some x ≡ Some t = e in let g : x ≡ t = cc in ap (λ (u : TableState). u.rules) g
-rules_get (x ∷ tables) (suc s) t e = rules_get tables s t e
-
 pub rules_keep : (tables : List TableState) (s : ℕ) (t new : TableState) → slice_get tables s ≡ Some t → new.rules ≡ t.rules → rules_of_all (set tables s new) ≡ rules_of_all tables
 rules_keep [] s t new e same = refl
 rules_keep (x ∷ tables) zero t new e same = let f : Some x ≡ Some t = e in let g : x ≡ t = cc in ap (λ (r : List Rule). r ∷ rules_of_all tables) (same ∙ ap (λ (u : TableState). u.rules) (sym g))
@@ -35,15 +24,6 @@ ok_map (Err e) P Q f h = tt
 pub err_map : {T E : Type 0} (r : Result T E) (P Q : Type 0) → (P → Q) → OnErr r P → OnErr r Q
 err_map (Ok x) P Q f h = tt
 err_map (Err e) P Q f h = f h
-
--- only what a change makes of packet i counts
-pub with_packet_same : (f g : Packet → Packet) (i : ℕ) (packets : List Packet) → ((p : Packet) → slice_get packets i ≡ Some p → f p ≡ g p)
-    → with_packet f i packets ≡ with_packet g i packets
-with_packet_same f g i packets same =
-    elim (slice_get packets i) as (λ o. slice_get packets i ≡ o → option_map_or (λ p. set packets i (f p)) o packets ≡ option_map_or (λ p. set packets i (g p)) o packets) [
-      | None ↦ λ e. refl
-      | Some p ↦ λ e. ap (λ q. set packets i q) (same p e)
-    ] refl
 
 start_to : (rounds : List (List Change)) (state : State) (phase : Phase) → state.phase ≡ phase → StartsFrom phase rounds state.packets → MayStart rounds state
 start_to rounds state (Settled k) is h = record { k = k; settled = is; more = h.0; none_older = h.1 }

@@ -1,5 +1,5 @@
 -- A network with rounds, and the state of a run of them.
-use Rattle.std.specs.Prelude.{◌≡◌, ℕ, zero, suc, ◌^◌, ◌<◌, ◌≤◌, Bool, true, List, [], length, slice_get, Some}
+use Rattle.std.specs.Prelude.{◌≡◌, ℕ, zero, suc, ◌^◌, ◌<◌, ◌≤◌, ◌&&◌, nat_lt, Bool, true, false, List, [], length, count_by, slice_get, Some}
 use Rattle.topology.specs.Networks.{Network, switch_count}
 use Rattle.update_model.specs.Changes.{Applies, round_after}
 use Rattle.std.specs.List.{AllByRecursion}
@@ -10,6 +10,8 @@ use Rattle.update_model.specs.declared.Change.{Change}
 use Rattle.update_model.specs.declared.Event.{Event}
 use Rattle.update_model.specs.declared.Phase.{Phase}
 use Rattle.update_model.specs.declared.Phase.TheVariants.{Settled, Running}
+use Rattle.path_walk.specs.declared.Ended.{Ended}
+use Rattle.path_walk.specs.declared.Ended.TheVariants.{UnderWay}
 
 -- what contracts see of a world
 pub record WorldState : Type 0 where
@@ -51,3 +53,23 @@ StartsFrom (Running k) rounds packets = ⊥
 -- there is change i of the round, and it applies
 abbrev pub AppliesAt : List (List Rule) → List Change → ℕ → Type 0
 AppliesAt tables round i = (c : Change) × (slice_get round i ≡ Some c) × Applies tables c
+
+-- what contracts see of the packets: those that entered, and how many rounds are settled
+pub record TrafficState : Type 0 where
+  pub packets : List Packet
+  pub settled : ℕ
+
+-- whether a packet with this end goes on
+abbrev pub goes_on : Ended → Bool
+goes_on UnderWay = true
+goes_on _ = false
+
+-- whether a packet is under way that entered when fewer than k rounds were settled
+abbrev pub is_late : ℕ → Packet → Bool
+is_late k p = goes_on p.ended && nat_lt p.born k
+
+-- how many packets are under way, and how many of them entered when fewer than k rounds were settled; none entered later than now
+pub record AreCounted (packets : List Packet) (k under_way older : ℕ) : Type 0 where
+  pub all : under_way ≡ count_by (λ p. goes_on p.ended) packets
+  pub late : older ≡ count_by (is_late k) packets
+  pub born : AllByRecursion (λ p. p.born ≤ k) packets

@@ -11,14 +11,16 @@ ghost use Rattle.update_model.specs.Changes.{with_change, rule_of, Applies, Appl
 ghost use Rattle.update_model.specs.Mixtures.{is_insert};
 ghost use Rattle.update_model.specs.States.{with_packet, hopped, entered, settled_count, first_state, IsUnderWay, IsHopping, IsEnabled, MayStart, MayChange, MaySettle};
 
+mod pending;
 #[cfg(test)]
 mod runs;
 #[cfg(test)]
 mod tests;
+mod traffic;
 mod world;
 
 use flow_rules::{Config, Rule, Table};
-use net_base::{Memory, Place, Stop, SwitchId};
+use net_base::{ListOf, Memory, Place, Stop, SwitchId};
 use path_walk::{Ended, Outcome};
 use std::alloc::Global;
 use std::marker::Model;
@@ -173,20 +175,6 @@ fn add_packet(packets: &mut Vec<Packet>, packet: Packet) -> Result<(), Memory>
     Ok(())
 }
 
-/// So many flags, all on.
-fn all_on(alloc: Global, count: usize) -> Result<Vec<bool>, Memory>
-    ensures { IfOk result (λ flags. flags.items ≡ replicate count true) }
-{
-    Ok(vec![in alloc; true; count]?)
-}
-
-/// Whether no flag is on.
-fn none_on(flags: &[bool]) -> bool
-    ensures { IsTrue result ↔ AllByRecursion (λ b. b ≡ false) flags.now }
-{
-    !flags.iter().any(|on| *on)
-}
-
 /// Whether a packet has no end yet.
 fn is_under_way(packet: &Packet) -> bool
     ensures { IsTrue result ↔ IsUnderWay packet.now }
@@ -194,54 +182,8 @@ fn is_under_way(packet: &Packet) -> bool
     matches!(packet.ended, Ended::UnderWay)
 }
 
-/// Whether a packet is under way that entered when fewer rounds were settled.
-fn is_older(packet: &Packet, k: u32) -> bool
-    ensures { result ≡ false ↔ (IsUnderWay packet.now → k ≤ packet.now.born) }
-{
-    is_under_way(packet) && packet.born < k
-}
-
 /// The events of a run.
-#[derive(Drop)]
-pub struct Events {
-    list: Vec<Event>,
-}
-
-impl Model for Events {
-    ghost use Rattle.std.specs.Prelude.{List};
-    ghost use Rattle.update_model.specs.declared.Event.{Event};
-
-    ghost Value = { List Event };
-
-    ghost view = { λ e. e.list.items };
-}
-
-impl Events {
-    /// No events.
-    pub fn make(alloc: Global) -> Result<Events, Memory>
-        ensures { IfOk result (λ e. e ≡ []) }
-    {
-        Ok(Events {
-            list: Vec::new(alloc),
-        })
-    }
-
-    /// One more event. After a refusal the list is as before.
-    pub fn add(&mut self, event: Event) -> Result<(), Memory>
-        ensures ok { IfOk result (λ _. self.new ≡ self.old ++ event ∷ []) }
-        ensures err { OnErr result (self.new ≡ self.old) }
-    {
-        self.list.push(event)?;
-        Ok(())
-    }
-
-    /// The events, in order.
-    pub fn list(&self) -> &[Event]
-        ensures { result.now ≡ self.now }
-    {
-        &self.list
-    }
-}
+pub type Events = ListOf<Event>;
 
 impl Rounds {
     /// No rounds.
@@ -371,8 +313,8 @@ fn change_table(table: &mut Table, change: &Change) -> Result<(), Memory>
     Ok(())
 }
 
-/// Makes a change in the tables.
-fn change_tables(config: &mut Config, change: &Change) -> Result<(), Memory>
+/// Makes a change in the tables, with room for what it inserts. After a refusal the rules are as before.
+pub fn change_tables(config: &mut Config, change: &Change) -> Result<(), Memory>
     requires { Applies (rules_of_all config.old) change.now }
     ensures ok { IfOk result (λ _. rules_of_all config.new ≡ tables_after_change change.now (rules_of_all config.old)) }
     ensures err { OnErr result (rules_of_all config.new ≡ rules_of_all config.old) }

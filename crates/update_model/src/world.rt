@@ -8,10 +8,9 @@ ghost use Rattle.update_model.specs.Changes.{Applies, round_after};
 ghost use Rattle.update_model.specs.States.{first_state, with_packet, hopped, settled_count, IsUnderWay, IsHopping, IsEnabled, MayStart, MayChange, MaySettle};
 ghost use Rattle.update_model.specs.Worlds.{IsPending, running_round, world_after, StartsFrom, AppliesAt};
 
-use crate::{
-    Change, Event, Packet, Phase, Rounds, add_packet, all_on, applies, change_tables, end_packet,
-    enter_packet, is_older, is_under_way, move_packet, none_on,
-};
+use crate::pending::Pending;
+use crate::traffic::Traffic;
+use crate::{Change, Event, Packet, Phase, Rounds, applies, change_tables};
 use flow_rules::{Config, Table};
 use net_base::{Memory, Place, SwitchId};
 use path_walk::following::outcome;
@@ -27,12 +26,14 @@ pub struct World<'a> {
     rounds: &'a Rounds,
     tables: Config,
     phase: Phase,
-    pending: Vec<bool>,
-    packets: Vec<Packet>,
+    pending: Pending,
+    traffic: Traffic,
 }
 
 impl<'a> Model for World<'a> {
+    ghost use Rattle.std.specs.Prelude.{◌≡◌};
     ghost use Rattle.flow_rules.specs.Tables.{rules_of_all};
+    ghost use Rattle.update_model.specs.States.{settled_count};
     ghost use Rattle.update_model.specs.Worlds.{WorldState, IsWorld};
 
     ghost Value = { WorldState };
@@ -40,14 +41,14 @@ impl<'a> Model for World<'a> {
     ghost view = { λ w. record {
       net = w.net.now;
       rounds = w.rounds.now;
-      state = record { phase = w.phase; tables = rules_of_all w.tables; pending = w.pending.items; packets = w.packets.items };
+      state = record { phase = w.phase; tables = rules_of_all w.tables; pending = w.pending; packets = w.traffic.packets };
     } };
 
     ghost invariant = { λ w. IsWorld (record {
       net = w.net.now;
       rounds = w.rounds.now;
-      state = record { phase = w.phase; tables = rules_of_all w.tables; pending = w.pending.items; packets = w.packets.items };
-    }) };
+      state = record { phase = w.phase; tables = rules_of_all w.tables; pending = w.pending; packets = w.traffic.packets };
+    }) × (settled_count w.phase ≡ w.traffic.settled) };
 }
 
 /// Why an event was refused.
@@ -86,41 +87,14 @@ fn round_of(phase: Phase, rounds: &Rounds) -> &[Change]
     }
 }
 
-/// Whether a packet is under way that entered when fewer than k rounds were settled.
-fn has_older(packets: &[Packet], k: u32) -> bool
-    ensures { result ≡ false ↔ AllByRecursion (λ p. IsUnderWay p → k ≤ p.born) packets.now }
-{
-    packets.iter().any(|packet| is_older(packet, k))
-}
-
-/// How many rounds are settled.
-fn settled_of(phase: Phase) -> u32
-    ensures { result ≡ settled_count phase }
-{
-    match phase {
-        Phase::Settled(k) => k,
-        Phase::Running(k) if k > 0 => k - 1,
-        Phase::Running(_) => 0,
-    }
-}
-
 /// Whether the next round may start.
-fn can_start(phase: Phase, rounds: &Rounds, packets: &[Packet]) -> bool
-    ensures { IsTrue result ↔ StartsFrom phase rounds.now packets.now }
+fn can_start(phase: Phase, rounds: &Rounds, traffic: &Traffic) -> bool
+    requires { settled_count phase ≡ traffic.now.settled }
+    ensures { IsTrue result ↔ StartsFrom phase rounds.now traffic.now.packets }
 {
     match phase {
-        Phase::Settled(k) => (k as usize) < rounds.count() && !has_older(packets, k),
+        Phase::Settled(k) => (k as usize) < rounds.count() && traffic.has_none_older(),
         Phase::Running(_) => false,
-    }
-}
-
-/// Whether flag i is on.
-fn is_on(flags: &[bool], i: usize) -> bool
-    ensures { IsTrue result ↔ slice_get flags.now i ≡ Some true }
-{
-    match flags.get(i) {
-        Some(on) => *on,
-        None => false,
     }
 }
 
@@ -141,16 +115,6 @@ fn can_enter(net: &Net, place: Place, _dst: u32) -> bool
     net.is_entry(place)
 }
 
-/// Whether there is packet i and it is under way.
-fn can_hop(packets: &[Packet], i: usize) -> bool
-    ensures { IsTrue result ↔ IsHopping packets.now i }
-{
-    match packets.get(i) {
-        Some(packet) => is_under_way(packet),
-        None => false,
-    }
-}
-
 /// The outcome of a place in the tables of all switches.
 fn outcome_among(net: &Net, tables: &Config, at: Place, dst: u32) -> Outcome
     ensures { result ≡ outcome_in net.now (rules_of_all tables.now) at dst }
@@ -160,21 +124,6 @@ fn outcome_among(net: &Net, tables: &Config, at: Place, dst: u32) -> Outcome
     } else {
         Outcome::Discard
     }
-}
-
-/// Packet i goes on by an outcome at its place.
-fn hop_packet(packets: &mut Vec<Packet>, i: usize, found: Outcome) -> Result<(), Memory>
-    requires { i < vec_len packets.old }
-    ensures ok { IfOk result (λ _. packets.new.items ≡ with_packet (λ p. hopped p found) i packets.old.items) }
-    ensures err { OnErr result (packets.new.items ≡ packets.old.items) }
-{
-    let switch = packets[i].at.switch;
-    match found {
-        Outcome::Go(next) => move_packet(packets, i, next)?,
-        Outcome::Discard => end_packet(packets, i, Ended::Dropped(switch)),
-        Outcome::Leave(port, vlan) => end_packet(packets, i, Ended::Left(switch, port, vlan)),
-    }
-    Ok(())
 }
 
 impl<'a> World<'a> {
@@ -195,8 +144,8 @@ impl<'a> World<'a> {
             rounds,
             tables,
             phase: Phase::Settled(0),
-            pending: Vec::new(alloc),
-            packets: Vec::new(alloc),
+            pending: Pending::none(alloc),
+            traffic: Traffic::none(alloc),
         })
     }
 
@@ -211,7 +160,7 @@ impl<'a> World<'a> {
     pub fn packets(&self) -> &[Packet]
         ensures { result.now ≡ self.now.state.packets }
     {
-        &self.packets
+        self.traffic.packets()
     }
 
     /// The network.
@@ -240,14 +189,14 @@ impl<'a> World<'a> {
     pub fn flags(&self) -> &[bool]
         ensures { result.now ≡ self.now.state.pending }
     {
-        &self.pending
+        self.pending.flags()
     }
 
     /// Whether change i of the running round is pending; false where no round is running, or where it has no change i.
     pub fn pending(&self, i: usize) -> bool
         ensures { IsTrue result ↔ IsPending self.now.state i }
     {
-        is_running(self.phase) && is_on(&self.pending, i)
+        is_running(self.phase) && self.pending.has(i)
     }
 
     /// Whether an event may happen.
@@ -255,15 +204,15 @@ impl<'a> World<'a> {
         ensures { IsTrue result ↔ IsEnabled self.now.net self.now.rounds self.now.state event.now }
     {
         match event {
-            Event::Start => can_start(self.phase, self.rounds, &self.packets),
-            Event::Settle => is_running(self.phase) && none_on(&self.pending),
+            Event::Start => can_start(self.phase, self.rounds, &self.traffic),
+            Event::Settle => is_running(self.phase) && self.pending.is_over(),
             Event::Change(i) => {
-                is_on(&self.pending, *i)
+                self.pending.has(*i)
                     && can_apply(&self.tables, round_of(self.phase, self.rounds), *i)
             }
             Event::Enter(place, dst) => can_enter(self.net, *place, *dst),
-            Event::Hop(i) => can_hop(&self.packets, *i),
-            Event::Lose(i) => can_hop(&self.packets, *i),
+            Event::Hop(i) => self.traffic.can_hop(*i),
+            Event::Lose(i) => self.traffic.can_hop(*i),
         }
     }
 
@@ -275,11 +224,7 @@ impl<'a> World<'a> {
     {
         match self.phase {
             Phase::Settled(k) => {
-                let flags = all_on(
-                    *self.pending.allocator(),
-                    self.rounds.round(k as usize).len(),
-                )?;
-                self.pending = flags;
+                self.pending.begin(self.rounds.round(k as usize).len())?;
                 self.phase = Phase::Running(k + 1);
                 Ok(())
             }
@@ -293,6 +238,7 @@ impl<'a> World<'a> {
         ensures { self.new ≡ world_after self.old Event.Settle }
     {
         if let Phase::Running(k) = self.phase {
+            self.traffic.settle();
             self.phase = Phase::Settled(k);
         }
     }
@@ -305,7 +251,7 @@ impl<'a> World<'a> {
     {
         let round = round_of(self.phase, self.rounds);
         change_tables(&mut self.tables, &round[i])?;
-        self.pending[i] = false;
+        self.pending.make(i);
         Ok(())
     }
 
@@ -314,9 +260,7 @@ impl<'a> World<'a> {
         ensures ok { IfOk result (λ _. self.new ≡ world_after self.old (Event.Enter place dst)) }
         ensures err { OnErr result (self.new ≡ self.old) }
     {
-        let born = settled_of(self.phase);
-        let packet = enter_packet(*self.packets.allocator(), place, dst, born)?;
-        add_packet(&mut self.packets, packet)
+        self.traffic.enter(place, dst)
     }
 
     /// Packet i goes on by its outcome.
@@ -325,9 +269,9 @@ impl<'a> World<'a> {
         ensures ok { IfOk result (λ _. self.new ≡ world_after self.old (Event.Hop i)) }
         ensures err { OnErr result (self.new ≡ self.old) }
     {
-        let (at, dst) = (self.packets[i].at, self.packets[i].dst);
-        let found = outcome_among(self.net, &self.tables, at, dst);
-        hop_packet(&mut self.packets, i, found)
+        let packet = &self.traffic.packets()[i];
+        let found = outcome_among(self.net, &self.tables, packet.at, packet.dst);
+        self.traffic.hop(i, found)
     }
 
     /// Packet i is lost.
@@ -335,7 +279,7 @@ impl<'a> World<'a> {
         requires { IsEnabled self.old.net self.old.rounds self.old.state (Event.Lose i) }
         ensures { self.new ≡ world_after self.old (Event.Lose i) }
     {
-        end_packet(&mut self.packets, i, Ended::Lost);
+        self.traffic.end(i, Ended::Lost);
     }
 
     /// An event that may happen.
@@ -363,10 +307,11 @@ impl<'a> World<'a> {
     /// An event happens, if it may. After a refusal the world is as before.
     ///
     /// A hop costs one lookup in the table where the packet is, a change a look-up of its key in the table of its switch,
-    /// and a start or a settling a look at the packets or at the changes of the round.
+    /// and a start a flag for each change of its round. Packets under way and pending changes are counted, not looked for.
     pub fn step(&mut self, event: Event) -> Result<(), StepFault>
         ensures ok { IfOk result (λ _. self.new ≡ world_after self.old event) }
         ensures err { OnErr result (self.new ≡ self.old) }
+        ensures enabled { IfOk result (λ _. IsEnabled self.old.net self.old.rounds self.old.state event) }
         ensures not_enabled { result ≡ Err StepFault.NotEnabled ↔ ¬ IsEnabled self.old.net self.old.rounds self.old.state event }
     {
         if !self.enabled(&event) {

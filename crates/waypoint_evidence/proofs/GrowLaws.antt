@@ -14,8 +14,9 @@ use Rattle.acyclic_numbering.specs.Heights.{IsEdge}
 use Rattle.acyclic_numbering.specs.declared.Edge.{Edge}
 use Rattle.waypoint_evidence.specs.Befores.{Holds, HoldsEarlier, IsFirst, IsBeforeSet, IsLeastBefore, MissesStep, Stays}
 use Rattle.waypoint_evidence.specs.Grown.{IsKnown, AreChained, IsGrown, IsWalkTo, IsWalkBack, IsMissingWalk}
-use Rattle.waypoint_evidence.proofs.SetLaws.{cases_in, cases_earlier, in_at}
+use Rattle.waypoint_evidence.proofs.SetLaws.{cases_in, cases_earlier}
 use Rattle.net_base.proofs.WalkLaws.{walk_weaker}
+use Rattle.net_base.proofs.ItemLaws.{in_at}
 
 cases_switch : (s t : SwitchId) → (s ≡ t) ⊎ (¬ (s ≡ t))
 cases_switch s t = elim (cases_eq s.0 t.0) [ inl e ↦ inl (same_switch s t e) | inr ne ↦ inr (λ e. ne (ap (λ x. x.0) e)) ]
@@ -116,13 +117,6 @@ module _ (start : SwitchId) (edges : List Edge) (waypoint : SwitchId) (earlier :
     least = λ other is s h. grown_least other is s h;
   }
 
--- the empty set is the least one where a first position's waypoint is the start
-pub least_empty : (start : SwitchId) (edges : List Edge) (waypoint : SwitchId) (earlier : Option (List ℕ)) → IsFirst earlier → start ≡ waypoint → IsLeastBefore start (IsEdge edges) waypoint earlier []
-least_empty start edges waypoint earlier first same = record {
-  before = record { begins = inr (first, same); stays = λ s t edge h. absurd h };
-  least = λ other is s h. absurd h;
-}
-
 -- what holds of each item holds of each member, and the other way round
 pub all_members : {A : Type 0} (P : A → Type 0) (xs : List A) → All P xs → (x : A) → IsIn x xs → P x
 all_members P xs all x i = each_at P xs x (recursion_from_All P xs all) i
@@ -165,17 +159,6 @@ back_past start steps k at end switches e back is elsewhere =
           | inl i ↦ inr (known.0, i, known.2)
           | inr i ↦ elim i [ inl same ↦ absurd (elsewhere (ap (λ (x : Edge). x.to.0) (sym same) ∙ ap (λ (x : SwitchId). x.0) known.2)) | inr none ↦ absurd none ]
         ]
-
--- at its end it is a walk from the start
-pub walk_from_back : (start : SwitchId) (steps : List Edge) (at end : SwitchId) (switches : List SwitchId) → IsWalkBack start steps 0 at end switches → IsWalkTo start (IsEdge steps) end (reverse switches)
-walk_from_back start steps at end switches back =
-    let same : at ≡ start = elim back.known [ inl e ↦ e | inr known ↦ absurd known.1 ] in
-    record {
-      rest = back.rest;
-      is = back.is ∙ ap (λ (s : SwitchId). s ∷ back.rest) same;
-      walk = subst (λ (s : SwitchId). IsWalk (IsEdge steps) s back.rest) same back.walk;
-      ends = subst (λ (s : SwitchId). end_of s back.rest ≡ end) same back.ends;
-    }
 
 -- a walk over the steps by which a set grew misses the waypoint
 pub missing_from_walk : (start : SwitchId) (edges : List Edge) (leaving : List SwitchId) (waypoint : SwitchId) (earlier : Option (List ℕ)) (steps : List Edge) (set : List ℕ) (end : SwitchId) (switches : List SwitchId)

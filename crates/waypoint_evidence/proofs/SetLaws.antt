@@ -94,11 +94,6 @@ cases_earlier None s = inr (λ h. h)
 cases_earlier (Some xs) s = cases_in s.0 xs
 
 module _ {A : Type 0} where
-  -- an item of a list is in it
-  pub in_at : (xs : List A) (i : ℕ) (d : A) → i < length xs → IsIn (get_or xs i d) xs
-  in_at [] i d within = absurd (omega arith)
-  in_at (x ∷ xs) zero d within = inl refl
-  in_at (x ∷ xs) (suc i) d within = inr (in_at xs i d (omega arith))
 
   -- what holds of the items below a place and of the one there holds of those below the next place
   pub each_more : (P : A → Type 0) (xs : List A) (i : ℕ) (e : A) → i < length xs → ((k : ℕ) (d : A) → k < i → P (get_or xs k d)) → P (get_or xs i e)

@@ -86,8 +86,9 @@ fn holds_earlier(earlier: Option<&Before>, s: SwitchId) -> bool
     }
 }
 
-/// Whether the edge goes to the waypoint from outside the set before.
-fn meets(edge: Edge, waypoint: SwitchId, earlier: Option<&Before>) -> bool
+/// Whether the edge goes to the waypoint from outside the set of the position before, if there is one. The switch that it
+/// leaves is below 128.
+pub fn meets(edge: Edge, waypoint: SwitchId, earlier: Option<&Before>) -> bool
     requires { edge.from.0 < 128 }
     ensures { IsTrue result ↔ ((¬ HoldsEarlier (option_copied earlier.entry) edge.from) × (edge.to ≡ waypoint)) }
 {
@@ -140,8 +141,8 @@ fn starts_there(start: SwitchId, waypoint: SwitchId, earlier: Option<&Before>) -
     earlier.is_none() && start.0 == waypoint.0
 }
 
-/// Whether the set holds the start, or the position is a first one and the start is the waypoint.
-fn begins(before: &Before, start: SwitchId, waypoint: SwitchId, earlier: Option<&Before>) -> bool
+/// Whether the set holds the start, which is below 128, or the position is a first one and the start is the waypoint.
+pub fn begins(before: &Before, start: SwitchId, waypoint: SwitchId, earlier: Option<&Before>) -> bool
     requires { start.0 < 128 }
     ensures { IsTrue result ↔ (Holds before.now start ⊎ (IsFirst (option_copied earlier.entry) × (start ≡ waypoint))) }
 {

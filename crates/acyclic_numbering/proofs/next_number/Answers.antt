@@ -2,7 +2,8 @@ use Rattle.std.proofs.Common.{◌≡◌, ◌<◌, get_or, refl, ◌∙◌, subst
 use Rattle.net_base.specs.declared.ids.SwitchId.{SwitchId}
 use Rattle.acyclic_numbering.specs.Heights.{IsEdge, number_of}
 use Rattle.acyclic_numbering.specs.declared.Edge.{Edge}
-use Rattle.acyclic_numbering.proofs.ListLaws.{in_at, each_more, all_members}
+use Rattle.acyclic_numbering.proofs.ListLaws.{each_more, all_members}
+use Rattle.net_base.proofs.ItemLaws.{in_at}
 use Rattle.acyclic_numbering.proofs.next_number.Goals as goal
 
 pub loop-edge-preserved : goal.loop-edge-preserved

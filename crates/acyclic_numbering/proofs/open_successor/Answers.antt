@@ -2,8 +2,8 @@ use Rattle.std.proofs.Common.{get_or, subst}
 use Rattle.net_base.specs.declared.ids.SwitchId.{SwitchId}
 use Rattle.acyclic_numbering.specs.Heights.{IsEdge}
 use Rattle.acyclic_numbering.specs.declared.Edge.{Edge}
-use Rattle.acyclic_numbering.proofs.ListLaws.{in_at}
 use Rattle.net_base.proofs.NameLaws.{same_switch}
+use Rattle.net_base.proofs.ItemLaws.{in_at}
 use Rattle.acyclic_numbering.proofs.open_successor.Goals as goal
 
 pub returns-then-pending-edge : goal.returns-then-pending-edge

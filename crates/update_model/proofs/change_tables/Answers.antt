@@ -2,7 +2,8 @@ use Rattle.std.proofs.Common.{◌∙◌, ap, set, sym}
 use Rattle.net_base.specs.declared.ids.SwitchId.{SwitchId}
 use Rattle.flow_rules.specs.Tables.{rules_at, rules_of_all}
 use Rattle.update_model.specs.Changes.{rules_after_change}
-use Rattle.update_model.proofs.WorldLaws.{rules_set, rules_get, rules_keep, ok_map, err_map}
+use Rattle.update_model.proofs.WorldLaws.{rules_keep, ok_map, err_map}
+use Rattle.flow_rules.proofs.TableLaws.{rules_set, rules_get}
 use Rattle.update_model.proofs.change_tables.Goals as goal
 
 pub returns-clause-ok : goal.returns-clause-ok

@@ -2,7 +2,8 @@ use Rattle.std.proofs.Common.{arith}
 use Rattle.std.proofs.lemmas.Bool.{both_ways}
 use Rattle.net_base.specs.declared.ids.SwitchId.{SwitchId}
 use Rattle.waypoint_evidence.specs.Befores.{Holds}
-use Rattle.waypoint_evidence.proofs.SetLaws.{in_at, each_more}
+use Rattle.waypoint_evidence.proofs.SetLaws.{each_more}
+use Rattle.net_base.proofs.ItemLaws.{in_at}
 use Rattle.waypoint_evidence.proofs.first_held.Goals as goal
 
 pub returns-then-holds : goal.returns-then-holds

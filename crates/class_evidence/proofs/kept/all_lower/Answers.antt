@@ -2,8 +2,8 @@ use Rattle.std.proofs.Common.{get_or, arith}
 use Rattle.net_base.proofs.MemberLaws.{each_at}
 use Rattle.acyclic_numbering.specs.Heights.{IsLower}
 use Rattle.acyclic_numbering.specs.declared.Edge.{Edge}
-use Rattle.waypoint_evidence.proofs.SetLaws.{in_at}
 use Rattle.certificates.proofs.Chains.{all_from, refused, granted}
+use Rattle.net_base.proofs.ItemLaws.{in_at}
 use Rattle.class_evidence.proofs.kept.all_lower.Goals as goal
 
 pub returns-then-not-lowers : goal.returns-then-not-lowers

@@ -8,8 +8,8 @@ use Rattle.net_base.specs.declared.ids.Vlan.{Vlan}
 use Rattle.dest_classes.specs.Atoms.{IsAtomOf}
 use Rattle.dest_classes.specs.Classes.{ClassList, class_count, atom_count, boundaries}
 use Rattle.dest_classes.specs.Numbered.{IsClassOf}
-use Rattle.dest_classes.proofs.RisingLaws.{in_from_get}
 use Rattle.dest_classes.proofs.MapLaws.{class_of_places, one_number, right_class, none_in, number_fits, distinct_hosts}
+use Rattle.net_base.proofs.ItemLaws.{in_from_get}
 use Rattle.dest_classes.proofs.ClassMap.number_of.Goals as goal
 use Rattle.dest_classes.proofs.ClassMap.number_of.Goals.{After-count}
 

@@ -1,7 +1,7 @@
 use Rattle.std.proofs.Common.{ℕ, ◌<◌, subst, arith, inl, inr}
 use Rattle.flow_rules.specs.Overlaps.{IsClashAt}
-use Rattle.flow_rules.proofs.ClashLaws.{past_end}
 use Rattle.flow_rules.proofs.overlaps.least_clash.Goals as goal
+use Rattle.net_base.proofs.ItemLaws.{past_end}
 
 pub returns-in-Some : goal.returns-in-Some
 returns-in-Some c =

@@ -1,11 +1,11 @@
 use Rattle.std.proofs.Common.{List, refl, sym, ◌∙◌, subst, take, get_or, inl, inr}
 use Rattle.std.proofs.lemmas.Bool.{false≢true}
 use Rattle.std.proofs.lemmas.List.{take_more}
-use Rattle.acyclic_numbering.proofs.ListLaws.{in_at}
 use Rattle.net_base.specs.Members.{IsIn}
 use Rattle.net_base.specs.declared.ids.Place.{Place}
 use Rattle.net_base.specs.declared.ids.Vlan.TheVariants.{Untagged}
 use Rattle.mixed_walks.proofs.MarkedLaws.{in_push}
+use Rattle.net_base.proofs.ItemLaws.{in_at}
 use Rattle.mixed_walks.proofs.reached.is_among.Goals as goal
 
 abbrev nowhere : Place

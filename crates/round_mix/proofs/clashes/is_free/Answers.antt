@@ -3,8 +3,8 @@ use Rattle.std.proofs.lemmas.Bool.{both_ways, false≢true}
 use Rattle.std.proofs.lemmas.List.{length-map}
 use Rattle.round_mix.specs.Marks.{rules_of}
 use Rattle.round_mix.specs.declared.MarkedRule.{MarkedRule}
-use Rattle.round_mix.proofs.ClashLaws.{past_end}
 use Rattle.round_mix.proofs.clashes.is_free.Goals as goal
+use Rattle.net_base.proofs.ItemLaws.{past_end}
 
 pub returns-then-not-is_free_at : goal.returns-then-not-is_free_at
 returns-then-not-is_free_at c =

@@ -3,8 +3,8 @@ use Rattle.std.proofs.lemmas.List.{length-map}
 use Rattle.round_mix.specs.Marks.{rules_of}
 use Rattle.flow_rules.specs.Overlaps.{IsClashAt}
 use Rattle.round_mix.specs.declared.MarkedRule.{MarkedRule}
-use Rattle.round_mix.proofs.ClashLaws.{past_end}
 use Rattle.round_mix.proofs.clashes.least_clash.Goals as goal
+use Rattle.net_base.proofs.ItemLaws.{past_end}
 
 pub returns-in-Some : goal.returns-in-Some
 returns-in-Some c =

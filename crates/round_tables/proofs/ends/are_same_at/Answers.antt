@@ -3,8 +3,8 @@ use Rattle.std.specs.Prelude.{IsTrue}
 use Rattle.net_base.specs.Members.{IsSameSet}
 use Rattle.flow_rules.specs.Tables.{rules_at, rules_of_all}
 use Rattle.flow_rules.specs.declared.rules.Rule.{Rule}
-use Rattle.update_model.proofs.WorldLaws.{rules_get}
 use Rattle.round_tables.proofs.ends.are_same_at.Goals as goal
+use Rattle.flow_rules.proofs.TableLaws.{rules_get}
 
 pub returns : goal.returns
 returns c =

@@ -5,9 +5,9 @@ use Rattle.std.proofs.lemmas.Option.{get_or_from_slice_get, slice_get_within}
 use Rattle.net_base.specs.declared.ids.SwitchId.{SwitchId}
 use Rattle.flow_rules.specs.Tables.{TableState, rules_at, rules_of_all}
 use Rattle.update_model.specs.Changes.{switch_of, rules_after_change, spare_after_change}
-use Rattle.update_model.proofs.WorldLaws.{rules_set, rules_get}
 use Rattle.round_tables.specs.Present.{room_of, table_at}
 use Rattle.round_tables.proofs.PresentLaws.{switch_n, set_each}
+use Rattle.flow_rules.proofs.TableLaws.{rules_set, rules_get}
 use Rattle.round_tables.proofs.rounds.change_tables.Goals as goal
 
 pub returns-clause-rules : goal.returns-clause-rules

@@ -1,5 +1,5 @@
 use Rattle.std.proofs.Common.{◌≡◌, take, map}
-use Rattle.schedule_pilot.specs.Agendas.{goes_on}
+use Rattle.update_model.specs.Worlds.{goes_on}
 use Rattle.schedule_pilot.proofs.agenda.flags_of.Given as goal
 
 abbrev pub invariant-loop-packet : goal.invariant-loop-packet

@@ -3,9 +3,9 @@ use Rattle.net_base.specs.declared.ids.SwitchId.{SwitchId}
 use Rattle.flow_rules.specs.Tables.{rules_at, rules_of_all}
 use Rattle.flow_rules.specs.declared.rules.Rule.{Rule}
 use Rattle.update_model.specs.Changes.{switch_of}
-use Rattle.update_model.proofs.WorldLaws.{rules_get}
 use Rattle.round_mix.specs.Prepared.{AreClear}
 use Rattle.trial_tables.proofs.TrialTables.load.Goals as goal
+use Rattle.flow_rules.proofs.TableLaws.{rules_get}
 
 pub returns-clause-no : goal.returns-clause-no
 returns-clause-no c = λ off.

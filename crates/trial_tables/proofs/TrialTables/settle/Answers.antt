@@ -4,11 +4,11 @@ use Rattle.std.proofs.lemmas.List.{with_items_is}
 use Rattle.net_base.specs.declared.ids.SwitchId.{SwitchId}
 use Rattle.flow_rules.specs.Tables.{IsClear}
 use Rattle.flow_rules.specs.declared.rules.Rule.{Rule}
-use Rattle.update_model.proofs.WorldLaws.{rules_get}
 use Rattle.round_mix.specs.Prepared.{MixedState}
 use Rattle.trial_tables.specs.Trials.{TrialState, mix_at}
 use Rattle.trial_tables.specs.Steps.{IsMixed, IsSettledBeside, rules_there}
 use Rattle.trial_tables.proofs.TrialLaws.{beside_next, settled_last}
+use Rattle.flow_rules.proofs.TableLaws.{rules_get}
 use Rattle.trial_tables.proofs.TrialTables.settle.Goals as goal
 
 pub reload-requires-clause-clear : goal.reload-requires-clause-clear

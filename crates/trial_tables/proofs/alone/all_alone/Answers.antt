@@ -2,9 +2,9 @@ use Rattle.std.proofs.Common.{◌≡◌, ◌+◌, ◌≤◌, [], ◌∷◌, ◌+
 use Rattle.flow_rules.specs.Tables.{IsClear, rules_at, rules_of_all}
 use Rattle.topology.specs.Networks.{capacity_of}
 use Rattle.flow_rules.specs.declared.rules.Rule.{Rule}
-use Rattle.update_model.proofs.WorldLaws.{rules_get}
 use Rattle.trial_tables.specs.Steps.{IsMixed}
 use Rattle.trial_tables.proofs.TrialLaws.{switch_n, each_pushed}
+use Rattle.flow_rules.proofs.TableLaws.{rules_get}
 use Rattle.trial_tables.proofs.alone.all_alone.Goals as goal
 
 pub alone-requires-clause-clear : goal.alone-requires-clause-clear

@@ -6,7 +6,8 @@ use Rattle.net_base.specs.declared.ids.Vlan.TheVariants as vlan
 use Rattle.certificates.specs.declared.Label.{Label}
 use Rattle.tag_allocator.specs.Tags.{tags_of, available_tags, Tagged}
 use Rattle.two_phase.proofs.LabelLaws.{both_of}
-use Rattle.two_phase.proofs.LabelOrderLaws.{paired_length, labels_more}
+use Rattle.two_phase.proofs.LabelOrderLaws.{labels_more}
+use Rattle.two_phase.proofs.MadeLaws.{paired_length}
 use Rattle.two_phase.proofs.labels.list_labels.Goals as goal
 
 pub tag-requires : goal.tag-requires

@@ -1,8 +1,8 @@
 use Rattle.std.proofs.Common.{ℕ, ◌<◌, ◌≤◌, List, length, get_or, sym, subst, vec_capacity, arith}
 use Rattle.net_base.specs.declared.ids.SwitchId.{SwitchId}
-use Rattle.acyclic_numbering.proofs.ListLaws.{in_at}
 use Rattle.mixed_walks.specs.Marked.{IsMarked, switch_number}
 use Rattle.mixed_walks.proofs.MarkedLaws.{member_below, marked_cleared, AreTaken}
+use Rattle.net_base.proofs.ItemLaws.{in_at}
 use Rattle.mixed_walks.proofs.marked.SwitchSet.clear.Goals as goal
 
 pub unmark_switches-requires : goal.unmark_switches-requires

@@ -1,10 +1,10 @@
 use Rattle.std.proofs.Common.{List, take, get_or, sym, subst}
 use Rattle.std.proofs.lemmas.List.{take_more}
-use Rattle.acyclic_numbering.proofs.ListLaws.{in_at}
 use Rattle.path_walk.specs.declared.Outcome.{Outcome}
 use Rattle.path_walk.specs.declared.Outcome.TheVariants.{Discard}
 use Rattle.mixed_walks.specs.Walking.{IsNoted}
 use Rattle.mixed_walks.proofs.NotedLaws.{in_take, noted_more, few_still}
+use Rattle.net_base.proofs.ItemLaws.{in_at}
 use Rattle.mixed_walks.proofs.noted.Noted.note_all.Goals as goal
 
 pub note-requires-clause-few : goal.note-requires-clause-few

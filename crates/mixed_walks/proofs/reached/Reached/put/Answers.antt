@@ -2,9 +2,9 @@ use Rattle.std.proofs.Common.{◌≡◌, ◌↔◌, ◌⊎◌, ◌<◌, ◌≤�
 use Rattle.std.proofs.lemmas.Bool.{false≢true}
 use Rattle.net_base.specs.Members.{IsIn, IsDistinct}
 use Rattle.net_base.specs.declared.ids.Place.{Place}
-use Rattle.topology.proofs.GrowthLaws.{distinct_push}
 use Rattle.mixed_walks.specs.Marked.{IsPlaceList}
 use Rattle.mixed_walks.proofs.MarkedLaws.{in_push, put_place}
+use Rattle.net_base.proofs.ItemLaws.{distinct_push}
 use Rattle.mixed_walks.proofs.reached.Reached.put.Goals as goal
 
 pub push_reserved-requires : goal.push_reserved-requires

@@ -7,7 +7,8 @@ use Rattle.update_model.specs.Mixtures.{IsPossible}
 use Rattle.round_mix.specs.declared.MarkedRule.{MarkedRule}
 use Rattle.check_reasons.specs.Loaded.{IsLoaded}
 use Rattle.mixed_walks.specs.Walking.{IsWalkedTo}
-use Rattle.mixed_walks.proofs.WalkedLaws.{in_get, loaded_at, all_possible, place_within, few_found, walked_next}
+use Rattle.mixed_walks.proofs.WalkedLaws.{loaded_at, all_possible, place_within, few_found, walked_next}
+use Rattle.net_base.proofs.ItemLaws.{in_from_get}
 use Rattle.mixed_walks.proofs.walk.WalkRoom.expand.Goals as goal
 
 pub bounds-mixes-place : goal.bounds-mixes-place
@@ -18,7 +19,7 @@ bounds-mixes-place c =
     let noted = c.self.inside.noted in
     let place = c.place-place.result in
     let so : IsWalkedTo u k dst entry c.args.next noted = subst (IsWalkedTo u k dst entry c.args.next) (sym c.self.view_is) (c.requires.so_far u k round) in
-    let is_in = in_get noted.places c.args.next place c.place-place.ensures in
+    let is_in = in_from_get noted.places c.args.next place c.place-place.ensures in
     let within = place_within u k dst entry c.args.net.now c.args.mixes.now round c.keeps_rules.ensures c.requires.entry c.args.next noted so place is_in in
     let count = round.loaded.count in
     omega arith
@@ -31,7 +32,7 @@ possible-requires-clause-prepared c =
     let noted = c.self.inside.noted in
     let place = c.place-place.result in
     let so : IsWalkedTo u k dst entry c.args.next noted = subst (IsWalkedTo u k dst entry c.args.next) (sym c.self.view_is) (c.requires.so_far u k round) in
-    let is_in = in_get noted.places c.args.next place c.place-place.ensures in
+    let is_in = in_from_get noted.places c.args.next place c.place-place.ensures in
     let within = place_within u k dst entry c.args.net.now c.args.mixes.now round c.keeps_rules.ensures c.requires.entry c.args.next noted so place is_in in
     let count = round.loaded.count in
     let mixed = c.index-mixes-place.result in
@@ -46,7 +47,7 @@ possible-requires-clause-room c marks is =
     let noted = c.self.inside.noted in
     let place = c.place-place.result in
     let so : IsWalkedTo u k dst entry c.args.next noted = subst (IsWalkedTo u k dst entry c.args.next) (sym c.self.view_is) (c.requires.so_far u k round) in
-    let is_in = in_get noted.places c.args.next place c.place-place.ensures in
+    let is_in = in_from_get noted.places c.args.next place c.place-place.ensures in
     let within = place_within u k dst entry c.args.net.now c.args.mixes.now round c.keeps_rules.ensures c.requires.entry c.args.next noted so place is_in in
     let count = round.loaded.count in
     let mixed = c.index-mixes-place.result in
@@ -66,7 +67,7 @@ note_all-requires-clause-near c =
     let noted = c.self.inside.noted in
     let place = c.place-place.result in
     let so : IsWalkedTo u k dst entry c.args.next noted = subst (IsWalkedTo u k dst entry c.args.next) (sym c.self.view_is) (c.requires.so_far u k round) in
-    let is_in = in_get noted.places c.args.next place c.place-place.ensures in
+    let is_in = in_from_get noted.places c.args.next place c.place-place.ensures in
     let within = place_within u k dst entry c.args.net.now c.args.mixes.now round c.keeps_rules.ensures c.requires.entry c.args.next noted so place is_in in
     let count = round.loaded.count in
     let few = c.keeps_rules.ensures.few in
@@ -81,7 +82,7 @@ note_all-requires-clause-few c =
     let noted = c.self.inside.noted in
     let place = c.place-place.result in
     let so : IsWalkedTo u k dst entry c.args.next noted = subst (IsWalkedTo u k dst entry c.args.next) (sym c.self.view_is) (c.requires.so_far u k round) in
-    let is_in = in_get noted.places c.args.next place c.place-place.ensures in
+    let is_in = in_from_get noted.places c.args.next place c.place-place.ensures in
     let within = place_within u k dst entry c.args.net.now c.args.mixes.now round c.keeps_rules.ensures c.requires.entry c.args.next noted so place is_in in
     let count = round.loaded.count in
     let mixed = c.index-mixes-place.result in
@@ -97,7 +98,7 @@ returns c u k round =
     let noted = c.self.inside.noted in
     let place = c.place-place.result in
     let so : IsWalkedTo u k dst entry c.args.next noted = subst (IsWalkedTo u k dst entry c.args.next) (sym c.self.view_is) (c.requires.so_far u k round) in
-    let is_in = in_get noted.places c.args.next place c.place-place.ensures in
+    let is_in = in_from_get noted.places c.args.next place c.place-place.ensures in
     let within = place_within u k dst entry c.args.net.now c.args.mixes.now round c.keeps_rules.ensures c.requires.entry c.args.next noted so place is_in in
     let count = round.loaded.count in
     let mixed = c.index-mixes-place.result in

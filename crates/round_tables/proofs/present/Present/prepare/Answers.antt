@@ -6,11 +6,11 @@ use Rattle.flow_rules.specs.Tables.{rules_at, rules_of_all}
 use Rattle.flow_rules.specs.declared.rules.Rule.{Rule}
 use Rattle.update_model.specs.Changes.{changes_at}
 use Rattle.update_model.specs.declared.Change.{Change}
-use Rattle.update_model.proofs.WorldLaws.{rules_get}
 use Rattle.round_mix.specs.Prepared.{MixedState}
 use Rattle.round_tables.specs.Present.{PresentState, IsMixed, mix_at}
 use Rattle.round_tables.specs.Loading.{AreSettled}
 use Rattle.round_tables.proofs.LoadLaws.{settled_set, empty_list}
+use Rattle.flow_rules.proofs.TableLaws.{rules_get}
 use Rattle.round_tables.proofs.present.Present.prepare.Goals as goal
 
 pub returns-clause-settled : goal.returns-clause-settled
