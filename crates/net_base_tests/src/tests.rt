@@ -1,7 +1,11 @@
 // What no clause says: the small texts by outside values, that calls succeed, and the outside failing at each call in turn.
 ghost use Rattle.std.specs.Prelude.{◌≤◌};
 
-use super::*;
+use net_base::{
+    BadPrefix, FetchFault, Field, FileSource, JsonFault, MemorySink, MemorySource, StdoutSink,
+    Vlan, addr_text, fetch, is_object, list_at, parse_json, pour, prefix_text, read_address,
+    read_decimal, read_prefix, text_at, vlan_text, whole, whole_at,
+};
 use std::alloc::Global;
 use std::fs;
 use std::test::Fail;
@@ -42,7 +46,6 @@ fn reads_and_writes_small_texts(rt: HostRuntime) -> Result<(), Fail> {
         }
     }
     assert_eq!(rt; read_address("10.0.0.1"), Some(167772161));
-    assert_eq!(rt; Field::InPort.name(), "in_port");
     assert_eq!(rt;
         addr_text(alloc, 167772161)?.as_slice(),
         b"10.0.0.1".as_slice()
@@ -56,6 +59,14 @@ fn reads_and_writes_small_texts(rt: HostRuntime) -> Result<(), Fail> {
         b"3000".as_slice()
     );
     Ok(())
+}
+
+#[test]
+fn names_members_as_files_spell_them(rt: HostRuntime) {
+    assert_eq!(rt; Field::Top.name(), "top");
+    assert_eq!(rt; Field::InPort.name(), "in_port");
+    assert_eq!(rt; Field::Do.name(), "do");
+    assert_eq!(rt; Field::Uses.name(), "uses");
 }
 
 #[test]

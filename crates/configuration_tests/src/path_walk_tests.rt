@@ -2,9 +2,9 @@
 ghost use Rattle.std.specs.Prelude.{◌≡◌};
 ghost use Rattle.topology.specs.Networks.{switch_count};
 
-use super::*;
 use flow_rules::{Action, Config, Key, Pattern, Rewrite, Rule, VlanTest};
-use net_base::{Prefix, Stop};
+use net_base::{Place, Port, Prefix, Stop, SwitchId, Vlan};
+use path_walk::{PathEnd, PathRoom, walk};
 use std::process::Abort;
 use std::test::Fail;
 use topology::{Net, read_net};

@@ -1,5 +1,5 @@
 // The reader, refusal by refusal, and the duties of a small network's classes.
-use crate::{DemandFault, Duties, no_demands, read_demands};
+use demands::{DemandFault, Duties, no_demands, read_demands};
 use dest_classes::class_map;
 use net_base::Field;
 use std::alloc::Global;

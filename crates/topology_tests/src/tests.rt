@@ -1,7 +1,7 @@
 // Topologies that are read, and each refusal.
-use super::*;
 use net_base::{Field, Place, Port, Stop, SwitchId, Vlan};
 use std::test::Fail;
+use topology::{End, Net, NetFault, read_net, reference_parts};
 
 // The square: four switches in a ring with one chord, and a host at each.
 const SWITCHES: &str =

@@ -1,5 +1,5 @@
 // Configurations that are read, and each refusal.
-use crate::{ConfigFault, read_config};
+use config_files::{ConfigFault, read_config};
 use flow_rules::{Action, Config, Key, Pattern, Rewrite, Rule, VlanTest};
 use net_base::{Field, Port, SwitchId, read_prefix};
 use std::test::Fail;

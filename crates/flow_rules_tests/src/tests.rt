@@ -1,5 +1,5 @@
 // Tables at work on worked values.
-use crate::{Action, Config, Key, Pattern, Rewrite, Rule, Table, VlanTest};
+use flow_rules::{Action, Config, Key, Pattern, Rewrite, Rule, Table, VlanTest};
 use net_base::{Memory, Port, SwitchId, Vlan, read_prefix};
 use std::alloc::Global;
 use std::test::Fail;
