@@ -3,7 +3,7 @@ use Rattle.std.specs.List.{AllByRecursion}
 use Rattle.certificates.specs.Valid.{IsPickBefore}
 use Rattle.certificates.specs.declared.OrderedPick.{OrderedPick}
 use Rattle.certificates.specs.declared.OrderedEvidence.{OrderedEvidence}
-use Rattle.evidence_store.proofs.tests.with_pick.Goals as goal
+use Rattle.planning_tests.proofs.evidence_store_tests.with_pick.Goals as goal
 
 pub add-requires-clause-behind : goal.add-requires-clause-behind
 add-requires-clause-behind c =

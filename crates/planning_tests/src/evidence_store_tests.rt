@@ -3,9 +3,9 @@ ghost use Rattle.std.specs.Prelude.{◌≡◌, ◌<◌, ◌↔◌, IfOk, IsTrue}
 ghost use Rattle.std.specs.List.{AllByRecursion};
 ghost use Rattle.certificates.specs.Valid.{IsPickBefore};
 
-use crate::EvidenceStore;
 use acyclic_numbering::Numbering;
 use certificates::{Befores, OrderedPick};
+use evidence_store::EvidenceStore;
 use net_base::SwitchId;
 use std::alloc::Global;
 use std::test::Fail;

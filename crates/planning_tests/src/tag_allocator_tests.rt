@@ -1,7 +1,7 @@
 // The tags of declared VLANs, and too few of them.
-use super::*;
 use std::test::Fail;
-use topology::read_net;
+use tag_allocator::{TagFault, allot};
+use topology::{Net, read_net};
 
 fn net_with(rt: &HostRuntime, vlans_and_tags: &str) -> Result<Net, Fail> {
     let mut text = String::new(rt.alloc());

@@ -2,11 +2,11 @@
 ghost use Rattle.std.specs.Prelude.{◌≤◌, IsTrue};
 ghost use Rattle.update_model.specs.Mixtures.{entries_needed};
 
-use crate::{Mixed, Outcomes};
 use flow_rules::{Action, Key, Pattern, Rewrite, Rule, Table, VlanTest};
 use net_base::{Memory, Place, Port, Prefix, SwitchId, Vlan};
 use path_walk::Outcome;
 use path_walk::following::outcome;
+use round_mix::{Mixed, Outcomes};
 use std::alloc::Global;
 use std::test::Fail;
 use topology::{Net, read_net};
@@ -50,6 +50,11 @@ fn rule(priority: u16, vlan: VlanTest, dst: Prefix, action: Action) -> Rule {
 
 fn out(port: u16) -> Action {
     Action::Out(Port(port), Rewrite::Keep)
+}
+
+/// A packet without a tag leaves.
+fn leave(port: u16) -> Outcome {
+    Outcome::Leave(Port(port), Vlan::Untagged)
 }
 
 fn insert(rule: Rule) -> Change {
@@ -118,7 +123,7 @@ fn is_within(some: &[Outcome], all: &[Outcome]) -> bool {
 }
 
 /// Whether a round at the table needs so few entries that there is room for them.
-#[tactic(auto, using(crate::proofs::NeedLaws::few_inserts))]
+#[tactic(auto, using(round_mix::proofs::NeedLaws::few_inserts))]
 fn is_small(table: &Table, changes: &[Change]) -> bool
     ensures { IsTrue result → entries_needed table.now.rules changes.now ≤ 16 }
 {
@@ -218,6 +223,32 @@ fn possible_outcomes_are_those_of_all_subsets(rt: HostRuntime) -> Result<(), Fai
     Ok(())
 }
 
+/// A packet from the first host to the first address.
+const FROM_FIRST: Place = Place {
+    switch: AT,
+    port: Port(1),
+    vlan: Vlan::Untagged,
+};
+
+/// The inserted rule may stand and decide, then the deleted one may, and the rule below them stands in each mixture.
+#[test]
+fn a_delete_and_an_insert_stand_in_descending_priority(rt: HostRuntime) -> Result<(), Fail> {
+    let net = read_net(rt.alloc(), ALONE).ok().ok_or("a network")?;
+    let rules = [rule(50, VlanTest::Any, WIDE, out(3)), to_second()];
+    let table = table_of(rt.alloc(), &rules)?;
+    let changes = [
+        delete(to_second()),
+        insert(rule(110, VlanTest::Any, TEN, out(4))),
+    ];
+    assert!(rt; is_small(&table, &changes));
+    let mut mixed = Mixed::with_room(rt.alloc(), 16)?;
+    assert!(rt; mixed.load(&table, &changes).is_ok());
+    let mut possible = Outcomes::with_room(rt.alloc(), 17)?;
+    mixed.possible(&net, FROM_FIRST, 0x0a00_0000, &mut possible);
+    assert_eq!(rt; possible.list(), [leave(4), leave(2), leave(3)].as_slice());
+    Ok(())
+}
+
 #[test]
 fn a_delete_beside_an_insert_may_drop(rt: HostRuntime) -> Result<(), Fail> {
     let net = read_net(rt.alloc(), ALONE).ok().ok_or("a network")?;
@@ -228,13 +259,8 @@ fn a_delete_beside_an_insert_may_drop(rt: HostRuntime) -> Result<(), Fail> {
     assert!(rt; mixed.load(&table, &changes).is_ok());
     assert_eq!(rt; mixed.most_entries(), 3);
     let mut possible = Outcomes::with_room(rt.alloc(), 17)?;
-    let place = Place {
-        switch: AT,
-        port: Port(1),
-        vlan: Vlan::Untagged,
-    };
-    mixed.possible(&net, place, 0x0a00_0000, &mut possible);
-    let both = [Outcome::Leave(Port(2), Vlan::Untagged), Outcome::Discard];
+    mixed.possible(&net, FROM_FIRST, 0x0a00_0000, &mut possible);
+    let both = [leave(2), Outcome::Discard];
     assert!(rt; is_within(possible.list(), &both));
     assert!(rt; is_within(&both, possible.list()));
     Ok(())

@@ -1,7 +1,7 @@
 // The reader, refusal by refusal, and the evidence that the picks of format 1 share.
-use crate::{PlanFault, read_plan};
 use certificates::Evidence;
 use net_base::Field;
+use plan_format::{PlanFault, read_plan};
 use std::alloc::Global;
 use std::test::Fail;
 use topology::{Net, read_net};

@@ -1,7 +1,7 @@
 //! Tests of what a switch may hold during a round.
-use crate::{Mark, MixFault, Mixed, mix};
 use flow_rules::{Action, Key, Pattern, Rewrite, Rule, Table, VlanTest};
 use net_base::{Port, Prefix, SwitchId};
+use round_mix::{MixFault, Mixed};
 use std::alloc::Global;
 use std::test::Fail;
 use update_model::Change;
@@ -12,12 +12,6 @@ const AT: SwitchId = SwitchId(0);
 const TEN: Prefix = Prefix {
     base: 0x0a00_0000,
     len: 24,
-};
-
-/// The addresses from 10.0.0.0 to 10.255.255.255.
-const WIDE: Prefix = Prefix {
-    base: 0x0a00_0000,
-    len: 8,
 };
 
 fn rule(priority: u16, vlan: VlanTest, dst: Prefix, port: u16) -> Rule {
@@ -51,27 +45,7 @@ fn table_of(alloc: Global, rules: &[Rule]) -> Result<Table, Fail> {
     Ok(table)
 }
 
-#[test]
-fn a_delete_and_an_insert_stand_in_descending_priority(rt: HostRuntime) -> Result<(), Fail> {
-    let wide = rule(50, VlanTest::Any, WIDE, 3);
-    let old = rule(100, VlanTest::Any, TEN, 2);
-    let new = rule(110, VlanTest::Any, TEN, 4);
-    let round = [Change::Delete(AT, old), Change::Insert(AT, new)];
-    let table = table_of(rt.alloc(), &[wide, old])?;
-    assert!(rt; table.rules().len() == 2);
-    let mut marks = Vec::with_capacity(rt.alloc(), 3)?;
-    assert_eq!(rt; mix(&table, &round, &mut marks), Ok(()));
-    assert_eq!(rt; marks.len(), 3);
-    assert_eq!(rt; marks[0].rule, new);
-    assert_eq!(rt; marks[0].mark, Mark::Possible);
-    assert_eq!(rt; marks[1].rule, old);
-    assert_eq!(rt; marks[1].mark, Mark::Possible);
-    assert_eq!(rt; marks[2].rule, wide);
-    assert_eq!(rt; marks[2].mark, Mark::Sure);
-    Ok(())
-}
-
-/// The rule that most of the tests begin with.
+/// The rule that the tests begin with.
 fn old() -> Rule {
     rule(100, VlanTest::Any, TEN, 2)
 }

@@ -1,15 +1,13 @@
 //! A test of changes that are tried on the tables of two switches.
-ghost use Rattle.std.specs.Prelude.{IfOk, OnOk};
-ghost use Rattle.flow_rules.specs.Tables.{rules_of_all};
-ghost use Rattle.path_walk.specs.UserConfigs.{IsUserConfig};
+ghost use Rattle.std.specs.Prelude.{OnOk};
 ghost use Rattle.trial_tables.specs.Trials.{IsSettled};
 
-use crate::TrialTables;
-use flow_rules::{Action, Config, Key, Pattern, Rewrite, Rule, VlanTest};
+use crate::empty_tables::no_rules;
+use flow_rules::{Action, Key, Pattern, Rewrite, Rule, VlanTest};
 use net_base::{Memory, Port, Prefix, SwitchId};
-use std::alloc::Global;
 use std::test::Fail;
 use topology::{Net, read_net};
+use trial_tables::TrialTables;
 use update_model::{Change, applies};
 
 /// Two switches with a link, each with a host. The first has room for two entries.
@@ -59,13 +57,6 @@ fn low() -> Rule {
 /// The first rule with another port.
 fn turned() -> Rule {
     rule(100, VlanTest::Any, 1)
-}
-
-/// A table without rules for each switch.
-fn no_rules(alloc: Global, net: &Net) -> Result<Config, Memory>
-    ensures { IfOk result (λ c. IsUserConfig net.now (rules_of_all c)) }
-{
-    Config::make(alloc, net.switches())
 }
 
 /// Whether a change may be made. Then it is made, or given up.

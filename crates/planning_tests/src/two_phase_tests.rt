@@ -1,16 +1,11 @@
 // The needs and the plan between configurations without rules, and why there is no plan.
-ghost use Rattle.std.specs.Prelude.{IfOk};
-ghost use Rattle.flow_rules.specs.Tables.{rules_of_all};
-ghost use Rattle.path_walk.specs.UserConfigs.{IsUserConfig};
-
-use super::*;
+use crate::empty_tables::no_rules;
 use certificates::{Evidence, Plan, TwoPhaseEvidence};
-use flow_rules::Config;
-use net_base::{Memory, SwitchId};
-use std::alloc::Global;
+use net_base::SwitchId;
 use std::process::Abort;
 use std::test::Fail;
 use topology::{Net, read_net};
+use two_phase::{TwoFault, need, two_phase};
 use update_model::Rounds;
 
 const ROOMY: &str =
@@ -33,13 +28,6 @@ fn net_with(rt: &HostRuntime, switches: &str, tags: &str) -> Result<Net, Fail> {
         Ok(net) => Ok(net),
         Err(_) => Err(Fail::from("refused")),
     }
-}
-
-/// Tables without rules.
-fn no_rules(alloc: Global, net: &Net) -> Result<Config, Memory>
-    ensures { IfOk result (λ c. IsUserConfig net.now (rules_of_all c)) }
-{
-    Config::make(alloc, net.switches())
 }
 
 /// The plan from no rules to no rules.
