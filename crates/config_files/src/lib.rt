@@ -7,6 +7,3 @@ mod rules;
 
 pub use fault::ConfigFault;
 pub use read::read_config;
-
-#[cfg(test)]
-mod tests;

@@ -109,6 +109,3 @@ impl Model for Duties {
 
     ghost invariant = { λ d. AreStored d.demands d.classes d.rows.items };
 }
-
-#[cfg(test)]
-mod tests;

@@ -10,8 +10,6 @@ ghost use Rattle.certificates.specs.declared.OrderedPick.{OrderedPick};
 ghost use Rattle.evidence_store.specs.Stored.{IsStored, IsWithPick, no_evidence};
 
 mod keys;
-#[cfg(test)]
-mod tests;
 mod uses;
 
 use crate::keys::Keys;

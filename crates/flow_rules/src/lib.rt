@@ -9,6 +9,3 @@ mod tables;
 pub use configs::Config;
 pub use rules::{Action, Key, Pattern, Rewrite, Rule, VlanTest, admits_port, admits_vlan};
 pub use tables::Table;
-
-#[cfg(test)]
-mod tests;

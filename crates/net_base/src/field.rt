@@ -78,16 +78,3 @@ impl Field {
         }
     }
 }
-
-#[cfg(test)]
-mod tests {
-    use super::*;
-
-    #[test]
-    fn names_members_as_files_spell_them(rt: HostRuntime) {
-        assert_eq!(rt; Field::Top.name(), "top");
-        assert_eq!(rt; Field::InPort.name(), "in_port");
-        assert_eq!(rt; Field::Do.name(), "do");
-        assert_eq!(rt; Field::Uses.name(), "uses");
-    }
-}

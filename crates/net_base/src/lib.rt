@@ -29,6 +29,3 @@ pub use tree::{
     JsonFault, is_object, list_at, list_in, parse_json, text_at, whole, whole_at, write_line,
 };
 pub use wants::Memory;
-
-#[cfg(test)]
-mod tests;

@@ -3,8 +3,6 @@
 
 pub mod following;
 mod room;
-#[cfg(test)]
-mod tests;
 mod walking;
 
 use net_base::{Place, Port, SwitchId, Vlan};

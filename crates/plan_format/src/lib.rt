@@ -15,6 +15,3 @@ pub use changes::{ChangeKind, PlanRules, Spelling};
 pub use fault::PlanFault;
 pub use read::read_plan;
 pub use rules::{PlanRule, RuleWords, TestWord};
-
-#[cfg(test)]
-mod tests;

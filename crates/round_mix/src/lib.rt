@@ -16,10 +16,6 @@ mod changes;
 mod clashes;
 mod marking;
 mod sorting;
-#[cfg(test)]
-mod subsets;
-#[cfg(test)]
-mod tests;
 
 use changes::first_bad;
 use clashes::{is_free, least_clash};

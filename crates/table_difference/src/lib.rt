@@ -7,8 +7,6 @@ ghost use Rattle.update_model.specs.Remaining.{remaining};
 
 mod merging;
 mod sorting;
-#[cfg(test)]
-mod tests;
 
 use flow_rules::Config;
 use merging::add_differences;

@@ -115,6 +115,3 @@ pub fn allot(alloc: Global, net: &Net) -> Result<TagMap, TagFault>
     tags.truncate(need);
     Ok(TagMap { tags })
 }
-
-#[cfg(test)]
-mod tests;

@@ -13,6 +13,3 @@ pub use fault::NetFault;
 pub use net::{End, Link, Net};
 pub use read::read_net;
 pub use references::reference_parts;
-
-#[cfg(test)]
-mod tests;

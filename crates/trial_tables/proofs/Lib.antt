@@ -1,3 +1,2 @@
 pub mod AloneLaws
 pub mod TrialLaws
-pub mod EmptyLaws

@@ -15,8 +15,6 @@ ghost use Rattle.trial_tables.specs.Steps.{IsMixed, IsSettledBeside, rules_there
 
 mod alone;
 mod changed;
-#[cfg(test)]
-mod tests;
 
 use alone::{all_alone, reload};
 use changed::load_for;

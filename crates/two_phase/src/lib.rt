@@ -15,6 +15,3 @@ mod vlan_tags;
 
 pub use needs::need;
 pub use planning::{TwoFault, two_phase};
-
-#[cfg(test)]
-mod tests;

@@ -1,0 +1,10 @@
+//! Tests of paths and of the readers of configurations and policies, each module through the public calls of the crate in
+//! its name.
+#![tactic(auto)]
+
+#[cfg(test)]
+mod config_files_tests;
+#[cfg(test)]
+mod demands_tests;
+#[cfg(test)]
+mod path_walk_tests;

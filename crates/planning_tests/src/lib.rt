@@ -1,0 +1,15 @@
+//! Tests of the parts of the planner, each module through the public calls of the crate in its name.
+#![tactic(auto)]
+
+#[cfg(test)]
+mod empty_tables;
+#[cfg(test)]
+mod evidence_store_tests;
+#[cfg(test)]
+mod table_difference_tests;
+#[cfg(test)]
+mod tag_allocator_tests;
+#[cfg(test)]
+mod trial_tables_tests;
+#[cfg(test)]
+mod two_phase_tests;
