@@ -1,12 +1,17 @@
 -- The tests of keys say when two keys are the same.
 use Rattle.std.proofs.Common.{◌≡◌, ◌⊎◌, ℕ, true, false, refl, ◌∙◌, ap, subst, inl, inr}
-use Rattle.std.specs.Prelude.{Option, Some, None}
+use Rattle.std.specs.Prelude.{◌==◌, Bool, Option, Some, None}
+use Rattle.std.specs.Option.{option_eq}
 use Rattle.std.proofs.lemmas.Bool.{eqb-true, eq-eqb, and_parts, and_from, false≢true, false_from_ne_true, both_ways}
 use Rattle.net_base.specs.declared.ids.Port.{Port}
-use Rattle.flow_rules.specs.Patterns.{key_eq, in_port_eq, vlan_test_eq}
+use Rattle.flow_rules.specs.Patterns.{key_eq, vlan_test_eq}
 use Rattle.flow_rules.specs.declared.rules.VlanTest.{VlanTest}
 use Rattle.flow_rules.specs.declared.rules.VlanTest.TheVariants as test
 use Rattle.flow_rules.specs.declared.rules.Key.{Key}
+
+-- whether two choices of an ingress port are the same
+abbrev in_port_eq : Option Port → Option Port → Bool
+in_port_eq = option_eq (λ (p q : Port). p.0 == q.0)
 
 in_port_eq-true : (a b : Option Port) → in_port_eq a b ≡ true → a ≡ b
 in_port_eq-true None None e = refl

@@ -1,16 +1,16 @@
 -- A lookup in a clear table depends on the set of its covering rules alone.
-use Rattle.std.proofs.Common.{◌≡◌, ◌&&◌, ℕ, ◌≤◌, cond, List, [], ◌∷◌, refl, sym, ◌∙◌, subst, ap, arith, inl, inr}
-use Rattle.std.specs.Prelude.{◌==◌, Some, None, find}
+use Rattle.std.proofs.Common.{◌≡◌, ◌&&◌, ℕ, ◌≤◌, Bool, true, cond, List, [], ◌∷◌, refl, sym, ◌∙◌, subst, ap, arith, inl, inr}
+use Rattle.std.specs.Prelude.{nat_le, Some, None, find}
 use Rattle.std.specs.Option.{option_map_or}
-use Rattle.std.specs.List.{AllByRecursion}
-use Rattle.std.proofs.lemmas.Bool.{eqb-true, eq-eqb, cases_lt}
+use Rattle.std.specs.List.{AllByRecursion, list_all}
+use Rattle.std.proofs.lemmas.Bool.{and_from, and_parts, le-leb, leb-true, cases_lt}
 use Rattle.net_base.specs.Blocks.{in_block}
 use Rattle.net_base.specs.Members.{IsIn, IsSameSet}
 use Rattle.net_base.proofs.MemberLaws.{find_passes, in_from_filter, empty_from_none}
 use Rattle.net_base.specs.declared.ids.Port.{Port}
 use Rattle.net_base.specs.declared.ids.Vlan.{Vlan}
 use Rattle.flow_rules.specs.Patterns.{Header, covers, admits_port, admits_vlan}
-use Rattle.flow_rules.specs.Tables.{covering, top_priority, matched, lookup, IsClear}
+use Rattle.flow_rules.specs.Tables.{covering, matched, lookup, IsClear}
 use Rattle.flow_rules.specs.declared.rules.Rule.{Rule}
 use Rattle.flow_rules.specs.declared.rules.Action.TheVariants.{Discard}
 
@@ -18,14 +18,9 @@ use Rattle.flow_rules.specs.declared.rules.Action.TheVariants.{Discard}
 abbrev pub IsTop : List Rule → Rule → Type 0
 IsTop rules r = (q : Rule) → IsIn q rules → q.key.priority ≤ r.key.priority
 
-pub below_top : (rules : List Rule) (r : Rule) → IsIn r rules → r.key.priority ≤ top_priority rules
-below_top [] r i = absurd i
-below_top (x ∷ rules) r (inl e) = let p = ap (λ z. z.key.priority) e in omega arith
-below_top (x ∷ rules) r (inr i) = let p = below_top rules r i in omega arith
-
-pub top_below : (rules : List Rule) (n : ℕ) → ((q : Rule) → IsIn q rules → q.key.priority ≤ n) → top_priority rules ≤ n
-top_below [] n h = omega arith
-top_below (x ∷ rules) n h = let p = h x (inl refl) in let q = top_below rules n (λ y i. h y (inr i)) in omega arith
+-- whether no rule of the list has a greater priority
+abbrev pub is_top : List Rule → Rule → Bool
+is_top rules r = list_all (λ q. nat_le q.key.priority r.key.priority) rules
 
 -- some rule of a list that isn't empty has the greatest priority
 pub top_of : (x : Rule) (rules : List Rule) → (r : Rule) × IsIn r (x ∷ rules) × IsTop (x ∷ rules) r
@@ -37,15 +32,32 @@ top_of x (y ∷ rules) =
       | inr ge ↦ (x, inl refl, λ q j. elim j [ inl e ↦ (let p = ap (λ z. z.key.priority) e in omega arith) | inr k ↦ (let t = top q k in omega arith) ])
     ]
 
+-- the test of a rule that none exceeds
+all_from : (n : ℕ) (rules : List Rule) → ((q : Rule) → IsIn q rules → q.key.priority ≤ n) → list_all (λ q. nat_le q.key.priority n) rules ≡ true
+all_from n [] h = refl
+all_from n (r ∷ rules) h =
+    and_from (nat_le r.key.priority n) (list_all (λ q. nat_le q.key.priority n) rules) (le-leb r.key.priority n (h r (inl refl))) (all_from n rules (λ q i. h q (inr i)))
+
+all_to : (n : ℕ) (rules : List Rule) → list_all (λ q. nat_le q.key.priority n) rules ≡ true → (q : Rule) → IsIn q rules → q.key.priority ≤ n
+all_to n [] e q i = absurd i
+all_to n (r ∷ rules) e q i =
+    let (first, rest) = and_parts (nat_le r.key.priority n) (list_all (λ x. nat_le x.key.priority n) rules) e in
+    elim i [ inl same ↦ (let p = ap (λ z. z.key.priority) same in let l = leb-true r.key.priority n first in omega arith) | inr j ↦ all_to n rules rest q j ]
+
+pub top_tested : (rules : List Rule) (r : Rule) → IsTop rules r → is_top rules r ≡ true
+top_tested rules r top = all_from r.key.priority rules top
+
+pub top_told : (rules : List Rule) (r : Rule) → is_top rules r ≡ true → IsTop rules r
+top_told rules r e = all_to r.key.priority rules e
+
 module _ (h : Header) (rules : List Rule) (clear : IsClear rules) where
   -- in a clear table the rule of greatest priority among those that cover is the one that matches
   pub matched_is_top : (r : Rule) → IsIn r (covering h rules) → IsTop (covering h rules) r → matched h rules ≡ Some r
   matched_is_top r i top =
-      let least = below_top (covering h rules) r i in
-      let most = top_below (covering h rules) r.key.priority top in
-      let e : r.key.priority ≡ top_priority (covering h rules) = omega arith in
-      let (y, found, j, passes) = find_passes (λ q. q.key.priority == top_priority (covering h rules)) r (covering h rules) i (eq-eqb _ _ e) in
-      let f : y.key.priority ≡ r.key.priority = eqb-true _ _ passes ∙ sym e in
+      let (y, found, j, passes) = find_passes (is_top (covering h rules)) r (covering h rules) i (top_tested (covering h rules) r top) in
+      let above = top_told (covering h rules) y passes r i in
+      let below = top y j in
+      let f : y.key.priority ≡ r.key.priority = omega arith in
       let a = in_from_filter (λ q. covers q.key.pattern h) y rules j in
       let b = in_from_filter (λ q. covers q.key.pattern h) r rules i in
       found ∙ ap Some (clear h y r a.0 b.0 a.1 b.1 f)
@@ -53,7 +65,7 @@ module _ (h : Header) (rules : List Rule) (clear : IsClear rules) where
 -- where no rule covers there is no match
 pub matched_none : (h : Header) (rules : List Rule) → ((q : Rule) → ¬ IsIn q (covering h rules)) → matched h rules ≡ None
 matched_none h rules none =
-    ap (λ rs. find (λ q. q.key.priority == top_priority rs) rs) (empty_from_none (covering h rules) none)
+    ap (λ rs. find (is_top rs) rs) (empty_from_none (covering h rules) none)
 
 -- clear tables with the same covering rules have the same lookup
 pub lookup_by_set : (h : Header) (xs ys : List Rule) → IsClear xs → IsClear ys → IsSameSet (covering h xs) (covering h ys) → lookup h xs ≡ lookup h ys
@@ -81,4 +93,4 @@ module _ (port : Port) (vlan : Vlan) (a b : ℕ) where
   pub lookup_same : (rules : List Rule) → AllByRecursion (λ r. in_block r.key.pattern.dst a ≡ in_block r.key.pattern.dst b) rules
       → lookup (record { port = port; vlan = vlan; dst = a }) rules ≡ lookup (record { port = port; vlan = vlan; dst = b }) rules
   lookup_same rules same =
-      ap (λ rs. option_map_or (λ r. r.action) (find (λ r. r.key.priority == top_priority rs) rs) Discard) (covering_same rules same)
+      ap (λ rs. option_map_or (λ r. r.action) (find (is_top rs) rs) Discard) (covering_same rules same)

@@ -1,5 +1,6 @@
 -- Which packets a pattern covers, and when two patterns are the same.
 use Rattle.std.specs.Prelude.{ℕ, ◌==◌, ◌&&◌, Bool, true, false, Option, Some, None}
+use Rattle.std.specs.Option.{option_eq}
 use Rattle.net_base.specs.Blocks.{in_block}
 use Rattle.net_base.specs.declared.ids.Port.{Port}
 use Rattle.net_base.specs.declared.ids.Vlan.{Vlan}
@@ -32,13 +33,6 @@ admits_vlan (test.Id n) (vlan.Id id) = n == id
 abbrev pub covers : Pattern → Header → Bool
 covers p h = admits_port p.in_port h.port && admits_vlan p.vlan h.vlan && in_block p.dst h.dst
 
--- whether two choices of an ingress port are the same
-abbrev pub in_port_eq : Option Port → Option Port → Bool
-in_port_eq None None = true
-in_port_eq None (Some q) = false
-in_port_eq (Some p) None = false
-in_port_eq (Some p) (Some q) = p.0 == q.0
-
 -- whether two VLAN tests are the same
 abbrev pub vlan_test_eq : VlanTest → VlanTest → Bool
 vlan_test_eq test.Any test.Any = true
@@ -49,5 +43,5 @@ vlan_test_eq _ _ = false
 -- whether two keys are the same
 abbrev pub key_eq : Key → Key → Bool
 key_eq a b =
-    a.priority == b.priority && in_port_eq a.pattern.in_port b.pattern.in_port && vlan_test_eq a.pattern.vlan b.pattern.vlan
+    a.priority == b.priority && option_eq (λ (p q : Port). p.0 == q.0) a.pattern.in_port b.pattern.in_port && vlan_test_eq a.pattern.vlan b.pattern.vlan
     && a.pattern.dst.base == b.pattern.dst.base && a.pattern.dst.len == b.pattern.dst.len

@@ -1,5 +1,6 @@
 -- Flow tables, and what a lookup in one gives.
-use Rattle.std.specs.Prelude.{◌≡◌, ℕ, ◌==◌, max, IsTrue, List, [], ◌∷◌, map, filter, find, flat_map, Option, option_map, slice_index_or}
+use Rattle.std.specs.Prelude.{◌≡◌, ℕ, nat_le, IsTrue, List, [], map, filter, find, flat_map, Option, option_map, slice_index_or}
+use Rattle.std.specs.List.{list_all}
 use Rattle.std.specs.Option.{option_map_or}
 use Rattle.net_base.specs.Blocks.{Block}
 use Rattle.net_base.specs.Members.{IsIn, IsDistinct}
@@ -39,14 +40,9 @@ table_blocks tables = flat_map (λ rules. map (λ r. r.key.pattern.dst) rules) t
 abbrev pub covering : Header → List Rule → List Rule
 covering h rules = filter (λ r. covers r.key.pattern h) rules
 
--- the greatest priority of the rules, 0 where there are none
-abbrev pub top_priority : List Rule → ℕ
-top_priority [] = 0
-top_priority (r ∷ rs) = max r.key.priority (top_priority rs)
-
 -- the first of the covering rules whose priority no covering rule exceeds
 abbrev pub matched : Header → List Rule → Option Rule
-matched h rules = find (λ r. r.key.priority == top_priority (covering h rules)) (covering h rules)
+matched h rules = find (λ r. list_all (λ q. nat_le q.key.priority r.key.priority) (covering h rules)) (covering h rules)
 
 -- the action of the rule that matches, or discard
 abbrev pub lookup : Header → List Rule → Action

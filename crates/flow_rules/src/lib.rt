@@ -2,6 +2,7 @@
 #![tactic(auto)]
 
 mod configs;
+pub mod laws;
 mod overlaps;
 mod rules;
 mod tables;

@@ -1,7 +1,9 @@
 // Patterns, keys, actions and rules.
-ghost use Rattle.std.specs.Prelude.{◌≡◌, ◌↔◌, IsTrue};
+ghost use Rattle.std.specs.Prelude.{◌≡◌, ◌↔◌, ◌==◌, IsTrue};
+ghost use Rattle.std.specs.Option.{option_eq};
+ghost use Rattle.net_base.specs.declared.ids.Port.{Port};
 ghost use Rattle.flow_rules.specs.Overlaps.{IsClash, ports_meet, vlans_meet, blocks_meet, patterns_meet, keys_clash};
-ghost use Rattle.flow_rules.specs.Patterns.{admits_port, admits_vlan, covers, in_port_eq, vlan_test_eq, key_eq};
+ghost use Rattle.flow_rules.specs.Patterns.{admits_port, admits_vlan, covers, vlan_test_eq, key_eq};
 ghost use Rattle.flow_rules.specs.Same.{rewrite_eq, action_eq, rule_eq};
 
 use net_base::{Port, Prefix, Vlan};
@@ -87,7 +89,7 @@ impl Pattern {
 
 /// Whether two choices of an ingress port are the same.
 fn is_same_port(a: Option<Port>, b: Option<Port>) -> bool
-    ensures { result ≡ in_port_eq a b }
+    ensures { result ≡ option_eq (λ (p q : Port). p.0 == q.0) a b }
 {
     match (a, b) {
         (None, None) => true,
