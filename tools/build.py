@@ -22,10 +22,12 @@ import sys
 import tempfile
 import time
 
-# Processor minutes for 1,000 lines of code, definitions and proofs, by which the time of a build is foretold: 67,000 lines took 78.
-MINUTES_FOR_1000_LINES = 1.2
+# Processor minutes for 1,000 lines of code, definitions and proofs, by which the time of a build is foretold: 75,400 lines took 75.
+MINUTES_FOR_1000_LINES = 1.0
 # How many processors a crate that is proved alone keeps busy, on average.
 BUSY_FOR_ONE_CRATE = 1.5
+# How much of each further processor is busy, on average: some wait for the longest chain of crates. Four took 27 minutes for 75.
+BUSY_FOR_FURTHER = 0.6
 # Memory that a crate may take while it is proved, in bytes.
 MEMORY_FOR_ONE_CRATE = 3_000_000_000
 # The parts of a crate from which it is made.
@@ -95,9 +97,9 @@ def foretold(crates, left, lines, processors, copies):
     minutes = {it: lines[it] * MINUTES_FOR_1000_LINES / 1000 for it in left}
     among = {it: [dep for dep in crates[it] if dep in minutes] for it in left}
     longest = max(chains(among, left, minutes).values(), default=0)
-    busy = min(processors, BUSY_FOR_ONE_CRATE)
-    shared = sum(minutes.values()) / min(processors, copies * BUSY_FOR_ONE_CRATE)
-    return max(shared, longest / busy)
+    used = min(processors, copies * BUSY_FOR_ONE_CRATE)
+    shared = sum(minutes.values()) / (1 + BUSY_FOR_FURTHER * (used - 1))
+    return max(shared, longest / min(processors, BUSY_FOR_ONE_CRATE))
 
 
 # ---- what is said

@@ -56,8 +56,8 @@ class Order(unittest.TestCase):
     def test_time_is_that_of_the_chain_or_of_all_work(self):
         lines = {it: 1000 * number for it, number in LINES.items()}
         of = lambda left, processors, copies: round(build.foretold(CRATES, left, lines, processors, copies))
-        self.assertEqual(of(["base", "left", "right", "top"], 1, 1), 240)
-        self.assertEqual(of(["base", "left", "right", "top"], 4, 4), 152)
+        self.assertEqual(of(["base", "left", "right", "top"], 1, 1), 200)
+        self.assertEqual(of(["base", "left", "right", "top"], 4, 4), 127)
         self.assertEqual(of(["left"], 4, 1), 8)
         self.assertEqual(of([], 4, 4), 0)
 
