@@ -300,7 +300,7 @@ mod tests {
             Numbered::Heights(_) => assert!(rt; false, "a ring has a cycle"),
             Numbered::Cycle(walk) => {
                 let wanted = [SwitchId(1), SwitchId(2), SwitchId(1)];
-                assert_eq!(rt; walk.switches(), wanted.as_slice());
+                assert_eq!(rt; walk.list(), wanted.as_slice());
             }
         }
         Ok(())

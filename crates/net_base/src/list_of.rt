@@ -29,6 +29,13 @@ impl<T: Drop> ListOf<T> {
         })
     }
 
+    /// The list of these items.
+    pub fn of(items: Vec<T>) -> ListOf<T>
+        ensures { result ≡ items.items }
+    {
+        ListOf { items }
+    }
+
     /// One more item. After a refusal the list is as before.
     pub fn add(&mut self, item: T) -> Result<(), Memory>
         ensures ok { OnOk result (self.new ≡ self.old ++ item ∷ []) }
