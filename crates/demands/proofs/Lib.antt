@@ -2,3 +2,4 @@ pub mod DutyLaws
 pub mod ChainLaws
 pub mod RowLaws
 pub mod RangeLaws
+pub mod MeetsLaws

@@ -1,10 +1,12 @@
 -- Good traces and good configurations.
-use Rattle.std.specs.Prelude.{ℕ, IsTrue, List, map}
+use Rattle.std.specs.Prelude.{◌≡◌, ◌≢◌, ℕ, IsTrue, List, map}
 use Rattle.std.specs.List.{AllByRecursion}
-use Rattle.net_base.specs.Members.{IsDistinct, IsSubsequence}
+use Rattle.net_base.specs.Members.{IsIn, IsDistinct, IsSubsequence}
 use Rattle.net_base.specs.declared.ids.Place.{Place}
+use Rattle.net_base.specs.declared.ids.Port.{Port}
 use Rattle.net_base.specs.declared.ids.Stop.{Stop}
 use Rattle.net_base.specs.declared.ids.SwitchId.{SwitchId}
+use Rattle.net_base.specs.declared.ids.Vlan.{Vlan}
 use Rattle.topology.specs.Networks.{Network}
 use Rattle.flow_rules.specs.declared.rules.Rule.{Rule}
 use Rattle.dest_classes.specs.Classes.{ClassList, IsClass}
@@ -12,11 +14,19 @@ use Rattle.dest_classes.specs.declared.Class.{Class}
 use Rattle.path_walk.specs.Paths.{Trace, IsPath}
 use Rattle.path_walk.specs.declared.Ended.{Ended}
 use Rattle.path_walk.specs.declared.Ended.TheVariants.{Left, Dropped}
-use Rattle.demands.specs.Duties.{PacketDuties, DemandView, duties_of}
+use Rattle.demands.specs.Duties.{PacketDuties, DemandView, demand_covers, first_of_each, duties_of}
 
 -- the switches of a list of stops
 abbrev pub switches_of : List Stop → List SwitchId
 switches_of stops = map (λ s. s.switch) stops
+
+-- a trace that meets the demands on its entry and address: no switch twice; where the packet left, it met the waypoints of each demand that covers
+-- it, in their order and each where its name stands first; and where one of these demands says deliver, no switch dropped the packet
+pub record MeetsDemands (demands : List DemandView) (entry : Place) (dst : ℕ) (trace : Trace) : Type 0 where
+  pub distinct : IsDistinct (switches_of trace.stops)
+  pub chains : (d : DemandView) → IsIn d demands → IsTrue (demand_covers d entry dst)
+      → (s : SwitchId) (port : Port) (vlan : Vlan) → trace.ended ≡ Left s port vlan → IsSubsequence (first_of_each d.through) (switches_of trace.stops)
+  pub arrives : (d : DemandView) → IsIn d demands → IsTrue (demand_covers d entry dst) → IsTrue d.deliver → (s : SwitchId) → trace.ended ≢ Dropped s
 
 -- a packet that left met each chain in order
 abbrev pub MeetsChains : List (List SwitchId) → List SwitchId → Ended → Type 0

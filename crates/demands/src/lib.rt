@@ -3,6 +3,7 @@
 
 mod chains;
 mod fault;
+pub mod laws;
 mod policy;
 mod read;
 mod stored;

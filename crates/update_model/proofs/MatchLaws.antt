@@ -1,14 +1,14 @@
 -- A rule matches in some mixture exactly where it may match.
 use Rattle.std.proofs.Common.{◌≡◌, ◌⊎◌, ◌≤◌, Bool, true, false, cond, List, [], ◌∷◌, map, refl, sym, ◌∙◌, subst, ap, arith, inl, inr}
-use Rattle.std.specs.Prelude.{◌==◌, filter, find, Some, None}
+use Rattle.std.specs.Prelude.{filter, find, Some, None}
 use Rattle.std.specs.List.{AllByRecursion}
-use Rattle.std.proofs.lemmas.Bool.{eqb-true, eq-eqb, cond-true, cond-false, both_ways, cond_both}
+use Rattle.std.proofs.lemmas.Bool.{cond-true, cond-false, both_ways, cond_both}
 use Rattle.net_base.specs.Members.{IsIn, IsSubsequence, IsDistinct}
 use Rattle.net_base.proofs.MemberLaws.{find_passes, in_map, in_from_map, in_filter, in_from_filter, in_from_subsequence, each_at}
 use Rattle.flow_rules.specs.Patterns.{Header, covers, key_eq}
-use Rattle.flow_rules.specs.Tables.{keys_of, covering, top_priority, matched, IsClear}
+use Rattle.flow_rules.specs.Tables.{keys_of, covering, matched, IsClear}
 use Rattle.flow_rules.proofs.KeyLaws.{key_eq-refl, key_ne, cases_key}
-use Rattle.flow_rules.proofs.LookupLaws.{IsTop, below_top, top_below, top_of, matched_is_top, matched_none}
+use Rattle.flow_rules.proofs.LookupLaws.{IsTop, is_top, top_tested, top_told, top_of, matched_is_top, matched_none}
 use Rattle.flow_rules.specs.declared.rules.Key.{Key}
 use Rattle.flow_rules.specs.declared.rules.Rule.{Rule}
 use Rattle.update_model.specs.Changes.{AppliesTo, rules_after}
@@ -31,22 +31,18 @@ found_in p (y ∷ xs) x e =
 -- the rule that matches covers, and is of greatest priority
 matched_top : (h : Header) (rules : List Rule) (r : Rule) → matched h rules ≡ Some r → IsIn r (covering h rules) × IsTop (covering h rules) r
 matched_top h rules r e =
-    let (i, passes) = found_in (λ q. q.key.priority == top_priority (covering h rules)) (covering h rules) r e in
-    let is : r.key.priority ≡ top_priority (covering h rules) = eqb-true r.key.priority (top_priority (covering h rules)) passes in
-    (i, λ q j. let b = below_top (covering h rules) q j in omega arith)
+    let (i, passes) = found_in (is_top (covering h rules)) (covering h rules) r e in
+    (i, top_told (covering h rules) r passes)
 
 -- where a rule covers, one matches
 some_matches : (h : Header) (rules : List Rule) (q : Rule) → IsIn q (covering h rules) → (r : Rule) × (matched h rules ≡ Some r)
 some_matches h rules q i = best (covering h rules) i
   where
-    best : (zs : List Rule) → IsIn q zs → (r : Rule) × (find (λ x. x.key.priority == top_priority zs) zs ≡ Some r)
+    best : (zs : List Rule) → IsIn q zs → (r : Rule) × (find (is_top zs) zs ≡ Some r)
     best [] j = absurd j
     best (z ∷ zs) j =
         let (m, k, top) = top_of z zs in
-        let low = below_top (z ∷ zs) m k in
-        let high = top_below (z ∷ zs) m.key.priority top in
-        let e : m.key.priority ≡ top_priority (z ∷ zs) = omega arith in
-        let (r, found, l, passes) = find_passes (λ x. x.key.priority == top_priority (z ∷ zs)) m (z ∷ zs) k (eq-eqb m.key.priority (top_priority (z ∷ zs)) e) in
+        let (r, found, l, passes) = find_passes (is_top (z ∷ zs)) m (z ∷ zs) k (top_tested (z ∷ zs) m top) in
         (r, found)
 
 -- a key is named or not

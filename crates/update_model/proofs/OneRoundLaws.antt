@@ -17,10 +17,10 @@ use Rattle.flow_rules.specs.declared.rules.Rule.{Rule}
 use Rattle.path_walk.specs.Paths.{outcome_in}
 use Rattle.path_walk.specs.declared.Outcome.{Outcome}
 use Rattle.path_walk.specs.declared.Outcome.TheVariants.{Discard, Leave, Go}
-use Rattle.update_model.specs.Changes.{Applies, changes_at, rules_after, round_after}
+use Rattle.update_model.specs.Changes.{Applies, changes_at, rules_after, tables_after_change, round_after}
 use Rattle.update_model.specs.Mixtures.{Update, tables_before, MayHold, IsPossible, MayGo, AreGoodRounds}
 use Rattle.update_model.specs.OneRound.{WalkedOneRound, EndWasPossible}
-use Rattle.update_model.specs.States.{State, first_state, IsUnderWay, settled_count, IsEnabled, entered, hopped, lost, with_packet, started, settled, tables_after_this, state_after_event}
+use Rattle.update_model.specs.States.{State, first_state, IsUnderWay, settled_count, IsEnabled, entered, hopped, lost, with_packet, settled, state_after_event}
 use Rattle.update_model.specs.Runs.{AreEnabled, state_after, IsRun, state_after_run}
 use Rattle.update_model.specs.declared.Change.{Change}
 use Rattle.update_model.specs.declared.Packet.{Packet}
@@ -98,7 +98,7 @@ module _ (u : Update) (good : AreGoodRounds u) where
       })
 
   start_tables : (phase : Phase) (tables : List (List Rule)) (flags : List Bool) (k : ℕ) → phase ≡ Settled k → k < length u.rounds → TablesAre u phase tables flags
-      → TablesAre u (started phase) tables (replicate (length (round_after (settled_count phase) u.rounds)) true)
+      → TablesAre u (Running (suc (settled_count phase))) tables (replicate (length (round_after (settled_count phase) u.rounds)) true)
   start_tables (Settled j) tables flags k is less are =
       let same : j ≡ k = cc in (
         omega arith,
@@ -107,7 +107,7 @@ module _ (u : Update) (good : AreGoodRounds u) where
       )
   start_tables (Running j) tables flags k is less are = absurd (let e : Running j ≡ Settled k = is in cc)
 
-  start_packet : (phase : Phase) (k : ℕ) → phase ≡ Settled k → (p : Packet) → (IsUnderWay p → k ≤ p.born) → IsSound u phase p → IsSound u (started phase) p
+  start_packet : (phase : Phase) (k : ℕ) → phase ≡ Settled k → (p : Packet) → (IsUnderWay p → k ≤ p.born) → IsSound u phase p → IsSound u (Running (suc (settled_count phase))) p
   start_packet (Settled j) k is p old sound =
       let same : j ≡ k = cc in
       let born = sound.0.0 in
@@ -116,14 +116,14 @@ module _ (u : Update) (good : AreGoodRounds u) where
 
   change_tables : (phase : Phase) (tables : List (List Rule)) (flags : List Bool) (k i : ℕ) (c : Change) → phase ≡ Running (suc k)
       → slice_get (round_after k u.rounds) i ≡ Some c → slice_get flags i ≡ Some true → Applies tables c → TablesAre u phase tables flags
-      → TablesAre u phase (tables_after_this (slice_get (round_after (settled_count phase) u.rounds) i) tables) (set flags i false)
+      → TablesAre u phase (option_map_or (λ d. tables_after_change d tables) (slice_get (round_after (settled_count phase) u.rounds) i) tables) (set flags i false)
   change_tables (Settled j) tables flags k i c is at flag applies are = absurd (let e : Settled j ≡ Running (suc k) = is in cc)
   change_tables (Running zero) tables flags k i c is at flag applies are = absurd are
   change_tables (Running (suc j)) tables flags k i c is at flag applies are =
       let same : suc j ≡ suc k = cc in
       let e : k ≡ j = omega arith in
       let here : slice_get (round_after j u.rounds) i ≡ Some c = subst (λ n. slice_get (round_after n u.rounds) i ≡ Some c) e at in
-      subst (λ o. TablesAre u (Running (suc j)) (tables_after_this o tables) (set flags i false)) (sym here) (
+      subst (λ o. TablesAre u (Running (suc j)) (option_map_or (λ d. tables_after_change d tables) o tables) (set flags i false)) (sym here) (
         are.0,
         length-set flags i false ∙ are.1,
         holds_more (tables_before u j) (round_after j u.rounds) (good j are.0) tables flags i c here flag applies are.2,
@@ -192,7 +192,7 @@ module _ (u : Update) (good : AreGoodRounds u) where
   pub sound_after : (st : State) (e : Event) → Sound u st → IsEnabled u.net u.rounds st e → Sound u (state_after_event u.net u.rounds st e)
   sound_after st event.Start sound may = record {
     tables = start_tables st.phase st.tables st.pending may.k may.settled may.more sound.tables;
-    packets = each_both (λ p. IsUnderWay p → may.k ≤ p.born) (IsSound u st.phase) (IsSound u (started st.phase)) (start_packet st.phase may.k may.settled) st.packets may.none_older sound.packets;
+    packets = each_both (λ p. IsUnderWay p → may.k ≤ p.born) (IsSound u st.phase) (IsSound u (Running (suc (settled_count st.phase)))) (start_packet st.phase may.k may.settled) st.packets may.none_older sound.packets;
   }
   sound_after st (event.Change i) sound may = record {
     tables = change_tables st.phase st.tables st.pending may.k i may.change may.running may.is may.pending may.applies sound.tables;

@@ -1,9 +1,9 @@
 -- The changes that remain: each applies, and after it one fewer remains.
 use Rattle.std.proofs.Common.{◌≡◌, ◌⊎◌, ℕ, zero, suc, ◌+◌, ◌<◌, true, false, cond, List, [], ◌∷◌, ◌++◌, length, get_or, set, refl, sym, ◌∙◌, subst, ap, inl, inr, arith, length-append}
-use Rattle.std.specs.Prelude.{Option, Some, None, filter_map}
+use Rattle.std.specs.Prelude.{◌==◌, Option, Some, None, filter_map}
 use Rattle.std.specs.List.{cons_option}
 use Rattle.std.specs.Ordering.{is_lt}
-use Rattle.std.proofs.lemmas.Bool.{cond-true, cond_both}
+use Rattle.std.proofs.lemmas.Bool.{cond-true, cond_both, eqb-true}
 use Rattle.net_base.specs.Members.{IsIn, IsDistinct}
 use Rattle.net_base.proofs.MemberLaws.{in_map, in_from_map, in_append_left, in_append_right, in_append_cases, find_passes}
 use Rattle.net_base.specs.declared.ids.SwitchId.{SwitchId}
@@ -13,13 +13,14 @@ use Rattle.flow_rules.specs.Tables.{keys_of, rules_at}
 use Rattle.flow_rules.proofs.KeyLaws.{key_eq-true, key_eq-refl, cases_key}
 use Rattle.flow_rules.specs.declared.rules.Key.{Key}
 use Rattle.flow_rules.specs.declared.rules.Rule.{Rule}
-use Rattle.update_model.specs.Changes.{switch_of, AppliesTo, Applies, rules_after_change, tables_after_change}
+use Rattle.update_model.specs.Changes.{switch_of, AppliesTo, Applies, rules_after_change, tables_after, tables_after_change}
 use Rattle.update_model.specs.Matches.{Writes}
-use Rattle.update_model.specs.Remaining.{rule_with, difference, changes_between, changes_from, with_key, keys_in_order, remaining}
+use Rattle.update_model.specs.Remaining.{rule_with, difference, changes_between, changes_from, with_key, keys_in_order, remaining, AreRemaining}
 use Rattle.update_model.specs.declared.Change.{Change}
 use Rattle.update_model.specs.declared.Change.TheVariants.{Insert, Delete, Replace}
-use Rattle.update_model.proofs.ChangeLaws.{key_named, writes_key, stands_from_in, in_from_stands}
+use Rattle.update_model.proofs.ChangeLaws.{key_named, writes_key, stands_from_in, in_from_stands, rules_at-after_change}
 use Rattle.net_base.proofs.ListLaws.{found_is, in_from_filter_map}
+use Rattle.net_base.proofs.NameLaws.{same_switch}
 use Rattle.flow_rules.specs.Same.{action_eq}
 use Rattle.flow_rules.proofs.TableLaws.{action_eq-refl}
 use Rattle.update_model.proofs.KeyOrderLaws.{order_distinct, in_order, from_order, in_with_key, from_with_key, sorted_with, sorted_order, sorted_unique}
@@ -283,3 +284,24 @@ remaining_shortens tables new unique new_unique d i =
       fewer_from 0 tables new n (rules_after_change d (get_or tables n [])) less more fewer
           ∙ ap (λ (x : SwitchId). suc (length (remaining (set tables x.0 (rules_after_change d (rules_at tables x))) new))) (sym h.switch),
     )
+
+-- at each switch no two rules have one key
+abbrev pub AllUnique : List (List Rule) → Type 0
+AllUnique tables = (s : SwitchId) → AreUnique (rules_at tables s)
+
+pub unique_then : (tables : List (List Rule)) (d : Change) → Applies tables d → AllUnique tables → AllUnique (tables_after_change d tables)
+unique_then tables d applies unique s =
+    subst AreUnique (sym (rules_at-after_change d tables s applies.0))
+    (elim ((switch_of d).0 == s.0) as (λ b. ((switch_of d).0 == s.0) ≡ b → AreUnique (cond b (rules_after_change d (rules_at tables s)) (rules_at tables s))) [
+      | true ↦ λ e. unique_after (rules_at tables s) d (subst (λ x. AppliesTo (rules_at tables x) d) (same_switch (switch_of d) s (eqb-true (switch_of d).0 s.0 e)) applies.1) (unique s)
+      | false ↦ λ _. unique s
+    ] refl)
+
+-- what remains at first is what is made and what remains after it
+pub remaining_made : (new : List (List Rule)) → AllUnique new → (tables : List (List Rule)) → AllUnique tables → (changes : List Change) → AreRemaining tables new changes
+    → length (remaining tables new) ≡ length changes + length (remaining (tables_after changes tables) new)
+remaining_made new new_unique tables unique [] made = omega arith
+remaining_made new new_unique tables unique (c ∷ changes) made =
+    let (applies, fewer) = remaining_shortens tables new unique new_unique c made.0 in
+    let rest = remaining_made new new_unique (tables_after_change c tables) (unique_then tables c applies unique) changes made.1 in
+    omega arith

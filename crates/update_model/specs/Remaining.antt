@@ -1,6 +1,7 @@
 -- The changes that lead from some tables to others.
 use Rattle.std.specs.Prelude.{ℕ, suc, cond, List, [], ◌∷◌, ◌++◌, filter_map, find, Option, Some, None}
 use Rattle.std.specs.Ordering.{is_lt}
+use Rattle.net_base.specs.Members.{IsIn}
 use Rattle.net_base.specs.declared.ids.SwitchId.{SwitchId}
 use Rattle.flow_rules.specs.Order.{key_cmp}
 use Rattle.flow_rules.specs.Same.{action_eq}
@@ -8,6 +9,7 @@ use Rattle.flow_rules.specs.Patterns.{key_eq}
 use Rattle.flow_rules.specs.Tables.{keys_of}
 use Rattle.flow_rules.specs.declared.rules.Key.{Key}
 use Rattle.flow_rules.specs.declared.rules.Rule.{Rule}
+use Rattle.update_model.specs.Changes.{tables_after_change}
 use Rattle.update_model.specs.declared.Change.{Change}
 use Rattle.update_model.specs.declared.Change.TheVariants.{Insert, Delete, Replace}
 
@@ -46,3 +48,8 @@ changes_from n (now ∷ nows) (new ∷ news) = changes_between (record { 0 = n }
 -- the changes that remain, by switch and then in key order
 abbrev pub remaining : List (List Rule) → List (List Rule) → List Change
 remaining now new = changes_from 0 now new
+
+-- each change is one of those that remain when it is made
+abbrev pub AreRemaining : List (List Rule) → List (List Rule) → List Change → Type 0
+AreRemaining now new [] = Unit {0}
+AreRemaining now new (c ∷ cs) = IsIn c (remaining now new) × AreRemaining (tables_after_change c now) new cs

@@ -1,15 +1,15 @@
 -- The state of a network while an update runs, and what each event does to it.
-use Rattle.std.specs.Prelude.{◌≡◌, ◌^◌, ℕ, zero, suc, ◌<◌, ◌≤◌, Bool, true, false, List, [], ◌∷◌, ◌++◌, length, replicate, slice_get, slice_set, Option, Some, None}
+use Rattle.std.specs.Prelude.{◌≡◌, ◌^◌, ℕ, zero, suc, ◌<◌, ◌≤◌, Bool, true, false, List, [], ◌∷◌, ◌++◌, length, replicate, slice_get, slice_set, Some}
 use Rattle.std.specs.Option.{option_map_or}
 use Rattle.std.specs.List.{AllByRecursion}
 use Rattle.net_base.specs.Places.{stop_of}
 use Rattle.net_base.specs.declared.ids.Place.{Place}
 use Rattle.topology.specs.Networks.{Network, IsEntry}
 use Rattle.flow_rules.specs.declared.rules.Rule.{Rule}
-use Rattle.path_walk.specs.Paths.{outcome_in}
+use Rattle.path_walk.specs.Paths.{ended_by, outcome_in}
 use Rattle.path_walk.specs.declared.Outcome.{Outcome}
-use Rattle.path_walk.specs.declared.Outcome.TheVariants.{Discard, Leave, Go}
-use Rattle.path_walk.specs.declared.Ended.TheVariants.{UnderWay, Left, Dropped, Lost}
+use Rattle.path_walk.specs.declared.Outcome.TheVariants.{Go}
+use Rattle.path_walk.specs.declared.Ended.TheVariants.{UnderWay, Lost}
 use Rattle.update_model.specs.Changes.{Applies, tables_after_change, round_after}
 use Rattle.update_model.specs.declared.Change.{Change}
 use Rattle.update_model.specs.declared.Packet.{Packet}
@@ -81,8 +81,7 @@ entered place dst k = record { entry = place; dst = dst; at = place; born = k; v
 -- a packet after an outcome at its place: it goes on, leaves or is dropped
 abbrev pub hopped : Packet → Outcome → Packet
 hopped p (Go next) = record p { at = next; visits = p.visits ++ stop_of next ∷ [] }
-hopped p Discard = record p { ended = Dropped p.at.switch }
-hopped p (Leave port vlan) = record p { ended = Left p.at.switch port vlan }
+hopped p found = record p { ended = ended_by p.at found }
 
 -- a packet after it is lost
 abbrev pub lost : Packet → Packet
@@ -92,28 +91,19 @@ lost p = record p { ended = Lost }
 abbrev pub with_packet : (Packet → Packet) → ℕ → List Packet → List Packet
 with_packet f i packets = option_map_or (λ p. slice_set packets i (f p)) (slice_get packets i) packets
 
--- the phase after the next round starts, and after it is settled
-abbrev pub started : Phase → Phase
-started (Settled k) = Running (suc k)
-started (Running k) = Running k
-
+-- the phase after the running round is settled
 abbrev pub settled : Phase → Phase
 settled (Settled k) = Settled k
 settled (Running k) = Settled k
 
--- the tables after change i of a round
-abbrev pub tables_after_this : Option Change → List (List Rule) → List (List Rule)
-tables_after_this None tables = tables
-tables_after_this (Some c) tables = tables_after_change c tables
-
 -- the state after an event
 abbrev pub state_after_event : Network → List (List Change) → State → Event → State
 state_after_event net rounds a event.Start = record a {
-  phase = started a.phase;
+  phase = Running (suc (settled_count a.phase));
   pending = replicate (length (round_after (settled_count a.phase) rounds)) true;
 }
 state_after_event net rounds a (event.Change i) = record a {
-  tables = tables_after_this (slice_get (round_after (settled_count a.phase) rounds) i) a.tables;
+  tables = option_map_or (λ c. tables_after_change c a.tables) (slice_get (round_after (settled_count a.phase) rounds) i) a.tables;
   pending = slice_set a.pending i false;
 }
 state_after_event net rounds a event.Settle = record a { phase = settled a.phase }

@@ -11,6 +11,7 @@ ghost use Rattle.update_model.specs.Changes.{with_change, rule_of, Applies, Appl
 ghost use Rattle.update_model.specs.Mixtures.{is_insert};
 ghost use Rattle.update_model.specs.States.{with_packet, hopped, entered, settled_count, first_state, IsUnderWay, IsHopping, IsEnabled, MayStart, MayChange, MaySettle};
 
+pub mod laws;
 mod pending;
 #[cfg(test)]
 mod runs;

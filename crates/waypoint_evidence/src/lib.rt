@@ -325,7 +325,7 @@ mod tests {
                 assert!(rt; !set.holds(SwitchId(2)) && !set.holds(SwitchId(3)));
             }
             Befored::Walk(walk) => {
-                assert!(rt; walk.switches().is_empty(), "no walk misses switch 2");
+                assert!(rt; walk.list().is_empty(), "no walk misses switch 2");
             }
         }
         Ok(())
@@ -345,7 +345,7 @@ mod tests {
             Befored::Set(_) => assert!(rt; false, "a walk misses switch 1"),
             Befored::Walk(walk) => {
                 let wanted = [SwitchId(0), SwitchId(2), SwitchId(3)];
-                assert_eq!(rt; walk.switches(), wanted.as_slice());
+                assert_eq!(rt; walk.list(), wanted.as_slice());
             }
         }
         Ok(())
@@ -367,7 +367,7 @@ mod tests {
             Befored::Set(_) => assert!(rt; false, "switch 2 may be met before switch 1"),
             Befored::Walk(walk) => {
                 let wanted = [SwitchId(0), SwitchId(2), SwitchId(3)];
-                assert_eq!(rt; walk.switches(), wanted.as_slice());
+                assert_eq!(rt; walk.list(), wanted.as_slice());
             }
         }
         Ok(())
