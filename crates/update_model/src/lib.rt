@@ -11,10 +11,6 @@ ghost use Rattle.update_model.specs.Changes.{with_change, rule_of, Applies, Appl
 ghost use Rattle.update_model.specs.Mixtures.{is_insert};
 ghost use Rattle.update_model.specs.States.{with_packet, hopped, entered, settled_count, first_state, IsUnderWay, IsHopping, IsEnabled, MayStart, MayChange, MaySettle};
 
-#[cfg(test)]
-mod runs;
-#[cfg(test)]
-mod tests;
 mod world;
 
 use flow_rules::{Config, Rule, Table};
