@@ -13,10 +13,6 @@ ghost use Rattle.update_model.specs.States.{with_packet, hopped, entered, settle
 
 pub mod laws;
 mod pending;
-#[cfg(test)]
-mod runs;
-#[cfg(test)]
-mod tests;
 mod traffic;
 mod world;
 

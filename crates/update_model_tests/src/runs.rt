@@ -1,11 +1,11 @@
 //! Tests of runs over a network of four switches.
-use crate::{Change, Event, Phase, Rounds, StepFault, World};
 use flow_rules::{Action, Config, Key, Pattern, Rewrite, Rule, Table, VlanTest};
 use net_base::{Memory, Place, Port, Prefix, SwitchId, Vlan};
 use path_walk::Ended;
 use std::alloc::Global;
 use std::test::Fail;
 use topology::read_net;
+use update_model::{Change, Event, Phase, Rounds, StepFault, World};
 
 /// Four switches in a line, and links from the first to the third and to the fourth. Each has a host.
 const SQUARE: &[u8] =

@@ -1,8 +1,8 @@
 //! Tests of rounds and of single changes.
-use crate::{Change, Event, Events, Rounds, applies};
 use flow_rules::{Action, Config, Key, Pattern, Rewrite, Rule, Table, VlanTest};
 use net_base::{Port, Prefix, SwitchId};
 use std::test::Fail;
+use update_model::{Change, Event, Events, Rounds, applies};
 
 /// A rule for the addresses from 10.0.0.0 to 10.0.0.255.
 fn rule(priority: u16, port: u16) -> Rule {
