@@ -1,6 +1,6 @@
 -- Tables of rules by prefix alone, with the keys of the new table: what a lookup in them and in their mixtures gives.
 use Rattle.std.proofs.Common.{◌≡◌, ◌≢◌, ◌⊎◌, ◌&&◌, ℕ, ◌≤◌, true, cond, List, [], ◌∷◌, refl, sym, ◌∙◌, subst, ap, inl, inr}
-use Rattle.std.specs.Prelude.{◌==◌, Option, None, find}
+use Rattle.std.specs.Prelude.{Option, None, find}
 use Rattle.std.specs.Option.{option_map_or}
 use Rattle.std.specs.List.{AllByRecursion}
 use Rattle.net_base.specs.Blocks.{Block, in_block}
@@ -9,9 +9,9 @@ use Rattle.net_base.proofs.MemberLaws.{in_map, in_from_map, in_filter, in_from_f
 use Rattle.net_base.specs.declared.ids.SwitchId.{SwitchId}
 use Rattle.net_base.specs.declared.ids.Port.{Port}
 use Rattle.flow_rules.specs.Patterns.{Header, covers, admits_port, admits_vlan}
-use Rattle.flow_rules.specs.Tables.{keys_of, covering, top_priority, lookup, IsClear, IsTable}
+use Rattle.flow_rules.specs.Tables.{keys_of, covering, lookup, IsClear, IsTable}
 use Rattle.flow_rules.proofs.KeyLaws.{cases_key}
-use Rattle.flow_rules.proofs.LookupLaws.{IsTop, top_of, matched_is_top, matched_none, lookup_by_set}
+use Rattle.flow_rules.proofs.LookupLaws.{IsTop, is_top, top_of, matched_is_top, matched_none, lookup_by_set}
 use Rattle.flow_rules.specs.declared.rules.VlanTest.{VlanTest}
 use Rattle.flow_rules.specs.declared.rules.VlanTest.TheVariants as test
 use Rattle.flow_rules.specs.declared.rules.Key.{Key}
@@ -61,7 +61,7 @@ covering_alike h g (r ∷ rules) alike =
     ∙ ap (λ rs. cond (covers r.key.pattern g) (r ∷ rs) rs) (covering_alike h g rules (λ q i. alike q (inr i)))
 
 lookup_alike : (h g : Header) (rules : List Rule) → ((r : Rule) → IsIn r rules → covers r.key.pattern h ≡ covers r.key.pattern g) → lookup h rules ≡ lookup g rules
-lookup_alike h g rules alike = ap (λ rs. option_map_or (λ r. r.action) (find (λ r. r.key.priority == top_priority rs) rs) Discard) (covering_alike h g rules alike)
+lookup_alike h g rules alike = ap (λ rs. option_map_or (λ r. r.action) (find (is_top rs) rs) Discard) (covering_alike h g rules alike)
 
 module _ (blocks : List Block) (apart : (a b : Block) → IsIn a blocks → IsIn b blocks → AreApart a b)
     (new : List Rule) (alone : AllByRecursion MatchesPrefixAlone new) (within : (r : Rule) → IsIn r new → IsIn r.key.pattern.dst blocks) where
