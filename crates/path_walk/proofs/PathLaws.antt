@@ -17,7 +17,8 @@ use Rattle.topology.specs.Networks.{Network, end_at}
 use Rattle.topology.specs.declared.net.End.{End}
 use Rattle.topology.specs.declared.net.End.TheVariants as at
 use Rattle.flow_rules.specs.Patterns.{Header, covers}
-use Rattle.flow_rules.specs.Tables.{rules_at, lookup, covering, top_priority}
+use Rattle.flow_rules.specs.Tables.{rules_at, lookup, covering}
+use Rattle.flow_rules.proofs.LookupLaws.{is_top}
 use Rattle.flow_rules.specs.declared.rules.Rule.{Rule}
 use Rattle.flow_rules.specs.declared.rules.Action.{Action}
 use Rattle.flow_rules.specs.declared.rules.Action.TheVariants as action
@@ -66,8 +67,8 @@ lookup_each P h rules none all = found (covering h rules) (each_filter (λ r. P 
     found_in test [] each = none
     found_in test (r ∷ rs) each = cond_both (test r) (Some r) (find test rs) (λ o. P (option_map_or (λ x. x.action) o action.Discard)) (λ _. each.0) (λ _. found_in test rs each.1)
 
-    found : (rs : List Rule) → AllByRecursion (λ r. P r.action) rs → P (option_map_or (λ r. r.action) (find (λ r. r.key.priority == top_priority rs) rs) action.Discard)
-    found rs each = found_in (λ r. r.key.priority == top_priority rs) rs each
+    found : (rs : List Rule) → AllByRecursion (λ r. P r.action) rs → P (option_map_or (λ r. r.action) (find (is_top rs) rs) action.Discard)
+    found rs each = found_in (is_top rs) rs each
 
 -- the outcome has the VLAN of the place
 abbrev pub HasVlan : Vlan → Outcome → Type 0
