@@ -20,7 +20,7 @@ PARTS = (
     (
         "The certified plan",
         "Which plans are accepted. That a certified plan is consistent is a proved law (`certified_consistent` in crates/certificates/src/laws.rt), so the sentence can be believed without this part.",
-        ("IsCertified",),
+        ("IsCertified", "is_two_phase"),
     ),
     ("What the files mean", "Which network, configurations, demands and plan the bytes of five files stand for, and when `check` accepts them.", ("FilesAreCertified", "FilesMeanPlan")),
 )
@@ -102,6 +102,7 @@ WORDS = {
     "nat_le": "whether the first number is at most the second",
     "nat_lt": "whether the first number is below the second",
     "not": "true for false, false for true",
+    "option_eq": "`option_eq eq a b`: whether there is nothing in both, or something in both and eq is true of it",
     "option_and_then": "`option_and_then f o`: f of the value, where there is one",
     "option_map": "`option_map f o`: the value that f gives for the one that is there, if one is",
     "option_map_or": "`option_map_or f o d`: f of the value, where there is one, otherwise d",

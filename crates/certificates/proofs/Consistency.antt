@@ -1,9 +1,9 @@
 -- A certified plan is consistent.
-use Rattle.std.proofs.Common.{◌≡◌, ◌⊎◌, ℕ, List, [], ◌∷◌, ◌++◌, length, map, refl, sym, ◌∙◌, subst, ap, arith, inl, inr}
+use Rattle.std.proofs.Common.{◌≡◌, ◌⊎◌, ℕ, false, List, [], ◌∷◌, ◌++◌, length, map, refl, sym, ◌∙◌, subst, ap, arith, inl, inr}
 use Rattle.std.specs.Prelude.{flat_map, IsTrue}
 use Rattle.std.specs.List.{AllByRecursion}
 use Rattle.std.proofs.Math.ListN.{get_or-eq_default}
-use Rattle.std.proofs.lemmas.Bool.{cases_lt}
+use Rattle.std.proofs.lemmas.Bool.{cases_lt, false≢true}
 use Rattle.net_base.specs.Blocks.{IsSameClass, in_block}
 use Rattle.net_base.specs.Members.{IsSameSet, IsDistinct, IsSubsequence, IsPrefix}
 use Rattle.net_base.specs.Walks.{IsWalk, end_of}
@@ -12,7 +12,9 @@ use Rattle.net_base.proofs.WalkLaws.{reached_start, reached_end, walk_weaker}
 use Rattle.net_base.proofs.MemberLaws.{each_first, each_last, each_from_map, each_get_or, each_both, same_filter, same_through}
 use Rattle.net_base.specs.declared.ids.SwitchId.{SwitchId}
 use Rattle.net_base.specs.declared.ids.Place.{Place}
+use Rattle.net_base.specs.declared.ids.Port.{Port}
 use Rattle.net_base.specs.declared.ids.Stop.{Stop}
+use Rattle.net_base.specs.declared.ids.Vlan.{Vlan}
 use Rattle.flow_rules.specs.Patterns.{covers}
 use Rattle.flow_rules.specs.Tables.{rules_at, IsClear}
 use Rattle.flow_rules.specs.declared.rules.Rule.{Rule}
@@ -29,6 +31,7 @@ use Rattle.dest_classes.proofs.ClassLaws.{class_of}
 use Rattle.demands.specs.Duties.{DemandView, duties_of}
 use Rattle.demands.specs.Good.{IsGood, MeetsChains, IsDropped, switches_of, HasGoodPath}
 use Rattle.demands.proofs.DutyLaws.{duties_same, distinct_prefix}
+use Rattle.demands.proofs.MeetsLaws.{good_meets}
 use Rattle.update_model.specs.Changes.{changes_at, round_after, rule_of, rules_after}
 use Rattle.update_model.specs.Mixtures.{Update, tables_before, MayHold, IsPossible, MayGo, IsMixedWalk}
 use Rattle.update_model.specs.OneRound.{WalkedOneRound, EndWasPossible}
@@ -39,9 +42,9 @@ use Rattle.update_model.proofs.OneRoundLaws.{IsAdmitted, walks_one_round, is_adm
 use Rattle.certificates.specs.Steps.{switches_along}
 use Rattle.certificates.specs.Ordered.{IsSafe}
 use Rattle.certificates.specs.TwoPhase.{TwoPhaseCertificate}
-use Rattle.certificates.specs.Certified.{Task, IsCertified, blocks_of}
+use Rattle.certificates.specs.Certified.{Task, IsCertified, blocks_of, is_two_phase}
 use Rattle.flow_rules.specs.Tables.{table_blocks}
-use Rattle.certificates.specs.Consistent.{trace_of, BeginsPath, KeepsUserVlan, FollowsTables, IsConsistentPacket, IsConsistent}
+use Rattle.certificates.specs.Consistent.{trace_of, FollowsTables, IsConsistentPacket, IsConsistent}
 use Rattle.certificates.specs.Laws.{EndsFor, trace_by}
 use Rattle.certificates.specs.declared.Evidence.{Evidence}
 use Rattle.certificates.specs.declared.Evidence.TheVariants.{Ordered, TwoPhase}
@@ -54,6 +57,10 @@ use Rattle.certificates.proofs.Labelled.{labelled_walk}
 pub switches_are : (ps : List Place) → switches_of (map stop_of ps) ≡ map (λ p. p.switch) ps
 switches_are [] = refl
 switches_are (p ∷ ps) = ap (λ xs. p.switch ∷ xs) (switches_are ps)
+
+prefix_self : {A : Type 0} (xs : List A) → IsPrefix xs xs
+prefix_self [] = tt
+prefix_self (x ∷ xs) = (refl, prefix_self xs)
 
 -- tables whose rules treat two addresses alike have one path for both
 module _ (t : Task) (tables : List (List Rule)) (a b : ℕ) (alike : AllByRecursion (AllByRecursion (TreatsAlike a b)) tables) where
@@ -105,20 +112,34 @@ module _ (t : Task) (p : Packet) (walked : WalkedOneRound t.update p) where
     whole : (found : Outcome) → IsPossible t.update p.born p.dst (end_of p.entry walked.rest) found → IsEnd (ended_by (end_of p.entry walked.rest) found)
         → (other : Trace) × IsAllowed other × (trace_by p.entry walked.rest found ≡ other) × EndsFor p.entry.vlan found
 
-  -- what is to be shown of a packet, by its end
-  abbrev IsShown : Ended → Type 0
-  IsShown ended =
-      IsGood (duties_of t.demands p.entry p.dst) (trace_of p)
-      × ((FollowsTables t.update.net t.update.old p ended ⊎ FollowsTables t.update.net t.new p ended) × KeepsUserVlan p.entry.vlan ended)
+  -- the packet follows the old or the new tables
+  abbrev FollowsVersion : Type 0
+  FollowsVersion = FollowsTables t.update.net t.update.old p ⊎ FollowsTables t.update.net t.new p
+
+  -- where it left, it has its entry's VLAN
+  abbrev KeepsUserVlan : Type 0
+  KeepsUserVlan = (s : SwitchId) (port : Port) (vlan : Vlan) → p.ended ≡ Left s port vlan → vlan ≡ p.entry.vlan
+
+  -- what is to be shown of a packet
+  abbrev IsShown : Type 0
+  IsShown = IsGood (duties_of t.demands p.entry p.dst) (trace_of p) × (FollowsVersion × KeepsUserVlan)
 
   module _ (following : IsFollowing) where
     begun : IsPrefix p.visits following.path.stops
     begun = subst (λ v. IsPrefix v following.path.stops) (sym walked.visits_are) following.begins
 
-    begun_paths : BeginsPath t.update.net t.update.old p ⊎ BeginsPath t.update.net t.new p
-    begun_paths = elim following.allowed.0 [
-      | inl old ↦ inl (record { whole = following.path; path = old; begins = begun })
-      | inr new ↦ inr (record { whole = following.path; path = new; begins = begun })
+    -- a packet that has not ended so has begun the path
+    begun_version : ¬ IsEnd p.ended → FollowsVersion
+    begun_version going = elim following.allowed.0 [
+      | inl old ↦ inl (record { path = following.path; is_path = old; begins = begun; whole = λ ends. absurd (going ends) })
+      | inr new ↦ inr (record { path = following.path; is_path = new; begins = begun; whole = λ ends. absurd (going ends) })
+    ]
+
+    -- a packet whose trace is the path
+    whole_version : IsPath t.update.net t.update.old p.entry p.dst (trace_of p) ⊎ IsPath t.update.net t.new p.entry p.dst (trace_of p) → FollowsVersion
+    whole_version which = elim which [
+      | inl old ↦ inl (record { path = trace_of p; is_path = old; begins = prefix_self p.visits; whole = λ _. refl })
+      | inr new ↦ inr (record { path = trace_of p; is_path = new; begins = prefix_self p.visits; whole = λ _. refl })
     ]
 
     good_so_far : (ended : Ended) → p.ended ≡ ended → MeetsChains (duties_of t.demands p.entry p.dst).chains (switches_of p.visits) ended → (¬ IsDropped ended)
@@ -149,13 +170,17 @@ module _ (t : Task) (p : Packet) (walked : WalkedOneRound t.update p) where
           ),
         )
 
-    shown : (ended : Ended) → p.ended ≡ ended → EndWasPossible t.update p ended → IsShown ended
-    shown UnderWay is was = (good_so_far UnderWay is tt (λ h. h), (begun_paths, tt))
-    shown Lost is was = (good_so_far Lost is tt (λ h. h), (begun_paths, tt))
-    shown (Left switch port vlan) is was = finished (Leave port vlan) was.1 tt (is ∙ ap (λ s. Left s port vlan) was.0)
+    shown : (ended : Ended) → p.ended ≡ ended → EndWasPossible t.update p ended → IsShown
+    shown UnderWay is was =
+        (good_so_far UnderWay is tt (λ h. h), (begun_version (λ h. subst IsEnd is h), λ s port vlan left. absurd (let e : UnderWay ≡ Left s port vlan = sym is ∙ left in cc)))
+    shown Lost is was =
+        (good_so_far Lost is tt (λ h. h), (begun_version (λ h. subst IsEnd is h), λ s port vlan left. absurd (let e : Lost ≡ Left s port vlan = sym is ∙ left in cc)))
+    shown (Left switch port vlan) is was =
+        let all = finished (Leave port vlan) was.1 tt (is ∙ ap (λ s. Left s port vlan) was.0) in
+        (all.0, (whole_version all.1.0, λ s q v left. (let e : Left switch port vlan ≡ Left s q v = sym is ∙ left in let f : v ≡ vlan = cc in f) ∙ all.1.1))
     shown (Dropped switch) is was =
         let all = finished Discard was.1 tt (is ∙ ap Dropped was.0) in
-        (all.0, (all.1.0, tt))
+        (all.0, (whole_version all.1.0, λ s q v left. absurd (let e : Dropped switch ≡ Left s q v = sym is ∙ left in cc)))
 
 module _ (t : Task) (old_user : IsUserConfig t.update.net t.update.old) (new_user : IsUserConfig t.update.net t.new) where
   -- what tells no address from another of its class
@@ -279,19 +304,23 @@ module _ (t : Task) (old_user : IsUserConfig t.update.net t.update.old) (new_use
           ends_for (Leave port vlan) has ends = has
           ends_for (Go next) has ends = ends
 
+  -- a packet of an ordered plan is consistent where its trace is good
+  ordered_packet : (p : Packet) → IsGood (duties_of t.demands p.entry p.dst) (trace_of p) → IsConsistentPacket t false p
+  ordered_packet p good = record { good = good_meets t.demands p.entry p.dst (trace_of p) good; version = λ two. absurd (false≢true two); vlan = λ two. absurd (false≢true two) }
+
   -- a packet of a certified plan
-  packet_consistent : (evidence : Evidence) → IsCertified t evidence → (p : Packet) → WalkedOneRound t.update p → IsAdmitted t.update p → IsConsistentPacket t evidence p
+  packet_consistent : (evidence : Evidence) → IsCertified t evidence → (p : Packet) → WalkedOneRound t.update p → IsAdmitted t.update p → IsConsistentPacket t (is_two_phase evidence) p
   packet_consistent (Ordered evidence) certified p walked admitted =
       let (n, first, is, same) = class_of (blocks_of t.update.old t.new t.demands t.update.rounds) p.dst admitted.dst t.update.net p.entry admitted.entry in
       elim (cases_lt p.born (length t.update.rounds)) [
         | inl less ↦ (
             let certificate = certified.certificates p.born n (record { entry = p.entry; first = first }) less is in
-            record { good = safe_good p walked first same certificate.numbers certificate.sets certificate.safe; version = tt })
+            ordered_packet p (safe_good p walked first same certificate.numbers certificate.sets certificate.safe))
         | inr past ↦ (
             let born : p.born ≡ length t.update.rounds = (let h = admitted.born in omega arith) in
             let following = last_following p walked first same (certified.old_good n (record { entry = p.entry; first = first }) is) (certified.new_good n (record { entry = p.entry; first = first }) is) born certified.ends in
             let all = shown t p walked following p.ended refl walked.ended in
-            record { good = all.0; version = tt })
+            ordered_packet p all.0)
       ]
   packet_consistent (TwoPhase evidence) certified p walked admitted =
       let (n, first, is, same) = class_of (blocks_of t.update.old t.new t.demands t.update.rounds) p.dst admitted.dst t.update.net p.entry admitted.entry in
@@ -302,9 +331,9 @@ module _ (t : Task) (old_user : IsUserConfig t.update.net t.update.old) (new_use
         | inr past ↦ last_following p walked first same old_good new_good (let h = admitted.born in omega arith) certified.ends
       ] in
       let all = shown t p walked following p.ended refl walked.ended in
-      record { good = all.0; version = all.1 }
+      record { good = good_meets t.demands p.entry p.dst (trace_of p) all.0; version = λ _. all.1.0; vlan = λ _. all.1.1 }
 
-  pub certified_is_consistent : (evidence : Evidence) → IsCertified t evidence → IsConsistent t evidence
+  pub certified_is_consistent : (evidence : Evidence) → IsCertified t evidence → IsConsistent t (is_two_phase evidence)
   certified_is_consistent evidence certified events run =
-      each_both (WalkedOneRound t.update) (IsAdmitted t.update) (IsConsistentPacket t evidence) (packet_consistent evidence certified) (state_after_run t.update events).packets
+      each_both (WalkedOneRound t.update) (IsAdmitted t.update) (IsConsistentPacket t (is_two_phase evidence)) (packet_consistent evidence certified) (state_after_run t.update events).packets
       (walks_one_round t.update certified.good events run) (is_admitted t.update certified.good events run)

@@ -1,5 +1,5 @@
 -- Certified plans.
-use Rattle.std.specs.Prelude.{◌≡◌, ℕ, ◌<◌, ◌≤◌, List, ◌++◌, length, map}
+use Rattle.std.specs.Prelude.{◌≡◌, ℕ, ◌<◌, ◌≤◌, Bool, true, false, List, ◌++◌, length, map}
 use Rattle.std.specs.List.{AllByRecursion}
 use Rattle.net_base.specs.Blocks.{Block}
 use Rattle.net_base.specs.Members.{IsSameSet}
@@ -41,6 +41,11 @@ pub record Task : Type 0 where
 -- the classes of an update
 abbrev pub classes_for : Task → ClassList
 classes_for t = classes_of t.update.net (blocks_of t.update.old t.new t.demands t.update.rounds)
+
+-- whether it is the evidence of a two-phase plan
+abbrev pub is_two_phase : Evidence → Bool
+is_two_phase (Ordered evidence) = false
+is_two_phase (TwoPhase evidence) = true
 
 -- round k and class n have a certificate of the evidence's kind
 abbrev pub HasCertificate : Task → Evidence → ℕ → ℕ → Class → Type 0

@@ -24,7 +24,7 @@ use Rattle.acyclic_numbering.specs.Heights.{Falls}
 use Rattle.certificates.specs.Steps.{IsMixedStep, switches_along}
 use Rattle.certificates.specs.Ordered.{AreGuarded}
 use Rattle.certificates.specs.TwoPhase.{TwoPhaseCertificate}
-use Rattle.certificates.specs.Certified.{Task, IsCertified, blocks_of}
+use Rattle.certificates.specs.Certified.{Task, IsCertified, blocks_of, is_two_phase}
 use Rattle.update_model.specs.OneRound.{WalkedOneRound}
 use Rattle.certificates.specs.Consistent.{IsConsistent}
 use Rattle.certificates.specs.declared.Evidence.{Evidence}
@@ -89,7 +89,7 @@ LabelledWalksArePaths t =
 
 -- a certified plan is consistent
 abbrev pub CertifiedIsConsistent : Task → Evidence → Type 0
-CertifiedIsConsistent t evidence = IsCertified t evidence → IsConsistent t evidence
+CertifiedIsConsistent t evidence = IsCertified t evidence → IsConsistent t (is_two_phase evidence)
 
 -- where a round changes no rule for an address, the possible outcomes are those of the tables before it
 abbrev pub UntouchedIsUnchanged : Update → Type 0

@@ -12,7 +12,7 @@ use Rattle.path_walk.specs.declared.Outcome.TheVariants.{Discard, Leave, Go}
 use Rattle.path_walk.specs.declared.Ended.{Ended}
 use Rattle.path_walk.specs.declared.Ended.TheVariants.{UnderWay, Left, Dropped, Lost}
 use Rattle.update_model.specs.Changes.{round_after}
-use Rattle.update_model.specs.States.{State, IsUnderWay, settled_count, entered, hopped, with_packet, started, settled}
+use Rattle.update_model.specs.States.{State, IsUnderWay, settled_count, entered, hopped, with_packet, settled}
 use Rattle.update_model.specs.declared.Change.{Change}
 use Rattle.update_model.specs.declared.Packet.{Packet}
 use Rattle.update_model.specs.declared.Phase.{Phase}
@@ -82,7 +82,7 @@ next_round zero (r ∷ s ∷ rounds) less = refl
 next_round (suc k) (r ∷ rounds) less = next_round k rounds (omega arith)
 
 pub start_lowers : (phase : Phase) (flags : List Bool) (rounds : List (List Change)) (k : ℕ) → phase ≡ Settled k → k < length rounds
-    → rounds_left (started phase) (replicate (length (round_after (settled_count phase) rounds)) true) rounds < rounds_left phase flags rounds
+    → rounds_left (Running (suc (settled_count phase))) (replicate (length (round_after (settled_count phase) rounds)) true) rounds < rounds_left phase flags rounds
 start_lowers (Settled j) flags rounds k is less =
     let same : j ≡ k = cc in
     let next = next_round j rounds (omega arith) in

@@ -1,6 +1,7 @@
 -- A pending change of a good round may be made, whatever changes were made before it.
 use Rattle.std.proofs.Common.{◌≡◌, ℕ, zero, suc, ◌<◌, Bool, true, List, [], ◌∷◌, map, length, refl, sym, ◌∙◌, subst, inl, inr, length-set}
 use Rattle.std.specs.Prelude.{◌==◌, slice_get, Option, Some, None}
+use Rattle.std.specs.Option.{option_map_or}
 use Rattle.std.specs.List.{AllByRecursion}
 use Rattle.std.proofs.lemmas.Bool.{eqb-true}
 use Rattle.net_base.specs.Members.{IsIn, IsSameSet, IsDistinct}
@@ -9,9 +10,9 @@ use Rattle.net_base.specs.declared.ids.SwitchId.{SwitchId}
 use Rattle.topology.specs.Networks.{Network}
 use Rattle.flow_rules.specs.Tables.{keys_of, rules_at}
 use Rattle.flow_rules.specs.declared.rules.Rule.{Rule}
-use Rattle.update_model.specs.Changes.{switch_of, AppliesTo, Applies, entry_named, changes_at, rules_after, tables_after, round_after, settled_tables}
+use Rattle.update_model.specs.Changes.{switch_of, AppliesTo, Applies, entry_named, changes_at, rules_after, tables_after, tables_after_change, round_after, settled_tables}
 use Rattle.update_model.specs.Mixtures.{Update, tables_before, AreGoodRounds}
-use Rattle.update_model.specs.States.{State, tables_after_this, settled_count, state_after_event}
+use Rattle.update_model.specs.States.{State, settled_count, state_after_event}
 use Rattle.update_model.specs.declared.Change.{Change}
 use Rattle.update_model.specs.declared.Change.TheVariants.{Insert, Delete, Replace}
 use Rattle.update_model.specs.declared.Event.{Event}
@@ -74,7 +75,7 @@ module _ (u : Update) (good : AreGoodRounds u) where
         applies_same (rules_at tables s) (rules_after some (rules_at before s)) (holds s) c (still_applies (rules_at before s) some applies distinct c first.1 fresh),
       )
 
-length_this : (o : Option Change) (tables : List (List Rule)) → length (tables_after_this o tables) ≡ length tables
+length_this : (o : Option Change) (tables : List (List Rule)) → length (option_map_or (λ c. tables_after_change c tables) o tables) ≡ length tables
 length_this None tables = refl
 length_this (Some c) tables = length-set tables (switch_of c).0 _
 
