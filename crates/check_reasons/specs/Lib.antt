@@ -1,3 +1,4 @@
+pub mod Ranks
 pub mod Reasons
 pub mod Cases
 pub mod Passed

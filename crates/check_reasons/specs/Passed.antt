@@ -1,4 +1,4 @@
--- How the checker goes through a plan: what has given no reason so far, and the first reason from a place on.
+-- How the checker goes through a plan: what has given no reason so far, and the first reason from a rank on.
 use Rattle.std.specs.Prelude.{ℕ, ◌<◌, ◌≤◌, List}
 use Rattle.std.specs.List.{AllByRecursion}
 use Rattle.net_base.specs.declared.ids.SwitchId.{SwitchId}
@@ -13,18 +13,19 @@ use Rattle.update_model.specs.declared.Change.{Change}
 use Rattle.certificates.specs.Certified.{Task, KeepsVlan, HasCertificate, classes_for}
 use Rattle.certificates.specs.declared.Evidence.{Evidence}
 use Rattle.certificates.specs.declared.Evidence.TheVariants.{Ordered, TwoPhase}
-use Rattle.check_reasons.specs.Reasons.{IsBefore, IsReason}
+use Rattle.check_reasons.specs.Ranks.{Rank, IsBefore, rank_of}
+use Rattle.check_reasons.specs.Reasons.{IsReason}
 use Rattle.check_reasons.specs.declared.reason.Reason.{Reason}
 
--- the first reason of those that do not come before a place
-pub record IsFirstFrom (t : Task) (evidence : Evidence) (from : List ℕ) (reason : Reason) : Type 0 where
-  pub place : List ℕ
-  pub holds : IsReason t evidence place reason
-  pub first : (other : List ℕ) (r : Reason) → IsReason t evidence other r → ¬ IsBefore other from → ¬ IsBefore other place
+-- the first reason of those that do not come before a rank
+pub record IsFirstFrom (t : Task) (evidence : Evidence) (from : Rank) (reason : Reason) : Type 0 where
+  pub position : ℕ
+  pub holds : IsReason t evidence position reason
+  pub first : (i : ℕ) (other : Reason) → IsReason t evidence i other → ¬ IsBefore (rank_of i other) from → ¬ IsBefore (rank_of i other) (rank_of position reason)
 
--- no reason comes before a place
-abbrev pub NoneBefore : Task → Evidence → List ℕ → Type 0
-NoneBefore t evidence from = (other : List ℕ) (r : Reason) → IsReason t evidence other r → ¬ IsBefore other from
+-- no reason comes before a rank
+abbrev pub NoneBefore : Task → Evidence → Rank → Type 0
+NoneBefore t evidence from = (i : ℕ) (other : Reason) → IsReason t evidence i other → ¬ IsBefore (rank_of i other) from
 
 -- in an ordered plan the changes of a round neither set nor strip
 abbrev pub RoundKeepsVlans : Evidence → List Change → Type 0

@@ -1,5 +1,5 @@
--- Why a plan is refused: each reason with the numbers by which the first one is chosen.
-use Rattle.std.specs.Prelude.{◌≡◌, ◌≢◌, ◌⊎◌, ℕ, suc, ◌<◌, Bool, IsTrue, List, [], ◌∷◌, ◌++◌, length, flat_map, slice_get, Some, if◌then◌else◌}
+-- Why a plan is refused: what each reason says, and which one is the first.
+use Rattle.std.specs.Prelude.{◌≡◌, ◌≢◌, ◌⊎◌, ℕ, suc, ◌<◌, Bool, true, false, IsTrue, List, ◌∷◌, ◌++◌, length, flat_map, slice_get, Some}
 use Rattle.std.specs.List.{AllByRecursion}
 use Rattle.net_base.specs.Members.{IsIn, IsSameSet}
 use Rattle.net_base.specs.declared.ids.SwitchId.{SwitchId}
@@ -13,6 +13,7 @@ use Rattle.dest_classes.specs.Classes.{IsClass}
 use Rattle.dest_classes.specs.declared.Class.{Class}
 use Rattle.demands.specs.Duties.{PacketDuties, duties_of}
 use Rattle.config_check.specs.Broken.{IsFirstBreak}
+use Rattle.config_check.specs.declared.Breaks.{Breaks}
 use Rattle.update_model.specs.Changes.{switch_of, rule_of, Applies, entry_named, round_after}
 use Rattle.update_model.specs.Mixtures.{Update, tables_before, MayHold, IsPossible, IsOnMixedWalk}
 use Rattle.update_model.specs.declared.Change.{Change}
@@ -33,15 +34,9 @@ use Rattle.certificates.specs.TwoPhase.{carrying, outcome_carrying, tables_of, A
 use Rattle.path_walk.specs.Paths.{outcome_in, Forwards}
 use Rattle.net_base.specs.Walks.{IsWalk, end_of}
 use Rattle.net_base.specs.declared.ids.Vlan.{Vlan}
+use Rattle.check_reasons.specs.Ranks.{IsBefore, rank_of}
 use Rattle.check_reasons.specs.declared.reason.Reason.{Reason}
 use Rattle.check_reasons.specs.declared.reason.Reason.TheVariants.{EndBreaks, BadChange, Ambiguous, OverCapacity, Rewrites, NoNumbering, NotLower, MayDrop, NoBefore, Bypass, BadLabels, MixedPath, WrongEnd}
-
--- the first differing number decides, and a list comes before what goes on from it
-abbrev pub IsBefore : List ℕ → List ℕ → Type 0
-IsBefore [] [] = ⊥
-IsBefore [] (y ∷ ys) = Unit {0}
-IsBefore (x ∷ xs) [] = ⊥
-IsBefore (x ∷ xs) (y ∷ ys) = (x < y) ⊎ ((x ≡ y) × IsBefore xs ys)
 
 -- change i of round k is bad: it doesn't apply, or an earlier one of the round names its entry
 pub record IsBadChange (u : Update) (k i : ℕ) (s : SwitchId) : Type 0 where
@@ -91,46 +86,14 @@ IsBypassed u k dst entry p s =
     ⊎ ((Holds p.set s × MayLeave u k dst entry s)
     ⊎ ((t : SwitchId) × Holds p.set s × IsMixedStep u k dst entry s t × (¬ Holds p.set t) × ¬ ((¬ HoldsEarlier p.earlier s) × (t ≡ p.waypoint))))
 
--- a class with its duties
-abbrev pub IsClassOf : Task → ℕ → Class → Type 0
-IsClassOf t n class = IsClass (classes_for t) n class
-
+-- what is demanded of the packets of a class
 abbrev pub class_duties : Task → Class → PacketDuties
 class_duties t class = duties_of t.demands class.entry class.first
 
--- a reason that an end isn't good, or that holds of an ordered plan, with the numbers that choose among reasons: the stage, the round,
--- the reason's own number, the class, the position, the switch, the change
-abbrev pub IsOrderedReason : Task → OrderedEvidence → List ℕ → Reason → Type 0
-IsOrderedReason t e place (EndBreaks new breaks) =
-    (place ≡ (if new then 1 else 0) ∷ []) × IsFirstBreak t.update.net (if new then t.new else t.update.old) t.demands (classes_for t) breaks
-IsOrderedReason t e place (BadChange round s i) =
-    (k : ℕ) × (round ≡ suc k) × (place ≡ 2 ∷ k ∷ 2 ∷ s.0 ∷ i ∷ []) × IsBadChange t.update k i s
-IsOrderedReason t e place (Ambiguous round s) =
-    (k : ℕ) × (round ≡ suc k) × (k < length t.update.rounds) × (place ≡ 2 ∷ k ∷ 3 ∷ s.0 ∷ []) × IsUnclear t.update k s
-IsOrderedReason t e place (OverCapacity round s need) =
-    (k : ℕ) × (round ≡ suc k) × (k < length t.update.rounds) × (place ≡ 2 ∷ k ∷ 4 ∷ s.0 ∷ []) × (need ≡ need_of t.update k s) × (capacity_of t.update.net s < need)
-IsOrderedReason t e place (Rewrites round s) =
-    (k : ℕ) × (round ≡ suc k) × (place ≡ 2 ∷ k ∷ 5 ∷ s.0 ∷ []) × HasRewrite t.update k s
-IsOrderedReason t e place (NoNumbering round n) =
-    (k : ℕ) × (class : Class) × (round ≡ suc k) × (k < length t.update.rounds) × IsClassOf t n class × (place ≡ 2 ∷ k ∷ 6 ∷ n ∷ [])
-    × ((pick : OrderedPick) → ¬ IsPickInForce e.picks (suc k) n pick)
-IsOrderedReason t e place (NotLower round n s) =
-    (k : ℕ) × (class : Class) × (numbers : List ℕ) × (sets : List (List ℕ)) × (round ≡ suc k) × (k < length t.update.rounds) × IsClassOf t n class × (place ≡ 2 ∷ k ∷ 7 ∷ n ∷ s.0 ∷ [])
-    × IsInForce e k n numbers sets × HasBadStep t.update k class.first class.entry numbers s
-IsOrderedReason t e place (MayDrop round n s) =
-    (k : ℕ) × (class : Class) × (round ≡ suc k) × (k < length t.update.rounds) × IsClassOf t n class × (place ≡ 2 ∷ k ∷ 8 ∷ n ∷ s.0 ∷ [])
-    × IsTrue (class_duties t class).arrive × DropsAt t.update k class.first class.entry s
-IsOrderedReason t e place (NoBefore round n) =
-    (k : ℕ) × (class : Class) × (numbers : List ℕ) × (sets : List (List ℕ)) × (round ≡ suc k) × (k < length t.update.rounds) × IsClassOf t n class × (place ≡ 2 ∷ k ∷ 9 ∷ n ∷ [])
-    × IsInForce e k n numbers sets × (length sets ≢ length (flat_map (λ chain. chain) (class_duties t class).chains))
-IsOrderedReason t e place (Bypass round n w s) =
-    (k i : ℕ) × (class : Class) × (numbers : List ℕ) × (sets : List (List ℕ)) × (p : Position) × (round ≡ suc k) × (k < length t.update.rounds) × IsClassOf t n class
-    × (place ≡ 2 ∷ k ∷ 10 ∷ n ∷ i ∷ s.0 ∷ []) × IsInForce e k n numbers sets × (slice_get (positions (class_duties t class).chains sets) i ≡ Some p) × (p.waypoint ≡ w)
-    × IsBypassed t.update k class.first class.entry p s
-IsOrderedReason t e place (BadLabels round) = ⊥
-IsOrderedReason t e place (MixedPath round n s) = ⊥
-IsOrderedReason t e place (WrongEnd s) =
-    (place ≡ 3 ∷ s.0 ∷ []) × ¬ IsSameSet (rules_at (tables_before t.update (length t.update.rounds)) s) (rules_at t.new s)
+-- class n is judged in round k
+pub record IsJudged (t : Task) (k n : ℕ) (class : Class) : Type 0 where
+  pub within : k < length t.update.rounds
+  pub is : IsClass (classes_for t) n class
 
 -- a label table that is in force and whose users' VLANs are declared
 pub record IsTableInForce (t : Task) (e : TwoPhaseEvidence) (k : ℕ) (labels : List Label) : Type 0 where
@@ -165,36 +128,48 @@ pub record StraysAt (t : Task) (k : ℕ) (class : Class) (labels : List Label) (
   pub none_earlier : (front : List Place) (x : Place) (back : List Place) → rest ≡ front ++ x ∷ back
       → ¬ Strays t.update k class.first (tables_of t.update t.new version) next.vlan (end_of first front)
 
--- a reason that holds of a two-phase plan, with its numbers; those of the ends, rounds and tables are as in an ordered plan
-abbrev pub IsTwoPhaseReason : Task → TwoPhaseEvidence → List ℕ → Reason → Type 0
-IsTwoPhaseReason t e place (BadLabels round) =
-    (k : ℕ) × (n : ℕ) × (class : Class) × (round ≡ suc k) × (k < length t.update.rounds) × IsClassOf t n class × (place ≡ 2 ∷ k ∷ 11 ∷ [])
-    × ((labels : List Label) → ¬ IsTableInForce t e k labels)
-IsTwoPhaseReason t e place (MixedPath round n s) =
-    (k : ℕ) × (class : Class) × (labels : List Label) × (round ≡ suc k) × (k < length t.update.rounds) × IsClassOf t n class × (place ≡ 2 ∷ k ∷ 12 ∷ n ∷ s.0 ∷ [])
-    × IsTableInForce t e k labels × (((s ≡ class.entry.switch) × IsMixedAtEntry t k class labels) ⊎ StraysAt t k class labels s)
-IsTwoPhaseReason t e place _ = ⊥
+-- a reason that a plan of either kind may have, with the position of which it speaks, or 0
+pub data IsCommonReason (t : Task) : ℕ → Reason → Type 0 where
+  old_breaks : (breaks : Breaks) → IsFirstBreak t.update.net t.update.old t.demands (classes_for t) breaks → IsCommonReason t 0 (EndBreaks false breaks)
+  new_breaks : (breaks : Breaks) → IsFirstBreak t.update.net t.new t.demands (classes_for t) breaks → IsCommonReason t 0 (EndBreaks true breaks)
+  bad_change : (k i : ℕ) (s : SwitchId) → IsBadChange t.update k i s → IsCommonReason t 0 (BadChange (suc k) s i)
+  ambiguous : (k : ℕ) (s : SwitchId) → k < length t.update.rounds → IsUnclear t.update k s → IsCommonReason t 0 (Ambiguous (suc k) s)
+  over_capacity : (k : ℕ) (s : SwitchId) → k < length t.update.rounds → capacity_of t.update.net s < need_of t.update k s
+      → IsCommonReason t 0 (OverCapacity (suc k) s (need_of t.update k s))
+  wrong_end : (s : SwitchId) → ¬ IsSameSet (rules_at (tables_before t.update (length t.update.rounds)) s) (rules_at t.new s) → IsCommonReason t 0 (WrongEnd s)
 
--- the evidence of a two-phase plan has no reason of an ordered one, and the other way round
-abbrev pub IsShared : Reason → Type 0
-IsShared (EndBreaks new breaks) = Unit {0}
-IsShared (BadChange round s i) = Unit {0}
-IsShared (Ambiguous round s) = Unit {0}
-IsShared (OverCapacity round s need) = Unit {0}
-IsShared (WrongEnd s) = Unit {0}
-IsShared _ = ⊥
+-- a reason that only an ordered plan may have, with the position of which it speaks, or 0
+pub data IsOrderedReason (t : Task) (e : OrderedEvidence) : ℕ → Reason → Type 0 where
+  rewrites : (k : ℕ) (s : SwitchId) → HasRewrite t.update k s → IsOrderedReason t e 0 (Rewrites (suc k) s)
+  no_numbering : (k n : ℕ) (class : Class) → IsJudged t k n class → ((pick : OrderedPick) → ¬ IsPickInForce e.picks (suc k) n pick)
+      → IsOrderedReason t e 0 (NoNumbering (suc k) n)
+  not_lower : (k n : ℕ) (class : Class) (numbers : List ℕ) (sets : List (List ℕ)) (s : SwitchId) → IsJudged t k n class → IsInForce e k n numbers sets
+      → HasBadStep t.update k class.first class.entry numbers s → IsOrderedReason t e 0 (NotLower (suc k) n s)
+  may_drop : (k n : ℕ) (class : Class) (s : SwitchId) → IsJudged t k n class → IsTrue (class_duties t class).arrive → DropsAt t.update k class.first class.entry s
+      → IsOrderedReason t e 0 (MayDrop (suc k) n s)
+  no_before : (k n : ℕ) (class : Class) (numbers : List ℕ) (sets : List (List ℕ)) → IsJudged t k n class → IsInForce e k n numbers sets
+      → length sets ≢ length (flat_map (λ chain. chain) (class_duties t class).chains) → IsOrderedReason t e 0 (NoBefore (suc k) n)
+  bypass : (k n i : ℕ) (class : Class) (numbers : List ℕ) (sets : List (List ℕ)) (p : Position) (s : SwitchId) → IsJudged t k n class → IsInForce e k n numbers sets
+      → slice_get (positions (class_duties t class).chains sets) i ≡ Some p → IsBypassed t.update k class.first class.entry p s
+      → IsOrderedReason t e i (Bypass (suc k) n p.waypoint s)
 
--- no evidence of an ordered plan
-abbrev pub no_evidence : OrderedEvidence
-no_evidence = record { numberings = []; befores = []; uses = []; picks = [] }
+-- a reason that only a two-phase plan may have; it speaks of no position
+pub data IsTwoPhaseReason (t : Task) (e : TwoPhaseEvidence) : ℕ → Reason → Type 0 where
+  bad_labels : (k n : ℕ) (class : Class) → IsJudged t k n class → ((labels : List Label) → ¬ IsTableInForce t e k labels) → IsTwoPhaseReason t e 0 (BadLabels (suc k))
+  mixed_path : (k n : ℕ) (class : Class) (labels : List Label) (s : SwitchId) → IsJudged t k n class → IsTableInForce t e k labels
+      → ((s ≡ class.entry.switch) × IsMixedAtEntry t k class labels) ⊎ StraysAt t k class labels s → IsTwoPhaseReason t e 0 (MixedPath (suc k) n s)
 
--- a reason that holds of a plan, with its numbers
-abbrev pub IsReason : Task → Evidence → List ℕ → Reason → Type 0
-IsReason t (Ordered e) place reason = IsOrderedReason t e place reason
-IsReason t (TwoPhase e) place reason = (IsShared reason × IsOrderedReason t no_evidence place reason) ⊎ IsTwoPhaseReason t e place reason
+-- a reason that only plans of this kind may have
+abbrev pub IsOwnReason : Task → Evidence → ℕ → Reason → Type 0
+IsOwnReason t (Ordered e) position reason = IsOrderedReason t e position reason
+IsOwnReason t (TwoPhase e) position reason = IsTwoPhaseReason t e position reason
+
+-- a reason why a plan isn't certified, with the position of which it speaks, or 0
+abbrev pub IsReason : Task → Evidence → ℕ → Reason → Type 0
+IsReason t evidence position reason = IsCommonReason t position reason ⊎ IsOwnReason t evidence position reason
 
 -- the first reason of a plan: no other comes before it
 pub record IsFirstReason (t : Task) (evidence : Evidence) (reason : Reason) : Type 0 where
-  pub place : List ℕ
-  pub holds : IsReason t evidence place reason
-  pub first : (other : List ℕ) (r : Reason) → IsReason t evidence other r → ¬ IsBefore other place
+  pub position : ℕ
+  pub holds : IsReason t evidence position reason
+  pub first : (i : ℕ) (other : Reason) → IsReason t evidence i other → ¬ IsBefore (rank_of i other) (rank_of position reason)

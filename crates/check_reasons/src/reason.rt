@@ -1,4 +1,7 @@
 // Why a plan is refused.
+ghost use Rattle.std.specs.Prelude.{◌≡◌};
+ghost use Rattle.check_reasons.specs.Ranks.{number_of};
+
 use config_check::Breaks;
 use net_base::SwitchId;
 
@@ -75,6 +78,29 @@ pub enum Reason {
     WrongEnd {
         switch: SwitchId,
     },
+}
+
+impl Reason {
+    /// The number of the reason, from 1 to 13: it is printed, and the first reason of a round is chosen by it.
+    pub fn number(self) -> u32
+        ensures { result ≡ number_of self }
+    {
+        match self {
+            Reason::EndBreaks { .. } => 1,
+            Reason::BadChange { .. } => 2,
+            Reason::Ambiguous { .. } => 3,
+            Reason::OverCapacity { .. } => 4,
+            Reason::Rewrites { .. } => 5,
+            Reason::NoNumbering { .. } => 6,
+            Reason::NotLower { .. } => 7,
+            Reason::MayDrop { .. } => 8,
+            Reason::NoBefore { .. } => 9,
+            Reason::Bypass { .. } => 10,
+            Reason::BadLabels { .. } => 11,
+            Reason::MixedPath { .. } => 12,
+            Reason::WrongEnd { .. } => 13,
+        }
+    }
 }
 
 /// What the checker says.

@@ -17,36 +17,17 @@ use Rattle.certificates.specs.Ordered.{Position, positions, OrderedCertificate}
 use Rattle.certificates.specs.Certified.{Task, classes_for}
 use Rattle.certificates.specs.Valid.{IsChain, IsPickBefore}
 use Rattle.certificates.specs.declared.OrderedEvidence.{OrderedEvidence}
-use Rattle.check_reasons.specs.Reasons.{IsBefore, IsInForce, HasBadStep, DropsAt, IsBypassed, IsOrderedReason, class_duties}
+use Rattle.check_reasons.specs.Ranks.{IsBefore, rank_of}
+use Rattle.check_reasons.specs.Reasons.{IsInForce, HasBadStep, DropsAt, IsBypassed, IsJudged, class_duties}
+use Rattle.check_reasons.specs.Reasons.{IsOrderedReason, rewrites, no_numbering, not_lower, may_drop, no_before, bypass}
 use Rattle.mixed_walks.specs.Walks.{WalkState, IsWalked}
 use Rattle.ordered_check.specs.Judged.{IsLeastOf, HasEdgeUp, IsWayRound, AreGuardedBelow, IsFirstWayRound}
-use Rattle.ordered_check.specs.Firsts.{IsFirstOfClass, number_of}
+use Rattle.ordered_check.specs.Firsts.{IsOfClasses, IsFirstOfClass}
 use Rattle.check_reasons.specs.declared.reason.Reason.{Reason}
-use Rattle.check_reasons.specs.declared.reason.Reason.TheVariants.{EndBreaks, BadChange, Ambiguous, OverCapacity, Rewrites, NoNumbering, NotLower, MayDrop as may_drop, NoBefore, Bypass, BadLabels, MixedPath, WrongEnd}
+use Rattle.check_reasons.specs.declared.reason.Reason.TheVariants.{NotLower, MayDrop, NoBefore, Bypass}
 use Rattle.ordered_check.specs.declared.ways.WayRound.{WayRound}
 use Rattle.ordered_check.proofs.WayLaws.{together, length_positions}
 use Rattle.ordered_check.proofs.MeaningLaws.{carried, carried_class, has_pick}
-
--- ---- places before others
-
-pub not_before_end : (xs : List ℕ) → ¬ IsBefore xs []
-not_before_end [] h = h
-not_before_end (x ∷ xs) h = h
-
--- of two places with one number each, that of the lesser comes first
-before_one : (x y : ℕ) → IsBefore (x ∷ []) (y ∷ []) → x < y
-before_one x y (inl less) = less
-before_one x y (inr same) = absurd same.1
-
--- a higher number comes no earlier
-later : (x y : ℕ) (xs ys : List ℕ) → y < x → ¬ IsBefore (x ∷ xs) (y ∷ ys)
-later x y xs ys less (inl lower) = omega arith
-later x y xs ys less (inr same) = let e = same.0 in omega arith
-
--- behind one number the rest decides
-behind : (x y : ℕ) (xs ys : List ℕ) → x ≡ y → IsBefore (x ∷ xs) (y ∷ ys) → IsBefore xs ys
-behind x y xs ys same (inl lower) = absurd (omega arith)
-behind x y xs ys same (inr rest) = rest.1
 
 -- ---- what can be decided
 
@@ -140,68 +121,55 @@ module _ (t : Task) (e : OrderedEvidence) (k n : ℕ) (class : Class) (numbers :
   abbrev duties : PacketDuties
   duties = class_duties t class
 
-  abbrev IsUp : List ℕ → Type 0
-  IsUp other = (s : SwitchId) × (other ≡ s.0 ∷ []) × HasBadStep t.update k class.first class.entry numbers s
+  -- what is wrong with the class, with the reason that says so and the position
+  data IsFault : ℕ → Reason → Type 0 where
+    goes_up : (s : SwitchId) → HasBadStep t.update k class.first class.entry numbers s → IsFault 0 (NotLower (suc k) n s)
+    drops_at : (s : SwitchId) → IsTrue duties.arrive → DropsAt t.update k class.first class.entry s → IsFault 0 (MayDrop (suc k) n s)
+    other_count : length sets ≢ together duties.chains → IsFault 0 (NoBefore (suc k) n)
+    goes_round : (i : ℕ) (s : SwitchId) (p : Position) → slice_get (positions duties.chains sets) i ≡ Some p → IsBypassed t.update k class.first class.entry p s
+        → IsFault i (Bypass (suc k) n p.waypoint s)
 
-  abbrev IsDrop : List ℕ → Type 0
-  IsDrop other = (s : SwitchId) × (other ≡ s.0 ∷ []) × IsTrue duties.arrive × DropsAt t.update k class.first class.entry s
-
-  abbrev IsOtherCount : Type 0
-  IsOtherCount = length sets ≢ together duties.chains
-
-  abbrev IsWay : List ℕ → Type 0
-  IsWay other = (i : ℕ) × (s : SwitchId) × (p : Position) × (other ≡ i ∷ s.0 ∷ []) × (slice_get (positions duties.chains sets) i ≡ Some p) × IsBypassed t.update k class.first class.entry p s
-
-  -- what a reason says, by its number
-  abbrev IsFault : ℕ → List ℕ → Type 0
-  IsFault number other = ((number ≡ 7) × IsUp other) ⊎ (((number ≡ 8) × IsDrop other) ⊎ (((number ≡ 9) × IsOtherCount) ⊎ ((number ≡ 10) × IsWay other)))
+  -- what is said of round k and class n is said of theirs
+  at_class : (P : ℕ → ℕ → Type 0) (j m : ℕ) → j ≡ k → m ≡ n → P k n → P j m
+  at_class P j m round number h = subst (λ x. P x m) (sym round) (subst (λ x. P k x) (sym number) h)
 
   module _ (in_order : IsChain IsPickBefore e.picks) (is : IsClass (classes_for t) n class) (force : IsInForce e k n numbers sets) where
-    fault_of : (number : ℕ) (other : List ℕ) (r : Reason) → IsOrderedReason t e (2 ∷ k ∷ number ∷ n ∷ other) r → 6 ≤ number → IsFault number other
-    fault_of number other (EndBreaks new breaks) h le = absurd (let f : (2 ∷ k ∷ number ∷ n ∷ other) ≡ _ = h.0 in cc)
-    fault_of number other (BadChange round s i) h le = absurd (let f : 2 ∷ k ∷ number ∷ n ∷ other ≡ 2 ∷ h.0 ∷ 2 ∷ s.0 ∷ i ∷ [] = h.2 in let g : number ≡ 2 = cc in omega arith)
-    fault_of number other (Ambiguous round s) h le = absurd (let f : 2 ∷ k ∷ number ∷ n ∷ other ≡ 2 ∷ h.0 ∷ 3 ∷ s.0 ∷ [] = h.3 in let g : number ≡ 3 = cc in omega arith)
-    fault_of number other (OverCapacity round s need) h le = absurd (let f : 2 ∷ k ∷ number ∷ n ∷ other ≡ 2 ∷ h.0 ∷ 4 ∷ s.0 ∷ [] = h.3 in let g : number ≡ 4 = cc in omega arith)
-    fault_of number other (Rewrites round s) h le = absurd (let f : 2 ∷ k ∷ number ∷ n ∷ other ≡ 2 ∷ h.0 ∷ 5 ∷ s.0 ∷ [] = h.2 in let g : number ≡ 5 = cc in omega arith)
-    fault_of number other (NoNumbering round m) (j, class_, round_is, few, was, place, none) le =
-        let a : j ≡ k = cc in
-        let b : m ≡ n = cc in
-        absurd (has_pick (classes_for t) e in_order k n class numbers sets is force j m a b none)
-    fault_of number other (NotLower round m s) (j, class_, xs, us, round_is, few, was, place, forced, up) le =
-        let a : j ≡ k = cc in
-        let b : m ≡ n = cc in
-        let c : number ≡ 7 = cc in
-        let d : other ≡ s.0 ∷ [] = cc in
-        inl (c, (s, d, carried (classes_for t) e in_order k n class numbers sets is force (λ x cl ns vs. HasBadStep t.update x cl.first cl.entry ns s) j m class_ xs us a b was forced up))
-    fault_of number other (may_drop round m s) (j, class_, round_is, few, was, place, arrive, drops) le =
-        let a : j ≡ k = cc in
-        let b : m ≡ n = cc in
-        let c : number ≡ 8 = cc in
-        let d : other ≡ s.0 ∷ [] = cc in
-        let both = carried_class (classes_for t) e in_order k n class numbers sets is force (λ x cl. IsTrue (class_duties t cl).arrive × DropsAt t.update x cl.first cl.entry s) j m class_ a b was (arrive, drops) in
-        inr (inl (c, (s, d, both.0, both.1)))
-    fault_of number other (NoBefore round m) (j, class_, xs, us, round_is, few, was, place, forced, ne) le =
-        let a : j ≡ k = cc in
-        let b : m ≡ n = cc in
-        let c : number ≡ 9 = cc in
-        inr (inr (inl (c, carried (classes_for t) e in_order k n class numbers sets is force (λ x cl ns vs. length vs ≢ together (class_duties t cl).chains) j m class_ xs us a b was forced ne)))
-    fault_of number other (Bypass round m w s) (j, i, class_, xs, us, p, round_is, few, was, place, forced, at, w_is, way) le =
-        let a : j ≡ k = cc in
-        let b : m ≡ n = cc in
-        let c : number ≡ 10 = cc in
-        let d : other ≡ i ∷ s.0 ∷ [] = cc in
+    -- a reason of the class in the round is one of its faults
+    fault_of : (i : ℕ) (r : Reason) → IsOrderedReason t e i r → IsOfClasses k (λ m. m ≡ n) r → IsFault i r
+    fault_of i r (rewrites j s has) at = absurd (let high : 6 ≤ 5 = at.number in omega arith)
+    fault_of i r (no_numbering j m other judged none) at =
+        let round : suc j ≡ suc k = at.round in
+        absurd (has_pick (classes_for t) e in_order k n class numbers sets is force j m (omega arith) at.class none)
+    fault_of i r (not_lower j m other xs us s judged forced bad) at =
+        let round : suc j ≡ suc k = at.round in
+        let same : j ≡ k = omega arith in
+        at_class (λ x y. IsFault 0 (NotLower (suc x) y s)) j m same at.class
+        (goes_up s (carried (classes_for t) e in_order k n class numbers sets is force (λ x cl ns vs. HasBadStep t.update x cl.first cl.entry ns s) j m other xs us same at.class judged.is forced bad))
+    fault_of i r (may_drop j m other s judged arrive drops) at =
+        let round : suc j ≡ suc k = at.round in
+        let same : j ≡ k = omega arith in
+        let both = carried_class (classes_for t) e in_order k n class numbers sets is force (λ x cl. IsTrue (class_duties t cl).arrive × DropsAt t.update x cl.first cl.entry s) j m other same at.class judged.is (arrive, drops) in
+        at_class (λ x y. IsFault 0 (MayDrop (suc x) y s)) j m same at.class (drops_at s both.0 both.1)
+    fault_of i r (no_before j m other xs us judged forced differ) at =
+        let round : suc j ≡ suc k = at.round in
+        let same : j ≡ k = omega arith in
+        at_class (λ x y. IsFault 0 (NoBefore (suc x) y)) j m same at.class
+        (other_count (carried (classes_for t) e in_order k n class numbers sets is force (λ x cl ns vs. length vs ≢ together (class_duties t cl).chains) j m other xs us same at.class judged.is forced differ))
+    fault_of i r (bypass j m x other xs us p s judged forced stands bypassed) at =
+        let round : suc j ≡ suc k = at.round in
+        let same : j ≡ k = omega arith in
         let both = carried (classes_for t) e in_order k n class numbers sets is force
-        (λ x cl ns vs. (slice_get (positions (class_duties t cl).chains vs) i ≡ Some p) × IsBypassed t.update x cl.first cl.entry p s) j m class_ xs us a b was forced (at, way) in
-        inr (inr (inr (c, (i, s, p, d, both.0, both.1))))
-    fault_of number other (BadLabels round) h le = absurd h
-    fault_of number other (MixedPath round m s) h le = absurd h
-    fault_of number other (WrongEnd s) h le = absurd (let f : 2 ∷ k ∷ number ∷ n ∷ other ≡ 3 ∷ s.0 ∷ [] = h.0 in cc)
+        (λ y cl ns vs. (slice_get (positions (class_duties t cl).chains vs) x ≡ Some p) × IsBypassed t.update y cl.first cl.entry p s) j m other xs us same at.class judged.is forced (stands, bypassed) in
+        at_class (λ y z. IsFault x (Bypass (suc y) z p.waypoint s)) j m same at.class (goes_round x s p both.0 both.1)
 
   module _ (noted : WalkState) (j : IsJudging t e k n class numbers sets noted) where
     -- what holds of each fault of the class makes a reason its first one
-    first_from : (reason : Reason) (rest : List ℕ) → IsOrderedReason t e (2 ∷ k ∷ number_of reason ∷ n ∷ rest) reason
-        → ((number : ℕ) (other : List ℕ) → IsFault number other → ¬ IsBefore (number ∷ other) (number_of reason ∷ rest)) → IsFirstOfClass t e k n reason
-    first_from reason rest holds first = record { rest = rest; holds = holds; first = λ number other r h le. first number other (fault_of j.in_order j.is j.force number other r h le) }
+    first_from : (i : ℕ) (reason : Reason) → IsOrderedReason t e i reason → IsOfClasses k (λ m. m ≡ n) reason
+        → ((x : ℕ) (r : Reason) → IsFault x r → ¬ IsBefore (rank_of x r) (rank_of i reason)) → IsFirstOfClass t e k n reason
+    first_from i reason holds here first = record { position = i; holds = holds; here = here; first = λ x r h at. first x r (fault_of j.in_order j.is j.force x r h at) }
+
+    judged : IsJudged t k n class
+    judged = record { within = j.few; is = j.is }
 
     edge_up : (s : SwitchId) → HasBadStep t.update k class.first class.entry numbers s → HasEdgeUp noted.steps numbers s
     edge_up s bad = (bad.next, (j.walked.steps s bad.next).1 bad.step, bad.not_lower)
@@ -218,11 +186,8 @@ module _ (t : Task) (e : OrderedEvidence) (k n : ℕ) (class : Class) (numbers :
     abbrev pub around : Position → SwitchId → Type 0
     around = IsWayRound class.entry.switch (IsEdge noted.steps) (λ s. IsIn s noted.leaving)
 
-    no_up : NoUp → (other : List ℕ) → ¬ IsUp other
-    no_up none other (s, is_s, bad) = none s (edge_up s bad)
-
-    no_drop : NoDrop → (other : List ℕ) → ¬ IsDrop other
-    no_drop none other (s, is_s, arrive, drops) = none s (arrive, (j.walked.dropping s).1 drops)
+    no_drop : NoDrop → (s : SwitchId) → IsTrue duties.arrive → ¬ DropsAt t.update k class.first class.entry s
+    no_drop none s arrive drops = none s (arrive, (j.walked.dropping s).1 drops)
 
     bypass_of : (p : Position) (s : SwitchId) → around p s → IsBypassed t.update k class.first class.entry p s
     bypass_of = way_along class.entry.switch (IsEdge noted.steps) (IsMixedStep t.update k class.first class.entry) (λ s. IsIn s noted.leaving) (MayLeave t.update k class.first class.entry)
@@ -233,68 +198,67 @@ module _ (t : Task) (e : OrderedEvidence) (k n : ℕ) (class : Class) (numbers :
         (λ a b step. (j.walked.steps a b).1 step) (λ a leave. (j.walked.leaving a).1 leave)
 
     module _ (s : SwitchId) (least : IsLeastOf (HasEdgeUp noted.steps numbers) (Some s)) where
-      none_before_up : (number : ℕ) (other : List ℕ) → IsFault number other → ¬ IsBefore (number ∷ other) (7 ∷ s.0 ∷ [])
-      none_before_up number other (inl (c, (x, is_x, bad))) before =
-          let less = before_one x.0 s.0 (subst (λ (o : List ℕ). IsBefore o (s.0 ∷ [])) is_x (behind number 7 other (s.0 ∷ []) c before)) in
-          let le = least.1 x (edge_up x bad) in
-          omega arith
-      none_before_up number other (inr (inl (c, drops))) before = later number 7 other (s.0 ∷ []) (omega arith) before
-      none_before_up number other (inr (inr (inl (c, ne)))) before = later number 7 other (s.0 ∷ []) (omega arith) before
-      none_before_up number other (inr (inr (inr (c, way)))) before = later number 7 other (s.0 ∷ []) (omega arith) before
+      none_before_up : (i : ℕ) (r : Reason) → IsFault i r → ¬ IsBefore (rank_of i r) (rank_of 0 (NotLower (suc k) n s))
+      none_before_up i r (goes_up x bad) before = let le = least.1 x (edge_up x bad) in omega arith
+      none_before_up i r (drops_at x arrive drops) before = omega arith
+      none_before_up i r (other_count differ) before = omega arith
+      none_before_up i r (goes_round y x p at bypassed) before = omega arith
 
       -- the least switch from which a step goes to no lower number
       pub not_lower_first : IsFirstOfClass t e k n (NotLower (suc k) n s)
-      not_lower_first = first_from (NotLower (suc k) n s) (s.0 ∷ []) (k, class, numbers, sets, refl, j.few, j.is, refl, j.force, step_up s least.0) none_before_up
+      not_lower_first =
+          first_from 0 (NotLower (suc k) n s) (not_lower k n class numbers sets s judged j.force (step_up s least.0)) (record { round = refl; number = omega arith; class = refl }) none_before_up
 
     module _ (falls : NoUp) where
       module _ (s : SwitchId) (least : IsLeastOf (λ x. IsTrue duties.arrive × IsIn x noted.dropping) (Some s)) where
-        none_before_drop : (number : ℕ) (other : List ℕ) → IsFault number other → ¬ IsBefore (number ∷ other) (8 ∷ s.0 ∷ [])
-        none_before_drop number other (inl (c, up)) before = no_up falls other up
-        none_before_drop number other (inr (inl (c, (x, is_x, arrive, drops)))) before =
-            let less = before_one x.0 s.0 (subst (λ (o : List ℕ). IsBefore o (s.0 ∷ [])) is_x (behind number 8 other (s.0 ∷ []) c before)) in
-            let le = least.1 x (arrive, (j.walked.dropping x).1 drops) in
-            omega arith
-        none_before_drop number other (inr (inr (inl (c, ne)))) before = later number 8 other (s.0 ∷ []) (omega arith) before
-        none_before_drop number other (inr (inr (inr (c, way)))) before = later number 8 other (s.0 ∷ []) (omega arith) before
+        none_before_drop : (i : ℕ) (r : Reason) → IsFault i r → ¬ IsBefore (rank_of i r) (rank_of 0 (MayDrop (suc k) n s))
+        none_before_drop i r (goes_up x bad) before = falls x (edge_up x bad)
+        none_before_drop i r (drops_at x arrive drops) before = let le = least.1 x (arrive, (j.walked.dropping x).1 drops) in omega arith
+        none_before_drop i r (other_count differ) before = omega arith
+        none_before_drop i r (goes_round y x p at bypassed) before = omega arith
 
         -- the least switch where a packet that must arrive may be discarded
-        pub may_drop_first : IsFirstOfClass t e k n (may_drop (suc k) n s)
-        may_drop_first = first_from (may_drop (suc k) n s) (s.0 ∷ []) (k, class, refl, j.few, j.is, refl, least.0.0, (j.walked.dropping s).0 least.0.1) none_before_drop
+        pub may_drop_first : IsFirstOfClass t e k n (MayDrop (suc k) n s)
+        may_drop_first =
+            first_from 0 (MayDrop (suc k) n s) (may_drop k n class s judged least.0.0 ((j.walked.dropping s).0 least.0.1)) (record { round = refl; number = omega arith; class = refl }) none_before_drop
 
       module _ (arrives : NoDrop) where
-        none_before_count : (number : ℕ) (other : List ℕ) → IsFault number other → ¬ IsBefore (number ∷ other) (9 ∷ [])
-        none_before_count number other (inl (c, up)) before = no_up falls other up
-        none_before_count number other (inr (inl (c, drops))) before = no_drop arrives other drops
-        none_before_count number other (inr (inr (inl (c, ne)))) before = not_before_end other (behind number 9 other [] c before)
-        none_before_count number other (inr (inr (inr (c, way)))) before = later number 9 other [] (omega arith) before
+        none_before_count : (i : ℕ) (r : Reason) → IsFault i r → ¬ IsBefore (rank_of i r) (rank_of 0 (NoBefore (suc k) n))
+        none_before_count i r (goes_up x bad) before = falls x (edge_up x bad)
+        none_before_count i r (drops_at x arrive drops) before = no_drop arrives x arrive drops
+        none_before_count i r (other_count differ) before = omega arith
+        none_before_count i r (goes_round y x p at bypassed) before = omega arith
 
         -- the number of before sets
         pub no_before_first : length sets ≢ together duties.chains → IsFirstOfClass t e k n (NoBefore (suc k) n)
-        no_before_first ne = first_from (NoBefore (suc k) n) [] (k, class, numbers, sets, refl, j.few, j.is, refl, j.force, ne) none_before_count
+        no_before_first differ =
+            first_from 0 (NoBefore (suc k) n) (no_before k n class numbers sets judged j.force differ) (record { round = refl; number = omega arith; class = refl }) none_before_count
 
-        module _ (count : length sets ≡ together duties.chains) where
-          module _ (way : WayRound) (first : IsFirstWayRound around (positions duties.chains sets) way) where
-            not_earlier : (i : ℕ) (x : SwitchId) (p : Position) → slice_get (positions duties.chains sets) i ≡ Some p → around p x → ¬ IsBefore (i ∷ x.0 ∷ []) (first.place ∷ way.switch.0 ∷ [])
-            not_earlier i x p at here (inl less) = first.earlier i p x less at here
-            not_earlier i x p at here (inr same) =
-                let e : p ≡ first.position = same_Some p first.position (sym at ∙ ap (slice_get (positions duties.chains sets)) same.0 ∙ first.is) in
-                let le = first.least x (subst (λ (q : Position). around q x) e here) in
-                let less = before_one x.0 way.switch.0 same.1 in
-                omega arith
+        module _ (same_count : length sets ≡ together duties.chains) where
+          module _ (found : WayRound) (first : IsFirstWayRound around (positions duties.chains sets) found) where
+            -- at the first position the way round is at the least switch
+            least_there : (i : ℕ) (x : SwitchId) (p : Position) → slice_get (positions duties.chains sets) i ≡ Some p → around p x → i ≡ first.place → found.switch.0 ≤ x.0
+            least_there i x p at here same =
+                let e : p ≡ first.position = same_Some p first.position (sym at ∙ ap (slice_get (positions duties.chains sets)) same ∙ first.is) in
+                first.least x (subst (λ (q : Position). around q x) e here)
 
-            none_before_way : (number : ℕ) (other : List ℕ) → IsFault number other → ¬ IsBefore (number ∷ other) (10 ∷ first.place ∷ way.switch.0 ∷ [])
-            none_before_way number other (inl (c, up)) before = no_up falls other up
-            none_before_way number other (inr (inl (c, drops))) before = no_drop arrives other drops
-            none_before_way number other (inr (inr (inl (c, ne)))) before = ne count
-            none_before_way number other (inr (inr (inr (c, (i, x, p, is_x, at, bypassed))))) before =
-                not_earlier i x p at (way_of p x bypassed)
-                (subst (λ (o : List ℕ). IsBefore o (first.place ∷ way.switch.0 ∷ [])) is_x (behind number 10 other (first.place ∷ way.switch.0 ∷ []) c before))
+            none_before_way : (i : ℕ) (r : Reason) → IsFault i r → ¬ IsBefore (rank_of i r) (rank_of first.place (Bypass (suc k) n found.waypoint found.switch))
+            none_before_way i r (goes_up x bad) before = falls x (edge_up x bad)
+            none_before_way i r (drops_at x arrive drops) before = no_drop arrives x arrive drops
+            none_before_way i r (other_count differ) before = differ same_count
+            none_before_way i r (goes_round y x p at bypassed) before =
+                elim (cases_lt y first.place) [
+                  | inl less ↦ first.earlier y p x less at (way_of p x bypassed)
+                  | inr more ↦ (let same : y ≡ first.place = omega arith in let le = least_there y x p at (way_of p x bypassed) same in omega arith)
+                ]
 
             -- the first position that isn't guarded
-            pub bypass_first : IsFirstOfClass t e k n (Bypass (suc k) n way.waypoint way.switch)
+            pub bypass_first : IsFirstOfClass t e k n (Bypass (suc k) n found.waypoint found.switch)
             bypass_first =
-                first_from (Bypass (suc k) n way.waypoint way.switch) (first.place ∷ way.switch.0 ∷ [])
-                (k, first.place, class, numbers, sets, first.position, refl, j.few, j.is, refl, j.force, first.is, first.waypoint_is, bypass_of first.position way.switch first.here) none_before_way
+                first_from first.place (Bypass (suc k) n found.waypoint found.switch)
+                (subst (λ (w : SwitchId). IsOrderedReason t e first.place (Bypass (suc k) n w found.switch)) first.waypoint_is
+                (bypass k n first.place class numbers sets first.position found.switch judged j.force first.is (bypass_of first.position found.switch first.here)))
+                (record { round = refl; number = omega arith; class = refl }) none_before_way
 
           -- where nothing is wrong, the class has its certificate
           pub certificate_of : AreGuardedBelow around (positions duties.chains sets) (length sets) → OrderedCertificate t.update e k n class.first class.entry (class_duties t class)
@@ -313,7 +277,7 @@ module _ (t : Task) (e : OrderedEvidence) (k n : ℕ) (class : Class) (numbers :
               arrives = λ arrive drop.
                   arrives drop.place.switch (arrive, (j.walked.dropping drop.place.switch).1 (record { place = drop.place; on_walk = drop.on_walk; drops = drop.drops; at_is = refl }));
               guarded = record {
-                count = count;
+                count = same_count;
                 guards =
                     guards_of class.entry.switch (IsMixedStep t.update k class.first class.entry) (MayLeave t.update k class.first class.entry) (positions duties.chains sets)
                     (λ i p s at bypassed.
@@ -326,14 +290,14 @@ module _ (t : Task) (e : OrderedEvidence) (k n : ℕ) (class : Class) (numbers :
 
 -- a class that has its certificate gives no reason
 pub certified_gives_none : (t : Task) (e : OrderedEvidence) (k n : ℕ) (class : Class) → IsChain IsPickBefore e.picks → IsClass (classes_for t) n class
-    → OrderedCertificate t.update e k n class.first class.entry (class_duties t class) → (number : ℕ) (other : List ℕ) (r : Reason) → IsOrderedReason t e (2 ∷ k ∷ number ∷ n ∷ other) r → ¬ (6 ≤ number)
-certified_gives_none t e k n class in_order is cert number other r h le =
+    → OrderedCertificate t.update e k n class.first class.entry (class_duties t class) → (i : ℕ) (r : Reason) → IsOrderedReason t e i r → ¬ IsOfClasses k (λ m. m ≡ n) r
+certified_gives_none t e k n class in_order is cert i r h at =
     let force : IsInForce e k n cert.numbers cert.sets = record { pick = cert.pick; in_force = cert.in_force; meant = cert.meant } in
-    no_fault (fault_of t e k n class cert.numbers cert.sets in_order is force number other r h le)
+    no_fault i r (fault_of t e k n class cert.numbers cert.sets in_order is force i r h at)
   where
-    no_fault : ¬ IsFault t e k n class cert.numbers cert.sets number other
-    no_fault (inl (c, (s, is_s, bad))) = bad.not_lower (cert.safe.falls s bad.next bad.step)
-    no_fault (inr (inl (c, (s, is_s, arrive, drops)))) = cert.safe.arrives arrive (record { place = drops.place; on_walk = drops.on_walk; drops = drops.drops })
-    no_fault (inr (inr (inl (c, ne)))) = ne cert.safe.guarded.count
-    no_fault (inr (inr (inr (c, (i, s, p, is_s, at, bypassed))))) =
-        all_guarded class.entry.switch (IsMixedStep t.update k class.first class.entry) (MayLeave t.update k class.first class.entry) (positions (class_duties t class).chains cert.sets) cert.safe.guarded.guards i p s at bypassed
+    no_fault : (i : ℕ) (r : Reason) → ¬ IsFault t e k n class cert.numbers cert.sets i r
+    no_fault i r (goes_up s bad) = bad.not_lower (cert.safe.falls s bad.next bad.step)
+    no_fault i r (drops_at s arrive drops) = cert.safe.arrives arrive (record { place = drops.place; on_walk = drops.on_walk; drops = drops.drops })
+    no_fault i r (other_count differ) = differ cert.safe.guarded.count
+    no_fault i r (goes_round x s p stands bypassed) =
+        all_guarded class.entry.switch (IsMixedStep t.update k class.first class.entry) (MayLeave t.update k class.first class.entry) (positions (class_duties t class).chains cert.sets) cert.safe.guarded.guards x p s stands bypassed

@@ -1,38 +1,30 @@
 -- The first reason of a class, and of the first classes, in a round of an ordered plan.
-use Rattle.std.specs.Prelude.{ℕ, ◌<◌, ◌≤◌, List, ◌∷◌, Option, Some, None, if◌then◌else◌, nat_lt}
+use Rattle.std.specs.Prelude.{◌≡◌, ℕ, suc, ◌<◌, ◌≤◌, Option, Some, None, if◌then◌else◌, nat_lt}
 use Rattle.dest_classes.specs.Classes.{IsClass}
 use Rattle.dest_classes.specs.declared.Class.{Class}
 use Rattle.certificates.specs.Certified.{Task, classes_for, HasCertificate}
 use Rattle.certificates.specs.declared.Evidence.TheVariants.{Ordered}
 use Rattle.certificates.specs.declared.OrderedEvidence.{OrderedEvidence}
-use Rattle.check_reasons.specs.Reasons.{IsBefore, IsOrderedReason}
+use Rattle.check_reasons.specs.Ranks.{IsBefore, rank_of, number_of, round_of, class_of, least_class_number}
+use Rattle.check_reasons.specs.Reasons.{IsOrderedReason}
 use Rattle.check_reasons.specs.declared.reason.Reason.{Reason}
-use Rattle.check_reasons.specs.declared.reason.Reason.TheVariants.{NoNumbering, NotLower, MayDrop, NoBefore, Bypass}
 
--- the number of a reason of a class, by which the first of a round is chosen
-abbrev pub number_of : Reason → ℕ
-number_of (NoNumbering round n) = 6
-number_of (NotLower round n s) = 7
-number_of (MayDrop round n s) = 8
-number_of (NoBefore round n) = 9
-number_of (Bypass round n w s) = 10
-number_of _ = 0
+-- the reason is one of those classes of round k of whose numbers this holds
+pub record IsOfClasses (k : ℕ) (among : ℕ → Type 0) (reason : Reason) : Type 0 where
+  pub round : round_of reason ≡ suc k
+  pub number : least_class_number ≤ number_of reason
+  pub class : among (class_of reason)
+
+-- the first reason of those classes in round k of whose numbers this holds
+pub record IsFirstAmong (t : Task) (e : OrderedEvidence) (k : ℕ) (among : ℕ → Type 0) (reason : Reason) : Type 0 where
+  pub position : ℕ
+  pub holds : IsOrderedReason t e position reason
+  pub here : IsOfClasses k among reason
+  pub first : (i : ℕ) (other : Reason) → IsOrderedReason t e i other → IsOfClasses k among other → ¬ IsBefore (rank_of i other) (rank_of position reason)
 
 -- the first reason of class n in round k
-pub record IsFirstOfClass (t : Task) (e : OrderedEvidence) (k n : ℕ) (reason : Reason) : Type 0 where
-  pub rest : List ℕ
-  pub holds : IsOrderedReason t e (2 ∷ k ∷ number_of reason ∷ n ∷ rest) reason
-  pub first : (number : ℕ) (other : List ℕ) (r : Reason) → IsOrderedReason t e (2 ∷ k ∷ number ∷ n ∷ other) r → 6 ≤ number
-      → ¬ IsBefore (number ∷ other) (number_of reason ∷ rest)
-
--- the first reason of the classes below this number in round k
-pub record IsFirstBelow (t : Task) (e : OrderedEvidence) (k below : ℕ) (reason : Reason) : Type 0 where
-  pub class : ℕ
-  pub rest : List ℕ
-  pub within : class < below
-  pub holds : IsOrderedReason t e (2 ∷ k ∷ number_of reason ∷ class ∷ rest) reason
-  pub first : (number n : ℕ) (other : List ℕ) (r : Reason) → n < below → IsOrderedReason t e (2 ∷ k ∷ number ∷ n ∷ other) r → 6 ≤ number
-      → ¬ IsBefore (number ∷ n ∷ other) (number_of reason ∷ class ∷ rest)
+abbrev pub IsFirstOfClass : Task → OrderedEvidence → ℕ → ℕ → Reason → Type 0
+IsFirstOfClass t e k n reason = IsFirstAmong t e k (λ m. m ≡ n) reason
 
 -- the first of two reasons, where there are two and the second is of a later class
 abbrev pub first_of : Option Reason → Option Reason → Option Reason
@@ -43,4 +35,4 @@ first_of (Some reason) (Some later) = if nat_lt (number_of later) (number_of rea
 -- what was found of the classes below this number in round k: each has its certificate, or the first reason
 abbrev pub IsFoundBelow : Task → OrderedEvidence → ℕ → ℕ → Option Reason → Type 0
 IsFoundBelow t e k below None = (n : ℕ) (class : Class) → n < below → IsClass (classes_for t) n class → HasCertificate t (Ordered e) k n class
-IsFoundBelow t e k below (Some reason) = IsFirstBelow t e k below reason
+IsFoundBelow t e k below (Some reason) = IsFirstAmong t e k (λ n. n < below) reason

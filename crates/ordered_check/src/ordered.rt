@@ -1,5 +1,5 @@
 // The classes of the rounds of an ordered plan.
-ghost use Rattle.std.specs.Prelude.{◌≡◌, ℕ, ◌<◌, ◌≤◌, ◌∷◌, [], suc, length, IfOk, IfSome, IfNone};
+ghost use Rattle.std.specs.Prelude.{◌≡◌, ℕ, ◌<◌, ◌≤◌, suc, length, IfOk, IfSome, IfNone};
 ghost use Rattle.topology.specs.Networks.{switch_count};
 ghost use Rattle.dest_classes.specs.Classes.{class_count, IsClass};
 ghost use Rattle.demands.specs.Duties.{duties_of};
@@ -8,9 +8,10 @@ ghost use Rattle.certificates.specs.Certified.{classes_for};
 ghost use Rattle.certificates.specs.declared.Evidence.TheVariants.{Ordered};
 ghost use Rattle.check_reasons.specs.Loaded.{AreLoaded};
 ghost use Rattle.mixed_walks.specs.Walks.{KeepVlansUpTo};
+ghost use Rattle.check_reasons.specs.Ranks.{classes_start};
 ghost use Rattle.check_reasons.specs.Passed.{IsFirstFrom, ClassesPass};
 ghost use Rattle.ordered_check.specs.Picks.{IsUseInForce, PicksStand, HasPickRoom};
-ghost use Rattle.ordered_check.specs.Firsts.{number_of, first_of, IsFirstOfClass, IsFoundBelow};
+ghost use Rattle.ordered_check.specs.Firsts.{first_of, IsFirstOfClass, IsFoundBelow};
 
 use crate::judging::{first_of_class, keeps_valid};
 use crate::picks::PicksInForce;
@@ -39,20 +40,6 @@ impl Model for OrderedRoom {
     ghost view = { λ r. r.picks };
 }
 
-/// The number of a reason of a class, by which the first of a round is chosen.
-fn number_of(reason: &Reason) -> u32
-    ensures { result ≡ number_of reason.now }
-{
-    match reason {
-        Reason::NoNumbering { .. } => 6,
-        Reason::NotLower { .. } => 7,
-        Reason::MayDrop { .. } => 8,
-        Reason::NoBefore { .. } => 9,
-        Reason::Bypass { .. } => 10,
-        _ => 0,
-    }
-}
-
 /// The first of two reasons, where there are two and the second is of a later class.
 fn first_of(found: Option<Reason>, later: Option<Reason>) -> Option<Reason>
     ensures { result ≡ first_of found later }
@@ -62,7 +49,7 @@ fn first_of(found: Option<Reason>, later: Option<Reason>) -> Option<Reason>
         Some(reason) => match later {
             None => found,
             Some(other) => {
-                if number_of(&other) < number_of(&reason) {
+                if other.number() < reason.number() {
                     later
                 } else {
                     found
@@ -181,7 +168,7 @@ impl OrderedRoom {
         requires stands { PicksStand evidence.now.picks k self.old }
         requires room { HasPickRoom classes.now self.old }
         ensures none { IfNone result (ClassesPass case.now.task (Ordered evidence.now) k) }
-        ensures some { IfSome result (IsFirstFrom case.now.task (Ordered evidence.now) (2 ∷ k ∷ 6 ∷ [])) }
+        ensures some { IfSome result (IsFirstFrom case.now.task (Ordered evidence.now) (classes_start k)) }
         ensures stands { PicksStand evidence.now.picks (suc k) self.new }
         ensures room { HasPickRoom classes.now self.new }
     {

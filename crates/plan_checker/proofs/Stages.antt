@@ -11,7 +11,7 @@ use Rattle.config_check.specs.Broken.{IsFirstBreak}
 use Rattle.config_check.specs.declared.Breaks.{Breaks}
 use Rattle.demands.specs.Good.{HasGoodPaths}
 use Rattle.update_model.specs.Changes.{rule_of, round_after}
-use Rattle.update_model.specs.Mixtures.{tables_before}
+use Rattle.update_model.specs.Mixtures.{need_of}
 use Rattle.update_model.specs.declared.Change.{Change}
 use Rattle.certificates.specs.Certified.{Task, IsCertified, KeepsVlan, KeepsVlans, classes_for}
 use Rattle.certificates.specs.Valid.{IsChain, IsPickBefore, IsValidEvidence}
@@ -23,7 +23,9 @@ use Rattle.std.specs.Prelude.{sum_by}
 use Rattle.check_reasons.specs.Cases.{CaseView}
 use Rattle.check_reasons.specs.Cases.{IsChecked}
 use Rattle.plan_checker.specs.Checking.{EndsAreGood, EndsAtNew, RoundsPass}
-use Rattle.check_reasons.specs.Reasons.{IsBefore, IsReason, IsOrderedReason, IsTwoPhaseReason, IsShared, IsFirstReason}
+use Rattle.check_reasons.specs.Ranks.{Rank, IsBefore, rank_of, stage_of, round_of, number_of, least_class_number, round_start, classes_start, end_start}
+use Rattle.check_reasons.specs.Reasons.{IsReason, IsOwnReason, IsFirstReason, IsCommonReason, old_breaks, new_breaks, bad_change, ambiguous, over_capacity, wrong_end}
+use Rattle.check_reasons.specs.Reasons.{IsOrderedReason, rewrites, no_numbering, not_lower, may_drop, no_before, bypass, IsTwoPhaseReason, bad_labels, mixed_path}
 use Rattle.check_reasons.specs.Passed.{IsFirstFrom, NoneBefore, ChangesPass, ClassesPass, RoundKeepsVlans}
 use Rattle.check_reasons.specs.declared.reason.Reason.{Reason}
 use Rattle.check_reasons.specs.declared.reason.Reason.TheVariants.{EndBreaks, BadChange, Ambiguous, OverCapacity, Rewrites, NoNumbering, NotLower, MayDrop, NoBefore, Bypass, BadLabels, MixedPath, WrongEnd}
@@ -38,105 +40,56 @@ pub picks_ascend : (net : Network) (rounds changes : ℕ) (e : Evidence) → IsV
 picks_ascend net rounds changes (Ordered e) valid = valid.ascending
 picks_ascend net rounds changes (TwoPhase e) valid = valid.ascending
 
--- the stage of a place, with what does not hold there
-pub data IsStaged (t : Task) (e : Evidence) (place : List ℕ) : Type 0 where
-  AtOld : place ≡ 0 ∷ [] → ¬ HasGoodPaths t.update.net t.update.old t.demands (classes_for t) → IsStaged t e place
-  AtNew : place ≡ 1 ∷ [] → ¬ HasGoodPaths t.update.net t.new t.demands (classes_for t) → IsStaged t e place
-  InChanges : (k m : ℕ) (rest : List ℕ) → place ≡ 2 ∷ k ∷ m ∷ rest → k < length t.update.rounds → ¬ ChangesPass t e k → IsStaged t e place
-  InClasses : (k m : ℕ) (rest : List ℕ) → place ≡ 2 ∷ k ∷ m ∷ rest → 5 < m → k < length t.update.rounds → ¬ ClassesPass t e k → IsStaged t e place
-  AtLast : (s : ℕ) → place ≡ 3 ∷ s ∷ [] → ¬ EndsAtNew t → IsStaged t e place
+-- the part of the check that a reason belongs to, with what does not hold there
+pub data IsStaged (t : Task) (e : Evidence) : ℕ → Reason → Type 0 where
+  AtOld : (breaks : Breaks) → ¬ HasGoodPaths t.update.net t.update.old t.demands (classes_for t) → IsStaged t e 0 (EndBreaks false breaks)
+  AtNew : (breaks : Breaks) → ¬ HasGoodPaths t.update.net t.new t.demands (classes_for t) → IsStaged t e 0 (EndBreaks true breaks)
+  InChanges : (i : ℕ) (r : Reason) (k : ℕ) → stage_of r ≡ 2 → round_of r ≡ suc k → k < length t.update.rounds → ¬ ChangesPass t e k → IsStaged t e i r
+  InClasses : (i : ℕ) (r : Reason) (k : ℕ) → stage_of r ≡ 2 → round_of r ≡ suc k → least_class_number ≤ number_of r → k < length t.update.rounds → ¬ ClassesPass t e k → IsStaged t e i r
+  AtLast : (s : SwitchId) → ¬ EndsAtNew t → IsStaged t e 0 (WrongEnd s)
 
 module _ (t : Task) (count : length t.update.old ≡ switch_count t.update.net) where
-  shared_staged : (any : Evidence) (e : OrderedEvidence) (place : List ℕ) (r : Reason) → IsShared r → IsOrderedReason t e place r → IsStaged t any place
-  shared_staged any e place (EndBreaks true breaks) shared h = AtNew h.0 (break_refuted t.update.net t.new t.demands (classes_for t) breaks h.1)
-  shared_staged any e place (EndBreaks false breaks) shared h = AtOld h.0 (break_refuted t.update.net t.update.old t.demands (classes_for t) breaks h.1)
-  shared_staged any e place (BadChange round s i) shared (k, number, at, bad) =
-      InChanges k 2 (s.0 ∷ i ∷ []) at (within_rounds t.update.rounds k bad.change (in_from_get (round_after k t.update.rounds) i bad.change bad.is))
-      (λ pass. bad_change_refuted t.update k pass.good i s bad)
-  shared_staged any e place (Ambiguous round s) shared (k, number, within, at, unclear) =
-      InChanges k 3 (s.0 ∷ []) at within (λ pass. unclear_refuted t any k pass s unclear)
-  shared_staged any e place (OverCapacity round s need) shared (k, number, within, at, is, over) =
-      InChanges k 4 (s.0 ∷ []) at within (λ pass. let fits = need_fits t any k pass count s in omega arith)
-  shared_staged any e place (Rewrites round s) shared h = absurd shared
-  shared_staged any e place (NoNumbering round n) shared h = absurd shared
-  shared_staged any e place (NotLower round n s) shared h = absurd shared
-  shared_staged any e place (MayDrop round n s) shared h = absurd shared
-  shared_staged any e place (NoBefore round n) shared h = absurd shared
-  shared_staged any e place (Bypass round n w s) shared h = absurd shared
-  shared_staged any e place (BadLabels round) shared h = absurd shared
-  shared_staged any e place (MixedPath round n s) shared h = absurd shared
-  shared_staged any e place (WrongEnd s) shared h = AtLast s.0 h.0 (λ ends. h.1 (ends s))
+  common_staged : (e : Evidence) (i : ℕ) (r : Reason) → IsCommonReason t i r → IsStaged t e i r
+  common_staged e i r (old_breaks breaks first) = AtOld breaks (break_refuted t.update.net t.update.old t.demands (classes_for t) breaks first)
+  common_staged e i r (new_breaks breaks first) = AtNew breaks (break_refuted t.update.net t.new t.demands (classes_for t) breaks first)
+  common_staged e i r (bad_change k c s bad) =
+      InChanges 0 (BadChange (suc k) s c) k refl refl (within_rounds t.update.rounds k bad.change (in_from_get (round_after k t.update.rounds) c bad.change bad.is))
+      (λ pass. bad_change_refuted t.update k pass.good c s bad)
+  common_staged e i r (ambiguous k s within unclear) = InChanges 0 (Ambiguous (suc k) s) k refl refl within (λ pass. unclear_refuted t e k pass s unclear)
+  common_staged e i r (over_capacity k s within over) =
+      InChanges 0 (OverCapacity (suc k) s (need_of t.update k s)) k refl refl within (λ pass. let fits = need_fits t e k pass count s in omega arith)
+  common_staged e i r (wrong_end s differ) = AtLast s (λ ends. differ (ends s))
 
-  ordered_staged : (e : OrderedEvidence) → IsChain IsPickBefore e.picks → (place : List ℕ) (r : Reason) → IsOrderedReason t e place r → IsStaged t (Ordered e) place
-  ordered_staged e chain place (EndBreaks new breaks) h = shared_staged (Ordered e) e place (EndBreaks new breaks) tt h
-  ordered_staged e chain place (BadChange round s i) h = shared_staged (Ordered e) e place (BadChange round s i) tt h
-  ordered_staged e chain place (Ambiguous round s) h = shared_staged (Ordered e) e place (Ambiguous round s) tt h
-  ordered_staged e chain place (OverCapacity round s need) h = shared_staged (Ordered e) e place (OverCapacity round s need) tt h
-  ordered_staged e chain place (Rewrites round s) (k, number, at, has) =
-      InChanges k 5 (s.0 ∷ []) at (within_rounds t.update.rounds k has.change has.stands) (λ pass. rewrite_refuted t e k pass s has)
-  ordered_staged e chain place (NoNumbering round n) (k, class, number, within, is, at, none) =
-      InClasses k 6 (n ∷ []) at (omega arith) within (λ pass. no_pick_refuted t e chain k pass n class is none)
-  ordered_staged e chain place (NotLower round n s) (k, class, numbers, sets, number, within, is, at, force, bad) =
-      InClasses k 7 (n ∷ s.0 ∷ []) at (omega arith) within (λ pass. bad_step_refuted t e chain k pass n class is numbers sets force s bad)
-  ordered_staged e chain place (MayDrop round n s) (k, class, number, within, is, at, arrive, drops) =
-      InClasses k 8 (n ∷ s.0 ∷ []) at (omega arith) within (λ pass. drop_refuted t e chain k pass n class is arrive s drops)
-  ordered_staged e chain place (NoBefore round n) (k, class, numbers, sets, number, within, is, at, force, differ) =
-      InClasses k 9 (n ∷ []) at (omega arith) within (λ pass. count_refuted t e chain k pass n class is numbers sets force differ)
-  ordered_staged e chain place (Bypass round n w s) (k, i, class, numbers, sets, p, number, within, is, at, force, stands, waypoint, bypassed) =
-      InClasses k 10 (n ∷ i ∷ s.0 ∷ []) at (omega arith) within (λ pass. bypass_refuted t e chain k pass n class is numbers sets force i p stands s bypassed)
-  ordered_staged e chain place (BadLabels round) h = absurd h
-  ordered_staged e chain place (MixedPath round n s) h = absurd h
-  ordered_staged e chain place (WrongEnd s) h = shared_staged (Ordered e) e place (WrongEnd s) tt h
+  ordered_staged : (e : OrderedEvidence) → IsChain IsPickBefore e.picks → (i : ℕ) (r : Reason) → IsOrderedReason t e i r → IsStaged t (Ordered e) i r
+  ordered_staged e chain i r (rewrites k s has) =
+      InChanges 0 (Rewrites (suc k) s) k refl refl (within_rounds t.update.rounds k has.change has.stands) (λ pass. rewrite_refuted t e k pass s has)
+  ordered_staged e chain i r (no_numbering k n class judged none) =
+      InClasses 0 (NoNumbering (suc k) n) k refl refl (omega arith) judged.within (λ pass. no_pick_refuted t e chain k pass n class judged.is none)
+  ordered_staged e chain i r (not_lower k n class numbers sets s judged force bad) =
+      InClasses 0 (NotLower (suc k) n s) k refl refl (omega arith) judged.within (λ pass. bad_step_refuted t e chain k pass n class judged.is numbers sets force s bad)
+  ordered_staged e chain i r (may_drop k n class s judged arrive drops) =
+      InClasses 0 (MayDrop (suc k) n s) k refl refl (omega arith) judged.within (λ pass. drop_refuted t e chain k pass n class judged.is arrive s drops)
+  ordered_staged e chain i r (no_before k n class numbers sets judged force differ) =
+      InClasses 0 (NoBefore (suc k) n) k refl refl (omega arith) judged.within (λ pass. count_refuted t e chain k pass n class judged.is numbers sets force differ)
+  ordered_staged e chain i r (bypass k n j class numbers sets p s judged force stands bypassed) =
+      InClasses j (Bypass (suc k) n p.waypoint s) k refl refl (omega arith) judged.within (λ pass. bypass_refuted t e chain k pass n class judged.is numbers sets force j p stands s bypassed)
 
-  two_phase_staged : (e : TwoPhaseEvidence) → IsChain (λ p q. p.round < q.round) e.picks → (place : List ℕ) (r : Reason) → IsTwoPhaseReason t e place r → IsStaged t (TwoPhase e) place
-  two_phase_staged e chain place (BadLabels round) (k, n, class, number, within, is, at, none) =
-      InClasses k 11 [] at (omega arith) within (λ pass. no_table_refuted t e chain k pass n class is none)
-  two_phase_staged e chain place (MixedPath round n s) (k, class, labels, number, within, is, at, force, how) =
-      InClasses k 12 (n ∷ s.0 ∷ []) at (omega arith) within (λ pass. elim how [
-        | inl (here, mixed) ↦ mixed_entry_refuted t e chain k pass n class is labels force mixed
-        | inr stray ↦ stray_refuted t e chain k pass n class is labels force s stray
+  two_phase_staged : (e : TwoPhaseEvidence) → IsChain (λ p q. p.round < q.round) e.picks → (i : ℕ) (r : Reason) → IsTwoPhaseReason t e i r → IsStaged t (TwoPhase e) i r
+  two_phase_staged e chain i r (bad_labels k n class judged none) =
+      InClasses 0 (BadLabels (suc k)) k refl refl (omega arith) judged.within (λ pass. no_table_refuted t e chain k pass n class judged.is none)
+  two_phase_staged e chain i r (mixed_path k n class labels s judged force how) =
+      InClasses 0 (MixedPath (suc k) n s) k refl refl (omega arith) judged.within (λ pass. elim how [
+        | inl (here, mixed) ↦ mixed_entry_refuted t e chain k pass n class judged.is labels force mixed
+        | inr stray ↦ stray_refuted t e chain k pass n class judged.is labels force s stray
       ])
-  two_phase_staged e chain place (EndBreaks new breaks) h = absurd h
-  two_phase_staged e chain place (BadChange round s i) h = absurd h
-  two_phase_staged e chain place (Ambiguous round s) h = absurd h
-  two_phase_staged e chain place (OverCapacity round s need) h = absurd h
-  two_phase_staged e chain place (Rewrites round s) h = absurd h
-  two_phase_staged e chain place (NoNumbering round n) h = absurd h
-  two_phase_staged e chain place (NotLower round n s) h = absurd h
-  two_phase_staged e chain place (MayDrop round n s) h = absurd h
-  two_phase_staged e chain place (NoBefore round n) h = absurd h
-  two_phase_staged e chain place (Bypass round n w s) h = absurd h
-  two_phase_staged e chain place (WrongEnd s) h = absurd h
 
-  -- each reason has its stage
-  pub staged : (e : Evidence) → PicksAscend e → (place : List ℕ) (r : Reason) → IsReason t e place r → IsStaged t e place
-  staged (Ordered e) chain place r h = ordered_staged e chain place r h
-  staged (TwoPhase e) chain place r (inl h) = shared_staged (TwoPhase e) _ place r h.0 h.1
-  staged (TwoPhase e) chain place r (inr h) = two_phase_staged e chain place r h
+  own_staged : (e : Evidence) → PicksAscend e → (i : ℕ) (r : Reason) → IsOwnReason t e i r → IsStaged t e i r
+  own_staged (Ordered e) chain i r h = ordered_staged e chain i r h
+  own_staged (TwoPhase e) chain i r h = two_phase_staged e chain i r h
 
--- nothing comes before the empty list
-pub none_before_empty : (xs : List ℕ) → ¬ IsBefore xs []
-none_before_empty [] h = h
-none_before_empty (x ∷ xs) h = h
-
--- what begins with a greater number doesn't come before
-pub not_before_less : (x y : ℕ) (xs ys : List ℕ) → y < x → ¬ IsBefore (x ∷ xs) (y ∷ ys)
-not_before_less x y xs ys less (inl h) = omega arith
-not_before_less x y xs ys less (inr h) = let e = h.0 in omega arith
-
--- after the same number the rest decides
-pub not_before_same : (x : ℕ) (xs ys : List ℕ) → ¬ IsBefore xs ys → ¬ IsBefore (x ∷ xs) (x ∷ ys)
-not_before_same x xs ys later (inl h) = omega arith
-not_before_same x xs ys later (inr h) = later h.1
-
--- of numbers that aren't less none comes before the last
-pub not_before_last : (x y : ℕ) (xs : List ℕ) → y ≤ x → ¬ IsBefore (x ∷ xs) (y ∷ [])
-not_before_last x y xs le (inl h) = omega arith
-not_before_last x y xs le (inr h) = none_before_empty xs h.1
-
-not_before_next : (x y m n : ℕ) (xs : List ℕ) → y ≤ x → n ≤ m → ¬ IsBefore (x ∷ m ∷ xs) (y ∷ n ∷ [])
-not_before_next x y m n xs le high (inl h) = omega arith
-not_before_next x y m n xs le high (inr h) = not_before_last m n xs high h.1
+  -- each reason has its part
+  pub staged : (e : Evidence) → PicksAscend e → (i : ℕ) (r : Reason) → IsReason t e i r → IsStaged t e i r
+  staged e chain i r h = elim h [ inl common ↦ common_staged e i r common | inr own ↦ own_staged e chain i r own ]
 
 -- what each round keeps, all rounds keep
 each_from_rounds : (P : List Change → Type 0) (rounds : List (List Change)) → ((k : ℕ) → k < length rounds → P (round_after k rounds)) → AllByRecursion P rounds
@@ -181,110 +134,89 @@ all_passed t e ends rounds last = record {
   ends = last;
 }
 
--- the first reason of those after a place is the first reason where none comes before the place
-pub from_none : (t : Task) (e : Evidence) (from : List ℕ) (r : Reason) → NoneBefore t e from → IsFirstFrom t e from r → IsFirstReason t e r
+-- the first reason of those after a rank is the first reason where none comes before the rank
+pub from_none : (t : Task) (e : Evidence) (from : Rank) (r : Reason) → NoneBefore t e from → IsFirstFrom t e from r → IsFirstReason t e r
 from_none t e from r none first = record {
-  place = first.place;
+  position = first.position;
   holds = first.holds;
-  first = λ other q h. first.first other q h (none other q h);
+  first = λ i other h. first.first i other h (none i other h);
 }
 
 module _ (t : Task) (e : Evidence) (count : length t.update.old ≡ switch_count t.update.net) (ascend : PicksAscend e) where
-  -- no stage comes before the old configuration
-  old_ruled : (place : List ℕ) → IsStaged t e place → ¬ IsBefore place (0 ∷ [])
-  old_ruled place (AtOld at bad) b = not_before_same 0 [] [] (none_before_empty []) (subst (λ p. IsBefore p (0 ∷ [])) at b)
-  old_ruled place (AtNew at bad) b = not_before_less 1 0 [] [] (omega arith) (subst (λ p. IsBefore p (0 ∷ [])) at b)
-  old_ruled place (InChanges j m rest at within bad) b = not_before_less 2 0 (j ∷ m ∷ rest) [] (omega arith) (subst (λ p. IsBefore p (0 ∷ [])) at b)
-  old_ruled place (InClasses j m rest at high within bad) b = not_before_less 2 0 (j ∷ m ∷ rest) [] (omega arith) (subst (λ p. IsBefore p (0 ∷ [])) at b)
-  old_ruled place (AtLast s at bad) b = not_before_less 3 0 (s ∷ []) [] (omega arith) (subst (λ p. IsBefore p (0 ∷ [])) at b)
+  -- nothing comes before the old configuration
+  old_ruled : (breaks : Breaks) (i : ℕ) (r : Reason) → IsStaged t e i r → ¬ IsBefore (rank_of i r) (rank_of 0 (EndBreaks false breaks))
+  old_ruled breaks i r (AtOld other bad) b = omega arith
+  old_ruled breaks i r (AtNew other bad) b = omega arith
+  old_ruled breaks i r (InChanges x q j stage round within bad) b = omega arith
+  old_ruled breaks i r (InClasses x q j stage round number within bad) b = omega arith
+  old_ruled breaks i r (AtLast s bad) b = omega arith
 
-  new_ruled : HasGoodPaths t.update.net t.update.old t.demands (classes_for t) → (place : List ℕ) → IsStaged t e place → ¬ IsBefore place (1 ∷ [])
-  new_ruled good place (AtOld at bad) b = bad good
-  new_ruled good place (AtNew at bad) b = not_before_same 1 [] [] (none_before_empty []) (subst (λ p. IsBefore p (1 ∷ [])) at b)
-  new_ruled good place (InChanges j m rest at within bad) b = not_before_less 2 1 (j ∷ m ∷ rest) [] (omega arith) (subst (λ p. IsBefore p (1 ∷ [])) at b)
-  new_ruled good place (InClasses j m rest at high within bad) b = not_before_less 2 1 (j ∷ m ∷ rest) [] (omega arith) (subst (λ p. IsBefore p (1 ∷ [])) at b)
-  new_ruled good place (AtLast s at bad) b = not_before_less 3 1 (s ∷ []) [] (omega arith) (subst (λ p. IsBefore p (1 ∷ [])) at b)
-
-  -- a reason of an end is one, with either evidence
-  end_reason : (any : Evidence) (new : Bool) (breaks : Breaks) → IsFirstBreak t.update.net (if new then t.new else t.update.old) t.demands (classes_for t) breaks
-      → IsReason t any ((if new then 1 else 0) ∷ []) (EndBreaks new breaks)
-  end_reason (Ordered x) new breaks first = (refl, first)
-  end_reason (TwoPhase x) new breaks first = inl (tt, (refl, first))
+  new_ruled : HasGoodPaths t.update.net t.update.old t.demands (classes_for t) → (breaks : Breaks) (i : ℕ) (r : Reason) → IsStaged t e i r → ¬ IsBefore (rank_of i r) (rank_of 0 (EndBreaks true breaks))
+  new_ruled good breaks i r (AtOld other bad) b = bad good
+  new_ruled good breaks i r (AtNew other bad) b = omega arith
+  new_ruled good breaks i r (InChanges x q j stage round within bad) b = omega arith
+  new_ruled good breaks i r (InClasses x q j stage round number within bad) b = omega arith
+  new_ruled good breaks i r (AtLast s bad) b = omega arith
 
   -- a first break of the old configuration is the first reason
   pub old_first : (breaks : Breaks) → IsFirstBreak t.update.net t.update.old t.demands (classes_for t) breaks → IsFirstReason t e (EndBreaks false breaks)
-  old_first breaks first = record { place = 0 ∷ []; holds = end_reason e false breaks first; first = λ other r h. old_ruled other (staged t count e ascend other r h) }
+  old_first breaks first = record { position = 0; holds = inl (old_breaks breaks first); first = λ i r h. old_ruled breaks i r (staged t count e ascend i r h) }
 
   -- and one of the new configuration, where the old one is good
   pub new_first : HasGoodPaths t.update.net t.update.old t.demands (classes_for t)
       → (breaks : Breaks) → IsFirstBreak t.update.net t.new t.demands (classes_for t) breaks → IsFirstReason t e (EndBreaks true breaks)
-  new_first good breaks first = record { place = 1 ∷ []; holds = end_reason e true breaks first; first = λ other r h. new_ruled good other (staged t count e ascend other r h) }
+  new_first good breaks first = record { position = 0; holds = inl (new_breaks breaks first); first = λ i r h. new_ruled good breaks i r (staged t count e ascend i r h) }
 
   module _ (ends : EndsAreGood t) (k : ℕ) (rounds : RoundsPass t e k) where
-    round_ruled : (place : List ℕ) → IsStaged t e place → ¬ IsBefore place (2 ∷ k ∷ [])
-    round_ruled place (AtOld at bad) b = bad ends.old_good
-    round_ruled place (AtNew at bad) b = bad ends.new_good
-    round_ruled place (InChanges j m rest at within bad) b =
-        elim (cases_lt j k) [
-          | inl earlier ↦ bad (rounds j earlier).0
-          | inr later ↦ not_before_same 2 (j ∷ m ∷ rest) (k ∷ []) (not_before_last j k (m ∷ rest) later) (subst (λ p. IsBefore p (2 ∷ k ∷ [])) at b)
-        ]
-    round_ruled place (InClasses j m rest at high within bad) b =
-        elim (cases_lt j k) [
-          | inl earlier ↦ bad (rounds j earlier).1
-          | inr later ↦ not_before_same 2 (j ∷ m ∷ rest) (k ∷ []) (not_before_last j k (m ∷ rest) later) (subst (λ p. IsBefore p (2 ∷ k ∷ [])) at b)
-        ]
-    round_ruled place (AtLast s at bad) b = not_before_less 3 2 (s ∷ []) (k ∷ []) (omega arith) (subst (λ p. IsBefore p (2 ∷ k ∷ [])) at b)
+    round_ruled : (i : ℕ) (r : Reason) → IsStaged t e i r → ¬ IsBefore (rank_of i r) (round_start k)
+    round_ruled i r (AtOld other bad) b = bad ends.old_good
+    round_ruled i r (AtNew other bad) b = bad ends.new_good
+    round_ruled i r (InChanges x q j stage round within bad) b = bad (rounds j (omega arith)).0
+    round_ruled i r (InClasses x q j stage round number within bad) b = bad (rounds j (omega arith)).1
+    round_ruled i r (AtLast s bad) b = omega arith
 
     -- where the ends are good and the rounds before pass, no reason comes before a round
-    pub none_before_round : NoneBefore t e (2 ∷ k ∷ [])
-    none_before_round other r h = round_ruled other (staged t count e ascend other r h)
+    pub none_before_round : NoneBefore t e (round_start k)
+    none_before_round i r h = round_ruled i r (staged t count e ascend i r h)
 
-    classes_ruled : ChangesPass t e k → (place : List ℕ) → IsStaged t e place → ¬ IsBefore place (2 ∷ k ∷ 6 ∷ [])
-    classes_ruled pass place (AtOld at bad) b = bad ends.old_good
-    classes_ruled pass place (AtNew at bad) b = bad ends.new_good
-    classes_ruled pass place (InChanges j m rest at within bad) b =
+    classes_ruled : ChangesPass t e k → (i : ℕ) (r : Reason) → IsStaged t e i r → ¬ IsBefore (rank_of i r) (classes_start k)
+    classes_ruled pass i r (AtOld other bad) b = bad ends.old_good
+    classes_ruled pass i r (AtNew other bad) b = bad ends.new_good
+    classes_ruled pass i r (InChanges x q j stage round within bad) b =
         elim (cases_lt j k) [
           | inl earlier ↦ bad (rounds j earlier).0
-          | inr later ↦ elim (cases_lt k j) [
-            | inl less ↦ not_before_same 2 (j ∷ m ∷ rest) (k ∷ 6 ∷ []) (not_before_less j k (m ∷ rest) (6 ∷ []) less) (subst (λ p. IsBefore p (2 ∷ k ∷ 6 ∷ [])) at b)
-            | inr more ↦ (let same : k ≡ j = omega arith in bad (subst (ChangesPass t e) same pass))
-          ]
+          | inr later ↦ (let same : k ≡ j = omega arith in bad (subst (ChangesPass t e) same pass))
         ]
-    classes_ruled pass place (InClasses j m rest at high within bad) b =
-        elim (cases_lt j k) [
-          | inl earlier ↦ bad (rounds j earlier).1
-          | inr later ↦ not_before_same 2 (j ∷ m ∷ rest) (k ∷ 6 ∷ []) (not_before_next j k m 6 rest later (omega arith)) (subst (λ p. IsBefore p (2 ∷ k ∷ 6 ∷ [])) at b)
-        ]
-    classes_ruled pass place (AtLast s at bad) b = not_before_less 3 2 (s ∷ []) (k ∷ 6 ∷ []) (omega arith) (subst (λ p. IsBefore p (2 ∷ k ∷ 6 ∷ [])) at b)
+    classes_ruled pass i r (InClasses x q j stage round number within bad) b = bad (rounds j (omega arith)).1
+    classes_ruled pass i r (AtLast s bad) b = omega arith
 
     -- and none comes before the classes of the round, where its changes pass too
-    pub none_before_classes : ChangesPass t e k → NoneBefore t e (2 ∷ k ∷ 6 ∷ [])
-    none_before_classes pass other r h = classes_ruled pass other (staged t count e ascend other r h)
+    pub none_before_classes : ChangesPass t e k → NoneBefore t e (classes_start k)
+    none_before_classes pass i r h = classes_ruled pass i r (staged t count e ascend i r h)
 
   module _ (ends : EndsAreGood t) (rounds : RoundsPass t e (length t.update.rounds)) where
-    last_ruled : (place : List ℕ) → IsStaged t e place → ¬ IsBefore place (3 ∷ [])
-    last_ruled place (AtOld at bad) b = bad ends.old_good
-    last_ruled place (AtNew at bad) b = bad ends.new_good
-    last_ruled place (InChanges j m rest at within bad) b = bad (rounds j within).0
-    last_ruled place (InClasses j m rest at high within bad) b = bad (rounds j within).1
-    last_ruled place (AtLast s at bad) b = not_before_same 3 (s ∷ []) [] (none_before_empty (s ∷ [])) (subst (λ p. IsBefore p (3 ∷ [])) at b)
+    last_ruled : (i : ℕ) (r : Reason) → IsStaged t e i r → ¬ IsBefore (rank_of i r) end_start
+    last_ruled i r (AtOld other bad) b = bad ends.old_good
+    last_ruled i r (AtNew other bad) b = bad ends.new_good
+    last_ruled i r (InChanges x q j stage round within bad) b = bad (rounds j within).0
+    last_ruled i r (InClasses x q j stage round number within bad) b = bad (rounds j within).1
+    last_ruled i r (AtLast s bad) b = omega arith
 
     -- after all rounds none comes before the last tables
-    pub none_before_last : NoneBefore t e (3 ∷ [])
-    none_before_last other r h = last_ruled other (staged t count e ascend other r h)
+    pub none_before_last : NoneBefore t e end_start
+    none_before_last i r h = last_ruled i r (staged t count e ascend i r h)
 
-  -- a certified plan has nothing that a stage speaks of
-  not_staged : IsCertified t e → (place : List ℕ) → ¬ IsStaged t e place
-  not_staged certified place (AtOld at bad) = bad certified.old_good
-  not_staged certified place (AtNew at bad) = bad certified.new_good
-  not_staged certified place (InChanges k m rest at within bad) = bad (changes_pass t e certified k within)
-  not_staged certified place (InClasses k m rest at high within bad) = bad (λ n class is. certified.certificates k n class within is)
-  not_staged certified place (AtLast s at bad) = bad certified.ends
+  -- a certified plan has nothing that a part of the check finds
+  not_staged : IsCertified t e → (i : ℕ) (r : Reason) → ¬ IsStaged t e i r
+  not_staged certified i r (AtOld breaks bad) = bad certified.old_good
+  not_staged certified i r (AtNew breaks bad) = bad certified.new_good
+  not_staged certified i r (InChanges x q k stage round within bad) = bad (changes_pass t e certified k within)
+  not_staged certified i r (InClasses x q k stage round number within bad) = bad (λ n class is. certified.certificates k n class within is)
+  not_staged certified i r (AtLast s bad) = bad certified.ends
 
   -- a plan that has a reason is not certified
   pub reason_refuses : (r : Reason) → IsFirstReason t e r → ¬ IsCertified t e
-  reason_refuses r first certified = not_staged certified first.place (staged t count e ascend first.place r first.holds)
+  reason_refuses r first certified = not_staged certified first.position r (staged t count e ascend first.position r first.holds)
 
 -- what every case keeps
 module _ (c : CaseView) (checked : IsChecked c) where

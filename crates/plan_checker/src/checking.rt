@@ -1,5 +1,5 @@
 // Whether a plan is certified, and otherwise the first reason why not.
-ghost use Rattle.std.specs.Prelude.{◌≡◌, ◌↔◌, suc, ◌<◌, ◌∷◌, [], length, IfSome, IfNone, if◌then◌else◌};
+ghost use Rattle.std.specs.Prelude.{◌≡◌, ◌↔◌, suc, ◌<◌, length, IfSome, IfNone, if◌then◌else◌};
 ghost use Rattle.topology.specs.Networks.{switch_count};
 ghost use Rattle.flow_rules.specs.Tables.{rules_of_all};
 ghost use Rattle.path_walk.specs.UserConfigs.{IsUserConfig};
@@ -12,6 +12,7 @@ ghost use Rattle.certificates.specs.Valid.{IsValidPlan};
 ghost use Rattle.plan_checker.specs.Checking.{EndsAreGood, RoundsPass, EvidenceStands, IsReady, IfRefused};
 ghost use Rattle.plan_checker.specs.Fits.{Fits};
 ghost use Rattle.check_reasons.specs.Loaded.{AreLoaded};
+ghost use Rattle.check_reasons.specs.Ranks.{classes_start};
 ghost use Rattle.check_reasons.specs.Passed.{ChangesPass, ClassesPass, IsFirstFrom};
 ghost use Rattle.check_reasons.specs.Reasons.{IsFirstReason};
 
@@ -77,7 +78,7 @@ fn classes_reason(case: &Case, k: usize, room: &mut CheckRoom) -> Option<Reason>
     requires before { RoundsPass case.now.task case.now.evidence k }
     requires pass { ChangesPass case.now.task case.now.evidence k }
     ensures none { IfNone result (ClassesPass case.now.task case.now.evidence k) }
-    ensures some { IfSome result (IsFirstFrom case.now.task case.now.evidence (2 ∷ k ∷ 6 ∷ [])) }
+    ensures some { IfSome result (IsFirstFrom case.now.task case.now.evidence (classes_start k)) }
     ensures fits { Fits case.now.task room.new }
     ensures evidence { EvidenceStands case.now.task.update.net case.now.evidence (suc k) room.new }
     ensures present { room.new.present ≡ room.old.present }

@@ -18,11 +18,9 @@ use Rattle.update_model.specs.declared.Change.{Change}
 use Rattle.update_model.proofs.ChangeLaws.{length-tables_after}
 use Rattle.certificates.specs.Certified.{Task}
 use Rattle.certificates.specs.declared.Evidence.{Evidence}
-use Rattle.certificates.specs.declared.Evidence.TheVariants.{Ordered, TwoPhase}
-use Rattle.certificates.specs.declared.OrderedEvidence.{OrderedEvidence}
-use Rattle.check_reasons.specs.Reasons.{IsShared, IsReason, IsOrderedReason, no_evidence}
+use Rattle.check_reasons.specs.Ranks.{end_start}
+use Rattle.check_reasons.specs.Reasons.{wrong_end}
 use Rattle.check_reasons.specs.Passed.{IsFirstFrom}
-use Rattle.check_reasons.specs.declared.reason.Reason.{Reason}
 use Rattle.check_reasons.specs.declared.reason.Reason.TheVariants.{WrongEnd}
 use Rattle.round_tables.specs.Ends.{AreSameAt}
 use Rattle.round_tables.proofs.FirstReasons.{first_at_end}
@@ -67,11 +65,6 @@ length-settled [] k tables = refl
 length-settled (round ∷ rounds) zero tables = refl
 length-settled (round ∷ rounds) (suc k) tables = length-settled rounds k (tables_after round tables) ∙ length-tables_after round tables
 
--- a reason that both kinds of evidence may have
-pub shared_reason : (t : Task) (evidence : Evidence) (place : List ℕ) (r : Reason) → IsShared r → ((e : OrderedEvidence) → IsOrderedReason t e place r) → IsReason t evidence place r
-shared_reason t (Ordered e) place r shared h = h e
-shared_reason t (TwoPhase e) place r shared h = inl (shared, h no_evidence)
-
 module _ (t : Task) (evidence : Evidence) (tables new : List TableState) (before : rules_of_all tables ≡ tables_before t.update (length t.update.rounds)) (is_new : rules_of_all new ≡ t.new) where
   -- the tables at a switch are those after the last round and the new ones
   pub end_same : (s : SwitchId) → AreSameAt tables new s → IsSameSet (rules_at (tables_before t.update (length t.update.rounds)) s) (rules_at t.new s)
@@ -85,10 +78,10 @@ module _ (t : Task) (evidence : Evidence) (tables new : List TableState) (before
       (subst (λ (ts : List (List Rule)). IsSameSet (rules_at (tables_before t.update (length t.update.rounds)) s) (rules_at ts s)) (sym is_new) h)
 
   -- the first switch at which they differ is the first reason from the last tables on
-  pub wrong_first : (s : SwitchId) → ¬ AreSameAt tables new s → ((o : SwitchId) → o.0 < s.0 → AreSameAt tables new o) → IsFirstFrom t evidence (3 ∷ []) (WrongEnd s)
+  pub wrong_first : (s : SwitchId) → ¬ AreSameAt tables new s → ((o : SwitchId) → o.0 < s.0 → AreSameAt tables new o) → IsFirstFrom t evidence end_start (WrongEnd s)
   wrong_first s differ below = record {
-    place = 3 ∷ s.0 ∷ [];
-    holds = shared_reason t evidence (3 ∷ s.0 ∷ []) (WrongEnd s) tt (λ e. (refl, λ same. differ (end_differs s same)));
+    position = 0;
+    holds = inl (wrong_end s (λ same. differ (end_differs s same)));
     first = first_at_end t evidence s (λ o less. end_same o (below o less));
   }
 

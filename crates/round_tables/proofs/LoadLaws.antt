@@ -24,14 +24,15 @@ use Rattle.round_mix.proofs.GoodLaws.{names_key_is}
 use Rattle.round_mix.proofs.MarkLaws.{all_mixed}
 use Rattle.certificates.specs.Certified.{Task}
 use Rattle.certificates.specs.declared.Evidence.{Evidence}
-use Rattle.check_reasons.specs.Reasons.{IsBefore, IsBadChange, IsUnclear}
+use Rattle.check_reasons.specs.Ranks.{IsBefore, rank_of, round_start}
+use Rattle.check_reasons.specs.Reasons.{IsBadChange, IsUnclear}
+use Rattle.check_reasons.specs.Reasons as why
 use Rattle.check_reasons.specs.Passed.{IsFirstFrom}
 use Rattle.round_tables.specs.Present.{PresentState, IsMixed, mix_at, is_touched, table_at, room_of, HasRoom}
 use Rattle.round_tables.specs.Loading.{rules_there, AreWithin, IsFirstFault, IsFirstUnclear, IsLoadedTo, Keeps}
 use Rattle.check_reasons.specs.declared.reason.Reason.TheVariants.{BadChange, Ambiguous}
 use Rattle.round_tables.proofs.PresentLaws.{switch_n, set_each}
 use Rattle.round_tables.proofs.FirstReasons.{first_in_round}
-use Rattle.round_tables.proofs.EndLaws.{shared_reason}
 use Rattle.net_base.proofs.ItemLaws.{in_from_get}
 
 pub filter_few : {A : Type 0} (p : A → Bool) (xs : List A) → length (filter p xs) ≤ length xs
@@ -176,27 +177,20 @@ module _ (t : Task) (evidence : Evidence) (k : ℕ) (s : SwitchId) (within : Are
         ])
 
     -- it is the first reason of the round
-    pub bad_first : (round : ℕ) → round ≡ suc k → IsFirstFrom t evidence (2 ∷ k ∷ []) (BadChange round s i)
-    bad_first round number = record {
-      place = 2 ∷ k ∷ 2 ∷ s.0 ∷ i ∷ [];
-      holds = shared_reason t evidence (2 ∷ k ∷ 2 ∷ s.0 ∷ i ∷ []) (BadChange round s i) tt (λ e. (k, number, refl, is_bad));
-      first = first_in_round t evidence k 2 (s.0 ∷ i ∷ []) (omega arith) (record {
-        changes = λ o j bad less. later o j bad less;
-        unclear = λ o bad less. above 3 (o.0 ∷ []) (omega arith) less;
-        over = λ o bad less. above 4 (o.0 ∷ []) (omega arith) less;
-        rewrites = λ o bad ordered less. above 5 (o.0 ∷ []) (omega arith) less;
-      });
-    }
+    pub bad_first : (round : ℕ) → round ≡ suc k → IsFirstFrom t evidence (round_start k) (BadChange round s i)
+    bad_first round number = subst (λ (n : ℕ). IsFirstFrom t evidence (round_start k) (BadChange n s i)) (sym number) (record {
+      position = 0;
+      holds = inl (why.bad_change k i s is_bad);
+      first = first_in_round t evidence k (rank_of 0 (BadChange (suc k) s i)) (omega arith) (record {
+        changes = λ o j bad before. none_before o j bad (earlier o j before);
+        unclear = λ o bad before. omega arith;
+        over = λ o bad before. omega arith;
+        rewrites = λ o bad ordered before. omega arith;
+      }) refl refl;
+    })
       where
-        above : (m : ℕ) (rest : List ℕ) → 2 < m → IsBefore (m ∷ rest) (2 ∷ s.0 ∷ i ∷ []) → ⊥
-        above m rest more (inl less) = omega arith
-        above m rest more (inr (same, h)) = omega arith
-
-        later : (o : SwitchId) (j : ℕ) → IsBadChange t.update k j o → IsBefore (2 ∷ o.0 ∷ j ∷ []) (2 ∷ s.0 ∷ i ∷ []) → ⊥
-        later o j bad (inl less) = omega arith
-        later o j bad (inr (_, inl less)) = none_before o j bad (inl less)
-        later o j bad (inr (_, inr (same, inl less))) = none_before o j bad (inr (same, less))
-        later o j bad (inr (_, inr (same, inr (_, none)))) = none
+        earlier : (o : SwitchId) (j : ℕ) → IsBefore (rank_of 0 (BadChange (suc k) o j)) (rank_of 0 (BadChange (suc k) s i)) → (o.0 < s.0) ⊎ ((o.0 ≡ s.0) × (j < i))
+        earlier o j before = elim (cases_lt o.0 s.0) [ inl less ↦ inl less | inr more ↦ inr (omega arith, omega arith) ]
 
   -- all rules together aren't clear where the round is ambiguous at a switch
   unclear_there : (i j : ℕ) → IsTable (rules_at (tables_before t.update k) s)
@@ -219,26 +213,17 @@ module _ (t : Task) (evidence : Evidence) (k : ℕ) (s : SwitchId) (within : Are
 
   -- the first unclear switch is the first reason of the round where all changes are good
   pub unclear_first : ((o : SwitchId) → o.0 < length (tables_before t.update k) → AreGood (rules_at (tables_before t.update k) o) (changes_at o (round_after k t.update.rounds)))
-      → k < length t.update.rounds → IsFirstUnclear (tables_before t.update k) (round_after k t.update.rounds) s → (round : ℕ) → round ≡ suc k → IsFirstFrom t evidence (2 ∷ k ∷ []) (Ambiguous round s)
-  unclear_first good less unclear round number = record {
-    place = 2 ∷ k ∷ 3 ∷ s.0 ∷ [];
-    holds = shared_reason t evidence (2 ∷ k ∷ 3 ∷ s.0 ∷ []) (Ambiguous round s) tt (λ e. (k, number, less, refl, unclear_there unclear.i unclear.j unclear.table unclear.ambiguous));
-    first = first_in_round t evidence k 3 (s.0 ∷ []) (omega arith) (record {
+      → k < length t.update.rounds → IsFirstUnclear (tables_before t.update k) (round_after k t.update.rounds) s → (round : ℕ) → round ≡ suc k → IsFirstFrom t evidence (round_start k) (Ambiguous round s)
+  unclear_first good less unclear round number = subst (λ (n : ℕ). IsFirstFrom t evidence (round_start k) (Ambiguous n s)) (sym number) (record {
+    position = 0;
+    holds = inl (why.ambiguous k s less (unclear_there unclear.i unclear.j unclear.table unclear.ambiguous));
+    first = first_in_round t evidence k (rank_of 0 (Ambiguous (suc k) s)) (omega arith) (record {
       changes = λ o j bad before. good_no_bad o j (good o (bad_within t.update k j o (length (tables_before t.update k)) within bad)) bad;
-      unclear = λ o bad before. later o bad before;
-      over = λ o bad before. above 4 (o.0 ∷ []) (omega arith) before;
-      rewrites = λ o bad ordered before. above 5 (o.0 ∷ []) (omega arith) before;
-    });
-  }
-    where
-      above : (m : ℕ) (rest : List ℕ) → 3 < m → IsBefore (m ∷ rest) (3 ∷ s.0 ∷ []) → ⊥
-      above m rest more (inl less) = omega arith
-      above m rest more (inr (same, h)) = omega arith
-
-      later : (o : SwitchId) → IsUnclear t.update k o → IsBefore (3 ∷ o.0 ∷ []) (3 ∷ s.0 ∷ []) → ⊥
-      later o bad (inl less) = omega arith
-      later o bad (inr (_, inl less)) = bad.unclear (unclear.below o less bad.mixed bad.held)
-      later o bad (inr (_, inr (_, none))) = none
+      unclear = λ o bad before. bad.unclear (unclear.below o (omega arith) bad.mixed bad.held);
+      over = λ o bad before. omega arith;
+      rewrites = λ o bad ordered before. omega arith;
+    }) refl refl;
+  })
 
 -- one touched switch is prepared
 pub settled_set : (tables : List (List Rule)) (round : List Change) (mixes new : List MixedState) (touched : List Bool) (i : SwitchId) (b : Bool)
@@ -323,7 +308,7 @@ empty_list false n (x ∷ xs) test len off = absurd (both_ways true off refl)
 -- the first unclear switch after all are prepared is the first reason of the round
 pub loaded_first : (t : Task) (evidence : Evidence) (k : ℕ) (q : PresentState) (count : ℕ) (cs : List Change) (s : SwitchId) → k < length t.update.rounds → AreWithin count cs
     → cs ≡ round_after k t.update.rounds → rules_of_all q.tables ≡ tables_before t.update k → length (tables_before t.update k) ≡ count → IsLoadedTo cs count q (Some s)
-    → (round : ℕ) → round ≡ suc k → IsFirstFrom t evidence (2 ∷ k ∷ []) (Ambiguous round s)
+    → (round : ℕ) → round ≡ suc k → IsFirstFrom t evidence (round_start k) (Ambiguous round s)
 loaded_first t evidence k q count cs s less within same tables len loaded round number =
     let all : AreWithin (length (tables_before t.update k)) (round_after k t.update.rounds) =
     subst (λ (n : ℕ). AreWithin n (round_after k t.update.rounds)) (sym len) (subst (AreWithin count) same within) in

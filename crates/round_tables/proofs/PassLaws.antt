@@ -21,7 +21,9 @@ use Rattle.certificates.specs.Certified.{Task, KeepsVlan}
 use Rattle.certificates.specs.declared.OrderedEvidence.{OrderedEvidence}
 use Rattle.certificates.specs.declared.Evidence.{Evidence}
 use Rattle.certificates.specs.declared.Evidence.TheVariants.{Ordered, TwoPhase}
-use Rattle.check_reasons.specs.Reasons.{IsBefore, IsBadChange, IsUnclear, HasRewrite, IsReason, IsOrderedReason}
+use Rattle.check_reasons.specs.Ranks.{rank_of, round_start}
+use Rattle.check_reasons.specs.Reasons.{IsBadChange, IsUnclear, IsReason, IsOrderedReason}
+use Rattle.check_reasons.specs.Reasons as why
 use Rattle.check_reasons.specs.Passed.{IsFirstFrom, ChangesPass, RoundKeepsVlans}
 use Rattle.check_reasons.specs.Loaded.{AreLoaded, IsLoaded}
 use Rattle.round_tables.specs.Present.{PresentState, IsMixed, mix_at, StandsAt}
@@ -29,7 +31,6 @@ use Rattle.round_tables.specs.Loading.{ArePrepared, AreWithin, IsFirstOver, IsFi
 use Rattle.check_reasons.specs.declared.reason.Reason.{Reason}
 use Rattle.check_reasons.specs.declared.reason.Reason.TheVariants.{OverCapacity, Rewrites}
 use Rattle.round_tables.proofs.FirstReasons.{first_in_round}
-use Rattle.round_tables.proofs.EndLaws.{shared_reason}
 use Rattle.round_tables.proofs.LoadLaws.{good_no_bad, good_mixed, clear_mixed}
 use Rattle.round_tables.proofs.ApplyLaws.{none_past}
 
@@ -95,9 +96,9 @@ good_round tables (c ∷ cs) within good =
     }
 
 -- a reason of an ordered plan
-ordered_reason : (t : Task) (evidence : Evidence) (place : List ℕ) (r : Reason) → IsOrdered evidence → ((e : OrderedEvidence) → IsOrderedReason t e place r) → IsReason t evidence place r
-ordered_reason t (Ordered e) place r is h = h e
-ordered_reason t (TwoPhase e) place r is h = absurd is
+ordered_reason : (t : Task) (evidence : Evidence) (i : ℕ) (r : Reason) → IsOrdered evidence → ((e : OrderedEvidence) → IsOrderedReason t e i r) → IsReason t evidence i r
+ordered_reason t (Ordered e) i r is h = inr (h e)
+ordered_reason t (TwoPhase e) i r is h = absurd is
 
 nothing_made : (made : List Change) → IsSubsequence made [] → made ≡ []
 nothing_made [] h = refl
@@ -157,26 +158,19 @@ module _ (t : Task) (evidence : Evidence) (k : ℕ) (p : PresentState) (round : 
 
   -- the first switch that lacks room
   pub over_first : k < length t.update.rounds → (s : SwitchId) (need : ℕ) → IsFirstOver t.update k s need → (number : ℕ) → number ≡ suc k
-      → IsFirstFrom t evidence (2 ∷ k ∷ []) (OverCapacity number s need)
-  over_first less s need over number e = record {
-    place = 2 ∷ k ∷ 4 ∷ s.0 ∷ [];
-    holds = shared_reason t evidence (2 ∷ k ∷ 4 ∷ s.0 ∷ []) (OverCapacity number s need) tt (λ _. (k, e, less, refl, over.is, over.over));
-    first = first_in_round t evidence k 4 (s.0 ∷ []) (omega arith) (record {
-      changes = λ o i bad before. no_change o i bad;
-      unclear = λ o bad before. no_unclear o bad;
-      over = λ o more before. later o more before;
-      rewrites = λ o bad ordered before. above (o.0 ∷ []) before;
-    });
-  }
-    where
-      above : (rest : List ℕ) → IsBefore (5 ∷ rest) (4 ∷ s.0 ∷ []) → ⊥
-      above rest (inl less) = omega arith
-      above rest (inr (same, h)) = omega arith
-
-      later : (o : SwitchId) → capacity_of t.update.net o < need_of t.update k o → IsBefore (4 ∷ o.0 ∷ []) (4 ∷ s.0 ∷ []) → ⊥
-      later o more (inl less) = omega arith
-      later o more (inr (_, inl less)) = let fits = over.below o less in omega arith
-      later o more (inr (_, inr (_, none))) = none
+      → IsFirstFrom t evidence (round_start k) (OverCapacity number s need)
+  over_first less s need over number e =
+      subst (λ (n : ℕ). IsFirstFrom t evidence (round_start k) (OverCapacity n s need)) (sym e)
+      (subst (λ (m : ℕ). IsFirstFrom t evidence (round_start k) (OverCapacity (suc k) s m)) (sym over.is) (record {
+        position = 0;
+        holds = inl (why.over_capacity k s less (subst (λ (m : ℕ). capacity_of t.update.net s < m) over.is over.over));
+        first = first_in_round t evidence k (rank_of 0 (OverCapacity (suc k) s (need_of t.update k s))) (omega arith) (record {
+          changes = λ o i bad before. no_change o i bad;
+          unclear = λ o bad before. no_unclear o bad;
+          over = λ o more before. (let fits = over.below o (omega arith) in omega arith);
+          rewrites = λ o bad ordered before. omega arith;
+        }) refl refl;
+      }))
 
   module _ (fits : (s : SwitchId) → s.0 < switch_count t.update.net → need_of t.update k s ≤ capacity_of t.update.net s) where
     none_over : (s : SwitchId) → ¬ (capacity_of t.update.net s < need_of t.update k s)
@@ -184,25 +178,18 @@ module _ (t : Task) (evidence : Evidence) (k : ℕ) (p : PresentState) (round : 
 
     -- the first switch at which a change sets or strips
     pub rewrite_first : (s : SwitchId) → IsOrdered evidence → IsFirstRewrite (round_after k t.update.rounds) s → (number : ℕ) → number ≡ suc k
-        → IsFirstFrom t evidence (2 ∷ k ∷ []) (Rewrites number s)
-    rewrite_first s ordered found number e = record {
-      place = 2 ∷ k ∷ 5 ∷ s.0 ∷ [];
-      holds = ordered_reason t evidence (2 ∷ k ∷ 5 ∷ s.0 ∷ []) (Rewrites number s) ordered
-          (λ _. (k, e, refl, record { change = found.change; stands = found.stands; at_is = found.at_is; rewrites = found.rewrites }));
-      first = first_in_round t evidence k 5 (s.0 ∷ []) (omega arith) (record {
+        → IsFirstFrom t evidence (round_start k) (Rewrites number s)
+    rewrite_first s ordered found number e = subst (λ (n : ℕ). IsFirstFrom t evidence (round_start k) (Rewrites n s)) (sym e) (record {
+      position = 0;
+      holds = ordered_reason t evidence 0 (Rewrites (suc k) s) ordered
+          (λ _. why.rewrites k s (record { change = found.change; stands = found.stands; at_is = found.at_is; rewrites = found.rewrites }));
+      first = first_in_round t evidence k (rank_of 0 (Rewrites (suc k) s)) (omega arith) (record {
         changes = λ o i bad before. no_change o i bad;
         unclear = λ o bad before. no_unclear o bad;
         over = λ o more before. none_over o more;
-        rewrites = λ o bad is_ordered before. later o bad before;
-      });
-    }
-      where
-        later : (o : SwitchId) → HasRewrite t.update k o → IsBefore (5 ∷ o.0 ∷ []) (5 ∷ s.0 ∷ []) → ⊥
-        later o bad (inl less) = omega arith
-        later o bad (inr (_, inl less)) =
-            let same = ap (λ (x : SwitchId). x.0) bad.at_is in
-            bad.rewrites (found.first bad.change bad.stands (omega arith))
-        later o bad (inr (_, inr (_, none))) = none
+        rewrites = λ o bad is_ordered before. bad.rewrites (found.first bad.change bad.stands (let same = ap (λ (x : SwitchId). x.0) bad.at_is in omega arith));
+      }) refl refl;
+    })
 
     -- where there is none of these reasons either, the round's changes pass
     pub changes_pass : RoundKeepsVlans evidence (round_after k t.update.rounds) → ChangesPass t evidence k

@@ -1,10 +1,11 @@
 // The comparison of the tables after the last round with the new ones.
-ghost use Rattle.std.specs.Prelude.{◌≡◌, ◌↔◌, ℕ, ◌<◌, ◌^◌, ◌∷◌, [], length, IsTrue, IfNone, IfSome, MatchOption};
+ghost use Rattle.std.specs.Prelude.{◌≡◌, ◌↔◌, ℕ, ◌<◌, ◌^◌, length, IsTrue, IfNone, IfSome, MatchOption};
 ghost use Rattle.std.specs.List.{AllByRecursion};
 ghost use Rattle.net_base.specs.Members.{IsIn, IsSameSet};
 ghost use Rattle.net_base.specs.declared.ids.SwitchId.{SwitchId as Switch};
 ghost use Rattle.flow_rules.specs.Tables.{rules_at};
 ghost use Rattle.update_model.specs.Mixtures.{tables_before};
+ghost use Rattle.check_reasons.specs.Ranks.{end_start};
 ghost use Rattle.check_reasons.specs.Passed.{IsFirstFrom};
 ghost use Rattle.round_tables.specs.Present.{StandsBefore};
 ghost use Rattle.round_tables.specs.Ends.{AreSameAt};
@@ -60,7 +61,7 @@ impl Present {
     pub fn wrong_end(&self, case: &Case) -> Option<Reason>
         requires { StandsBefore case.now.task.update (length case.now.task.update.rounds) self.now }
         ensures none { IfNone result ((s : Switch) → IsSameSet (rules_at (tables_before case.now.task.update (length case.now.task.update.rounds)) s) (rules_at case.now.task.new s)) }
-        ensures some { IfSome result (IsFirstFrom case.now.task case.now.evidence (3 ∷ [])) }
+        ensures some { IfSome result (IsFirstFrom case.now.task case.now.evidence end_start) }
     {
         case.net.keeps_rules();
         match first_difference(&self.tables, case.new) {

@@ -1,11 +1,12 @@
 // Each switch is prepared for a round, up to the first bad change.
-ghost use Rattle.std.specs.Prelude.{◌≡◌, ◌≢◌, ℕ, suc, ◌+◌, ◌<◌, ◌≤◌, ◌^◌, [], ◌∷◌, true, false, None, Some, take, length, slice_get, vec_len, vec_capacity, IfOk, IfErr, OnOk, IfNone, IfSome};
+ghost use Rattle.std.specs.Prelude.{◌≡◌, ◌≢◌, ℕ, suc, ◌+◌, ◌<◌, ◌≤◌, ◌^◌, [], true, false, None, Some, take, length, slice_get, vec_len, vec_capacity, IfOk, IfErr, OnOk, IfNone, IfSome};
 ghost use Rattle.net_base.specs.declared.ids.SwitchId.{SwitchId as Switch};
 ghost use Rattle.topology.specs.Networks.{switch_count};
 ghost use Rattle.flow_rules.specs.Tables.{IsTable, rules_of_all};
 ghost use Rattle.update_model.specs.Changes.{changes_at, round_after};
 ghost use Rattle.update_model.specs.Mixtures.{tables_before};
 ghost use Rattle.round_mix.specs.Faults.{IsFault};
+ghost use Rattle.check_reasons.specs.Ranks.{round_start};
 ghost use Rattle.check_reasons.specs.Passed.{IsFirstFrom};
 ghost use Rattle.round_tables.specs.Present.{HasRoom, StandsBefore, mix_at, is_touched, IsMixed};
 ghost use Rattle.round_tables.specs.Loading.{rules_there, CanLoad, Keeps, AreSettled, IsLoadedTo, IsFirstFault, ArePrepared, AreWithin};
@@ -208,7 +209,7 @@ fn bad_change(case: &Case, k: usize, switch: SwitchId, nth: usize) -> Reason
     requires round { k < length case.now.task.update.rounds }
     requires count { length (tables_before case.now.task.update k) ≡ switch_count case.now.task.update.net }
     requires first { IsFirstFault (tables_before case.now.task.update k) (round_after k case.now.task.update.rounds) switch nth }
-    ensures { IsFirstFrom case.now.task case.now.evidence (2 ∷ k ∷ []) result }
+    ensures { IsFirstFrom case.now.task case.now.evidence (round_start k) result }
 {
     let change = number_of(round_of(case, k), switch, nth);
     Reason::BadChange {
@@ -225,7 +226,7 @@ impl Present {
         requires room { HasRoom case.now.task.update.net case.now.task.update.rounds self.old }
         requires stands { StandsBefore case.now.task.update k self.old }
         ensures none { IfNone result (ArePrepared case.now.task.update k self.new) }
-        ensures some { IfSome result (IsFirstFrom case.now.task case.now.evidence (2 ∷ k ∷ [])) }
+        ensures some { IfSome result (IsFirstFrom case.now.task case.now.evidence (round_start k)) }
         ensures room { HasRoom case.now.task.update.net case.now.task.update.rounds self.new }
     {
         self.touch(case, k);

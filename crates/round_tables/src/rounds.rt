@@ -7,6 +7,7 @@ ghost use Rattle.update_model.specs.Changes.{switch_of, Applies, AppliesTo, rule
 ghost use Rattle.update_model.specs.Mixtures.{is_insert, need_of};
 ghost use Rattle.certificates.specs.Certified.{KeepsVlan};
 ghost use Rattle.update_model.specs.declared.Change.{Change as ChangeOf};
+ghost use Rattle.check_reasons.specs.Ranks.{round_start};
 ghost use Rattle.check_reasons.specs.Passed.{IsFirstFrom, ChangesPass, RoundKeepsVlans};
 ghost use Rattle.check_reasons.specs.Loaded.{AreLoaded};
 ghost use Rattle.round_tables.specs.Present.{HasRoom, StandsBefore, StandsAt, table_at, room_of};
@@ -130,7 +131,7 @@ impl Present {
         requires prepared { ArePrepared case.now.task.update k self.now }
         requires room { HasRoom case.now.task.update.net case.now.task.update.rounds self.now }
         ensures none { IfNone result (ChangesPass case.now.task case.now.evidence k × AreLoaded case.now.task.update k self.now.mixes × StandsAt case.now.task.update k self.now) }
-        ensures some { IfSome result (IsFirstFrom case.now.task case.now.evidence (2 ∷ k ∷ [])) }
+        ensures some { IfSome result (IsFirstFrom case.now.task case.now.evidence (round_start k)) }
     {
         keeps_capacities(case);
         let changes = round_of(case, k);
@@ -157,7 +158,7 @@ impl Present {
         requires room { HasRoom case.now.task.update.net case.now.task.update.rounds self.old }
         requires stands { StandsBefore case.now.task.update k self.old }
         ensures none { IfNone result (ChangesPass case.now.task case.now.evidence k × AreLoaded case.now.task.update k self.new.mixes × StandsAt case.now.task.update k self.new) }
-        ensures some { IfSome result (IsFirstFrom case.now.task case.now.evidence (2 ∷ k ∷ [])) }
+        ensures some { IfSome result (IsFirstFrom case.now.task case.now.evidence (round_start k)) }
         ensures room { HasRoom case.now.task.update.net case.now.task.update.rounds self.new }
     {
         match self.load_mixes(case, k) {

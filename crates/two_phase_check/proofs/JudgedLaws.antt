@@ -18,13 +18,15 @@ use Rattle.certificates.specs.Valid.{IsValidEvidence}
 use Rattle.certificates.specs.declared.Evidence.{Evidence}
 use Rattle.certificates.specs.declared.Evidence.TheVariants.{TwoPhase}
 use Rattle.two_phase_check.specs.InForce.{IsGoodTable, IsTableInForceAt}
-use Rattle.check_reasons.specs.Reasons.{IsBefore, IsReason, IsTwoPhaseReason, IsOrderedReason, IsShared, IsClassOf, IsTableInForce, no_evidence}
+use Rattle.check_reasons.specs.Ranks.{IsBefore, rank_of, round_of, number_of, least_class_number, classes_start}
+use Rattle.check_reasons.specs.Reasons.{IsTableInForce, IsTwoPhaseReason, bad_labels, mixed_path}
 use Rattle.check_reasons.specs.Passed.{IsFirstFrom, ClassesPass}
+use Rattle.check_reasons.proofs.RankLaws.{first_of_classes}
 use Rattle.two_phase_check.specs.Agreements.{MixesAt, KeepsVersions}
 use Rattle.two_phase_check.specs.Judged.{AllKeepVersions, IsFirstMixed}
 use Rattle.two_phase_check.specs.declared.two_phase.MixedClass.{MixedClass}
 use Rattle.check_reasons.specs.declared.reason.Reason.{Reason}
-use Rattle.check_reasons.specs.declared.reason.Reason.TheVariants.{EndBreaks, BadChange, Ambiguous, OverCapacity, Rewrites, NoNumbering, NotLower, MayDrop, NoBefore, Bypass, BadLabels, MixedPath, WrongEnd}
+use Rattle.check_reasons.specs.declared.reason.Reason.TheVariants.{BadLabels, MixedPath}
 use Rattle.two_phase_check.proofs.InForceLaws.{Rise, earlier_below}
 use Rattle.net_base.proofs.ItemLaws.{get_from_in}
 
@@ -56,114 +58,50 @@ mixes_not t k class labels s keep (inr h) =
     let kept = keep (Go h.next) h.possible in
     h.strays.2 (kept.keeps h.version h.agrees h.first h.next refl h.goes (end_of h.first h.rest) (h.rest, h.walk, refl) h.strays.0 h.strays.1)
 
-module _ (k : ℕ) where
-  -- the place of the classes of the round
-  abbrev from : List ℕ
-  from = 2 ∷ k ∷ 6 ∷ []
-
-  -- of two places in rounds the round decides first
-  by_round : (m : ℕ) (xs ys : List ℕ) → IsBefore (2 ∷ m ∷ xs) (2 ∷ k ∷ ys) → (m < k) ⊎ ((m ≡ k) × IsBefore xs ys)
-  by_round m xs ys (inl lt) = absurd (omega arith)
-  by_round m xs ys (inr h) = h.1
-
-  earlier_round : (m : ℕ) (xs : List ℕ) → m < k → IsBefore (2 ∷ m ∷ xs) from
-  earlier_round m xs lt = inr (refl, inl lt)
-
-  same_round : (m x : ℕ) (xs : List ℕ) → m ≡ k → x < 6 → IsBefore (2 ∷ m ∷ x ∷ xs) from
-  same_round m x xs e lt = inr (refl, inr (e, inl lt))
-
-  low : (m x : ℕ) (xs ys other : List ℕ) → other ≡ 2 ∷ m ∷ x ∷ xs → x < 6 → IsBefore other (2 ∷ k ∷ ys) → IsBefore other from
-  low m x xs ys other is lt before =
-      subst (λ o. IsBefore o from) (sym is)
-      (elim (by_round m (x ∷ xs) ys (subst (λ o. IsBefore o (2 ∷ k ∷ ys)) is before)) [ inl less ↦ earlier_round m (x ∷ xs) less | inr h ↦ same_round m x xs h.0 lt ])
-
-  module _ (t : Task) (e : TwoPhaseEvidence) (ys : List ℕ) where
-    -- a reason that isn't one of the classes and comes before them
-    shared_low : (r : Reason) (other : List ℕ) → IsShared r → IsOrderedReason t no_evidence other r → IsBefore other (2 ∷ k ∷ ys) → IsBefore other from
-    shared_low (EndBreaks new breaks) other shared h before = ends new other h.0
-      where
-        ends : (b : Bool) (o : List ℕ) → o ≡ (if b then 1 else 0) ∷ [] → IsBefore o from
-        ends true o is = subst (λ x. IsBefore x from) (sym is) (inl (omega arith))
-        ends false o is = subst (λ x. IsBefore x from) (sym is) (inl (omega arith))
-    shared_low (BadChange round s i) other shared h before = low h.0 2 (s.0 ∷ i ∷ []) ys other h.2 (omega arith) before
-    shared_low (Ambiguous round s) other shared h before = low h.0 3 (s.0 ∷ []) ys other h.3 (omega arith) before
-    shared_low (OverCapacity round s need) other shared h before = low h.0 4 (s.0 ∷ []) ys other h.3 (omega arith) before
-    shared_low (Rewrites round s) other shared h before = absurd shared
-    shared_low (NoNumbering round n) other shared h before = absurd shared
-    shared_low (NotLower round n s) other shared h before = absurd shared
-    shared_low (MayDrop round n s) other shared h before = absurd shared
-    shared_low (NoBefore round n) other shared h before = absurd shared
-    shared_low (Bypass round n w s) other shared h before = absurd shared
-    shared_low (BadLabels round) other shared h before = absurd shared
-    shared_low (MixedPath round n s) other shared h before = absurd shared
-    shared_low (WrongEnd s) other shared h before =
-        elim (subst (λ o. IsBefore o (2 ∷ k ∷ ys)) h.0 before) [ inl lt ↦ absurd (omega arith) | inr same ↦ absurd (let f : 3 ≡ 2 = same.0 in omega arith) ]
-
-    module _ (no_labels : IsBefore (11 ∷ []) ys → ¬ ((labels : List Label) → ¬ IsTableInForce t e k labels))
-        (no_mixed : (n : ℕ) (s : SwitchId) (class : Class) (labels : List Label) → IsBefore (12 ∷ n ∷ s.0 ∷ []) ys → IsClassOf t n class → IsTableInForce t e k labels → ¬ MixesAt t k class labels s) where
-      of_round : (m : ℕ) (xs other : List ℕ) → other ≡ 2 ∷ m ∷ xs → IsBefore other (2 ∷ k ∷ ys) → (m ≡ k → IsBefore xs ys → ⊥) → IsBefore other from
-      of_round m xs other is before not =
-          elim (by_round m xs ys (subst (λ o. IsBefore o (2 ∷ k ∷ ys)) is before)) [
-            | inl less ↦ subst (λ o. IsBefore o from) (sym is) (earlier_round m xs less)
-            | inr h ↦ absurd (not h.0 h.1)
-          ]
-
-      two_phase_low : (r : Reason) (other : List ℕ) → IsTwoPhaseReason t e other r → IsBefore other (2 ∷ k ∷ ys) → IsBefore other from
-      two_phase_low (BadLabels round) other h before =
-          of_round h.0 (11 ∷ []) other h.6 before (λ same b. no_labels b (subst (λ m. (labels : List Label) → ¬ IsTableInForce t e m labels) same h.7))
-      two_phase_low (MixedPath round n s) other h before =
-          of_round h.0 (12 ∷ n ∷ s.0 ∷ []) other h.6 before
-          (λ same b. no_mixed n s h.1 h.2 b h.5 (subst (λ m. IsTableInForce t e m h.2) same h.7) (subst (λ m. MixesAt t m h.1 h.2 s) same h.8))
-      two_phase_low (EndBreaks new breaks) other h before = absurd h
-      two_phase_low (BadChange round s i) other h before = absurd h
-      two_phase_low (Ambiguous round s) other h before = absurd h
-      two_phase_low (OverCapacity round s need) other h before = absurd h
-      two_phase_low (Rewrites round s) other h before = absurd h
-      two_phase_low (NoNumbering round n) other h before = absurd h
-      two_phase_low (NotLower round n s) other h before = absurd h
-      two_phase_low (MayDrop round n s) other h before = absurd h
-      two_phase_low (NoBefore round n) other h before = absurd h
-      two_phase_low (Bypass round n w s) other h before = absurd h
-      two_phase_low (WrongEnd s) other h before = absurd h
-
-      -- what comes before comes before all reasons of the classes
-      none_between : (other : List ℕ) (r : Reason) → IsReason t (TwoPhase e) other r → ¬ IsBefore other from → ¬ IsBefore other (2 ∷ k ∷ ys)
-      none_between other r (inl h) not before = not (shared_low r other h.0 h.1 before)
-      none_between other r (inr h) not before = not (two_phase_low r other h before)
-
 module _ (t : Task) (e : TwoPhaseEvidence) (k : ℕ) (in_range : k < length t.update.rounds) where
   -- no label table is in force
-  pub bad_labels_first : (n : ℕ) (class : Class) → IsClass (classes_for t) n class → ((labels : List Label) → ¬ IsTableInForce t e k labels) → IsFirstFrom t (TwoPhase e) (2 ∷ k ∷ 6 ∷ []) (BadLabels (suc k))
+  pub bad_labels_first : (n : ℕ) (class : Class) → IsClass (classes_for t) n class → ((labels : List Label) → ¬ IsTableInForce t e k labels) → IsFirstFrom t (TwoPhase e) (classes_start k) (BadLabels (suc k))
   bad_labels_first n class is none = record {
-    place = 2 ∷ k ∷ 11 ∷ [];
-    holds = inr (k, n, class, refl, in_range, is, refl, none);
-    first = none_between k t e (11 ∷ [])
-        (λ b. elim b [ inl lt ↦ absurd (omega arith) | inr h ↦ absurd h.1 ])
-        (λ m s other labels b. elim b [ inl lt ↦ absurd (omega arith) | inr h ↦ absurd (let f : 12 ≡ 11 = h.0 in omega arith) ]);
+    position = 0;
+    holds = inr (bad_labels k n class (record { within = in_range; is = is }) none);
+    first = first_of_classes t (TwoPhase e) k (rank_of 0 (BadLabels (suc k))) refl refl none_earlier;
   }
+    where
+      none_earlier : (i : ℕ) (r : Reason) → IsTwoPhaseReason t e i r → round_of r ≡ suc k → least_class_number ≤ number_of r → ¬ IsBefore (rank_of i r) (rank_of 0 (BadLabels (suc k)))
+      none_earlier i r (bad_labels j m other judged absent) round number before = omega arith
+      none_earlier i r (mixed_path j m other tables s judged force how) round number before = omega arith
 
   module _ (labels : List Label) (rise : Rise e.picks) (in_force : IsTableInForce t e k labels) where
     -- the first class that mixes the versions, at its least switch
-    pub mixed_first : (mixed : MixedClass) → IsFirstMixed t k (classes_for t) labels mixed → IsFirstFrom t (TwoPhase e) (2 ∷ k ∷ 6 ∷ []) (MixedPath (suc k) mixed.class mixed.switch)
+    pub mixed_first : (mixed : MixedClass) → IsFirstMixed t k (classes_for t) labels mixed → IsFirstFrom t (TwoPhase e) (classes_start k) (MixedPath (suc k) mixed.class mixed.switch)
     mixed_first mixed is = record {
-      place = 2 ∷ k ∷ 12 ∷ mixed.class ∷ mixed.switch.0 ∷ [];
-      holds = inr (k, is.class, labels, refl, in_range, is.is_class, refl, in_force, is.least.holds);
-      first = none_between k t e (12 ∷ mixed.class ∷ mixed.switch.0 ∷ [])
-          (λ b none. none labels in_force)
-          (λ n s other tables b of_class table mixes.
-          let same = table_one t e k tables labels rise table in_force in
-          let here : MixesAt t k other labels s = subst (λ x. MixesAt t k other x s) same mixes in
-          no_earlier n s other b of_class here);
+      position = 0;
+      holds = inr (mixed_path k mixed.class is.class labels mixed.switch (record { within = in_range; is = is.is_class }) in_force is.least.holds);
+      first = first_of_classes t (TwoPhase e) k (rank_of 0 (MixedPath (suc k) mixed.class mixed.switch)) refl refl none_earlier;
     }
       where
-        no_earlier : (n : ℕ) (s : SwitchId) (other : Class) → IsBefore (12 ∷ n ∷ s.0 ∷ []) (12 ∷ mixed.class ∷ mixed.switch.0 ∷ []) → IsClass (classes_for t) n other → MixesAt t k other labels s → ⊥
-        no_earlier n s other (inl lt) of_class here = absurd (omega arith)
-        no_earlier n s other (inr (same, inl less)) of_class here = mixes_not t k other labels s (is.earlier n other less of_class) here
-        no_earlier n s other (inr (same, inr (class_same, inl less))) of_class here =
-            let one = is.only other (subst (λ m. IsClass (classes_for t) m other) class_same of_class) in
-            let le = is.least.least s (subst (λ x. MixesAt t k x labels s) one here) in
-            absurd (omega arith)
-        no_earlier n s other (inr (same, inr (class_same, inr (switch_same, none)))) of_class here = absurd none
+        -- a class that mixes the versions doesn't come before it, nor does a lesser switch of it
+        no_lesser : (n : ℕ) (s : SwitchId) (other : Class) → IsClass (classes_for t) n other → MixesAt t k other labels s → (mixed.class ≤ n) × (n ≡ mixed.class → mixed.switch.0 ≤ s.0)
+        no_lesser n s other of_class here = (
+          elim (cases_lt n mixed.class) [ inl less ↦ absurd (mixes_not t k other labels s (is.earlier n other less of_class) here) | inr more ↦ more ],
+          λ same.
+              let one = is.only other (subst (λ m. IsClass (classes_for t) m other) same of_class) in
+              is.least.least s (subst (λ x. MixesAt t k x labels s) one here),
+        )
+
+        none_earlier : (i : ℕ) (r : Reason) → IsTwoPhaseReason t e i r → round_of r ≡ suc k → least_class_number ≤ number_of r → ¬ IsBefore (rank_of i r) (rank_of 0 (MixedPath (suc k) mixed.class mixed.switch))
+        none_earlier i r (bad_labels j m other judged absent) round number before =
+            let same : j ≡ k = omega arith in
+            subst (λ x. (tables : List Label) → ¬ IsTableInForce t e x tables) same absent labels in_force
+        none_earlier i r (mixed_path j m other tables s judged force how) round number before =
+            let same : j ≡ k = omega arith in
+            let one = table_one t e k tables labels rise (subst (λ x. IsTableInForce t e x tables) same force) in_force in
+            let here : MixesAt t k other labels s = subst (λ x. MixesAt t k other x s) one (subst (λ x. MixesAt t x other tables s) same how) in
+            let (class_above, switch_above) = no_lesser m s other judged.is here in
+            elim (cases_lt mixed.class m) [
+              | inl later ↦ omega arith
+              | inr not_later ↦ (let le = switch_above (omega arith) in omega arith)
+            ]
 
     -- each class has its certificate
     pub classes_pass : AllKeepVersions t k (classes_for t) labels → ClassesPass t (TwoPhase e) k

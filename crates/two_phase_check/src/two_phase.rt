@@ -1,5 +1,5 @@
 // The classes of a round of a two-phase plan.
-ghost use Rattle.std.specs.Prelude.{◌≡◌, suc, ◌+◌, ◌<◌, ◌∷◌, [], IfOk, IfSome, IfNone, length};
+ghost use Rattle.std.specs.Prelude.{◌≡◌, suc, ◌+◌, ◌<◌, IfOk, IfSome, IfNone, length};
 ghost use Rattle.topology.specs.Networks.{Network, switch_count};
 ghost use Rattle.flow_rules.specs.Tables.{rules_of_all};
 ghost use Rattle.demands.specs.Good.{HasGoodPath, HasGoodPaths};
@@ -9,6 +9,7 @@ ghost use Rattle.certificates.specs.declared.TwoPhaseEvidence.{TwoPhaseEvidence}
 ghost use Rattle.certificates.specs.declared.Evidence.TheVariants.{TwoPhase};
 ghost use Rattle.two_phase_check.specs.InForce.{LabelsStand};
 ghost use Rattle.check_reasons.specs.Loaded.{AreLoaded};
+ghost use Rattle.check_reasons.specs.Ranks.{classes_start};
 ghost use Rattle.check_reasons.specs.Passed.{IsFirstFrom, ClassesPass};
 ghost use Rattle.two_phase_check.specs.Agreements.{Tells, IsKept, MixesBy, MixesAt, KeepsVersions, IsLeastSwitch};
 ghost use Rattle.two_phase_check.specs.Agreements as seen;
@@ -268,7 +269,7 @@ impl TwoPhaseRoom {
         requires new_good { HasGoodPaths case.now.task.update.net case.now.task.new case.now.task.demands (classes_for case.now.task) }
         requires stands { LabelsStand case.now.task.update.net evidence.now k self.old }
         ensures none { IfNone result (ClassesPass case.now.task (TwoPhase evidence.now) k) }
-        ensures some { IfSome result (IsFirstFrom case.now.task (TwoPhase evidence.now) (2 ∷ k ∷ 6 ∷ [])) }
+        ensures some { IfSome result (IsFirstFrom case.now.task (TwoPhase evidence.now) (classes_start k)) }
         ensures stands { LabelsStand case.now.task.update.net evidence.now (suc k) self.new }
     {
         self.labels.advance(case.net, evidence, k + 1);

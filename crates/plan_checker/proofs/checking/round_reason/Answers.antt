@@ -1,18 +1,19 @@
-use Rattle.std.proofs.Common.{rules, ◌∷◌, []}
+use Rattle.std.proofs.Common.{rules}
+use Rattle.check_reasons.specs.Ranks.{round_start, classes_start}
 use Rattle.plan_checker.proofs.Stages.{case_ascends, from_none, none_before_round, none_before_classes, rounds_more}
 use Rattle.plan_checker.proofs.checking.round_reason.Goals as goal
 
 pub returns-in-Some-clause-some : goal.returns-in-Some-clause-some
 returns-in-Some-clause-some c =
     let case = c.args.case.now in
-    from_none case.task case.evidence (2 ∷ c.args.k ∷ []) c.in-Some.reason
+    from_none case.task case.evidence (round_start c.args.k) c.in-Some.reason
     (none_before_round case.task case.evidence c.keeps_rules.ensures.old_user.count (case_ascends case c.keeps_rules.ensures) c.requires.ends c.args.k c.requires.before)
     c.in-Some.ensures.some
 
 pub returns-in-Some-classes_reason-clause-some : goal.returns-in-Some-classes_reason-clause-some
 returns-in-Some-classes_reason-clause-some c =
     let case = c.args.case.now in
-    from_none case.task case.evidence (2 ∷ c.args.k ∷ 6 ∷ []) c.in-Some-classes_reason.reason
+    from_none case.task case.evidence (classes_start c.args.k) c.in-Some-classes_reason.reason
     (none_before_classes case.task case.evidence c.keeps_rules.ensures.old_user.count (case_ascends case c.keeps_rules.ensures) c.requires.ends c.args.k c.requires.before c.in_default.ensures.none.0)
     c.in-Some-classes_reason.ensures.some
 

@@ -1,4 +1,4 @@
-use Rattle.std.proofs.Common.{◌≡◌, ◌<◌, List, [], ◌∷◌, Option, length, get_or, sym, ◌∙◌, subst, ap, arith, add-one}
+use Rattle.std.proofs.Common.{◌≡◌, ◌<◌, List, Option, length, get_or, sym, ◌∙◌, subst, ap, arith, add-one}
 use Rattle.std.specs.Prelude.{IfNone}
 use Rattle.std.proofs.lemmas.Option.{slice_get_within, get_or_from_slice_get}
 use Rattle.dest_classes.specs.Classes.{ClassList, IsClass, class_count}
@@ -7,6 +7,7 @@ use Rattle.demands.specs.Good.{HasGoodPaths}
 use Rattle.certificates.specs.declared.Label.{Label}
 use Rattle.certificates.specs.declared.Evidence.TheVariants.{TwoPhase}
 use Rattle.check_reasons.specs.Cases.{CaseView}
+use Rattle.check_reasons.specs.Ranks.{classes_start}
 use Rattle.check_reasons.specs.Passed.{ClassesPass, IsFirstFrom}
 use Rattle.two_phase_check.specs.Judged.{AllKeepVersions, IsFirstMixed}
 use Rattle.check_reasons.specs.declared.reason.Reason.{Reason}
@@ -25,7 +26,7 @@ returns-in_default-clause-some c =
     let t = c.args.case.now.task in
     let some : 0 < class_count c.args.classes.now = (let more = c.if-count-eq0.false in let count = c.count.ensures.count in omega arith) in
     let (class, is) = class_exists c.args.classes.now 0 some in
-    subst (λ n. IsFirstFrom t (TwoPhase c.args.evidence.now) (2 ∷ c.args.k ∷ 6 ∷ []) (BadLabels n)) (sym (add-one c.args.k))
+    subst (λ n. IsFirstFrom t (TwoPhase c.args.evidence.now) (classes_start c.args.k) (BadLabels n)) (sym (add-one c.args.k))
     (bad_labels_first t c.args.evidence.now c.args.k c.requires.round 0 class (subst (λ (xs : ClassList). IsClass xs 0 class) c.requires.classes is)
     (force_none t c.args.evidence.now c.args.k c.case.inside.net.now (ap (λ (v : CaseView). v.task.update.net) c.case.view_is) c.advance.new.self.table c.advance.ensures.in_force c.in_default.not-Some))
 
@@ -70,6 +71,6 @@ returns-clause-some c =
     ∙ get_or_from_slice_get e.labels c.in-Some.table force.0 c.index-tables-table.result force.1 in
     let rise = rise_from c.case.inside.net.now _ _ c.case.inside.plan.now.evidence e (ap (λ (v : CaseView). v.evidence) c.case.view_is ∙ c.requires.evidence) c.case.invariant.valid.evidence in
     let mixed = c.in_ok-mixed.mixed in
-    subst (λ n. IsFirstFrom t (TwoPhase e) (2 ∷ k ∷ 6 ∷ []) (MixedPath n mixed.class mixed.switch)) (sym (add-one k))
+    subst (λ n. IsFirstFrom t (TwoPhase e) (classes_start k) (MixedPath n mixed.class mixed.switch)) (sym (add-one k))
     (mixed_first t e k c.requires.round force.0 rise force.2 mixed
     (subst (λ (xs : ClassList). IsFirstMixed t k xs force.0 mixed) c.requires.classes (subst (λ (ls : List Label). IsFirstMixed t k c.args.classes.now ls mixed) labels c.in_ok-mixed.ensures.some)))
