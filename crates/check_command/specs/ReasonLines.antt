@@ -5,6 +5,7 @@ use Rattle.topology.specs.Networks.{Network}
 use Rattle.dest_classes.specs.declared.Class.{Class}
 use Rattle.certificates.specs.declared.Evidence.{Evidence}
 use Rattle.certificates.specs.declared.Evidence.TheVariants.{Ordered, TwoPhase}
+use Rattle.check_reasons.specs.Ranks.{number_of}
 use Rattle.check_reasons.specs.declared.reason.Reason.{Reason}
 use Rattle.check_reasons.specs.declared.reason.Reason.TheVariants.{EndBreaks, BadChange, Ambiguous, OverCapacity, Rewrites, NoNumbering, NotLower, MayDrop, NoBefore, Bypass, BadLabels, MixedPath, WrongEnd}
 use Rattle.command_base.specs.Lines.{switch_name, class_text, how_text}
@@ -29,21 +30,25 @@ class_named (Bypass round n w s) = Some n
 class_named (MixedPath round n s) = Some n
 class_named other = None
 
--- the number and the name of a reason, with its round or its configuration
+-- the name of a reason, with its round or its configuration
+abbrev pub reason_name : Reason → List ℕ
+reason_name (EndBreaks new breaks) = codes "EndBreaks " ++ (if new then codes "new" else codes "old")
+reason_name (BadChange round s i) = codes "BadChange round " ++ decimal round
+reason_name (Ambiguous round s) = codes "Ambiguous round " ++ decimal round
+reason_name (OverCapacity round s need) = codes "OverCapacity round " ++ decimal round
+reason_name (Rewrites round s) = codes "Rewrites round " ++ decimal round
+reason_name (NoNumbering round n) = codes "NoNumbering round " ++ decimal round
+reason_name (NotLower round n s) = codes "NotLower round " ++ decimal round
+reason_name (MayDrop round n s) = codes "MayDrop round " ++ decimal round
+reason_name (NoBefore round n) = codes "NoBefore round " ++ decimal round
+reason_name (Bypass round n w s) = codes "Bypass round " ++ decimal round
+reason_name (BadLabels round) = codes "BadLabels round " ++ decimal round
+reason_name (MixedPath round n s) = codes "MixedPath round " ++ decimal round
+reason_name (WrongEnd s) = codes "WrongEnd"
+
+-- the number of a reason and its name
 abbrev pub reason_head : Reason → List ℕ
-reason_head (EndBreaks new breaks) = codes "1 EndBreaks " ++ (if new then codes "new" else codes "old")
-reason_head (BadChange round s i) = codes "2 BadChange round " ++ decimal round
-reason_head (Ambiguous round s) = codes "3 Ambiguous round " ++ decimal round
-reason_head (OverCapacity round s need) = codes "4 OverCapacity round " ++ decimal round
-reason_head (Rewrites round s) = codes "5 Rewrites round " ++ decimal round
-reason_head (NoNumbering round n) = codes "6 NoNumbering round " ++ decimal round
-reason_head (NotLower round n s) = codes "7 NotLower round " ++ decimal round
-reason_head (MayDrop round n s) = codes "8 MayDrop round " ++ decimal round
-reason_head (NoBefore round n) = codes "9 NoBefore round " ++ decimal round
-reason_head (Bypass round n w s) = codes "10 Bypass round " ++ decimal round
-reason_head (BadLabels round) = codes "11 BadLabels round " ++ decimal round
-reason_head (MixedPath round n s) = codes "12 MixedPath round " ++ decimal round
-reason_head (WrongEnd s) = codes "13 WrongEnd"
+reason_head reason = decimal (number_of reason) ++ codes " " ++ reason_name reason
 
 -- a switch, behind its word
 abbrev pub at_switch : Network → SwitchId → List ℕ

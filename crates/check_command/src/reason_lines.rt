@@ -1,5 +1,5 @@
 // The lines on plans.
-ghost use Rattle.std.specs.Prelude.{◌≡◌, IfOk, Option, option_map};
+ghost use Rattle.std.specs.Prelude.{◌≡◌, IfOk, Option, option_map, string_bytes};
 ghost use Rattle.check_command.specs.ReasonLines as lines;
 
 use certificates::Evidence;
@@ -85,56 +85,65 @@ pub fn class_named(reason: Reason) -> Option<u32>
     }
 }
 
-// The number and the name of a reason, with its round or its configuration.
-fn reason_head(alloc: Global, reason: Reason) -> Result<Vec<u8>, Memory>
-    ensures { IfOk result (λ t. t.items ≡ lines.reason_head reason) }
+// The name of a reason, with its round or its configuration.
+fn reason_name(alloc: Global, reason: Reason) -> Result<String, Memory>
+    ensures { IfOk result (λ t. string_bytes t ≡ lines.reason_name reason) }
 {
     let text = match reason {
         Reason::EndBreaks { new, breaks: _ } => {
             let end = if new { "new" } else { "old" };
-            format!(in alloc; "1 EndBreaks {end}")?
+            format!(in alloc; "EndBreaks {end}")?
         }
         Reason::BadChange {
             round,
             switch: _,
             change: _,
-        } => format!(in alloc; "2 BadChange round {round}")?,
-        Reason::Ambiguous { round, switch: _ } => format!(in alloc; "3 Ambiguous round {round}")?,
+        } => format!(in alloc; "BadChange round {round}")?,
+        Reason::Ambiguous { round, switch: _ } => format!(in alloc; "Ambiguous round {round}")?,
         Reason::OverCapacity {
             round,
             switch: _,
             need: _,
-        } => format!(in alloc; "4 OverCapacity round {round}")?,
-        Reason::Rewrites { round, switch: _ } => format!(in alloc; "5 Rewrites round {round}")?,
+        } => format!(in alloc; "OverCapacity round {round}")?,
+        Reason::Rewrites { round, switch: _ } => format!(in alloc; "Rewrites round {round}")?,
         Reason::NoNumbering { round, class: _ } => {
-            format!(in alloc; "6 NoNumbering round {round}")?
+            format!(in alloc; "NoNumbering round {round}")?
         }
         Reason::NotLower {
             round,
             class: _,
             switch: _,
-        } => format!(in alloc; "7 NotLower round {round}")?,
+        } => format!(in alloc; "NotLower round {round}")?,
         Reason::MayDrop {
             round,
             class: _,
             switch: _,
-        } => format!(in alloc; "8 MayDrop round {round}")?,
-        Reason::NoBefore { round, class: _ } => format!(in alloc; "9 NoBefore round {round}")?,
+        } => format!(in alloc; "MayDrop round {round}")?,
+        Reason::NoBefore { round, class: _ } => format!(in alloc; "NoBefore round {round}")?,
         Reason::Bypass {
             round,
             class: _,
             waypoint: _,
             switch: _,
-        } => format!(in alloc; "10 Bypass round {round}")?,
-        Reason::BadLabels { round } => format!(in alloc; "11 BadLabels round {round}")?,
+        } => format!(in alloc; "Bypass round {round}")?,
+        Reason::BadLabels { round } => format!(in alloc; "BadLabels round {round}")?,
         Reason::MixedPath {
             round,
             class: _,
             switch: _,
-        } => format!(in alloc; "12 MixedPath round {round}")?,
-        Reason::WrongEnd { switch: _ } => format!(in alloc; "13 WrongEnd")?,
+        } => format!(in alloc; "MixedPath round {round}")?,
+        Reason::WrongEnd { switch: _ } => format!(in alloc; "WrongEnd")?,
     };
-    Ok(text.into_bytes())
+    Ok(text)
+}
+
+// The number of a reason and its name.
+fn reason_head(alloc: Global, reason: Reason) -> Result<Vec<u8>, Memory>
+    ensures { IfOk result (λ t. t.items ≡ lines.reason_head reason) }
+{
+    let number = reason.number();
+    let name = reason_name(alloc, reason)?;
+    Ok(format!(in alloc; "{number} {name}")?.into_bytes())
 }
 
 // A switch, behind its word.

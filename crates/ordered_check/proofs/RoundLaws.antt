@@ -1,5 +1,5 @@
 -- The first reason of the classes of a round, class by class, and among all reasons.
-use Rattle.std.proofs.Common.{◌≡◌, ◌⊎◌, ℕ, suc, ◌+◌, ◌<◌, ◌≤◌, true, false, length, Option, Some, None, IfNone, IfSome, refl, sym, ◌∙◌, subst, inl, inr, arith}
+use Rattle.std.proofs.Common.{◌≡◌, ◌⊎◌, ℕ, suc, ◌+◌, ◌<◌, ◌≤◌, length, Option, Some, None, IfNone, IfSome, refl, sym, ◌∙◌, subst, inl, inr, arith}
 use Rattle.std.proofs.lemmas.Bool.{cases_lt, lt-ltb, le-ltb}
 use Rattle.dest_classes.specs.Classes.{IsClass, class_count}
 use Rattle.dest_classes.specs.declared.Class.{Class}
@@ -9,7 +9,7 @@ use Rattle.certificates.specs.Certified.{Task, classes_for}
 use Rattle.certificates.specs.Valid.{IsChain, IsPickBefore}
 use Rattle.certificates.specs.declared.OrderedEvidence.{OrderedEvidence}
 use Rattle.certificates.specs.declared.Evidence.TheVariants.{Ordered}
-use Rattle.check_reasons.specs.Ranks.{IsBefore, rank_of, number_of, class_of, least_class_number, classes_start}
+use Rattle.check_reasons.specs.Ranks.{rank_of, number_of, class_of, least_class_number, classes_start}
 use Rattle.check_reasons.specs.Reasons.{IsOrderedReason, class_duties, rewrites, no_numbering, not_lower, may_drop, no_before, bypass}
 use Rattle.check_reasons.specs.Passed.{IsFirstFrom}
 use Rattle.check_reasons.proofs.RankLaws.{ordered_in_rounds, by_number, first_of_classes}

@@ -1,12 +1,10 @@
 -- The stages of the checker: where each reason stands among them, and what rules it out.
-use Rattle.std.proofs.Common.{◌≡◌, ◌⊎◌, ℕ, zero, suc, ◌<◌, ◌≤◌, Bool, true, false, if◌then◌else◌, List, [], ◌∷◌, length, get_or, refl, subst, inl, inr, arith}
+use Rattle.std.proofs.Common.{◌≡◌, ℕ, suc, ◌<◌, ◌≤◌, true, false, List, [], ◌∷◌, length, refl, subst, inl, inr, arith}
 use Rattle.std.specs.List.{AllByRecursion}
 use Rattle.std.proofs.lemmas.Bool.{cases_lt}
-use Rattle.net_base.specs.Members.{IsSameSet}
 use Rattle.net_base.proofs.MemberLaws.{each_get_or}
 use Rattle.net_base.specs.declared.ids.SwitchId.{SwitchId}
 use Rattle.topology.specs.Networks.{Network, switch_count}
-use Rattle.flow_rules.specs.Tables.{rules_at}
 use Rattle.config_check.specs.Broken.{IsFirstBreak}
 use Rattle.config_check.specs.declared.Breaks.{Breaks}
 use Rattle.demands.specs.Good.{HasGoodPaths}

@@ -1,6 +1,6 @@
 -- The first reason of the classes of a round of a two-phase plan.
-use Rattle.std.proofs.Common.{◌≡◌, ◌⊎◌, ℕ, suc, ◌+◌, ◌<◌, ◌≤◌, Bool, true, false, Option, Some, None, List, [], ◌∷◌, length, refl, sym, ◌∙◌, subst, ap, inl, inr, arith, add-one}
-use Rattle.std.specs.Prelude.{slice_get, if◌then◌else◌}
+use Rattle.std.proofs.Common.{◌≡◌, ℕ, suc, ◌+◌, ◌<◌, ◌≤◌, Option, Some, None, List, length, refl, sym, ◌∙◌, subst, ap, inl, inr, arith, add-one}
+use Rattle.std.specs.Prelude.{slice_get}
 use Rattle.std.proofs.lemmas.Bool.{cases_lt}
 use Rattle.std.proofs.lemmas.Option.{same_Some, MatchOption-at_some}
 use Rattle.net_base.specs.Walks.{end_of}
