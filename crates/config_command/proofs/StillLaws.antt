@@ -17,9 +17,10 @@ use Rattle.path_walk.specs.declared.Outcome.TheVariants.{Discard, Leave, Go}
 use Rattle.path_walk.specs.declared.Ended.{Ended}
 use Rattle.path_walk.specs.declared.Ended.TheVariants.{UnderWay, Left, Dropped, Lost}
 use Rattle.demands.specs.Duties.{DemandView, duties_of}
-use Rattle.demands.specs.Good.{IsGood, HasGoodPath}
+use Rattle.demands.specs.Good.{IsGood, HasGoodPath, MeetsDemands}
 use Rattle.demands.proofs.DutyLaws.{distinct_prefix}
 use Rattle.net_base.proofs.ItemLaws.{in_from_get}
+use Rattle.demands.proofs.MeetsLaws.{good_meets}
 use Rattle.config_check.specs.Everywhere.{HasGoodPathEverywhere}
 use Rattle.update_model.specs.Runs.{AreEnabled, state_after}
 use Rattle.update_model.specs.States.{State, IsEnabled, entered, hopped, lost, with_packet, settled_count, state_after_event}
@@ -167,4 +168,5 @@ module _ (net : Network) (tables : List (List Rule)) where
     keeps_good everywhere events run =
         let first : Still net tables (record { phase = Settled 0; tables = tables; pending = []; packets = [] }) = record { phase = refl; tables_are = refl; packets = tt } in
         let still = still_run _ events first run in
-        each_weaker (Follows net tables) (λ p. IsGood (duties_of demands p.entry p.dst) (trace_of p)) (λ p f. good_by p p.ended refl f.ended f (everywhere p.entry p.dst f.entry f.dst)) _ still.packets
+        each_weaker (Follows net tables) (λ p. MeetsDemands demands p.entry p.dst (trace_of p))
+        (λ p f. good_meets demands p.entry p.dst (trace_of p) (good_by p p.ended refl f.ended f (everywhere p.entry p.dst f.entry f.dst))) _ still.packets

@@ -9,8 +9,8 @@ use Rattle.flow_rules.specs.declared.rules.Rule.{Rule}
 use Rattle.config_files.specs.Configuration.{configuration_in}
 use Rattle.dest_classes.specs.declared.Class.{Class}
 use Rattle.dest_classes.specs.Classes.{IsClass}
-use Rattle.demands.specs.Duties.{DemandView, duties_of}
-use Rattle.demands.specs.Good.{IsGood}
+use Rattle.demands.specs.Duties.{DemandView}
+use Rattle.demands.specs.Good.{MeetsDemands}
 use Rattle.update_model.specs.Mixtures.{Update}
 use Rattle.update_model.specs.Runs.{IsRun, state_after_run}
 use Rattle.update_model.specs.declared.Event.{Event}
@@ -82,9 +82,9 @@ pub record NamesFirstBreak (m : ConfigMeaning) (old new : Option (List ℕ)) : T
   pub is_class : IsClass (classes_under m.net m.tables m.demands) break.class class
   pub written : Appends old new (breaks_line m.net class break.how)
 
--- in every run of packets over the tables, in which nothing is changed, each packet's trace is good for its duties
+-- in every run of packets over the tables, in which nothing is changed, each packet's trace meets the demands
 abbrev pub KeepsPacketsGood : Network → List (List Rule) → List DemandView → Type 0
 KeepsPacketsGood net tables demands =
     let still : Update = record { net = net; old = tables; rounds = [] } in
     (events : List Event) → IsRun still events
-    → AllByRecursion (λ p. IsGood (duties_of demands p.entry p.dst) (trace_of p)) (state_after_run still events).packets
+    → AllByRecursion (λ p. MeetsDemands demands p.entry p.dst (trace_of p)) (state_after_run still events).packets

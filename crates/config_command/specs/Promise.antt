@@ -13,7 +13,7 @@ use Rattle.config_command.specs.Configs.{ConfigMeaning, FilesMean, FilesHold, Fi
 pub record ConfigPromise (files : Files) (names : ConfigNames) (old new : Option (List ℕ)) (result : Status) : Type 0 where
   -- Done comes exactly where the files are read, there are at most 8192 classes, and each has a good path.
   pub done : IsSettled result → ((result ≡ status.Done) ↔ FilesHold files names)
-  -- Then every packet of every run over the configuration, in which nothing is changed, is good for its duties.
+  -- Then every packet of every run over the configuration, in which nothing is changed, meets the demands.
   pub keeps : (m : ConfigMeaning) → FilesMean files names m → result ≡ status.Done → KeepsPacketsGood m.net m.tables m.demands
   -- Refused comes exactly where some class has no good path; the line names the first of them.
   pub refused : IsSettled result → ((result ≡ status.Refused) ↔ FilesBreak files names)
