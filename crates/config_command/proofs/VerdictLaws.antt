@@ -66,8 +66,6 @@ module _ (net : Network) (tables : List (List Rule)) (demands : List DemandView)
 pub break_fits : (net : Network) (tables : List (List Rule)) (demands : List DemandView) (classes : ClassList) (b : Breaks) → IsFirstBreak net tables demands classes b → b.class < class_count classes
 break_fits net tables demands classes b first = number_fits classes b.class first.class first.is_class
 
-})
-
 -- the duties' demands are the demands
 pub good_of : (net : Network) (tables : List (List Rule)) (demands : List DemandView) (classes : ClassList) (duties : ClassDuties) → duties ≡ record { demands = demands; classes = classes } → HasGoodPaths net tables duties.demands classes → HasGoodPaths net tables demands classes
 good_of net tables demands classes duties made good = subst (λ d. HasGoodPaths net tables d.demands classes) made good

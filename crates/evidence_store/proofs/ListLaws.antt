@@ -8,7 +8,6 @@ use Rattle.net_base.proofs.MemberLaws.{in_append_cases}
 use Rattle.certificates.specs.Valid.{IsChain}
 
 module _ {A : Type 0} where
-
   pub prefix_of_append : (xs ys : List A) → IsPrefix xs (xs ++ ys)
   prefix_of_append [] ys = tt
   prefix_of_append (x ∷ xs) ys = (refl, prefix_of_append xs ys)

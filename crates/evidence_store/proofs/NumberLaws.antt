@@ -9,6 +9,7 @@ use Rattle.evidence_store.specs.Stored.{UsesInOrder}
 use Rattle.evidence_store.specs.Numbers.{IsNumbered, AreNumbered}
 use Rattle.evidence_store.proofs.ListLaws.{prefix_of_append, prefix_at, last_at}
 use Rattle.net_base.proofs.ItemLaws.{distinct_push, prefix_refl, prefix_through}
+
 -- uses in order, and then more of them
 pub in_order_append : (next : ℕ) (is js : List ℕ) (mid last : ℕ) → UsesInOrder next is mid → UsesInOrder mid js last → UsesInOrder next (is ++ js) last
 in_order_append next [] js mid last h k = subst (λ n. UsesInOrder n js last) (sym h) k

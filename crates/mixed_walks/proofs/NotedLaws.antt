@@ -31,7 +31,6 @@ in_take (suc n) x (y ∷ xs) (inl e) = inl e
 in_take (suc n) x (y ∷ xs) (inr i) = inr (in_take n x xs i)
 
 module _ (old : WalkState) (place : Place) where
-
   -- a discard
   pub drop_noted : (put : List SwitchId) → ((s : SwitchId) → IsIn s put ↔ (IsIn s old.dropping ⊎ (s ≡ place.switch))) → IsNoted old place (Discard ∷ []) (record old { dropping = put })
   drop_noted put members = record {

@@ -29,6 +29,7 @@ use Rattle.check_reasons.specs.declared.reason.Reason.{Reason}
 use Rattle.check_reasons.specs.declared.reason.Reason.TheVariants.{EndBreaks, BadChange, Ambiguous, OverCapacity, Rewrites, NoNumbering, NotLower, MayDrop, NoBefore, Bypass, BadLabels, MixedPath, WrongEnd}
 use Rattle.plan_checker.proofs.Refuted.{break_refuted, within_rounds, bad_change_refuted, unclear_refuted, need_fits, rewrite_refuted, bad_step_refuted, no_pick_refuted, drop_refuted, count_refuted, bypass_refuted, no_table_refuted, mixed_entry_refuted, stray_refuted}
 use Rattle.net_base.proofs.ItemLaws.{in_from_get}
+
 -- picks ascend, by round and then by class
 abbrev pub PicksAscend : Evidence → Type 0
 PicksAscend (Ordered e) = IsChain IsPickBefore e.picks

@@ -7,7 +7,6 @@ use Rattle.std.proofs.lemmas.Option.{same_Some}
 use Rattle.plan_format.specs.Evidence.{ascends, follows, all_below}
 
 module _ {A : Type 0} (before : A → A → Bool) where
-
   -- a list of at most one item ascends
   pub ascends_end : (xs : List A) (k : ℕ) → length xs ≤ suc k → ascends before (drop k xs) ≡ true
   ascends_end [] zero few = refl

@@ -15,7 +15,6 @@ use Rattle.round_planner.specs.Standing.{AreWithPicks}
 -- ---- lists that begin with a list
 
 module _ {A : Type 0} where
-
   pub get_more : (xs ys : List A) → IsPrefix xs ys → (i : ℕ) (x : A) → slice_get xs i ≡ Some x → slice_get ys i ≡ Some x
   get_more [] ys p i x e = absurd (none_is x e)
     where

@@ -27,6 +27,7 @@ use Rattle.round_planner.specs.Standing.{IsCertifiedClass, Stands, AreSafeBelow,
 use Rattle.round_planner.proofs.SameRound.{IsSameRound, same_back, safe_same, least_same, same_prefix}
 use Rattle.round_planner.proofs.GrowthLaws.{Grows, meant_more, meant_less, grown, old_pick, pick_cases, pick_for, numbering_cases, before_cases}
 use Rattle.net_base.proofs.ItemLaws.{prefix_refl}
+
 -- ---- the changes
 
 -- one more change that is the first that qualifies

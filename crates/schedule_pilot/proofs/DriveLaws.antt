@@ -19,6 +19,7 @@ use Rattle.schedule_pilot.specs.declared.Ending.{Ending}
 use Rattle.schedule_pilot.specs.declared.Ending.TheVariants.{Finished, OutOfBudget, Blocked}
 use Rattle.schedule_pilot.proofs.EndLaws.{in_those, none_of, never_blocked, over_in_time}
 use Rattle.net_base.proofs.ItemLaws.{in_from_get}
+
 pub state_push : (net : Network) (rounds : List (List Change)) (st : State) (events : List Event) (e : Event)
     → state_after net rounds st (events ++ e ∷ []) ≡ state_after_event net rounds (state_after net rounds st events) e
 state_push net rounds st [] e = refl
@@ -56,7 +57,6 @@ pub record SoFar (w : WorldState) (chooses : ℕ → ℕ → ℕ → Type 0) (en
   pub count : made ≡ length events
 
 module _ (w : WorldState) (chooses : ℕ → ℕ → ℕ → Type 0) (entries : List Entry) where
-
   pub so_far_next : (events : List Event) (after : WorldState) (rest : List Entry) (made : ℕ) (e : Event) (next : WorldState) (left : List Entry)
       → SoFar w chooses entries events after rest made → IsNamed (update_of w) chooses made after.state rest e → next ≡ world_after after e → left ≡ entries_after e rest
       → SoFar w chooses entries (events ++ e ∷ []) next left (made + 1)

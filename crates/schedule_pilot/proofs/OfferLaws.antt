@@ -19,6 +19,7 @@ use Rattle.schedule_pilot.specs.Agendas.{numbers_on, numbers_under_way, IsAgenda
 use Rattle.schedule_pilot.specs.declared.Entry.{Entry}
 use Rattle.schedule_pilot.proofs.AgendaLaws.{goes_from_under}
 use Rattle.update_model.proofs.CountLaws.{goes_from}
+
 module _ {A : Type 0} (P : A → Type 0) where
   -- one that the fact doesn't hold of is left out
   those_skip : (x : A) (xs ys : List A) → ¬ P x → AreThose P xs ys → AreThose P (x ∷ xs) ys

@@ -20,6 +20,7 @@ use Rattle.update_model.specs.declared.Event.TheVariants as event
 use Rattle.update_model.proofs.ChangeLaws.{key_named, writes_key, stands_all_from_in, in_from_stands_all, length-tables_after}
 use Rattle.update_model.proofs.MadeLaws.{made_of, made_some, made_fresh, at_some, distinct_some, keys_distinct, apply_there, same_entry, each_some}
 use Rattle.net_base.proofs.ItemLaws.{in_from_get}
+
 length_settled : (rounds : List (List Change)) (k : ℕ) (tables : List (List Rule)) → length (settled_tables rounds k tables) ≡ length tables
 length_settled [] k tables = refl
 length_settled (r ∷ rounds) zero tables = refl

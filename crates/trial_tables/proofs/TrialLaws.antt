@@ -118,7 +118,6 @@ module _ (net : Network) (s : SwitchId) (p q : TrialState) where
   }
 
 module _ (net : Network) (p : TrialState) where
-
   -- where the last one is too, all are
   pub settled_last : (s : SwitchId) → IsSettledBeside net s p → IsMixed (rules_there p s) [] (mix_at p.mixes s) → IsSettled net p
   settled_last s beside here = record {

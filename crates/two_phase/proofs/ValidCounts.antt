@@ -55,7 +55,6 @@ few_ranks net new few =
     let size : length (flat_map (map rank_of) new) ≡ sum_by length new = length-flat_map (map rank_of) new ∙ ap (λ (f : List Rule → ℕ). sum_by f new) (λ j rules. length-map rules rank_of j) in
     omega arith
   where
-
     within : (x : ℕ) → IsIn x (ranks net new) → IsIn x (32768 ∷ flat_map (map rank_of) new)
     within x i =
         elim (in_from_ascending x (32768 ∷ flat_map (λ s. map (λ r. r.key.priority) (ingress_rules net s (rules_at new s))) (switches net)) i) [

@@ -94,7 +94,6 @@ cases_earlier None s = inr (λ h. h)
 cases_earlier (Some xs) s = cases_in s.0 xs
 
 module _ {A : Type 0} where
-
   -- what holds of the items below a place and of the one there holds of those below the next place
   pub each_more : (P : A → Type 0) (xs : List A) (i : ℕ) (e : A) → i < length xs → ((k : ℕ) (d : A) → k < i → P (get_or xs k d)) → P (get_or xs i e)
       → (k : ℕ) (d : A) → k < i + 1 → P (get_or xs k d)

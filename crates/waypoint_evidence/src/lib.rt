@@ -142,7 +142,12 @@ fn starts_there(start: SwitchId, waypoint: SwitchId, earlier: Option<&Before>) -
 }
 
 /// Whether the set holds the start, which is below 128, or the position is a first one and the start is the waypoint.
-pub fn begins(before: &Before, start: SwitchId, waypoint: SwitchId, earlier: Option<&Before>) -> bool
+pub fn begins(
+    before: &Before,
+    start: SwitchId,
+    waypoint: SwitchId,
+    earlier: Option<&Before>,
+) -> bool
     requires { start.0 < 128 }
     ensures { IsTrue result ↔ (Holds before.now start ⊎ (IsFirst (option_copied earlier.entry) × (start ≡ waypoint))) }
 {

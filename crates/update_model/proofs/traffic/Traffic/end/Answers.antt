@@ -40,5 +40,5 @@ invariant_of-self c =
     let is : c.from.result ≡ cond (nat_lt h.0.born t.settled) 1 0 = c.from.ensures ∙ ap (λ (p : Packet). bool_byte (nat_lt p.born t.settled)) it ∙ as_one (nat_lt h.0.born t.settled) in
     let after = counted_end t.packets.items c.args.i t.settled t.under_way t.older h.0 c.args.ended c.self.invariant h.1 h.2 c.requires.ends in
     subst (λ n. AreCounted c.end_packet.new.packets.items t.settled (t.under_way - 1) (t.older - n)) (sym is)
-      (subst (λ (packets : List Packet). AreCounted packets t.settled (t.under_way - 1) (t.older - cond (nat_lt h.0.born t.settled) 1 0))
-        (sym (c.end_packet.ensures ∙ with_one (λ p. record p { ended = c.args.ended }) c.args.i t.packets.items h.0 h.1)) after)
+    (subst (λ (packets : List Packet). AreCounted packets t.settled (t.under_way - 1) (t.older - cond (nat_lt h.0.born t.settled) 1 0))
+    (sym (c.end_packet.ensures ∙ with_one (λ p. record p { ended = c.args.ended }) c.args.i t.packets.items h.0 h.1)) after)

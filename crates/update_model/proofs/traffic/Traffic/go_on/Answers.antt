@@ -15,10 +15,10 @@ invariant_of-self c =
     let moved : Packet = hopped hopping.0 (Go c.args.next) in
     let after = counted_go t.packets.items c.args.i t.settled t.under_way t.older hopping.0 moved c.self.invariant hopping.1 refl refl in
     either c.move_packet.result
-      (λ (packets : List Packet). AreCounted packets t.settled t.under_way t.older) c.move_packet.new.packets.items
-      (λ e. subst (λ (packets : List Packet). AreCounted packets t.settled t.under_way t.older) (sym (e ∙ with_one (λ p. hopped p (Go c.args.next)) c.args.i t.packets.items hopping.0 hopping.1)) after)
-      (λ e. subst (λ (packets : List Packet). AreCounted packets t.settled t.under_way t.older) (sym e) c.self.invariant)
-      c.move_packet.ensures.ok c.move_packet.ensures.err
+    (λ (packets : List Packet). AreCounted packets t.settled t.under_way t.older) c.move_packet.new.packets.items
+    (λ e. subst (λ (packets : List Packet). AreCounted packets t.settled t.under_way t.older) (sym (e ∙ with_one (λ p. hopped p (Go c.args.next)) c.args.i t.packets.items hopping.0 hopping.1)) after)
+    (λ e. subst (λ (packets : List Packet). AreCounted packets t.settled t.under_way t.older) (sym e) c.self.invariant)
+    c.move_packet.ensures.ok c.move_packet.ensures.err
   where
     either : {T E : Type 0} (r : Result T E) (P : List Packet → Type 0) (packets : List Packet) {A B : Type 0} → (A → P packets) → (B → P packets) → IfOk r (λ _. A) → OnErr r B → P packets
     either (Ok x) P packets f g a b = f a
