@@ -4,7 +4,7 @@ use Rattle.std.specs.Io.KnownBytes.{Appends}
 use Rattle.net_base.specs.Outside.{Files}
 use Rattle.dest_classes.specs.Classes.{ClassList, IsClass, class_count}
 use Rattle.dest_classes.specs.declared.Class.{Class}
-use Rattle.certificates.specs.Certified.{Task, IsCertified, classes_for}
+use Rattle.certificates.specs.Certified.{Task, IsCertified, classes_for, is_two_phase}
 use Rattle.certificates.specs.Consistent.{IsConsistent}
 use Rattle.certificates.specs.declared.Evidence.{Evidence}
 use Rattle.certificates.specs.declared.Plan.{Plan}
@@ -51,7 +51,7 @@ pub record IsRefusedLine (t : Task) (evidence : Evidence) (line : List ℕ) : Ty
 -- the answer on a plan: one that is certified keeps every packet of every run consistent
 abbrev pub IsPlanVerdict : Task → Evidence → Answer → Type 0
 IsPlanVerdict t evidence answer =
-    IsJudgement (class_count (classes_for t)) (IsCertified t evidence) (IsConsistent t evidence)
+    IsJudgement (class_count (classes_for t)) (IsCertified t evidence) (IsConsistent t (is_two_phase evidence))
     (accepted_line evidence (length t.update.rounds) (class_count (classes_for t))) (IsRefusedLine t evidence) answer
 
 -- the answer of `check`: the verdict on the plan that was read

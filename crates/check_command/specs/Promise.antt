@@ -2,6 +2,7 @@
 use Rattle.std.specs.Prelude.{◌≡◌, ◌↔◌, ℕ, List, Option, Some}
 use Rattle.std.specs.Io.KnownBytes.{Appends}
 use Rattle.net_base.specs.Outside.{Files}
+use Rattle.certificates.specs.Certified.{is_two_phase}
 use Rattle.certificates.specs.Consistent.{IsConsistent}
 use Rattle.command_base.specs.declared.status.Status.{Status}
 use Rattle.command_base.specs.declared.status.Status.TheVariants as status
@@ -15,8 +16,8 @@ pub record CheckPromise (files : Files) (names : CheckNames) (old new : Option (
   -- Done comes exactly where the five files mean an update and a plan of it that is certified, with at most 8192 classes.
   pub done : IsSettled result → ((result ≡ status.Done) ↔ FilesAreCertified files names)
   -- The headline. Then in every state of every run, in which the changes of each round come in any order between the hops of
-  -- packets, each packet's trace is good for its duties, and under two phases it is the old or the new path.
-  pub keeps : (m : CheckMeaning) → FilesMeanPlan files names m → result ≡ status.Done → IsConsistent (task_in m) m.plan.evidence
+  -- packets, each packet's trace meets the demands, and under two phases it is the old or the new path.
+  pub keeps : (m : CheckMeaning) → FilesMeanPlan files names m → result ≡ status.Done → IsConsistent (task_in m) (is_two_phase m.plan.evidence)
   -- Refused comes exactly where the plan isn't certified; the line names the first reason.
   pub refused : IsSettled result → ((result ≡ status.Refused) ↔ FilesAreRefused files names)
   pub first : (m : CheckMeaning) → FilesMeanPlan files names m → result ≡ status.Refused → NamesFirstReason m old new

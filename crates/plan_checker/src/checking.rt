@@ -5,7 +5,7 @@ ghost use Rattle.flow_rules.specs.Tables.{rules_of_all};
 ghost use Rattle.path_walk.specs.UserConfigs.{IsUserConfig};
 ghost use Rattle.demands.specs.Good.{HasGoodPaths};
 ghost use Rattle.config_check.specs.Broken.{IsFirstBreak};
-ghost use Rattle.certificates.specs.Certified.{IsCertified, classes_for};
+ghost use Rattle.certificates.specs.Certified.{IsCertified, classes_for, is_two_phase};
 ghost use Rattle.certificates.specs.Consistent.{IsConsistent};
 ghost use Rattle.certificates.specs.Laws.{task_of};
 ghost use Rattle.certificates.specs.Valid.{IsValidPlan};
@@ -180,7 +180,7 @@ pub fn check(
     requires plan { IsValidPlan net.now plan.now }
     requires room { Fits (task_of net.now old.now new.now demands.now plan.now) room.old }
     ensures accepted { (result ≡ Verdict.Accepted) ↔ IsCertified (task_of net.now old.now new.now demands.now plan.now) plan.now.evidence }
-    ensures consistent { result ≡ Verdict.Accepted → IsConsistent (task_of net.now old.now new.now demands.now plan.now) plan.now.evidence }
+    ensures consistent { result ≡ Verdict.Accepted → IsConsistent (task_of net.now old.now new.now demands.now plan.now) (is_two_phase plan.now.evidence) }
     ensures refused { IfRefused result (IsFirstReason (task_of net.now old.now new.now demands.now plan.now) plan.now.evidence) }
     ensures fits { Fits (task_of net.now old.now new.now demands.now plan.now) room.new }
 {
