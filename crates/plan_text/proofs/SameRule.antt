@@ -3,7 +3,7 @@ use Rattle.std.proofs.Common.{◌≡◌, Bool, true, false, ◌&&◌, ◌==◌, 
 use Rattle.std.specs.Option.{option_eq}
 use Rattle.net_base.specs.declared.ids.Port.{Port}
 use Rattle.net_base.specs.contracts.ids.PortPartialEq.TheImpl as port
-use Rattle.flow_rules.specs.Patterns.{in_port_eq, vlan_test_eq}
+use Rattle.flow_rules.specs.Patterns.{vlan_test_eq}
 use Rattle.flow_rules.specs.Same.{rewrite_eq, action_eq}
 use Rattle.flow_rules.specs.declared.rules.VlanTest.{VlanTest}
 use Rattle.flow_rules.specs.declared.rules.VlanTest.TheVariants as test
@@ -17,6 +17,10 @@ use Rattle.flow_rules.specs.contracts.rules.ActionPartialEq.TheImpl as action_im
 use Rattle.plan_format.specs.declared.rules.PlanRule.{PlanRule}
 use Rattle.plan_format.specs.contracts.rules.PlanRulePartialEq.TheImpl as rule_impl
 use Rattle.plan_text.specs.PlanText.{plan_rule_eq}
+
+-- whether two choices of an ingress port are the same
+abbrev in_port_eq : Option Port → Option Port → Bool
+in_port_eq = option_eq (λ (p q : Port). p.0 == q.0)
 
 same_port : (a b : Option Port) → option_eq port.eq-value.it a b ≡ in_port_eq a b
 same_port None None = refl
