@@ -12,7 +12,7 @@ settle-requires c =
     let change = c.args.change.now in
     let net = c.args.net.now in
     let inside = c.self.inside in
-    let q : TrialState = record { tables = c.change_tables.new.tables; mixes = inside.mixes.items } in
+    let q : TrialState = record { tables = c.change_tables.new.config; mixes = inside.mixes.items } in
     let made : rules_of_all q.tables ≡ tables_after_change change (rules_of_all c.args.self.now.tables) =
     c.in_ok-change_tables.ensures.ok ∙ ap (λ (v : TrialState). tables_after_change change (rules_of_all v.tables)) c.self.view_is in
     subst (λ (s : SwitchId). IsSettledBeside net s q) (sym c.switch.ensures)
