@@ -4,7 +4,7 @@ use Rattle.std.specs.Io.KnownBytes.{Appends}
 use Rattle.net_base.specs.Outside.{Files}
 use Rattle.net_base.specs.declared.ids.SwitchId.{SwitchId}
 use Rattle.update_model.specs.declared.Change.{Change}
-use Rattle.certificates.specs.Certified.{IsCertified}
+use Rattle.certificates.specs.Certified.{IsCertified, is_two_phase}
 use Rattle.certificates.specs.Consistent.{IsConsistent}
 use Rattle.certificates.specs.declared.Plan.{Plan}
 use Rattle.plan_format.specs.Plans.{plan_in}
@@ -85,7 +85,7 @@ pub record WritesNewPlan (u : UpdateMeaning) (old new : Option (List ℕ)) : Typ
 -- the plan is certified, and keeps every packet of every run consistent
 pub record KeepsConsistent (u : UpdateMeaning) (p : Plan) : Type 0 where
   pub certified : IsCertified (task_for u p) p.evidence
-  pub consistent : IsConsistent (task_for u p) p.evidence
+  pub consistent : IsConsistent (task_for u p) (is_two_phase p.evidence)
 
 -- the line that was written names the first break of an end
 pub record NamesFirstEndBreak (u : UpdateMeaning) (old new : Option (List ℕ)) : Type 0 where

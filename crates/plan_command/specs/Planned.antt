@@ -7,7 +7,7 @@ use Rattle.demands.specs.Good.{HasGoodPaths}
 use Rattle.config_check.specs.declared.Breaks.{Breaks}
 use Rattle.config_check.specs.Broken.{IsFirstBreak}
 use Rattle.update_model.specs.declared.Change.{Change}
-use Rattle.certificates.specs.Certified.{IsCertified, classes_for}
+use Rattle.certificates.specs.Certified.{IsCertified, classes_for, is_two_phase}
 use Rattle.certificates.specs.Consistent.{IsConsistent}
 use Rattle.certificates.specs.declared.Plan.{Plan}
 use Rattle.check_reasons.specs.declared.reason.Reason.TheVariants.{EndBreaks}
@@ -72,7 +72,7 @@ pub record SaysNewPlan (u : UpdateMeaning) (answer : Answer) : Type 0 where
   pub is_new : IsNewPlan u plan
   pub says : SaysPlan u.net plan answer
   pub certified : IsCertified (task_for u plan) plan.evidence
-  pub consistent : IsConsistent (task_for u plan) plan.evidence
+  pub consistent : IsConsistent (task_for u plan) (is_two_phase plan.evidence)
   pub classes : HasSameClasses (classes_for (task_for u plan)) (update_classes u)
 
 -- the search ended stuck, and there are too few tags

@@ -24,11 +24,11 @@ use Rattle.update_model.specs.declared.Change.{Change}
 use Rattle.update_model.specs.declared.Change.TheVariants.{Insert, Delete, Replace}
 use Rattle.update_model.proofs.ChangeLaws.{stands_from_in, rules_at-after_change, length-tables_after}
 use Rattle.update_model.proofs.DifferenceLaws.{IsDifference, difference_switch, remaining_is}
-use Rattle.update_model.proofs.RemainingLaws.{AreUnique, remaining_shortens}
+use Rattle.update_model.proofs.RemainingLaws.{AreUnique, unique_then, remaining_shortens}
 use Rattle.certificates.specs.Certified.{KeepsVlan}
 use Rattle.certificates.proofs.TreeTables.{unique_in_table}
 use Rattle.round_planner.specs.Search.{Aim, AreFirstQualifying}
-use Rattle.round_planner.proofs.SearchLaws.{first_remains, unique_then}
+use Rattle.round_planner.proofs.SearchLaws.{first_remains}
 
 -- ---- user rules are rules of plans
 
