@@ -1,5 +1,5 @@
 -- What the answer on an update stands on.
-use Rattle.std.proofs.Common.{◌≡◌, ◌<◌, ◌≤◌, Bool, true, List, [], ◌++◌, map, Some, refl, sym, subst}
+use Rattle.std.proofs.Common.{◌≡◌, ◌<◌, ◌≤◌, Bool, true, List, [], ◌++◌, length, map, Some, Result, Ok, Err, IfOk, refl, sym, subst}
 use Rattle.flow_rules.specs.Tables.{table_blocks}
 use Rattle.flow_rules.specs.declared.rules.Rule.{Rule}
 use Rattle.dest_classes.specs.Classes.{ClassList, IsClass, class_count}
@@ -15,7 +15,11 @@ use Rattle.config_check.specs.declared.Breaks.{Breaks}
 use Rattle.config_check.specs.Broken.{IsFirstBreak}
 use Rattle.update_model.specs.declared.Change.{Change}
 use Rattle.certificates.specs.Certified.{IsCertified}
+use Rattle.certificates.specs.Trees.{IsTreeUpdate}
 use Rattle.certificates.specs.declared.Plan.{Plan}
+use Rattle.round_planner.specs.Ends.{aim_of, IsPlanOf}
+use Rattle.update_model.specs.Remaining.{remaining}
+use Rattle.upgrade_command.specs.Texts.{SaysPlan}
 use Rattle.check_reasons.specs.declared.reason.Reason.TheVariants.{EndBreaks}
 use Rattle.two_phase.specs.Laws.{two_phase_task}
 use Rattle.two_phase.specs.Plans.{two_phase_plan, IsCertifiedTwoPhase}
@@ -24,7 +28,12 @@ use Rattle.check_command.specs.ReasonLines.{refused_line}
 use Rattle.command_base.specs.Answers.{Answer}
 use Rattle.command_base.specs.Judgements.{SaysWhyNot, most_classes}
 use Rattle.command_base.specs.Updates.{UpdateMeaning, task_for}
-use Rattle.plan_command.specs.Planned.{update_classes, update_count, EndsAreGood, IsFirstEndBreak, IsEndLine}
+use Rattle.plan_command.specs.Planned.{update_classes, update_count, bare_task, SaysOrdered, EndsAreGood, IsFirstEndBreak, IsEndLine}
+
+-- two facts of a value, the second under a premise
+pub both_ok : {A E : Type 0} (r : Result A E) (P Q R : A → Type 0) (T : Type 0) → ((x : A) → P x → (T → Q x) → R x) → IfOk r P → (T → IfOk r Q) → IfOk r R
+both_ok (Ok x) P Q R T f p q = f x p q
+both_ok (Err e) P Q R T f p q = tt
 
 module _ (u : UpdateMeaning) where
   pub end_law : (new : Bool) (break : Breaks) (class : Class) (answer : Answer) → update_count u ≤ most_classes → ¬ EndsAreGood u → IsFirstEndBreak u new break → IsClass (update_classes u) break.class class
@@ -36,6 +45,22 @@ module _ (u : UpdateMeaning) where
     is_why = record { new = new; break = break; first = first; class = class; is_class = is_class; line_is = refl };
     answer_is = is;
   }
+
+  -- the plan of a search that ended ordered, for the duties that were made
+  pub says_ordered : (duties : ClassDuties) (classes : ClassList) → duties ≡ record { demands = u.demands; classes = classes } → (p : Plan) → IsPlanOf (aim_of u.net u.old u.new duties.demands) u.old p
+      → length p.rounds ≡ length (remaining u.old u.new) → (answer : Answer) → SaysPlan u.net p answer → SaysOrdered u answer
+  says_ordered duties classes made p searched count answer says = record {
+    plan = p;
+    searched = subst (λ (d : ClassDuties). IsPlanOf (aim_of u.net u.old u.new d.demands) u.old p) made searched;
+    says = says;
+    count = count;
+  }
+
+  -- a tree update, for the duties that were made
+  pub tree_for : (duties : ClassDuties) (classes : ClassList) → duties ≡ record { demands = u.demands; classes = classes } → IsTreeUpdate (bare_task u)
+      → IsTreeUpdate (record { update = record { net = u.net; old = u.old; rounds = [] }; new = u.new; demands = duties.demands })
+  tree_for duties classes made tree =
+      subst (λ (d : ClassDuties). IsTreeUpdate (record { update = record { net = u.net; old = u.old; rounds = [] }; new = u.new; demands = d.demands })) (sym made) tree
 
   -- the plan of two phases after a search that was stuck
   module _ (p : Plan) (rounds : List (List Change)) (plan_is : p ≡ two_phase_plan u.net u.old u.new rounds) where

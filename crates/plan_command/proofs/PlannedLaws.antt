@@ -10,6 +10,7 @@ use Rattle.flow_rules.specs.declared.rules.Rule.{Rule}
 use Rattle.dest_classes.specs.Classes.{ClassList, class_count, boundaries}
 use Rattle.update_model.specs.declared.Change.{Change}
 use Rattle.certificates.specs.Certified.{classes_for}
+use Rattle.certificates.specs.Trees.{IsTreeUpdate}
 use Rattle.certificates.specs.declared.Plan.{Plan}
 use Rattle.plan_classes.specs.SameClasses.{HasSameClasses}
 use Rattle.plan_format.specs.Plans.{plan_in}
@@ -29,17 +30,21 @@ use Rattle.command_base.specs.Names.{UpdateNames}
 use Rattle.command_base.specs.Answers.{Answer}
 use Rattle.command_base.specs.Judgements.{SaysTooMany, SaysWhyNot, most_classes}
 use Rattle.command_base.specs.Updates.{UpdateMeaning, task_for}
-use Rattle.plan_command.specs.Planned.{update_classes, update_count, update_aim, EndsAreGood, IsEndLine, SaysNewPlan, SaysTooFew, SaysTooSmall, SaysSearched, SaysPlanned, IsPlanned}
+use Rattle.plan_command.specs.Planned.{update_classes, update_count, update_aim, bare_task, EndsAreGood, IsEndLine, SaysNewPlan, SaysTooFew, SaysTooSmall, SaysSearched, SaysPlanned, IsPlanned}
 use Rattle.command_base.specs.Readings.{reading_update}
 use Rattle.command_base.specs.Runs.{IsSettled, Answered}
 use Rattle.command_base.specs.Meanings.{IsReadAs}
 use Rattle.command_base.specs.Updates.{FilesMeanUpdate, WritesPlan}
 use Rattle.check_command.specs.Checks.{FilesAreCertified}
-use Rattle.plan_command.specs.NewPlans.{FilesMeanGoodEnds, IsStuck, HasPlan, FilesHavePlan, FilesBreakAnEnd, FilesLackTags, FilesLackRoom, UpdateMakesTooMany, WritesNewPlan, KeepsConsistent, NamesFirstEndBreak, HoldBeside}
+use Rattle.plan_command.specs.NewPlans.{FilesMeanTrees, WritesOrderedPlan, FilesMeanGoodEnds, IsStuck, HasPlan, FilesHavePlan, FilesBreakAnEnd, FilesLackTags, FilesLackRoom, UpdateMakesTooMany, WritesNewPlan, KeepsConsistent, NamesFirstEndBreak, HoldBeside}
 use Rattle.command_base.proofs.MeaningLaws.{said_over, over_splits, means_update, update_means}
 use Rattle.command_base.proofs.JudgementLaws.{status_of, text_of, texts_same, first_byte}
 use Rattle.command_base.proofs.RunLaws.{settled_done, settled_refused, settled_bad}
 use Rattle.plan_command.specs.Promise.{PlanPromise}
+
+-- both ends of an update of destination trees are good
+tree_ends : (u : UpdateMeaning) → IsTreeUpdate (bare_task u) → EndsAreGood u
+tree_ends u tree = record { old_good = tree.old_good; new_good = tree.new_good }
 
 -- what is said of an update, in each of its statuses
 module _ (u : UpdateMeaning) (answer : Answer) where
@@ -207,6 +212,15 @@ module _ (files : Files) (names : UpdateNames) (old new : Option (List ℕ)) (re
     | inr (u, means, says) ↦ record { update = u; mean = update_means files names u means; many = (bad_says u a.answer says (has status.BadFile is)).many }
   ]
 
+  -- on an update of destination trees the answer is an ordered plan
+  pub tree : (u : UpdateMeaning) → FilesMeanTrees files names u → (result ≡ status.Done) × WritesOrderedPlan u old new
+  tree u trees =
+      let says = good_says u a.answer (said u trees.mean) trees.few (tree_ends u trees.tree) in
+      let v = says.tree trees.tree in (
+        sym a.status_is ∙ status_of a.answer _ _ v.says.answer_is,
+        record { plan = v.plan; searched = v.searched; count = v.count; means = v.says.means; written = wrote (plan_text u.net v.plan) (text_of a.answer _ _ v.says.answer_is) },
+      )
+
   -- the answer is a new plan
   new_plan : result ≡ status.Done → (u : UpdateMeaning) → FilesMeanUpdate files names u → SaysNewPlan u a.answer
   new_plan is u mean = done_searched u a.answer (planned u mean (λ e. cc) (λ e. cc)).searched (has status.Done is)
@@ -358,6 +372,7 @@ promised files names old new result apart one answered = record {
   writes = λ u mean is. writes files names old new result (answered (settled_done _ is)) is u mean;
   keeps = λ before u p told is mean text. keeps files names old new result (answered (settled_done _ is)) before told is u p mean text;
   checked = λ others before plan text told is there within beside. checked files names old new result (answered (settled_done _ is)) before told is others plan text there within beside;
+  tree = λ settled u trees. tree files names old new result (answered settled) u trees;
   refused = λ settled. refused files names old new result (answered settled);
   first = λ u mean is. first_break files names old new result (answered (settled_refused _ is)) is u mean;
   too_few = λ settled. too_few files names old new result (answered settled) apart;

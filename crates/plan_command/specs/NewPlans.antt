@@ -4,12 +4,15 @@ use Rattle.std.specs.Io.KnownBytes.{Appends}
 use Rattle.net_base.specs.Outside.{Files}
 use Rattle.net_base.specs.declared.ids.SwitchId.{SwitchId}
 use Rattle.update_model.specs.declared.Change.{Change}
+use Rattle.update_model.specs.Remaining.{remaining}
 use Rattle.certificates.specs.Certified.{IsCertified, is_two_phase}
 use Rattle.certificates.specs.Consistent.{IsConsistent}
+use Rattle.certificates.specs.Trees.{IsTreeUpdate}
 use Rattle.certificates.specs.declared.Plan.{Plan}
 use Rattle.plan_format.specs.Plans.{plan_in}
 use Rattle.plan_text.specs.PlanText.{plan_text}
 use Rattle.round_planner.specs.Search.{EndsOrdered, EndsStuck}
+use Rattle.round_planner.specs.Ends.{IsPlanOf}
 use Rattle.tag_allocator.specs.Tags.{available_tags}
 use Rattle.two_phase.specs.Laws.{FitsTwoPhase}
 use Rattle.two_phase.specs.Plans.{IsFirstTooSmall}
@@ -17,13 +20,19 @@ use Rattle.command_base.specs.Names.{UpdateNames}
 use Rattle.command_base.specs.Judgements.{most_classes}
 use Rattle.command_base.specs.Updates.{UpdateMeaning, task_for}
 use Rattle.command_base.specs.Updates.{FilesMeanUpdate}
-use Rattle.plan_command.specs.Planned.{update_count, update_aim, EndsAreGood, IsEndLine, IsNewPlan}
+use Rattle.plan_command.specs.Planned.{update_count, update_aim, bare_task, EndsAreGood, IsEndLine, IsNewPlan}
 
 -- the files mean this update, there are few enough classes, and both ends are good
 pub record FilesMeanGoodEnds (files : Files) (names : UpdateNames) (u : UpdateMeaning) : Type 0 where
   pub mean : FilesMeanUpdate files names u
   pub few : update_count u ≤ most_classes
   pub good : EndsAreGood u
+
+-- the files mean this update of destination trees, and there are few enough classes
+pub record FilesMeanTrees (files : Files) (names : UpdateNames) (u : UpdateMeaning) : Type 0 where
+  pub mean : FilesMeanUpdate files names u
+  pub few : update_count u ≤ most_classes
+  pub tree : IsTreeUpdate (bare_task u)
 
 -- the search of the update ends ordered
 pub record IsOrdered (u : UpdateMeaning) : Type 0 where
@@ -79,6 +88,14 @@ pub record UpdateMakesTooMany (files : Files) (names : UpdateNames) : Type 0 whe
 pub record WritesNewPlan (u : UpdateMeaning) (old new : Option (List ℕ)) : Type 0 where
   pub plan : Plan
   pub is_new : IsNewPlan u plan
+  pub means : plan_in u.net (plan_text u.net plan) ≡ Ok plan
+  pub written : Appends old new (plan_text u.net plan)
+
+-- the text of an ordered plan was written: that of the search, with one round for each rule that is replaced; reading it gives this plan
+pub record WritesOrderedPlan (u : UpdateMeaning) (old new : Option (List ℕ)) : Type 0 where
+  pub plan : Plan
+  pub searched : IsPlanOf (update_aim u) u.old plan
+  pub count : length plan.rounds ≡ length (remaining u.old u.new)
   pub means : plan_in u.net (plan_text u.net plan) ≡ Ok plan
   pub written : Appends old new (plan_text u.net plan)
 

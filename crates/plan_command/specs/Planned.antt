@@ -1,5 +1,5 @@
 -- What is said of an update that is to be planned.
-use Rattle.std.specs.Prelude.{◌≡◌, ◌⊎◌, ℕ, ◌≤◌, Bool, IsTrue, List, Some, if◌then◌else◌}
+use Rattle.std.specs.Prelude.{◌≡◌, ◌⊎◌, ℕ, ◌≤◌, Bool, IsTrue, List, [], length, Some, if◌then◌else◌}
 use Rattle.net_base.specs.declared.ids.SwitchId.{SwitchId}
 use Rattle.dest_classes.specs.Classes.{ClassList, IsClass, class_count}
 use Rattle.dest_classes.specs.declared.Class.{Class}
@@ -7,8 +7,10 @@ use Rattle.demands.specs.Good.{HasGoodPaths}
 use Rattle.config_check.specs.declared.Breaks.{Breaks}
 use Rattle.config_check.specs.Broken.{IsFirstBreak}
 use Rattle.update_model.specs.declared.Change.{Change}
-use Rattle.certificates.specs.Certified.{IsCertified, classes_for, is_two_phase}
+use Rattle.update_model.specs.Remaining.{remaining}
+use Rattle.certificates.specs.Certified.{Task, IsCertified, classes_for, is_two_phase}
 use Rattle.certificates.specs.Consistent.{IsConsistent}
+use Rattle.certificates.specs.Trees.{IsTreeUpdate}
 use Rattle.certificates.specs.declared.Plan.{Plan}
 use Rattle.check_reasons.specs.declared.reason.Reason.TheVariants.{EndBreaks}
 use Rattle.plan_classes.specs.SameClasses.{HasSameClasses, classes_before}
@@ -35,6 +37,10 @@ update_count u = class_count (update_classes u)
 -- what the search of an update is for
 abbrev pub update_aim : UpdateMeaning → Aim
 update_aim u = aim_of u.net u.old u.new u.demands
+
+-- the update without rounds
+abbrev pub bare_task : UpdateMeaning → Task
+bare_task u = record { update = record { net = u.net; old = u.old; rounds = [] }; new = u.new; demands = u.demands }
 
 -- both configurations have good paths for all classes of the update
 pub record EndsAreGood (u : UpdateMeaning) : Type 0 where
@@ -75,6 +81,13 @@ pub record SaysNewPlan (u : UpdateMeaning) (answer : Answer) : Type 0 where
   pub consistent : IsConsistent (task_for u plan) (is_two_phase plan.evidence)
   pub classes : HasSameClasses (classes_for (task_for u plan)) (update_classes u)
 
+-- the answer is the text of an ordered plan: that of the search, with one round for each rule that is replaced
+pub record SaysOrdered (u : UpdateMeaning) (answer : Answer) : Type 0 where
+  pub plan : Plan
+  pub searched : IsPlanOf (update_aim u) u.old plan
+  pub says : SaysPlan u.net plan answer
+  pub count : length plan.rounds ≡ length (remaining u.old u.new)
+
 -- the search ended stuck, and there are too few tags
 pub record SaysTooFew (u : UpdateMeaning) (answer : Answer) : Type 0 where
   pub rounds : List (List Change)
@@ -98,11 +111,13 @@ pub record SaysTooSmall (u : UpdateMeaning) (answer : Answer) : Type 0 where
 abbrev pub SaysSearched : UpdateMeaning → Answer → Type 0
 SaysSearched u answer = SaysNewPlan u answer ⊎ (SaysTooFew u answer ⊎ SaysTooSmall u answer)
 
--- there are few enough classes, both ends are good, and the answer is what the search leads to
+-- there are few enough classes, both ends are good, and the answer is what the search leads to; on an update of destination trees
+-- that is an ordered plan
 pub record SaysPlanned (u : UpdateMeaning) (answer : Answer) : Type 0 where
   pub few : update_count u ≤ most_classes
   pub good : EndsAreGood u
   pub searched : SaysSearched u answer
+  pub tree : IsTreeUpdate (bare_task u) → SaysOrdered u answer
 
 -- the answer on an update: too many classes, an end that isn't good, or what the search leads to
 abbrev pub IsPlanned : UpdateMeaning → Answer → Type 0

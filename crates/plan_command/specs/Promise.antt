@@ -16,7 +16,7 @@ use Rattle.command_base.specs.Runs.{IsSettled}
 use Rattle.check_command.specs.Checks.{FilesAreCertified}
 use Rattle.plan_command.specs.NoPlanLines as lines
 use Rattle.plan_command.specs.Planned.{update_count}
-use Rattle.plan_command.specs.NewPlans.{FilesHavePlan, FilesBreakAnEnd, FilesLackTags, FilesLackRoom, UpdateMakesTooMany, WritesNewPlan, KeepsConsistent, NamesFirstEndBreak, HoldBeside}
+use Rattle.plan_command.specs.NewPlans.{FilesHavePlan, FilesBreakAnEnd, FilesLackTags, FilesLackRoom, UpdateMakesTooMany, FilesMeanTrees, WritesNewPlan, WritesOrderedPlan, KeepsConsistent, NamesFirstEndBreak, HoldBeside}
 
 -- the files and their names, what was written before and after the run, and how it ended
 pub record PlanPromise (files : Files) (names : UpdateNames) (old new : Option (List ℕ)) (result : Status) : Type 0 where
@@ -31,6 +31,9 @@ pub record PlanPromise (files : Files) (names : UpdateNames) (old new : Option (
   -- Where what was written has no more bytes than a plan may have, `check` over the same files and this text says Done.
   pub checked : (others : Files) (before plan text : List ℕ) → old ≡ Some before → result ≡ status.Done → Appends old new text
       → length text ≤ limit_of kind.Plan → HoldBeside files others names plan text → FilesAreCertified others (record { update = names; plan = plan })
+  -- On an update of destination trees it says Done and writes an ordered plan, with one round for each rule that is replaced: never two
+  -- phases, too few tags or a switch that is too small.
+  pub tree : IsSettled result → (u : UpdateMeaning) → FilesMeanTrees files names u → (result ≡ status.Done) × WritesOrderedPlan u old new
   -- Refused comes exactly where an end isn't good; the line names the first break.
   pub refused : IsSettled result → ((result ≡ status.Refused) ↔ FilesBreakAnEnd files names)
   pub first : (u : UpdateMeaning) → FilesMeanUpdate files names u → result ≡ status.Refused → NamesFirstEndBreak u old new

@@ -7,4 +7,4 @@ mod no_plan_lines;
 mod planning;
 
 pub use crate::command::plan;
-pub use crate::planning::new_plan;
+pub use crate::planning::{new_plan, update_prefixes};

@@ -3,6 +3,7 @@ ghost use Rattle.std.specs.Prelude.{◌≡◌, ◌≤◌, Bool, IfOk};
 ghost use Rattle.flow_rules.specs.Tables.{rules_of_all};
 ghost use Rattle.path_walk.specs.UserConfigs.{IsUserConfig};
 ghost use Rattle.certificates.specs.Certified.{IsCertified, classes_for};
+ghost use Rattle.certificates.specs.Trees.{IsTreeUpdate};
 ghost use Rattle.certificates.specs.Valid.{IsValidPlan};
 ghost use Rattle.plan_classes.specs.SameClasses.{HasSameClasses};
 ghost use Rattle.round_planner.specs.Ends.{AreStuck, MayBeTried};
@@ -10,7 +11,8 @@ ghost use Rattle.two_phase.specs.Plans.{AreTooFew, IsFirstTooSmall};
 ghost use Rattle.command_base.specs.Judgements.{SaysWhyNot, most_classes};
 ghost use Rattle.command_base.specs.Updates.{meaning_of, task_for};
 ghost use Rattle.command_base.specs.Replies.{answer_of};
-ghost use Rattle.plan_command.specs.Planned.{update_classes, update_count, update_aim, EndsAreGood, IsFirstEndBreak, IsEndLine, IsNewPlan, SaysNewPlan, SaysTooFew, SaysTooSmall, SaysSearched, IsPlanned};
+ghost use Rattle.upgrade_command.specs.Texts.{SaysPlan};
+ghost use Rattle.plan_command.specs.Planned.{update_classes, update_count, update_aim, EndsAreGood, IsFirstEndBreak, IsEndLine, IsNewPlan, SaysNewPlan, SaysOrdered, bare_task, SaysTooFew, SaysTooSmall, SaysSearched, IsPlanned};
 
 use crate::no_plan_lines::{too_few_lines, too_small_lines};
 use certificates::Plan;
@@ -29,8 +31,8 @@ use two_phase::{TwoFault, two_phase};
 use update_model::Rounds;
 use upgrade_command::plan_reply;
 
-// The prefixes of both configurations, and then of the demands.
-fn prefixes_of(alloc: Global, files: &UpdateFiles) -> Result<Vec<Prefix>, Memory>
+/// The prefixes of both configurations, and then of the demands.
+pub fn update_prefixes(alloc: Global, files: &UpdateFiles) -> Result<Vec<Prefix>, Memory>
     requires old { IsUserConfig files.now.net (rules_of_all files.now.old) }
     requires new { IsUserConfig files.now.net (rules_of_all files.now.new) }
     ensures { IfOk result (λ v. v.items ≡ (update_classes (meaning_of files.now)).prefixes) }
@@ -73,7 +75,8 @@ fn new_plan_reply(alloc: Global, files: &UpdateFiles, plan: &Plan) -> Result<Rep
     requires is_new { IsNewPlan (meaning_of files.now) plan.now }
     requires certified { IsCertified (task_for (meaning_of files.now) plan.now) plan.now.evidence }
     requires classes { HasSameClasses (classes_for (task_for (meaning_of files.now) plan.now)) (update_classes (meaning_of files.now)) }
-    ensures { IfOk result (λ r. SaysNewPlan (meaning_of files.now) (answer_of r)) }
+    ensures new { IfOk result (λ r. SaysNewPlan (meaning_of files.now) (answer_of r)) }
+    ensures says { IfOk result (λ r. SaysPlan files.now.net plan.now (answer_of r)) }
 {
     certified_consistent(&files.net, &files.old, &files.new, &files.demands, plan);
     plan_reply(alloc, &files.net, plan)
@@ -151,7 +154,8 @@ fn search_reply(
     requires classes { classes.now ≡ update_classes (meaning_of files.now) }
     requires duties { duties.now ≡ record { demands = files.now.demands; classes = classes.now } }
     requires good { EndsAreGood (meaning_of files.now) }
-    ensures { IfOk result (λ r. SaysSearched (meaning_of files.now) (answer_of r)) }
+    ensures searched { IfOk result (λ r. SaysSearched (meaning_of files.now) (answer_of r)) }
+    ensures tree { IsTreeUpdate (bare_task (meaning_of files.now)) → IfOk result (λ r. SaysOrdered (meaning_of files.now) (answer_of r)) }
 {
     match order(alloc, &files.net, &files.old, &files.new, duties, classes)? {
         Ordered::Rounds(plan) => new_plan_reply(alloc, files, &plan),
@@ -184,7 +188,7 @@ pub fn new_plan(alloc: Global, files: &UpdateFiles) -> Result<Reply, Memory>
     requires new { IsUserConfig files.now.net (rules_of_all files.now.new) }
     ensures { IfOk result (λ r. IsPlanned (meaning_of files.now) (answer_of r)) }
 {
-    let prefixes = prefixes_of(alloc, files)?;
+    let prefixes = update_prefixes(alloc, files)?;
     match class_map(alloc, &files.net, &prefixes) {
         Ok(classes) => classed_reply(alloc, files, &classes),
         Err(ClassFault::TooManyClasses(classes)) => too_many_reply(alloc, classes),

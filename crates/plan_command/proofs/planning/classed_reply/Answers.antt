@@ -1,7 +1,6 @@
 use Rattle.std.proofs.Common.{refl, inr}
-use Rattle.std.proofs.lemmas.Result.{IfOk-weaker}
 use Rattle.command_base.specs.Updates.{meaning_of}
-use Rattle.plan_command.proofs.NewPlanLaws.{covered, old_not_good, new_not_good, new_break, both_good}
+use Rattle.plan_command.proofs.NewPlanLaws.{covered, old_not_good, new_not_good, new_break, both_good, both_ok}
 use Rattle.plan_command.proofs.planning.classed_reply.Goals as goal
 
 pub make-requires : goal.make-requires
@@ -31,4 +30,4 @@ pub returns : goal.returns
 returns c =
     let good = both_good (meaning_of c.args.files.now) c.args.classes.now c.requires.classes c.in_ok-duties.duties c.in_ok-duties.ensures
     (c.in_default.ensures.ok.0 refl) (c.in_default-check_config.ensures.ok.0 refl) in
-    IfOk-weaker c.search_reply.result _ _ (λ r said. inr (inr (record { few = c.requires.few; good = good; searched = said }))) c.search_reply.ensures
+    both_ok c.search_reply.result _ _ _ _ (λ r said tree. inr (inr (record { few = c.requires.few; good = good; searched = said; tree = tree }))) c.search_reply.ensures.searched c.search_reply.ensures.tree

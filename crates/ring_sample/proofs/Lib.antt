@@ -1,0 +1,14 @@
+pub mod Ranges
+pub mod Flat
+pub mod Loops
+pub mod Names
+pub mod TopologyAgain
+pub mod Ports
+pub mod ConfigurationAgain
+pub mod PolicyAgain
+pub mod Ways
+pub mod Walks
+pub mod ClassPaths
+pub mod Tree
+pub mod Changes
+pub mod ReadLaws

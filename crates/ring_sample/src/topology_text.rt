@@ -1,0 +1,120 @@
+// The text of the ring's topology.
+ghost use Rattle.std.specs.Prelude.{◌≡◌, ◌<◌, [], ◌∷◌, Ok, IfOk, map, codes};
+ghost use Rattle.serde_json.specs.Data.{string};
+ghost use Rattle.serde_json.specs.View.{view};
+ghost use Rattle.topology.specs.Topology.{network_in};
+ghost use Rattle.ring_sample.specs.Ring.{below, ring_network};
+ghost use Rattle.ring_sample.specs.RingTrees.{whole_tree, list_tree, switch_tree, link_tree, host_tree, topology_tree};
+
+use crate::size::RingSize;
+use crate::values::{name_value, port_value};
+use net_base::{Memory, write_line};
+use serde_json::{Map, Value, put};
+use std::alloc::Global;
+
+/// The number of table entries for which a switch has room.
+const CAPACITY: u32 = 64;
+
+/// The one tag.
+const TAG: u32 = 3000;
+
+/// The port of a host.
+pub const HOST_PORT: u16 = 1;
+
+/// The port that leads to the next switch.
+pub const NEXT_PORT: u16 = 2;
+
+/// The port that leads to the switch before.
+pub const BACK_PORT: u16 = 3;
+
+fn switch_value(alloc: Global, switch: u32) -> Result<Value, Memory>
+    ensures { IfOk result (λ v. view v ≡ switch_tree switch) }
+{
+    let mut members = Map::new(alloc);
+    put(&mut members, alloc, "name", name_value(alloc, switch)?)?;
+    put(&mut members, alloc, "capacity", Value::from(CAPACITY))?;
+    Ok(Value::Object(members))
+}
+
+fn switches_value(alloc: Global, switches: u32) -> Result<Value, Memory>
+    ensures { IfOk result (λ v. view v ≡ list_tree (map switch_tree (below switches))) }
+{
+    let mut values = Vec::new(alloc);
+    for i in 0..switches {
+        values.push(switch_value(alloc, i)?)?;
+    }
+    Ok(Value::Array(values))
+}
+
+fn link_value(alloc: Global, switches: u32, switch: u32) -> Result<Value, Memory>
+    requires { switch < switches }
+    ensures { IfOk result (λ v. view v ≡ link_tree switches switch) }
+{
+    let next = (switch + 1) % switches;
+    let mut ends = Vec::new(alloc);
+    ends.push(port_value(alloc, switch, NEXT_PORT)?)?;
+    ends.push(port_value(alloc, next, BACK_PORT)?)?;
+    Ok(Value::Array(ends))
+}
+
+fn links_value(alloc: Global, switches: u32) -> Result<Value, Memory>
+    ensures { IfOk result (λ v. view v ≡ list_tree (map (link_tree switches) (below switches))) }
+{
+    let mut values = Vec::new(alloc);
+    for i in 0..switches {
+        values.push(link_value(alloc, switches, i)?)?;
+    }
+    Ok(Value::Array(values))
+}
+
+fn hosts_value(alloc: Global, switches: u32) -> Result<Value, Memory>
+    ensures { IfOk result (λ v. view v ≡ list_tree (map host_tree (below switches))) }
+{
+    let mut values = Vec::new(alloc);
+    for i in 0..switches {
+        values.push(port_value(alloc, i, HOST_PORT)?)?;
+    }
+    Ok(Value::Array(values))
+}
+
+fn vlans_value(alloc: Global) -> Result<Value, Memory>
+    ensures { IfOk result (λ v. view v ≡ list_tree (string (codes "untagged") ∷ [])) }
+{
+    let mut values = Vec::new(alloc);
+    values.push(Value::try_from_str(alloc, "untagged")?)?;
+    Ok(Value::Array(values))
+}
+
+fn tags_value(alloc: Global) -> Result<Value, Memory>
+    ensures { IfOk result (λ v. view v ≡ list_tree (whole_tree 3000 ∷ whole_tree 3000 ∷ [])) }
+{
+    let mut values = Vec::new(alloc);
+    values.push(Value::from(TAG))?;
+    values.push(Value::from(TAG))?;
+    Ok(Value::Array(values))
+}
+
+#[tactic(auto, unfolding(crate::specs::RingTrees::topology_tree))]
+fn topology_value(alloc: Global, switches: u32) -> Result<Value, Memory>
+    ensures { IfOk result (λ v. view v ≡ topology_tree switches) }
+{
+    let mut members = Map::new(alloc);
+    put(
+        &mut members,
+        alloc,
+        "switches",
+        switches_value(alloc, switches)?,
+    )?;
+    put(&mut members, alloc, "links", links_value(alloc, switches)?)?;
+    put(&mut members, alloc, "hosts", hosts_value(alloc, switches)?)?;
+    put(&mut members, alloc, "vlans", vlans_value(alloc)?)?;
+    put(&mut members, alloc, "tags", tags_value(alloc)?)?;
+    Ok(Value::Object(members))
+}
+
+/// The text of the topology.
+pub fn topology_text(alloc: Global, size: RingSize) -> Result<Vec<u8>, Memory>
+    ensures { IfOk result (λ t. network_in t.items ≡ Ok (ring_network size.switches)) }
+{
+    write_line(alloc, &topology_value(alloc, size.switches)?)
+}
