@@ -7,7 +7,7 @@ use net_base::Memory;
 
 /// The byte at an offset.
 #[tactic(auto, unfolding(crate::specs::Layout::number_at))]
-pub(crate) fn u8_at(bytes: &[u8], offset: usize) -> u8
+pub fn u8_at(bytes: &[u8], offset: usize) -> u8
     requires { offset + 1 ≤ length bytes.now }
     ensures { result ≡ number_at offset 1 bytes.now }
 {
@@ -15,7 +15,7 @@ pub(crate) fn u8_at(bytes: &[u8], offset: usize) -> u8
 }
 
 /// The number in the two bytes from an offset on.
-pub(crate) fn u16_at(bytes: &[u8], offset: usize) -> u16
+pub fn u16_at(bytes: &[u8], offset: usize) -> u16
     requires { offset + 2 ≤ length bytes.now }
     ensures { result ≡ number_at offset 2 bytes.now }
 {
@@ -24,7 +24,7 @@ pub(crate) fn u16_at(bytes: &[u8], offset: usize) -> u16
 }
 
 /// The number in the four bytes from an offset on.
-pub(crate) fn u32_at(bytes: &[u8], offset: usize) -> u32
+pub fn u32_at(bytes: &[u8], offset: usize) -> u32
     requires { offset + 4 ≤ length bytes.now }
     ensures { result ≡ number_at offset 4 bytes.now }
 {
@@ -33,7 +33,7 @@ pub(crate) fn u32_at(bytes: &[u8], offset: usize) -> u32
 }
 
 /// The number in the six bytes from an offset on.
-pub(crate) fn u48_at(bytes: &[u8], offset: usize) -> u64
+pub fn u48_at(bytes: &[u8], offset: usize) -> u64
     requires { offset + 6 ≤ length bytes.now }
     ensures { result ≡ number_at offset 6 bytes.now }
 {
@@ -42,7 +42,7 @@ pub(crate) fn u48_at(bytes: &[u8], offset: usize) -> u64
 }
 
 /// The number in the eight bytes from an offset on.
-pub(crate) fn u64_at(bytes: &[u8], offset: usize) -> u64
+pub fn u64_at(bytes: &[u8], offset: usize) -> u64
     requires { offset + 8 ≤ length bytes.now }
     ensures { result ≡ number_at offset 8 bytes.now }
 {

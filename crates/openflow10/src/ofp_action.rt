@@ -20,16 +20,16 @@ pub(crate) const ACTION_LENGTH: u16 = 8;
 
 /// The fields of an action of 8 bytes: its type, its length, the port or the VLAN id, and `max_len` or a pad.
 #[derive(Clone, Copy, Debug, PartialEq, Eq)]
-pub(crate) struct ActionFields {
-    pub(crate) kind: u16,
-    pub(crate) len: u16,
-    pub(crate) argument: u16,
-    pub(crate) rest: u16,
+pub struct ActionFields {
+    pub kind: u16,
+    pub len: u16,
+    pub argument: u16,
+    pub rest: u16,
 }
 
 /// Whether the number is that of a port of a switch, 1 to 65279 (OpenFlow 1.0.0, section 5.2.1).
 #[tactic(auto, unfolding(crate::specs::Actions::is_port))]
-pub(crate) fn is_port(number: u16) -> bool
+pub fn is_port(number: u16) -> bool
     ensures { result ≡ is_port number }
 {
     1 <= number && number <= 65279
@@ -37,7 +37,7 @@ pub(crate) fn is_port(number: u16) -> bool
 
 /// Whether the number is a VLAN id, 1 to 4094.
 #[tactic(auto, unfolding(crate::specs::Actions::is_vlan_id))]
-pub(crate) fn is_vlan_id(number: u16) -> bool
+pub fn is_vlan_id(number: u16) -> bool
     ensures { result ≡ is_vlan_id number }
 {
     1 <= number && number <= 4094
@@ -45,7 +45,7 @@ pub(crate) fn is_vlan_id(number: u16) -> bool
 
 impl ActionFields {
     /// The action in the 8 bytes from an offset on.
-    fn read(bytes: &[u8], at: usize) -> ActionFields
+    pub fn read(bytes: &[u8], at: usize) -> ActionFields
         requires { at + 8 ≤ length bytes.now }
         ensures { result ≡ action_at at bytes.now }
     {

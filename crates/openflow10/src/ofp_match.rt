@@ -117,23 +117,25 @@ impl MatchFields {
         }
     }
 
+    /// Whether any ingress port matches.
     #[tactic(auto, unfolding(crate::specs::Match::any_port))]
-    fn any_port(&self) -> bool
+    pub fn any_port(&self) -> bool
         ensures { result ≡ any_port self.now.wildcards }
     {
         has_bit(self.wildcards, IN_PORT)
     }
 
+    /// Whether any VLAN matches.
     #[tactic(auto, unfolding(crate::specs::Match::any_vlan))]
-    fn any_vlan(&self) -> bool
+    pub fn any_vlan(&self) -> bool
         ensures { result ≡ any_vlan self.now.wildcards }
     {
         has_bit(self.wildcards, DL_VLAN)
     }
 
-    /// How many low bits of the destination are ignored.
+    /// How many low bits of the destination are ignored, 0 to 63; 32 and more are all.
     #[tactic(auto, unfolding(crate::specs::Match::ignored_bits))]
-    fn ignored_bits(&self) -> u32
+    pub fn ignored_bits(&self) -> u32
         ensures value { result ≡ ignored_bits self.now.wildcards }
         ensures six_bits { result ≤ 63 }
     {
@@ -220,7 +222,8 @@ impl MatchFields {
         want(self.has_transport(), WireField::Transport)
     }
 
-    fn in_port(&self) -> Option<Port>
+    /// The ingress port that the fields name; nothing where any matches.
+    pub fn in_port(&self) -> Option<Port>
         ensures { result ≡ port_in self.now }
     {
         if self.any_port() {
@@ -230,7 +233,8 @@ impl MatchFields {
         }
     }
 
-    fn vlan(&self) -> VlanTest
+    /// The VLAN test that the fields name.
+    pub fn vlan(&self) -> VlanTest
         ensures { result ≡ vlan_in self.now }
     {
         if self.any_vlan() {

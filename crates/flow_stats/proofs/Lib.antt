@@ -1,0 +1,11 @@
+pub mod EntryLaws
+pub mod ItemTurns
+pub mod Destinations
+pub mod TableUpdates
+pub mod UserRules
+pub mod UserTables
+pub mod Shallow
+pub mod RuleAgain
+pub mod ConfigAgain
+pub mod Texts
+pub mod RuleTrees

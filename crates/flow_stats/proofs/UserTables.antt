@@ -1,0 +1,296 @@
+-- Tables that flow statistics tell are a user configuration.
+use Rattle.std.proofs.Common.{◌≡◌, ◌⊎◌, ℕ, zero, suc, ◌+◌, ◌^◌, ◌≤◌, ◌<◌, true, false, cond, Result, Ok, Err, List, [], ◌∷◌, ◌++◌, length, replicate, set, get_or, mul-zero, refl, sym, ◌∙◌, ap, subst, inl, inr, arith}
+use Rattle.std.specs.Prelude.{◌==◌, Option, Some, None, not, nat_lt, nat_le, ◌&&◌, find, sum_by, IfOk, option_map}
+use Rattle.std.specs.List.{list_any, range_with_len, position_or_len, AllByRecursion}
+use Rattle.std.specs.Result.{result_ok}
+use Rattle.std.proofs.lemmas.Bool.{and_from, and_parts, leb-true, eq-eqb, ltb-true, lt-ltb, cases_lt, not-true, both_ways}
+use Rattle.std.proofs.lemmas.List.{length-set, length-append, length-replicate}
+use Rattle.std.proofs.lemmas.List.Folds.{sum_by-replicate}
+use Rattle.std.proofs.lemmas.Option.{cond_some}
+use Rattle.std.specs.Str.{bytes_eq, is_utf8}
+use Rattle.std.proofs.lemmas.List.Sums.{sum_by-set}
+use Rattle.hex.specs.Hex.{decode_of}
+use Rattle.hex.proofs.HexLemmas.{decode_of-ok}
+use Rattle.net_base.specs.Members.{IsIn}
+use Rattle.net_base.specs.Reading.{◌>>=◌, check, in_turn, place_of, Gives}
+use Rattle.net_base.specs.Text.{cut_first}
+use Rattle.net_base.specs.declared.ids.SwitchId.{SwitchId}
+use Rattle.net_base.proofs.Turns.{bind_ok, ok_is, in_turn-keeps}
+use Rattle.net_base.proofs.ListLaws.{any_in}
+use Rattle.topology.specs.Networks.{Network, switch_count, switch_named, capacity_of}
+use Rattle.flow_rules.specs.Patterns.{Header, covers, key_eq}
+use Rattle.flow_rules.specs.Overlaps.{keys_clash, patterns_meet}
+use Rattle.flow_rules.specs.Tables.{TableState, IsTable, IsClear, rules_at, rules_of_all, keys_of}
+use Rattle.flow_rules.specs.declared.rules.Rule.{Rule}
+use Rattle.flow_rules.proofs.OverlapLaws.{meet_out}
+use Rattle.flow_rules.proofs.TableLaws.{table_push, key_found}
+use Rattle.path_walk.specs.UserConfigs.{IsUserRule, IsUserConfig}
+use Rattle.openflow10.proofs.NumberLaws.{IsBytes, number_at-lt}
+use Rattle.config_files.proofs.Steps.{need_passed, check_passed}
+use Rattle.config_files.proofs.TableUpdates.{each_after}
+use Rattle.flow_stats.specs.Entries.{Fill, entries_in}
+use Rattle.flow_stats.specs.Messages.{Reply, is_flow_reply, reply_in, progress_of}
+use Rattle.flow_stats.specs.Layout.{stats_reply_at}
+use Rattle.flow_stats.specs.Lines.{Sent, bytes_in, text_in, sent_in, is_comment, lines_of}
+use Rattle.flow_stats.specs.Profile.{rule_in}
+use Rattle.flow_stats.specs.Tables as step
+use Rattle.flow_stats.specs.Tables.{rules_with, with_rule}
+use Rattle.flow_stats.specs.Replies.{Told, nothing_told, with_reply, reply_at, message_at, line_at, told_in, is_whole, incomplete, is_over, over_capacity, no_switch, replies_in}
+use Rattle.flow_stats.specs.declared.entries.Entry.{Entry}
+use Rattle.flow_stats.specs.declared.fault.StatsFault.{StatsFault}
+use Rattle.flow_stats.specs.declared.fault.StatsFault.TheVariants.{Memory, BadLine, BadMessage, KeyTwice, Overlap, TooMany, Incomplete, OverCapacity}
+use Rattle.flow_stats.proofs.EntryLaws.{fill_law}
+use Rattle.flow_stats.proofs.UserRules.{rule_shown}
+
+-- the table of one switch
+pub record IsUserTable (net : Network) (s : ℕ) (table : List Rule) : Type 0 where
+  pub distinct : IsTable table
+  pub clear : IsClear table
+  pub rules : AllByRecursion (IsUserRule net (record { 0 = s })) table
+
+-- the tables after so many entries
+record AreUserTables (net : Network) (n : ℕ) (tables : List (List Rule)) : Type 0 where
+  pub count : length tables ≡ switch_count net
+  pub sum : sum_by length tables ≡ n
+  pub few : n ≤ 2048
+  pub each : (s : ℕ) → IsUserTable net s (get_or tables s [])
+
+-- ---- one rule more in a table
+
+all_push : (P : Rule → Type 0) (rules : List Rule) (r : Rule) → AllByRecursion P rules → P r → AllByRecursion P (rules ++ r ∷ [])
+all_push P [] r all new = (new, tt)
+all_push P (x ∷ rules) r all new = (all.0, all_push P rules r all.1 new)
+
+in_push : (x : Rule) (rules : List Rule) (r : Rule) → IsIn x (rules ++ r ∷ []) → IsIn x rules ⊎ (x ≡ r)
+in_push x [] r i = elim i [ inl e ↦ inr e | inr j ↦ absurd j ]
+in_push x (y ∷ rules) r (inl e) = inl (inl e)
+in_push x (y ∷ rules) r (inr i) = elim (in_push x rules r i) [ inl j ↦ inl (inr j) | inr e ↦ inr e ]
+
+module _ (rules : List Rule) (r : Rule) (apart : list_any (λ q. keys_clash q.key r.key) rules ≡ false) where
+  apart_from : (q : Rule) (h : Header) → IsIn q rules → covers q.key.pattern h ≡ true → covers r.key.pattern h ≡ true → q.key.priority ≡ r.key.priority → ⊥
+  apart_from q h i first second same =
+      both_ways (list_any (λ x. keys_clash x.key r.key) rules) apart (any_in (λ x. keys_clash x.key r.key) q rules i
+      (and_from (q.key.priority == r.key.priority) (patterns_meet q.key.pattern r.key.pattern) (eq-eqb q.key.priority r.key.priority same) (meet_out q.key.pattern r.key.pattern h first second)))
+
+  clear_push : IsClear rules → IsClear (rules ++ r ∷ [])
+  clear_push clear h a b i j first second same =
+      elim (in_push a rules r i) [
+        | inl k ↦ elim (in_push b rules r j) [
+          | inl l ↦ clear h a b k l first second same
+          | inr f ↦ absurd (apart_from a h k first (subst (λ (x : Rule). covers x.key.pattern h ≡ true) f second) (same ∙ ap (λ (x : Rule). x.key.priority) f))
+        ]
+        | inr e ↦ elim (in_push b rules r j) [
+          | inl l ↦ absurd (apart_from b h l second (subst (λ (x : Rule). covers x.key.pattern h ≡ true) e first) (sym same ∙ ap (λ (x : Rule). x.key.priority) e))
+          | inr f ↦ e ∙ sym f
+        ]
+      ]
+
+with_new : (net : Network) (place : ℕ) (s : ℕ) (rules new : List Rule) (r : Rule) → IsUserTable net s rules → IsUserRule net (record { 0 = s }) r → rules_with place rules r ≡ Ok new
+    → IsUserTable net s new × (length new ≡ suc (length rules))
+unfolding rules_with
+with_new net place s rules new r table user e =
+    let more : List Rule = rules ++ r ∷ [] in
+    let (fresh, e1) = check_passed (not (list_any (λ q. key_eq q.key r.key) rules)) (KeyTwice place) (check (not (list_any (λ q. keys_clash q.key r.key) rules)) (Overlap place) >>= λ _. Ok more) new e in
+    let (apart, e2) = check_passed (not (list_any (λ q. keys_clash q.key r.key) rules)) (Overlap place) (Ok more) new e1 in
+    let absent : ¬ IsIn r.key (keys_of rules) = λ i. both_ways (list_any (λ q. key_eq q.key r.key) rules) (not-true (list_any (λ q. key_eq q.key r.key) rules) fresh) ((key_found r.key rules).1 i) in
+    let whole : IsUserTable net s more = record {
+      distinct = table_push rules r table.distinct absent;
+      clear = clear_push rules r (not-true (list_any (λ q. keys_clash q.key r.key) rules) apart) table.clear;
+      rules = all_push (IsUserRule net (record { 0 = s })) rules r table.rules user;
+    } in
+    let longer : length more ≡ suc (length rules) = let h = length-append rules (r ∷ []) in omega arith in
+    let is = ok_is more new e2 in
+    (subst (IsUserTable net s) is whole, subst (λ (x : List Rule). length x ≡ suc (length rules)) is longer)
+
+-- ---- one entry more
+
+-- its destination is a number of 32 bits
+abbrev IsBounded : Entry → Type 0
+IsBounded e = e.fields.pattern.nw_dst < 2 ^ 32
+
+module _ (net : Network) where
+  entry_kept : (s : SwitchId) (n : ℕ) (tables more : List (List Rule)) (x : Entry) → s.0 < switch_count net → IsBounded x → AreUserTables net n tables → step.entry_at net s (place_of n) tables x ≡ Ok more
+      → AreUserTables net (suc n) more
+  unfolding step.entry_at with_rule
+  entry_kept s n tables more x known bounded user e =
+      let place = place_of n in
+      let (few, e1) = check_passed (nat_lt place 2048) TooMany (rule_in net place s x >>= λ rule. with_rule place tables s rule) more e in
+      let below = ltb-true place 2048 few in
+      let (rule, read, e2) = bind_ok (rule_in net place s x) (λ rule. with_rule place tables s rule) more e1 in
+      let (rules, added, e3) = bind_ok (rules_with place (rules_at tables s) rule) (λ rules. Ok (set tables s.0 rules)) more e2 in
+      let (table, longer) = with_new net place s.0 (get_or tables s.0 []) rules rule (user.each s.0) (rule_shown net place s x rule bounded read) added in
+      let within : s.0 < length tables = subst (λ (k : ℕ). s.0 < k) (sym user.count) known in
+      let sums = sum_by-set length tables s.0 rules [] within in
+      let counted = user.sum in
+      let before = user.few in
+      subst (AreUserTables net (suc n)) {x = set tables s.0 rules} (ok_is (set tables s.0 rules) more e3) (record {
+        count = length-set tables s.0 rules ∙ user.count;
+        sum = omega arith;
+        few = omega arith;
+        each = each_after (IsUserTable net) tables s.0 rules table user.each;
+      })
+
+  entries_kept : (s : SwitchId) (n : ℕ) (tables more : List (List Rule)) (xs : List Entry) → s.0 < switch_count net → AllByRecursion IsBounded xs → AreUserTables net n tables
+      → in_turn (step.entry_at net s) n tables xs ≡ Ok more → AreUserTables net (n + length xs) more
+  unfolding in_turn
+  entries_kept s n tables more [] known bounded user e =
+      let same : n ≡ n + 0 = omega arith in
+      subst (λ (k : ℕ). AreUserTables net k more) same (subst (AreUserTables net n) (ok_is tables more e) user)
+  entries_kept s n tables more (x ∷ xs) known bounded user e =
+      let (next, here, rest) = bind_ok (step.entry_at net s (place_of n) tables x) (λ t. in_turn (step.entry_at net s) (suc n) t xs) more e in
+      let kept = entries_kept s (suc n) next more xs known bounded.1 (entry_kept s n tables next x known bounded.0 user here) rest in
+      let same : suc n + length xs ≡ n + suc (length xs) = omega arith in
+      subst (λ (k : ℕ). AreUserTables net k more) same kept
+
+  -- ---- one line more
+
+  fill_bounded : (bytes : List ℕ) (at : ℕ) (xs : List Entry) → IsBytes bytes → Fill at bytes xs → AllByRecursion IsBounded xs
+  fill_bounded bytes at [] h fill = tt
+  fill_bounded bytes at (x ∷ xs) h fill =
+      (subst IsBounded (sym fill.1) (number_at-lt (at + 4 + 32) 4 bytes h), fill_bounded bytes (at + x.fields.len) xs h fill.2)
+
+  -- the reply with these entries
+  abbrev replied : List ℕ → List Entry → Reply
+  replied bytes xs = record { progress = progress_of (stats_reply_at bytes).flags; entries = xs }
+
+  mapped_some : {A B : Type 0} (f : A → B) (o : Option A) (y : B) → option_map f o ≡ Some y → (x : A) × (o ≡ Some x) × (f x ≡ y)
+  mapped_some f None y e = absurd cc
+  mapped_some f (Some x) y e = (x, refl, cc)
+
+  reply_bounded : (bytes : List ℕ) (reply : Reply) → IsBytes bytes → reply_in bytes ≡ Some reply → AllByRecursion IsBounded reply.entries
+  unfolding reply_in
+  reply_bounded bytes reply h e =
+      elim (nat_le 12 (length bytes) && is_flow_reply (stats_reply_at bytes) (length bytes)) as (λ b. (nat_le 12 (length bytes) && is_flow_reply (stats_reply_at bytes) (length bytes)) ≡ b
+      → cond b (option_map (replied bytes) (entries_in bytes)) None ≡ Some reply → AllByRecursion IsBounded reply.entries) [
+        | true ↦ λ t f. (
+            let room = leb-true 12 (length bytes) (and_parts (nat_le 12 (length bytes)) (is_flow_reply (stats_reply_at bytes) (length bytes)) t).0 in
+            let (xs, read, is) = mapped_some (replied bytes) (entries_in bytes) reply f in
+            subst (λ (r : Reply). AllByRecursion IsBounded r.entries) is (fill_bounded bytes 12 xs h ((fill_law bytes xs room).0 read)))
+        | false ↦ λ t f. absurd (let g : None ≡ Some reply = f in cc)
+      ] refl e
+
+  with_reply_kept : (s : SwitchId) (before after : Told) (reply : Reply) → s.0 < switch_count net → AllByRecursion IsBounded reply.entries → AreUserTables net before.entries before.tables
+      → with_reply net s before reply ≡ Ok after → AreUserTables net after.entries after.tables
+  unfolding with_reply
+  with_reply_kept s before after reply known bounded user e =
+      let (tables, read, e1) = bind_ok (in_turn (step.entry_at net s) before.entries before.tables reply.entries)
+      (λ tables. let t : Told = record { tables = tables; progress = set before.progress s.0 reply.progress; entries = before.entries + length reply.entries } in Ok t) after e in
+      subst (λ (t : Told). AreUserTables net t.entries t.tables) (ok_is _ after e1) (entries_kept s before.entries before.tables tables reply.entries known bounded user read)
+
+  reply_kept : (number : ℕ) (before after : Told) (sent : Sent) → sent.switch.0 < switch_count net → IsBytes sent.bytes → AreUserTables net before.entries before.tables
+      → reply_at net number before sent ≡ Ok after → AreUserTables net after.entries after.tables
+  unfolding reply_at
+  reply_kept number before after sent known h user e =
+      let (reply, there, e1) = need_passed (reply_in sent.bytes) (BadMessage number) (λ reply. check (not (is_whole before.progress sent.switch)) (BadMessage number) >>= λ _. with_reply net sent.switch before reply) after e in
+      let (begun, e2) = check_passed (not (is_whole before.progress sent.switch)) (BadMessage number) (with_reply net sent.switch before reply) after e1 in
+      with_reply_kept sent.switch before after reply known (reply_bounded sent.bytes reply h there) user e2
+
+  switch_within : (names : List (List ℕ)) (name : List ℕ) (s : ℕ) → switch_named names name ≡ Some s → s < length names
+  switch_within names name s e =
+      let p = cond_some (nat_lt (position_or_len (λ n. bytes_eq name n) names) (length names)) (position_or_len (λ n. bytes_eq name n) names) s e in
+      subst (λ (k : ℕ). k < length names) p.1 (ltb-true (position_or_len (λ n. bytes_eq name n) names) (length names) p.0)
+
+  ok_some : {A E : Type 0} (r : Result A E) (x : A) → result_ok r ≡ Some x → r ≡ Ok x
+  ok_some (Ok y) x e = let f : y ≡ x = let g : Some y ≡ Some x = e in cc in ap (λ z. Ok z) f
+  ok_some (Err f) x e = absurd cc
+
+  bytes_bounded : (digits bytes : List ℕ) → bytes_in digits ≡ Some bytes → IsBytes bytes
+  bytes_bounded [] bytes e = absurd (let f : None ≡ Some bytes = e in cc)
+  bytes_bounded (d ∷ ds) bytes e = record { below = (decode_of-ok (d ∷ ds) bytes (ok_some (decode_of (d ∷ ds)) bytes e)).3 }
+
+  text_shown : (number : ℕ) (text : List ℕ) (sent : Sent) → text_in net number text ≡ Ok sent → (sent.switch.0 < switch_count net) × IsBytes sent.bytes
+  unfolding text_in
+  text_shown number text sent e =
+      let (parts, cut, e1) = need_passed (cut_first 32 text) (BadLine number) _ sent e in
+      let (k, named, e2) = need_passed (switch_named net.names parts.0) (BadLine number) _ sent e1 in
+      let (bytes, there, e3) = need_passed (bytes_in parts.1) (BadLine number) (λ (bytes : List ℕ). let t : Sent = record { switch = record { 0 = k }; bytes = bytes } in Ok t) sent e2 in
+      subst (λ (t : Sent). (t.switch.0 < switch_count net) × IsBytes t.bytes) (ok_is _ sent e3) (switch_within net.names parts.0 k named, bytes_bounded parts.1 bytes there)
+
+  sent_shown : (number : ℕ) (line : List ℕ) (sent : Sent) → sent_in net number line ≡ Ok sent → (sent.switch.0 < switch_count net) × IsBytes sent.bytes
+  sent_shown number line sent e =
+      elim (is_utf8 line) as (λ b. cond b (text_in net number line) (Err (BadLine number)) ≡ Ok sent → (sent.switch.0 < switch_count net) × IsBytes sent.bytes) [
+        | true ↦ λ f. text_shown number line sent f
+        | false ↦ λ f. absurd (let g : Err (BadLine number) ≡ Ok sent = f in cc)
+      ] e
+
+  message_kept : (number : ℕ) (before after : Told) (line : List ℕ) → AreUserTables net before.entries before.tables → message_at net number before line ≡ Ok after → AreUserTables net after.entries after.tables
+  unfolding message_at
+  message_kept number before after line user e =
+      let (sent, read, e1) = bind_ok (sent_in net number line) (λ sent. reply_at net number before sent) after e in
+      let (known, h) = sent_shown number line sent read in
+      reply_kept number before after sent known h user e1
+
+  line_kept : (number : ℕ) (before after : Told) (line : List ℕ) → AreUserTables net before.entries before.tables → line_at net number before line ≡ Ok after → AreUserTables net after.entries after.tables
+  line_kept number before after line user e =
+      elim (is_comment line) as (λ b. cond b (Ok before) (message_at net number before line) ≡ Ok after → AreUserTables net after.entries after.tables) [
+        | true ↦ λ f. subst (λ (t : Told). AreUserTables net t.entries t.tables) (ok_is before after f) user
+        | false ↦ λ f. message_kept number before after line user f
+      ] e
+
+  -- ---- no rules
+
+  none_at : (count s : ℕ) → get_or (replicate count (let none : List Rule = [] in none)) s [] ≡ []
+  none_at zero s = refl
+  none_at (suc count) zero = refl
+  none_at (suc count) (suc s) = none_at count s
+
+  no_sum : (count : ℕ) → sum_by length (replicate count (let none : List Rule = [] in none)) ≡ 0
+  no_sum count = sum_by-replicate length count [] ∙ mul-zero count
+
+  no_rules : AreUserTables net 0 (replicate (switch_count net) [])
+  no_rules = record {
+    count = length-replicate (switch_count net) [];
+    sum = no_sum (switch_count net);
+    few = omega arith;
+    each = λ s. subst (IsUserTable net s) (sym (none_at (switch_count net) s)) (record { distinct = tt; clear = λ h a b i. absurd i; rules = tt });
+  }
+
+  -- ---- capacities
+
+  none_over : (tables : List (List Rule)) (a n s : ℕ) → find (is_over net tables) (range_with_len a n) ≡ None → a ≤ s → s < a + n → is_over net tables s ≡ false
+  none_over tables a zero s e low high = absurd (omega arith)
+  none_over tables a (suc n) s e low high =
+      elim (is_over net tables a) as (λ b. is_over net tables a ≡ b → cond b (Some a) (find (is_over net tables) (range_with_len (a + 1) n)) ≡ None → is_over net tables s ≡ false) [
+        | true ↦ λ over f. absurd (let g : Some a ≡ None = f in cc)
+        | false ↦ λ not_over f. elim (cases_lt a s) [
+          | inl less ↦ none_over tables (a + 1) n s f (omega arith) (omega arith)
+          | inr more ↦ (let same : a ≡ s = omega arith in subst (λ (k : ℕ). is_over net tables k ≡ false) same not_over)
+        ]
+      ] refl e
+
+  fits : (tables : List (List Rule)) → over_capacity net tables ≡ None → (s : SwitchId) → s.0 < switch_count net → length (rules_at tables s) ≤ capacity_of net s
+  fits tables e s within =
+      let held = none_over tables 0 (switch_count net) s.0 e (omega arith) (omega arith) in
+      elim (cases_lt (capacity_of net s) (length (rules_at tables s))) [
+        | inl over ↦ absurd (both_ways (is_over net tables s.0) held (lt-ltb (capacity_of net s) (length (rules_at tables s)) over))
+        | inr fit ↦ fit
+      ]
+
+  no_switch_passed : {A : Type 0} (o : Option ℕ) (fault : SwitchId → StatsFault) (r : Result A StatsFault) (y : A) → (no_switch o fault >>= λ _. r) ≡ Ok y → (o ≡ None) × (r ≡ Ok y)
+  no_switch_passed None fault r y e = (refl, e)
+  no_switch_passed (Some s) fault r y e = absurd cc
+
+  -- ---- the file
+
+  pub replies_shown : (bytes : List ℕ) (tables : List (List Rule)) → replies_in net bytes ≡ Ok tables → IsUserConfig net tables
+  unfolding replies_in
+  replies_shown bytes tables e =
+      let (told, read, e1) = bind_ok (told_in net bytes) (λ told. no_switch (incomplete net told.progress) Incomplete >>= λ _. no_switch (over_capacity net told.tables) OverCapacity >>= λ _. Ok told.tables) tables e in
+      let (whole, e2) = no_switch_passed (incomplete net told.progress) Incomplete (no_switch (over_capacity net told.tables) OverCapacity >>= λ _. Ok told.tables) tables e1 in
+      let (within, e3) = no_switch_passed (over_capacity net told.tables) OverCapacity (Ok told.tables) tables e2 in
+      let user = in_turn-keeps (line_at net) (λ (t : Told). AreUserTables net t.entries t.tables) (λ n before after line. line_kept n before after line) 1 (nothing_told net) told (lines_of bytes) no_rules read in
+      let sum = user.sum in
+      let few = user.few in
+      subst (IsUserConfig net) (ok_is told.tables tables e3) (record {
+        count = user.count;
+        few = omega arith;
+        distinct = λ s. (user.each s.0).distinct;
+        clear = λ s. (user.each s.0).clear;
+        fits = fits told.tables within;
+        rules = λ s. (user.each s.0).rules;
+      })
+
+-- what the reader returned is one
+pub read_shown : (net : Network) (bytes : List ℕ) (r : Result (List TableState) StatsFault) → Gives Memory rules_of_all r (replies_in net bytes) → IfOk r (λ c. IsUserConfig net (rules_of_all c))
+read_shown net bytes (Ok c) h = replies_shown net bytes (rules_of_all c) h
+read_shown net bytes (Err e) h = tt

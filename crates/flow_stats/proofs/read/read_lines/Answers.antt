@@ -1,0 +1,48 @@
+use Rattle.std.proofs.Common.{refl, ℕ, ◌+◌, ◌≤◌, length, eqb, sym, ap, ◌∙◌, rules, arith}
+use Rattle.std.proofs.lemmas.List.{length_push}
+use Rattle.std.proofs.lemmas.List.FromFn.{length-enumerate_from}
+use Rattle.std.proofs.lemmas.Iterator.Consumers.{YieldsList-turn, YieldsList-end, YieldsList-from_enumerate, YieldsList-at}
+use Rattle.std.proofs.lemmas.Iterator.Splits.{YieldsList-from_slice_split}
+use Rattle.std.proofs.lemmas.Result.{err_from_is_err_and}
+use Rattle.net_base.specs.Reading.{place_of}
+use Rattle.flow_stats.specs.declared.fault.StatsFault.TheVariants.{Memory}
+use Rattle.flow_stats.specs.Lines.{lines_of}
+use Rattle.flow_stats.specs.Replies.{line_at, told_in, told_seen}
+use Rattle.flow_stats.proofs.ItemTurns.{numbered_turn, goes_on, ends, is_done}
+use Rattle.flow_stats.proofs.read.read_lines.Goals as goal
+
+pub loop-i-preserved : goal.loop-i-preserved
+loop-i-preserved c =
+    let pieces = YieldsList-from_slice_split _ (λ (b : ℕ). eqb b 10) c.args.bytes.now c.split.ensures.rest c.split.ensures.done c.split.ensures.closure (λ x r q k. (refl, k.called.met ∙ ap (λ (b : ℕ). eqb b 10) k.shows)) in
+    let numbers = YieldsList-from_enumerate (YieldsList-at c.enumerate-i-items.ensures.source pieces) c.enumerate-i-items.ensures.count in
+    let road = YieldsList-at c.into_iter-i-iterator.ensures.into_iter_gives numbers in
+    let turn = YieldsList-turn road c.loop-i.yielded _ c.loop-i.yielded_by _ _ _ c.in-Some.is c.next.ensures.steps in
+    let here = numbered_turn (lines_of c.args.bytes.now) (length c.loop-i.yielded) c.in-Some.i c.in-Some.line.now turn.0 turn.1 in
+    record {
+      read = rw length_push
+          (goes_on (line_at c.args.net.now) (lines_of c.args.bytes.now) (length c.loop-i.yielded) (length c.loop-i.yielded + 1) (told_seen c.loop-i.told) c.in-Some.line.now c.in-Some.line.now (told_in c.args.net.now c.args.bytes.now)
+          here.0 (sym here.2) c.place_of.result (length c.loop-i.yielded + 1 + 1) (told_seen c.read_line.new.told) (c.place_of.ensures ∙ ap (λ (k : ℕ). place_of (k + 1)) here.1) refl c.in_ok-read_line.ensures.read c.loop-i.invariant.read);
+      kept = search rules;
+    }
+
+pub returns-in_err-read_line-clause-read : goal.returns-in_err-read_line-clause-read
+returns-in_err-read_line-clause-read c =
+    let pieces = YieldsList-from_slice_split _ (λ (b : ℕ). eqb b 10) c.args.bytes.now c.split.ensures.rest c.split.ensures.done c.split.ensures.closure (λ x r q k. (refl, k.called.met ∙ ap (λ (b : ℕ). eqb b 10) k.shows)) in
+    let numbers = YieldsList-from_enumerate (YieldsList-at c.enumerate-i-items.ensures.source pieces) c.enumerate-i-items.ensures.count in
+    let road = YieldsList-at c.into_iter-i-iterator.ensures.into_iter_gives numbers in
+    let turn = YieldsList-turn road c.loop-i.yielded _ c.loop-i.yielded_by _ _ _ c.in-Some.is c.next.ensures.steps in
+    let here = numbered_turn (lines_of c.args.bytes.now) (length c.loop-i.yielded) c.in-Some.i c.in-Some.line.now turn.0 turn.1 in
+    let p = err_from_is_err_and c.from_residual-in_err-read_line.result c.from_residual-in_err-read_line.ensures.1 in
+    rw (p.1, p.2)
+    (ends (line_at c.args.net.now) (lines_of c.args.bytes.now) (length c.loop-i.yielded) (length c.loop-i.yielded + 1) (told_seen c.loop-i.told) c.in-Some.line.now c.in-Some.line.now (told_in c.args.net.now c.args.bytes.now)
+    here.0 (sym here.2) c.place_of.result Memory c.in_err-read_line.field-0.0 (c.place_of.ensures ∙ ap (λ (k : ℕ). place_of (k + 1)) here.1) c.in_err-read_line.ensures.read c.loop-i.invariant.read)
+
+pub returns-clause-read : goal.returns-clause-read
+returns-clause-read c =
+    let pieces = YieldsList-from_slice_split _ (λ (b : ℕ). eqb b 10) c.args.bytes.now c.split.ensures.rest c.split.ensures.done c.split.ensures.closure (λ x r q k. (refl, k.called.met ∙ ap (λ (b : ℕ). eqb b 10) k.shows)) in
+    let numbers = YieldsList-from_enumerate (YieldsList-at c.enumerate-i-items.ensures.source pieces) c.enumerate-i-items.ensures.count in
+    let road = YieldsList-at c.into_iter-i-iterator.ensures.into_iter_gives numbers in
+    let all = YieldsList-end road c.loop-i.yielded _ c.loop-i.yielded_by _ _ c.in-None.is c.next.ensures.steps in
+    let count = length-enumerate_from 0 (lines_of c.args.bytes.now) in
+    let past : length (lines_of c.args.bytes.now) ≤ length c.loop-i.yielded = omega (arith, all.1, count) in
+    is_done (line_at c.args.net.now) (lines_of c.args.bytes.now) (length c.loop-i.yielded) (length c.loop-i.yielded + 1) (told_seen c.loop-i.told) (told_in c.args.net.now c.args.bytes.now) past c.loop-i.invariant.read

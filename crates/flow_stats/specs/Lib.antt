@@ -1,0 +1,9 @@
+pub mod Faults
+pub mod Layout
+pub mod Entries
+pub mod Messages
+pub mod Lines
+pub mod Profile
+pub mod Tables
+pub mod Replies
+pub mod ConfigText

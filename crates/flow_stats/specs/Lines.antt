@@ -1,0 +1,49 @@
+-- The lines of a file of flow statistics.
+use Rattle.std.specs.Prelude.{ℕ, ◌==◌, Bool, true, List, [], ◌∷◌, Option, None, Result, Ok, Err, if◌then◌else◌}
+use Rattle.std.specs.List.{slice_split}
+use Rattle.std.specs.Result.{result_ok}
+use Rattle.std.specs.Str.{is_utf8}
+use Rattle.hex.specs.Hex.{decode_of}
+use Rattle.net_base.specs.declared.ids.SwitchId.{SwitchId}
+use Rattle.net_base.specs.Reading.{◌>>=◌, need}
+use Rattle.net_base.specs.Text.{cut_first}
+use Rattle.topology.specs.Networks.{Network, switch_named}
+use Rattle.flow_stats.specs.declared.fault.StatsFault.{StatsFault}
+use Rattle.flow_stats.specs.declared.fault.StatsFault.TheVariants.{BadLine}
+use Rattle.flow_stats.specs.declared.lines.SentMessage.{SentMessage}
+
+-- the lines: the parts round each line end, the byte 10. What stands after the last line end is a line too, which is empty
+-- where nothing stands there
+abbrev pub lines_of : List ℕ → List (List ℕ)
+lines_of bytes = slice_split (λ b. b == 10) bytes
+
+-- whether a line is a comment: it is empty, or begins with `#`
+abbrev pub is_comment : List ℕ → Bool
+is_comment [] = true
+is_comment (b ∷ bs) = b == 35
+
+-- the bytes of a message and the switch that sent it
+pub record Sent : Type 0 where
+  pub switch : SwitchId
+  pub bytes : List ℕ
+
+-- a message without where its bytes lie in memory
+abbrev pub sent_seen : SentMessage → Sent
+sent_seen s = record { switch = s.switch; bytes = s.bytes.items }
+
+-- the bytes of pairs of hexadecimal digits of either case, at least one pair
+abbrev pub bytes_in : List ℕ → Option (List ℕ)
+bytes_in [] = None
+bytes_in (d ∷ ds) = result_ok (decode_of (d ∷ ds))
+
+-- the message in a text: the name of a switch of the network, one space, and digits
+unfoldable pub text_in : Network → ℕ → List ℕ → Result Sent StatsFault
+text_in net number text = do
+  parts ← need (cut_first 32 text) (BadLine number)
+  switch ← need (switch_named net.names parts.0) (BadLine number)
+  bytes ← need (bytes_in parts.1) (BadLine number)
+  Ok (record { switch = record { 0 = switch }; bytes = bytes })
+
+-- the message in a line; bytes that are no text (UTF-8) have none
+abbrev pub sent_in : Network → ℕ → List ℕ → Result Sent StatsFault
+sent_in net number line = if is_utf8 line then text_in net number line else Err (BadLine number)

@@ -1,0 +1,17 @@
+//! The tables that switches have, read from their flow statistics (OpenFlow 1.0), and the text of a configuration.
+#![tactic(auto)]
+
+mod adding;
+mod entries;
+mod fault;
+mod fields;
+pub mod laws;
+mod lines;
+mod messages;
+mod profile;
+mod read;
+mod write;
+
+pub use fault::{StatsFault, StatsField};
+pub use read::read_replies;
+pub use write::config_text;
