@@ -71,3 +71,13 @@ step x p ys =
 pub once_push : (ps : List PlanRule) (p : PlanRule) → once (ps ++ p ∷ []) ≡ with_use (once ps) p
 once_push [] p = refl
 once_push (x ∷ ps) p = rw (once_push ps p) (step x p (once ps))
+
+uses_after : (before ps : List PlanRule) → with_uses (once before) ps ≡ once (before ++ ps)
+uses_after before [] = ap once (sym (append-nil before))
+uses_after before (p ∷ ps) = rw (← once_push before p) (uses_after (before ++ p ∷ []) ps ∙ ap once (append_assoc before (p ∷ []) ps))
+
+-- the uses of rounds, and then of more rounds
+pub plan_uses : (rounds tried : List (List Change)) → with_uses (with_uses [] (rules_of rounds)) (rules_of tried) ≡ once (rules_of (rounds ++ tried))
+plan_uses rounds tried =
+    ap (λ before. with_uses before (rules_of tried)) (uses_after [] (rules_of rounds)) ∙ uses_after (rules_of rounds) (rules_of tried)
+    ∙ ap once (sym (flat_map-append (map plan_rule_of) rounds tried))

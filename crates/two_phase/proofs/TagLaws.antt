@@ -10,7 +10,7 @@ use Rattle.net_base.specs.declared.ids.Vlan.TheVariants as vlan
 use Rattle.topology.specs.Networks.{Network, IsNetwork, TagRange}
 use Rattle.tag_allocator.specs.Tags.{numbers_from, ids_of, has_id, available_tags, Tagged, paired, tags_of}
 use Rattle.net_base.proofs.ListLaws.{any_in, IsTold, told_from_distinct, distinct_members}
-use Rattle.tag_allocator.proofs.TagLaws.{numbers_above, numbers_distinct, ids_distinct, tags_distinct, tag_undeclared}
+use Rattle.tag_allocator.proofs.TagLaws.{tags_distinct, tag_undeclared}
 
 pub paired_user : (vs : List Vlan) (ts : List ℕ) (x : Tagged) → IsIn x (paired vs ts) → IsIn x.user vs
 paired_user [] ts x i = absurd i
