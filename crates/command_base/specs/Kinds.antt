@@ -3,7 +3,7 @@ use Rattle.std.specs.Prelude.{ℕ, List, codes}
 use Rattle.command_base.specs.declared.status.Status.{Status}
 use Rattle.command_base.specs.declared.status.Status.TheVariants as status
 use Rattle.command_base.specs.declared.kinds.FileKind.{FileKind}
-use Rattle.command_base.specs.declared.kinds.FileKind.TheVariants.{Topology, Config, Old, New, Policy, Plan, Schedule}
+use Rattle.command_base.specs.declared.kinds.FileKind.TheVariants.{Topology, Config, Old, New, Policy, Plan, Schedule, Replies}
 
 -- the most bytes that a file of the kind may have: 16 MiB, but 512 MiB for a plan and 64 MiB for a schedule
 abbrev pub limit_of : FileKind → ℕ
@@ -14,6 +14,7 @@ limit_of New = 16777216
 limit_of Policy = 16777216
 limit_of Plan = 536870912
 limit_of Schedule = 67108864
+limit_of Replies = 16777216
 
 -- what the kind is called in a line on a bad file
 abbrev pub kind_name : FileKind → List ℕ
@@ -24,6 +25,7 @@ kind_name New = codes "new"
 kind_name Policy = codes "policy"
 kind_name Plan = codes "plan"
 kind_name Schedule = codes "schedule"
+kind_name Replies = codes "replies"
 
 -- the exit status of the process
 abbrev pub exit_code : Status → ℕ

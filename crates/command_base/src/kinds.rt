@@ -14,6 +14,7 @@ pub enum FileKind {
     Policy,
     Plan,
     Schedule,
+    Replies,
 }
 
 impl FileKind {
@@ -29,6 +30,7 @@ impl FileKind {
             FileKind::Policy => 16 * MEBIBYTE,
             FileKind::Plan => 512 * MEBIBYTE,
             FileKind::Schedule => 64 * MEBIBYTE,
+            FileKind::Replies => 16 * MEBIBYTE,
         }
     }
 
@@ -44,6 +46,7 @@ impl FileKind {
             FileKind::Policy => "policy",
             FileKind::Plan => "plan",
             FileKind::Schedule => "schedule",
+            FileKind::Replies => "replies",
         }
     }
 }
