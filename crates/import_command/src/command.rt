@@ -1,0 +1,43 @@
+// The command that makes a configuration from flow statistics.
+ghost use Rattle.std.specs.Prelude.{◌≡◌, ◌≤◌, IfOk};
+ghost use Rattle.flow_rules.specs.Tables.{rules_of_all};
+ghost use Rattle.path_walk.specs.UserConfigs.{IsUserConfig};
+ghost use Rattle.command_base.specs.Replies.{answer_of, Meets};
+ghost use Rattle.import_command.specs.Names.{names_seen};
+ghost use Rattle.import_command.specs.Imported.{import_dialogue, IsImportAnswer, SaysConfig};
+
+use crate::names::ImportNames;
+use crate::readings::read_replies_file;
+use command_base::{Exit, Reply, Status, read_topology};
+use flow_rules::Config;
+use flow_stats::config_text;
+use net_base::{Memory, Source};
+use std::alloc::Global;
+use topology::Net;
+
+// The text of a configuration.
+fn config_reply(alloc: Global, net: &Net, config: &Config) -> Result<Reply, Memory>
+    requires { IsUserConfig net.now (rules_of_all config.now) }
+    ensures { IfOk result (λ r. SaysConfig net.now (rules_of_all config.now) (answer_of r)) }
+{
+    Ok(Reply {
+        status: Status::Done,
+        text: config_text(alloc, net, config)?,
+    })
+}
+
+/// Writes the configuration that the flow statistics of the network's switches tell.
+pub fn import<S: Source>(
+    alloc: Global,
+    source: &mut S,
+    names: &ImportNames<'_>,
+) -> Result<Reply, Exit>
+    ensures meets { Meets IsImportAnswer (S.held source.old) (import_dialogue (names_seen names.now))
+        (S.faults source.old) (S.faults source.new) result (S.selected source.new) (S.taken source.new) }
+    ensures held { S.held source.new ≡ S.held source.old }
+    ensures later { S.faults source.old ≤ S.faults source.new }
+{
+    let net = read_topology(alloc, source, names.topology)?;
+    let config = read_replies_file(alloc, source, &net, names.replies)?;
+    Ok(config_reply(alloc, &net, &config)?)
+}
