@@ -6,10 +6,10 @@ use Rattle.std.proofs.lemmas.List.{take_more, map-append}
 use Rattle.topology.specs.Networks.{Network}
 use Rattle.update_model.specs.declared.Change.{Change}
 use Rattle.emit_command.specs.declared.lines.Lines.{Lines}
-use Rattle.emit_command.specs.Requests.{Request, Sent, change_request, round_requests, requests_from, sent_from}
+use Rattle.round_messages.specs.Requests.{Request, Sent, change_request, round_requests, requests_from, sent_from}
 use Rattle.emit_command.specs.Lines.{line_of, emit_text}
 use Rattle.emit_command.specs.Written.{AddsLines}
-use Rattle.emit_command.proofs.Requests.{sent_from-append, requests_from-push}
+use Rattle.round_messages.proofs.Requests.{sent_from-append, requests_from-push}
 
 -- requests in a row
 pub added_then : (net : Network) (rs ss : List Request) (a b c : Lines) → AddsLines net rs a b → AddsLines net ss b c → AddsLines net (rs ++ ss) a c

@@ -18,14 +18,14 @@ use Rattle.command_base.specs.Runs.{IsSettled, Answered}
 use Rattle.command_base.proofs.MeaningLaws.{said_over, over_splits, means_plan_files, plan_files_mean}
 use Rattle.command_base.proofs.JudgementLaws.{status_of, text_of}
 use Rattle.command_base.proofs.RunLaws.{settled_done}
-use Rattle.emit_command.specs.Requests.{sent_in, requests_from}
+use Rattle.round_messages.specs.Requests.{sent_in, requests_from}
 use Rattle.emit_command.specs.Lines.{emit_text}
 use Rattle.emit_command.specs.ReadBack.{CarriesOut}
 use Rattle.emit_command.specs.Answers.{SaysMessages, IsEmitAnswer}
 use Rattle.emit_command.specs.Promise.{EmitPromise}
-use Rattle.emit_command.proofs.Requests.{request_count, all_asked, all_sent}
+use Rattle.round_messages.proofs.Requests.{request_count, all_asked, all_sent}
 use Rattle.emit_command.proofs.Reading.{OwnTexts, read_back, read_once}
-use Rattle.emit_command.proofs.BySwitch.{each_round}
+use Rattle.round_messages.proofs.BySwitch.{each_round}
 
 -- the answer with a text
 abbrev pub answer_with : List ℕ → Answer

@@ -23,10 +23,10 @@ use Rattle.topology.specs.Networks.{Network, switch_count, switch_named, IsNetwo
 use Rattle.openflow10.specs.Messages.{BeginsWith, IsMessage, wire_text}
 use Rattle.openflow10.specs.declared.Message.{Message}
 use Rattle.command_base.specs.Lines.{switch_name}
-use Rattle.emit_command.specs.Requests.{Sent}
+use Rattle.round_messages.specs.Requests.{Sent}
 use Rattle.emit_command.specs.Lines.{line_of}
 use Rattle.emit_command.specs.ReadBack.{ReadsAs, IsReadAs}
-use Rattle.emit_command.proofs.Requests.{IsSent}
+use Rattle.round_messages.proofs.Requests.{IsSent}
 use Rattle.emit_command.proofs.Texts.{AreAbove, lacks, above_more, decimal_above, name_above, hex_above, bytes_wire}
 use Rattle.net_base.proofs.ItemLaws.{in_at}
 use Rattle.topology.proofs.NamedLaws.{named_at}

@@ -1,4 +1,3 @@
-pub mod Requests
 pub mod Lines
 pub mod Written
 pub mod ReadBack

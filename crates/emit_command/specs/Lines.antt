@@ -5,7 +5,7 @@ use Rattle.topology.specs.Networks.{Network}
 use Rattle.update_model.specs.declared.Change.{Change}
 use Rattle.openflow10.specs.Messages.{wire_text}
 use Rattle.command_base.specs.Lines.{switch_name}
-use Rattle.emit_command.specs.Requests.{Sent, sent_in}
+use Rattle.round_messages.specs.Requests.{Sent, sent_in}
 
 -- a round, which is printed from 1, a switch's name, and bytes in hexadecimal
 abbrev pub line : ℕ → List ℕ → List ℕ → List ℕ

@@ -9,7 +9,8 @@ use Rattle.update_model.specs.declared.Change.{Change}
 use Rattle.openflow10.specs.Messages.{BeginsWith, message_of}
 use Rattle.openflow10.specs.declared.Message.{Message}
 use Rattle.openflow10.specs.declared.Message.TheVariants.{BarrierRequest}
-use Rattle.emit_command.specs.Requests.{Sent}
+use Rattle.round_messages.specs.Requests.{Sent}
+use Rattle.round_messages.specs.ToSwitch.{messages_to, AreFor}
 
 -- A line is read as a message to a switch in a round: round, name and digits are cut at the first two spaces, and the digits are
 -- the bytes of the message and no more.
@@ -30,28 +31,6 @@ pub record ReadsAs (net : Network) (line : List ℕ) (m : Sent) : Type 0 where
 abbrev pub IsReadAs : Network → List ℕ → List Sent → Type 0
 IsReadAs net text [] = text ≡ []
 IsReadAs net text (m ∷ ms) = (line : List ℕ) × (rest : List ℕ) × (cut_first 10 text ≡ Some (line, rest)) × ReadsAs net line m × IsReadAs net rest ms
-
--- the messages to a switch in round k, in order
-abbrev pub messages_to : ℕ → SwitchId → List Sent → List Message
-messages_to k s sent = map (λ m. m.message) (filter (λ m. m.round == k && m.switch.0 == s.0) sent)
-
--- each message asks for the change at its place
-abbrev pub AskFor : List Change → List Message → Type 0
-AskFor [] [] = Unit {0}
-AskFor (c ∷ cs) (m ∷ ms) = ((xid : ℕ) × (m ≡ message_of c xid)) × AskFor cs ms
-AskFor _ _ = ⊥
-
--- messages that ask for these changes, in order, and then one barrier request
-pub record AskAndWait (changes : List Change) (messages : List Message) : Type 0 where
-  pub asking : List Message
-  pub xid : ℕ
-  pub ask : AskFor changes asking
-  pub are : messages ≡ asking ++ BarrierRequest xid ∷ []
-
--- the messages that a switch with these changes has to get: none where it has no change
-abbrev pub AreFor : List Change → List Message → Type 0
-AreFor [] messages = messages ≡ []
-AreFor (c ∷ cs) messages = AskAndWait (c ∷ cs) messages
 
 -- Read back, the text carries out the rounds: in each round each switch gets just its changes, in their order, and then a barrier
 -- request, and nothing is lost or added.

@@ -2,7 +2,7 @@
 use Rattle.std.specs.Prelude.{◌≡◌, ◌+◌, List, ◌++◌, length, flat_map}
 use Rattle.topology.specs.Networks.{Network}
 use Rattle.emit_command.specs.declared.lines.Lines.{Lines}
-use Rattle.emit_command.specs.Requests.{Request, sent_from}
+use Rattle.round_messages.specs.Requests.{Request, sent_from}
 use Rattle.emit_command.specs.Lines.{line_of}
 
 -- the lines of these requests, whose xids follow those before

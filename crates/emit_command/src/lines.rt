@@ -3,7 +3,7 @@ ghost use Rattle.std.specs.Prelude.{◌≡◌, ◌≤◌, ◌<◌, ◌+◌, ◌*
 ghost use Rattle.std.specs.List.{AllByRecursion};
 ghost use Rattle.topology.specs.Networks.{switch_count};
 ghost use Rattle.update_model.specs.Ranges.{IsPlanChange};
-ghost use Rattle.emit_command.specs.Requests.{change_request, barrier_request, round_requests, requests_from, is_changed, switches_of, switch_numbered};
+ghost use Rattle.round_messages.specs.Requests.{change_request, barrier_request, round_requests, requests_from, is_changed, switches_of, switch_numbered};
 ghost use Rattle.emit_command.specs.Lines.{line, emit_text};
 ghost use Rattle.emit_command.specs.Written.{AddsLines};
 

@@ -1,6 +1,6 @@
 use Rattle.std.proofs.Common.{◌≡◌, length, take}
 use Rattle.topology.specs.Networks.{switch_count}
-use Rattle.emit_command.proofs.Marks.{AreMarks}
+use Rattle.round_messages.proofs.Marking.{AreMarks}
 use Rattle.emit_command.proofs.lines.changed_switches.Given as goal
 
 abbrev pub invariant-loop-change : goal.invariant-loop-change

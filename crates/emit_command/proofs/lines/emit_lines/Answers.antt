@@ -1,7 +1,7 @@
 use Rattle.std.proofs.Common.{◌≡◌, ◌<◌, [], length, take, refl, ap, arith}
 use Rattle.std.proofs.lemmas.List.{take_all, length-take-le}
 use Rattle.std.proofs.lemmas.List.Sums.{sum_by_more_le}
-use Rattle.emit_command.proofs.Requests.{request_count}
+use Rattle.round_messages.proofs.Requests.{request_count}
 use Rattle.emit_command.proofs.Adding.{round_added, whole_text}
 use Rattle.emit_command.proofs.lines.emit_lines.Goals as goal
 

@@ -1,5 +1,5 @@
 use Rattle.std.proofs.Common.{take}
-use Rattle.emit_command.specs.Requests.{requests_from}
+use Rattle.round_messages.specs.Requests.{requests_from}
 use Rattle.emit_command.specs.Written.{AddsLines}
 use Rattle.emit_command.proofs.lines.emit_lines.Given as goal
 

@@ -4,9 +4,9 @@ use Rattle.std.specs.List.{range_with_len}
 use Rattle.std.proofs.lemmas.List.{length-map}
 use Rattle.net_base.specs.declared.ids.SwitchId.{SwitchId}
 use Rattle.emit_command.specs.declared.lines.Lines.{Lines}
-use Rattle.emit_command.specs.Requests.{switch_numbered, barrier_request}
+use Rattle.round_messages.specs.Requests.{switch_numbered, barrier_request}
 use Rattle.emit_command.specs.Written.{AddsLines}
-use Rattle.emit_command.proofs.Requests.{few_passed}
+use Rattle.round_messages.proofs.Requests.{few_passed}
 use Rattle.emit_command.proofs.Marks.{barrier_added, none_passed}
 use Rattle.emit_command.proofs.lines.Lines.add_barriers.Goals as goal
 use Rattle.emit_command.proofs.lines.Lines.add_barriers.Goals.{then-marks-number+in_ok-add_barrier, else-marks-number}

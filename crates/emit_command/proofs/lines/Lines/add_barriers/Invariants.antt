@@ -1,7 +1,7 @@
 use Rattle.std.proofs.Common.{false, map, get_or}
 use Rattle.std.specs.Prelude.{filter}
 use Rattle.std.specs.List.{range_with_len}
-use Rattle.emit_command.specs.Requests.{barrier_request, switch_numbered}
+use Rattle.round_messages.specs.Requests.{barrier_request, switch_numbered}
 use Rattle.emit_command.specs.Written.{AddsLines}
 use Rattle.emit_command.proofs.lines.Lines.add_barriers.Given as goal
 

@@ -1,5 +1,5 @@
 use Rattle.std.proofs.Common.{take, map}
-use Rattle.emit_command.specs.Requests.{change_request}
+use Rattle.round_messages.specs.Requests.{change_request}
 use Rattle.emit_command.specs.Written.{AddsLines}
 use Rattle.emit_command.proofs.lines.Lines.add_changes.Given as goal
 

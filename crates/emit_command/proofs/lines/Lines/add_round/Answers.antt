@@ -1,9 +1,10 @@
 use Rattle.std.proofs.Common.{Bool, false, List, map, get_or, ap, ◌∙◌, arith}
 use Rattle.std.proofs.lemmas.List.{length-map}
 use Rattle.topology.specs.Networks.{switch_count}
-use Rattle.emit_command.specs.Requests.{switches_changed, change_request, barrier_request}
+use Rattle.round_messages.specs.Requests.{switches_changed, change_request, barrier_request}
 use Rattle.emit_command.proofs.Adding.{added_then}
-use Rattle.emit_command.proofs.Marks.{AreMarks, marks_added}
+use Rattle.round_messages.proofs.Marking.{AreMarks}
+use Rattle.emit_command.proofs.Marks.{marks_added}
 use Rattle.emit_command.proofs.lines.Lines.add_round.Goals as goal
 
 pub add_barriers-requires-clause-xids : goal.add_barriers-requires-clause-xids

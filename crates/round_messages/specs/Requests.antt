@@ -1,5 +1,5 @@
 -- The messages that carry out rounds, in the order in which they are sent. Round k is the one after the first k rounds.
-use Rattle.std.specs.Prelude.{ℕ, suc, ◌==◌, Bool, List, [], ◌∷◌, ◌++◌, map, filter, Option, None, Some}
+use Rattle.std.specs.Prelude.{ℕ, suc, ◌+◌, ◌==◌, Bool, List, [], ◌∷◌, ◌++◌, length, take, map, filter, Option, None, Some}
 use Rattle.std.specs.List.{list_any, range_with_len}
 use Rattle.net_base.specs.declared.ids.SwitchId.{SwitchId}
 use Rattle.topology.specs.Networks.{Network, switch_count}
@@ -68,3 +68,7 @@ sent_from xid (r ∷ rs) = sent_for r xid ∷ sent_from (suc xid) rs
 -- the messages that carry out the rounds; their xids count from 1
 abbrev pub sent_in : Network → List (List Change) → List Sent
 sent_in net rounds = sent_from 1 (requests_from net 0 rounds)
+
+-- the xid of the first message of round k
+abbrev pub first_xid : Network → List (List Change) → ℕ → ℕ
+first_xid net rounds k = 1 + length (requests_from net 0 (take k rounds))

@@ -12,7 +12,7 @@ use Rattle.update_model.specs.Ranges.{IsPlanChange}
 use Rattle.update_model.specs.declared.Change.{Change}
 use Rattle.update_model.specs.declared.Change.TheVariants.{Insert, Delete, Replace}
 use Rattle.openflow10.specs.Messages.{IsMessage, message_of}
-use Rattle.emit_command.specs.Requests.{Request, Sent, switch_numbered, switches_changed, is_changed, change_request, barrier_request, round_requests, requests_from, message_for, sent_for, sent_from}
+use Rattle.round_messages.specs.Requests.{Request, Sent, switch_numbered, switches_changed, is_changed, change_request, barrier_request, round_requests, requests_from, message_for, sent_for, sent_from}
 
 -- the messages of requests in a row
 pub sent_from-append : (xid : ℕ) (rs ss : List Request) → sent_from xid (rs ++ ss) ≡ sent_from xid rs ++ sent_from (xid + length rs) ss

@@ -1,5 +1,5 @@
 -- The messages to one switch in one round.
-use Rattle.std.proofs.Common.{◌≡◌, ℕ, zero, suc, ◌+◌, ◌<◌, ◌≤◌, Bool, true, false, cond, eqb, ◌&&◌, List, [], ◌∷◌, ◌++◌, length, map, refl, sym, ap, ◌∙◌, subst, append-nil, ◌⊎◌, inl, inr, arith}
+use Rattle.std.proofs.Common.{◌≡◌, ℕ, zero, suc, ◌+◌, ◌<◌, ◌≤◌, Bool, true, false, cond, eqb, ◌&&◌, List, [], ◌∷◌, ◌++◌, length, map, take, refl, sym, ap, ◌∙◌, subst, append-nil, length-append, ◌⊎◌, inl, inr, arith}
 use Rattle.std.specs.Prelude.{filter}
 use Rattle.std.specs.List.{AllByRecursion, range_with_len}
 use Rattle.std.proofs.lemmas.Bool.{eq-eqb, eqb-true, ne_eqb, cases_eq, false_from_ne_true}
@@ -15,19 +15,19 @@ use Rattle.update_model.specs.Ranges.{IsPlanChange}
 use Rattle.update_model.specs.declared.Change.{Change}
 use Rattle.openflow10.specs.declared.Message.{Message}
 use Rattle.openflow10.specs.declared.Message.TheVariants.{BarrierRequest}
-use Rattle.emit_command.specs.Requests.{Request, Sent, is_changed, switch_numbered, switches_changed, change_request, barrier_request, round_requests, requests_from, sent_for, sent_from}
-use Rattle.emit_command.specs.ReadBack.{messages_to, AskFor, AreFor}
-use Rattle.emit_command.proofs.Requests.{sent_from-append}
+use Rattle.round_messages.specs.Requests.{Request, Sent, is_changed, switch_numbered, switches_changed, change_request, barrier_request, round_requests, requests_from, sent_for, sent_from, sent_in, first_xid}
+use Rattle.round_messages.specs.ToSwitch.{messages_to, AskFor, AreFor}
+use Rattle.round_messages.proofs.Requests.{sent_from-append}
 
 -- whether a message is one to the switch in round k
 abbrev goes_to : ℕ → SwitchId → Sent → Bool
 goes_to k s m = eqb m.round k && eqb m.switch.0 s.0
 
-messages_to-append : (k : ℕ) (s : SwitchId) (xs ys : List Sent) → messages_to k s (xs ++ ys) ≡ messages_to k s xs ++ messages_to k s ys
+pub messages_to-append : (k : ℕ) (s : SwitchId) (xs ys : List Sent) → messages_to k s (xs ++ ys) ≡ messages_to k s xs ++ messages_to k s ys
 messages_to-append k s xs ys =
     ap (map (λ (m : Sent). m.message)) (filter-append (goes_to k s) xs ys) ∙ map-append (λ (m : Sent). m.message) (filter (goes_to k s) xs) (filter (goes_to k s) ys)
 
-messages_in_turn : (k : ℕ) (s : SwitchId) (xid : ℕ) (rs ss : List Request)
+pub messages_in_turn : (k : ℕ) (s : SwitchId) (xid : ℕ) (rs ss : List Request)
     → messages_to k s (sent_from xid (rs ++ ss)) ≡ messages_to k s (sent_from xid rs) ++ messages_to k s (sent_from (xid + length rs) ss)
 messages_in_turn k s xid rs ss = ap (messages_to k s) (sent_from-append xid rs ss) ∙ messages_to-append k s (sent_from xid rs) (sent_from (xid + length rs) ss)
 
@@ -208,3 +208,38 @@ module _ (net : Network) where
   each_round rounds k s h =
       let place : 0 + k ≡ k = omega arith in
       subst (λ (i : ℕ). AreFor (changes_at s (round_after k rounds)) (messages_to i s (sent_from 1 (requests_from net 0 rounds)))) place (rounds_are rounds 0 k s 1 h)
+
+  -- the messages of one round among those of all
+  alone : (rounds : List (List Change)) (j d : ℕ) (s : SwitchId) (xid : ℕ) → d < length rounds
+      → messages_to (j + d) s (sent_from xid (requests_from net j rounds))
+      ≡ messages_to (j + d) s (sent_from (xid + length (requests_from net j (take d rounds))) (round_requests net (j + d) (round_after d rounds)))
+  alone [] j d s xid lt = absurd (omega arith)
+  alone (round ∷ rounds) j zero s xid lt =
+      let next : ℕ = xid + length (round_requests net j round) in
+      let none = none_of_others (j + zero) s next (requests_from net (suc j) rounds) (later_rounds net (j + zero) (suc j) rounds (omega arith)) in
+      let first : List Message = messages_to (j + zero) s (sent_from xid (round_requests net j round)) in
+      let this : j ≡ j + zero = omega arith in
+      let same : xid ≡ xid + zero = omega arith in
+      messages_in_turn (j + zero) s xid (round_requests net j round) (requests_from net (suc j) rounds) ∙ ap (λ l. first ++ l) none ∙ append-nil first
+      ∙ ap (λ (x : ℕ). messages_to (j + zero) s (sent_from x (round_requests net j round))) same ∙ ap (λ (k : ℕ). messages_to (j + zero) s (sent_from (xid + zero) (round_requests net k round))) this
+  alone (round ∷ rounds) j (suc d) s xid lt =
+      let place : suc j + d ≡ j + suc d = omega arith in
+      let next : ℕ = xid + length (round_requests net j round) in
+      let differs : eqb j (j + suc d) ≡ false = ne_eqb j (j + suc d) (λ e. omega arith) in
+      let none = none_of_others (j + suc d) s xid (round_requests net j round) (other_round net (j + suc d) j round differs) in
+      let later : List Message = messages_to (j + suc d) s (sent_from next (requests_from net (suc j) rounds)) in
+      let count = length-append (round_requests net j round) (requests_from net (suc j) (take d rounds)) in
+      let number : next + length (requests_from net (suc j) (take d rounds)) ≡ xid + length (round_requests net j round ++ requests_from net (suc j) (take d rounds)) = omega arith in
+      let rest = alone rounds (suc j) d s next (omega arith) in
+      let Rest : ℕ → Type 0 = λ k. messages_to k s (sent_from next (requests_from net (suc j) rounds))
+      ≡ messages_to k s (sent_from (next + length (requests_from net (suc j) (take d rounds))) (round_requests net k (round_after d rounds))) in
+      messages_in_turn (j + suc d) s xid (round_requests net j round) (requests_from net (suc j) rounds) ∙ ap (λ l. l ++ later) none
+      ∙ subst Rest place rest
+      ∙ ap (λ (x : ℕ). messages_to (j + suc d) s (sent_from x (round_requests net (j + suc d) (round_after d rounds)))) number
+
+  pub round_alone : (rounds : List (List Change)) (k : ℕ) (s : SwitchId) → k < length rounds
+      → messages_to k s (sent_in net rounds) ≡ messages_to k s (sent_from (first_xid net rounds k) (round_requests net k (round_after k rounds)))
+  round_alone rounds k s lt =
+      let place : 0 + k ≡ k = omega arith in
+      let Alone : ℕ → Type 0 = λ i. messages_to i s (sent_from 1 (requests_from net 0 rounds)) ≡ messages_to i s (sent_from (1 + length (requests_from net 0 (take k rounds))) (round_requests net i (round_after k rounds))) in
+      subst Alone place (alone rounds 0 k s 1 lt)

@@ -1,0 +1,3 @@
+pub mod Requests
+pub mod BySwitch
+pub mod Marking

@@ -1,0 +1,4 @@
+//! The messages of OpenFlow 1.0 that carry out rounds, and what each switch gets of them.
+#![tactic(auto)]
+
+pub mod laws;

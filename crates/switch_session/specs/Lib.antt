@@ -1,0 +1,4 @@
+pub mod Fronts
+pub mod Channels
+pub mod Seen
+pub mod Laws

@@ -1,0 +1,10 @@
+pub mod ListLaws
+pub mod SoundLaws
+pub mod PieceLaws
+pub mod RunLaws
+pub mod AskedLaws
+pub mod LogLaws
+pub mod SentLaws
+pub mod TurnLaws
+pub mod StartLaws
+pub mod DriverLaws

@@ -1,0 +1,118 @@
+-- It makes no difference in which pieces bytes come from a switch.
+use Rattle.std.proofs.Common.{◌≡◌, ℕ, ◌<◌, Bool, true, false, cond, ◌&&◌, List, [], ◌∷◌, ◌++◌, length, set, get_or, get_or-set_same, refl, sym, ap, ◌∙◌, subst, ◌⊎◌, inl, inr}
+use Rattle.std.specs.Prelude.{Option, Some, None, is_some, is_none}
+use Rattle.std.proofs.lemmas.Bool.{cases_Bool, cond-true, cond-false}
+use Rattle.std.proofs.lemmas.List.{set-set}
+use Rattle.net_base.specs.declared.ids.SwitchId.{SwitchId}
+use Rattle.update_model.specs.States.{settled}
+use Rattle.update_model.specs.Worlds.{running_round}
+use Rattle.update_model.specs.declared.Change.{Change}
+use Rattle.update_model.specs.declared.Event.{Event}
+use Rattle.update_model.specs.declared.Event.TheVariants as event
+use Rattle.switch_session.specs.Channels.{ChannelState, first_channel, after_bytes}
+use Rattle.switch_session.specs.Laws.{OnlyReplies}
+use Rattle.switch_session.proofs.ByteLaws.{after_bytes-append, only_replies}
+use Rattle.update_driver.specs.Drivers.{DriverState, channel_at, with_channel, none_outstanding, settled_if_answered, change_events, made, is_answered, heard, fed}
+use Rattle.update_driver.proofs.ListLaws.{all_alike}
+use Rattle.update_driver.proofs.SoundLaws.{no_barrier, answered_or_not}
+
+-- a barrier that was answered was outstanding, and isn't any more
+pub parts : (x : Bool) (o : Option ℕ) → (x && is_none o) ≡ true → (x ≡ true) × (o ≡ None)
+parts true None e = (refl, refl)
+parts true (Some n) e = absurd (let f : false ≡ true = e in cc)
+parts false o e = absurd (let f : false ≡ true = e in cc)
+
+-- a channel that waits for as much makes no difference to settling
+module _ (rounds : List (List Change)) (s : SwitchId) (d : DriverState) (within : s.0 < length d.channels) (a b : ChannelState) where
+  twice : (log : List Event) → with_channel s b (record (with_channel s a d) { log = log }) ≡ record (with_channel s b d) { log = log }
+  twice log = ap (λ l. let r : DriverState = record d { channels = l; log = log } in r) (set-set d.channels s.0 a b)
+
+  settled_alike : (log : List Event) → a.outstanding ≡ b.outstanding
+      → with_channel s b (settled_if_answered (record (with_channel s a d) { log = log })) ≡ settled_if_answered (record (with_channel s b d) { log = log })
+  settled_alike log e =
+      let same : none_outstanding (set d.channels s.0 a) ≡ none_outstanding (set d.channels s.0 b) = all_alike no_barrier d.channels s.0 a b (ap is_none e) in
+      let once : set (set d.channels s.0 a) s.0 b ≡ set d.channels s.0 b = set-set d.channels s.0 a b in
+      let End : Bool → List ChannelState → DriverState = λ t l. cond t (record d { phase = settled d.phase; log = log ++ event.Settle ∷ []; channels = l }) (record d { log = log; channels = l }) in
+      let inside : with_channel s b (settled_if_answered (record (with_channel s a d) { log = log })) ≡ End (none_outstanding (set d.channels s.0 a)) (set (set d.channels s.0 a) s.0 b) =
+      elim (none_outstanding (set d.channels s.0 a)) as (λ t. with_channel s b (cond t (record d { phase = settled d.phase; log = log ++ event.Settle ∷ []; channels = set d.channels s.0 a }) (record d { log = log; channels = set d.channels s.0 a }))
+      ≡ End t (set (set d.channels s.0 a) s.0 b)) [ true ↦ refl | false ↦ refl ] in
+      inside ∙ ap (λ t. End t (set (set d.channels s.0 a) s.0 b)) same ∙ ap (End (none_outstanding (set d.channels s.0 b))) once
+
+  made_alike : a.outstanding ≡ b.outstanding → with_channel s b (made rounds s (with_channel s a d)) ≡ made rounds s (with_channel s b d)
+  made_alike e = settled_alike (d.log ++ change_events s 0 (running_round d.phase rounds)) e
+
+  -- the channel of the switch
+  seen : channel_at (with_channel s a d) s ≡ a
+  seen = get_or-set_same d.channels s.0 a first_channel within
+
+  channels_settled : (log : List Event) (e : DriverState) → e ≡ record (with_channel s a d) { log = log } → (settled_if_answered e).channels ≡ set d.channels s.0 a
+  channels_settled log e is = subst (λ x. (settled_if_answered x).channels ≡ set d.channels s.0 a) (sym is)
+      (elim (none_outstanding (set d.channels s.0 a)) as (λ t. (let r : DriverState = cond t (record d { phase = settled d.phase; log = log ++ event.Settle ∷ []; channels = set d.channels s.0 a }) (record d { log = log; channels = set d.channels s.0 a }) in r.channels)
+      ≡ set d.channels s.0 a) [ true ↦ refl | false ↦ refl ])
+
+  seen_made : channel_at (made rounds s (with_channel s a d)) s ≡ a
+  seen_made =
+      let log = d.log ++ change_events s 0 (running_round d.phase rounds) in
+      ap (λ l. get_or l s.0 first_channel) (channels_settled log (record (with_channel s a d) { log = log }) refl) ∙ seen
+
+  abbrev before : Option ℕ
+  before = (channel_at d s).outstanding
+
+  -- what is heard in two steps, from the channel that the first step left
+  then_heard : (e : DriverState) → channel_at e s ≡ a → (is_answered a.outstanding b.outstanding ≡ true → made rounds s (with_channel s b e) ≡ heard rounds s b d)
+      → (is_answered a.outstanding b.outstanding ≡ false → with_channel s b e ≡ heard rounds s b d) → heard rounds s b e ≡ heard rounds s b d
+  then_heard e is hit miss =
+      let test : is_answered (channel_at e s).outstanding b.outstanding ≡ is_answered a.outstanding b.outstanding = ap (λ (c : ChannelState). is_answered c.outstanding b.outstanding) is in
+      elim (cases_Bool (is_answered a.outstanding b.outstanding)) [
+        | inl t ↦ cond-true (is_answered (channel_at e s).outstanding b.outstanding) (made rounds s (with_channel s b e)) (with_channel s b e) (test ∙ t) ∙ hit t
+        | inr f ↦ cond-false (is_answered (channel_at e s).outstanding b.outstanding) (made rounds s (with_channel s b e)) (with_channel s b e) (test ∙ f) ∙ miss f
+      ]
+
+  heard_yes : is_answered before b.outstanding ≡ true → heard rounds s b d ≡ made rounds s (with_channel s b d)
+  heard_yes t = cond-true (is_answered before b.outstanding) (made rounds s (with_channel s b d)) (with_channel s b d) t
+
+  heard_no : is_answered before b.outstanding ≡ false → heard rounds s b d ≡ with_channel s b d
+  heard_no f = cond-false (is_answered before b.outstanding) (made rounds s (with_channel s b d)) (with_channel s b d) f
+
+  one_more : with_channel s b (with_channel s a d) ≡ with_channel s b d
+  one_more = twice d.log
+
+  -- the first piece has the answer
+  answered_first : is_answered before a.outstanding ≡ true → OnlyReplies a b → heard rounds s b (heard rounds s a d) ≡ heard rounds s b d
+  answered_first hit second =
+      let (some, none) = parts (is_some before) a.outstanding hit in
+      let gone : b.outstanding ≡ None = elim second.outstanding [ inl same ↦ same ∙ none | inr k ↦ k ] in
+      let e : heard rounds s a d ≡ made rounds s (with_channel s a d) = cond-true (is_answered before a.outstanding) (made rounds s (with_channel s a d)) (with_channel s a d) hit in
+      let whole : is_answered before b.outstanding ≡ true = ap (λ o. is_some before && is_none o) (gone ∙ sym none) ∙ hit in
+      let not_again : is_answered a.outstanding b.outstanding ≡ false = ap (λ o. is_some o && is_none b.outstanding) none in
+      ap (heard rounds s b) e
+      ∙ then_heard (made rounds s (with_channel s a d)) seen_made (λ t. absurd (let f : true ≡ false = sym t ∙ not_again in cc)) (λ f. made_alike (none ∙ sym gone) ∙ sym (heard_yes whole))
+
+  two_steps : OnlyReplies (channel_at d s) a → OnlyReplies a b → heard rounds s b (heard rounds s a d) ≡ heard rounds s b d
+  two_steps first second =
+      elim (cases_Bool (is_answered before a.outstanding)) [
+        | inl hit ↦ answered_first hit second
+        | inr miss ↦ (
+            let e : heard rounds s a d ≡ with_channel s a d = cond-false (is_answered before a.outstanding) (made rounds s (with_channel s a d)) (with_channel s a d) miss in
+            let same : is_some a.outstanding ≡ is_some before = elim (answered_or_not (channel_at d s) a first) [ inl t ↦ absurd (let f : true ≡ false = sym t ∙ miss in cc) | inr k ↦ k ] in
+            let test : is_answered before b.outstanding ≡ is_answered a.outstanding b.outstanding = ap (λ x. x && is_none b.outstanding) (sym same) in
+            ap (heard rounds s b) e
+            ∙ then_heard (with_channel s a d) seen (λ t. ap (made rounds s) one_more ∙ sym (heard_yes (test ∙ t))) (λ f. one_more ∙ sym (heard_no (test ∙ f))))
+      ]
+
+-- the channel of the switch after bytes were heard
+channel_heard : (rounds : List (List Change)) (s : SwitchId) (d : DriverState) → s.0 < length d.channels → (a : ChannelState) → channel_at (heard rounds s a d) s ≡ a
+channel_heard rounds s d within a =
+    elim (cases_Bool (is_answered (channel_at d s).outstanding a.outstanding)) [
+      | inl t ↦ ap (λ x. channel_at x s) (cond-true (is_answered (channel_at d s).outstanding a.outstanding) (made rounds s (with_channel s a d)) (with_channel s a d) t) ∙ seen_made rounds s d within a a
+      | inr f ↦ ap (λ x. channel_at x s) (cond-false (is_answered (channel_at d s).outstanding a.outstanding) (made rounds s (with_channel s a d)) (with_channel s a d) f) ∙ seen rounds s d within a a
+    ]
+
+pub fed-append : (rounds : List (List Change)) (s : SwitchId) (x y : List ℕ) (d : DriverState) → s.0 < length d.channels → fed rounds s (x ++ y) d ≡ fed rounds s y (fed rounds s x d)
+fed-append rounds s x y d within =
+    let c = channel_at d s in
+    let a = after_bytes x c in
+    let b = after_bytes y a in
+    let whole : fed rounds s (x ++ y) d ≡ heard rounds s b d = ap (λ z. heard rounds s z d) (after_bytes-append x y c) in
+    let left : channel_at (fed rounds s x d) s ≡ a = channel_heard rounds s d within a in
+    whole ∙ sym (two_steps rounds s d within a b (only_replies x c) (only_replies y a)) ∙ ap (λ z. heard rounds s (after_bytes y z) (fed rounds s x d)) (sym left)

@@ -1,0 +1,5 @@
+pub mod Drivers
+pub mod Calls
+pub mod Laws
+pub mod Inside
+pub mod Answers

@@ -1,0 +1,34 @@
+//! What holds of every driver that comes about by calls. Each law is a function that does nothing: its contract is the law.
+ghost use Rattle.std.specs.Prelude.{◌≡◌, ◌<◌, ◌++◌, ℕ, List, length};
+ghost use Rattle.std.specs.List.{AllByRecursion};
+ghost use Rattle.net_base.specs.declared.ids.SwitchId.{SwitchId};
+ghost use Rattle.topology.specs.Networks.{Network, switch_count};
+ghost use Rattle.update_model.specs.declared.Change.{Change};
+ghost use Rattle.update_driver.specs.Drivers.{DriverState, fed};
+ghost use Rattle.update_driver.specs.Calls.{Call, IsCall, AreDrivable, driver_after};
+ghost use Rattle.update_driver.specs.Laws.{LogIsRun, SendsOnly, WaitsForBarriers};
+
+/// It makes no difference in which pieces bytes come from a switch.
+pub fn pieces_make_no_difference()
+    ensures { (rounds : List (List Change)) (s : SwitchId) (a b : List ℕ) (d : DriverState) → s.0 < length d.channels
+        → fed rounds s (a ++ b) d ≡ fed rounds s b (fed rounds s a d) }
+{}
+
+/// The log is a run of the model, without packets, from all tables from which every round is good.
+pub fn log_is_run()
+    ensures { (net : Network) (rounds : List (List Change)) (calls : List Call) → AreDrivable net rounds
+        → AllByRecursion (IsCall net) calls → LogIsRun net rounds (driver_after net rounds calls).log }
+{}
+
+/// A round is never begun before every barrier of the round before was answered.
+pub fn rounds_wait_for_barriers()
+    ensures { (net : Network) (rounds : List (List Change)) (calls : List Call) → WaitsForBarriers (driver_after net rounds calls) }
+{}
+
+/// Each byte that is sent to a switch behind its HELLO is of an echo reply, or of a message of `emit`'s lines; and these are all of
+/// its messages of the rounds that were begun, in their order and with their xids.
+pub fn only_replies_and_messages_are_sent()
+    ensures { (net : Network) (rounds : List (List Change)) (calls : List Call) (s : SwitchId) → AreDrivable net rounds
+        → AllByRecursion (IsCall net) calls → s.0 < switch_count net
+        → SendsOnly net rounds (driver_after net rounds calls) s }
+{}

@@ -1,0 +1,254 @@
+//! The steps of starting and settling a round.
+ghost use Rattle.std.specs.Prelude.{◌≡◌, ℕ, ◌<◌, ◌≤◌, ◌+◌, ◌^◌, ◌++◌, ◌&&◌, length, map, filter, find, not, replicate, false, slice_index_or, vec_len, vec_capacity, is_none, IfOk, IfErr, OnErr, OnOk};
+ghost use Rattle.std.specs.List.{AllByRecursion, list_all, range_with_len};
+ghost use Rattle.topology.specs.Networks.{switch_count};
+ghost use Rattle.update_model.specs.Changes.{switch_of};
+ghost use Rattle.update_model.specs.Ranges.{IsPlanChange};
+ghost use Rattle.update_model.specs.States.{settled, started};
+ghost use Rattle.update_driver.specs.Laws.{begun_count};
+ghost use Rattle.round_messages.specs.Requests.{is_changed, switch_numbered};
+ghost use Rattle.switch_session.specs.Channels.{first_channel, is_open};
+ghost use Rattle.update_driver.specs.Drivers.{none_outstanding, settled_if_answered};
+ghost use Rattle.update_driver.specs.Inside.{states_of, with_states, HasRoomFrom, told_by_turn, told_by_turns, begun_by_turns, heard_with, IsPhaseWithin, MayStartWith, IsRefusedWith};
+
+use crate::StartFault;
+use crate::turns::Turn;
+use net_base::{Memory, SwitchId};
+use std::alloc::Global;
+use switch_session::Channel;
+use topology::Net;
+use update_model::{Change, Event, Phase, Rounds};
+
+/// The most switches that a network has.
+const MOST_SWITCHES: usize = 128;
+
+/// Appends events for which there is room.
+fn extend_reserved(log: &mut Vec<Event>, events: &[Event])
+    requires { vec_len log.old + length events.now ≤ vec_capacity log.old }
+    ensures items { log.new.items ≡ log.old.items ++ events.now }
+    ensures len { vec_len log.new ≡ vec_len log.old + length events.now }
+    ensures capacity { vec_capacity log.old ≤ vec_capacity log.new }
+{
+    let Ok(()) = log.extend_from_slice(events) else {
+        unreachable!()
+    };
+}
+
+/// Makes room for so many more events.
+fn reserve(log: &mut Vec<Event>, extra: usize) -> Result<(), Memory>
+    ensures room { OnOk result (vec_len log.new + extra ≤ vec_capacity log.new) }
+    ensures items { log.new.items ≡ log.old.items }
+    ensures len { vec_len log.new ≡ vec_len log.old }
+{
+    log.reserve(extra)?;
+    Ok(())
+}
+
+/// A channel to each of so many switches.
+pub(crate) fn make_channels(alloc: Global, switches: u32) -> Result<Vec<Channel>, Memory>
+    ensures { IfOk result (λ v. states_of v.items ≡ replicate switches first_channel) }
+{
+    let mut channels = Vec::new(alloc);
+    for _number in 0..switches {
+        channels.push(Channel::make(alloc)?)?;
+    }
+    Ok(channels)
+}
+
+/// Whether a channel waits for no barrier.
+fn is_free(channel: &Channel) -> bool
+    ensures { result ≡ is_none channel.now.state.outstanding }
+{
+    channel.outstanding().is_none()
+}
+
+/// Whether each channel waits for no barrier.
+fn all_are_free(channels: &[Channel]) -> bool
+    ensures { result ≡ list_all (λ v. is_none v.state.outstanding) channels.now }
+{
+    channels.iter().all(|channel| is_free(channel))
+}
+
+/// Whether no barrier is outstanding.
+fn none_outstanding(channels: &[Channel]) -> bool
+    ensures { result ≡ none_outstanding (states_of channels.now) }
+{
+    all_are_free(channels)
+}
+
+/// The phase after the running round is settled.
+fn settled(phase: Phase) -> Phase
+    ensures { result ≡ settled phase }
+{
+    match phase {
+        Phase::Settled(k) => Phase::Settled(k),
+        Phase::Running(k) => Phase::Settled(k),
+    }
+}
+
+/// The phase after the next round starts.
+fn started(phase: Phase) -> Phase
+    requires { begun_count phase + 1 < 2 ^ 32 }
+    ensures { result ≡ started phase }
+{
+    match phase {
+        Phase::Settled(k) => Phase::Running(k + 1),
+        Phase::Running(k) => Phase::Running(k),
+    }
+}
+
+/// Settles the running round, if no barrier is outstanding. There is room for an event.
+fn settle_if_answered(phase: &mut Phase, log: &mut Vec<Event>, channels: &[Channel])
+    requires { vec_len log.old < vec_capacity log.old }
+    ensures { with_states phase.new log.new.items channels.now ≡ settled_if_answered (with_states phase.old log.old.items channels.now) }
+{
+    if none_outstanding(channels) {
+        *phase = settled(*phase);
+        log.push_reserved(Event::Settle);
+    }
+}
+
+/// Which switches have a change among these.
+fn changed_switches(changes: &[Change]) -> [bool; 128]
+    requires { AllByRecursion (λ c. (switch_of c).0 < 128) changes.now }
+    ensures { (s : ℕ) → s < 128 → slice_index_or result s false ≡ is_changed changes.now (switch_numbered s) }
+{
+    let mut marks = [false; MOST_SWITCHES];
+    for change in changes {
+        let switch = change.switch();
+        marks[switch.0 as usize] = true;
+    }
+    marks
+}
+
+/// Whether a switch that is marked has no open session.
+fn is_missing(channel: &Channel, marked: bool) -> bool
+    ensures { result ≡ (marked && not (is_open channel.now.state.session)) }
+{
+    marked && !channel.is_open()
+}
+
+/// The first switch that is marked and has no open session.
+fn first_not_open(channels: &[Channel], marks: &[bool]) -> Option<SwitchId>
+    requires marked { length channels.now ≤ length marks.now }
+    requires few { length channels.now ≤ 128 }
+    ensures { result ≡ find (λ s. not (is_open (slice_index_or (states_of channels.now) s.0 first_channel).session))
+        (filter (λ s. slice_index_or marks.now s.0 false) (map switch_numbered (range_with_len 0 (length channels.now)))) }
+{
+    for number in 0..channels.len() {
+        if is_missing(&channels[number], marks[number]) {
+            return Some(SwitchId(number as u32));
+        }
+    }
+    None
+}
+
+/// The changes of the next round, if it may start.
+pub(crate) fn next_round<'a>(
+    net: &Net,
+    rounds: &'a Rounds,
+    phase: Phase,
+    channels: &[Channel],
+) -> Result<&'a [Change], StartFault>
+    requires switches { length channels.now ≡ switch_count net.now }
+    requires few { switch_count net.now ≤ 128 }
+    requires plan { AllByRecursion (AllByRecursion (IsPlanChange net.now)) rounds.now }
+    requires within { IsPhaseWithin rounds.now phase }
+    ensures ok { IfOk result (λ round. MayStartWith net.now rounds.now (states_of channels.now) phase round.now) }
+    ensures refused { IfErr result (IsRefusedWith net.now rounds.now (states_of channels.now) phase) }
+{
+    let k = match phase {
+        Phase::Settled(k) => k as usize,
+        Phase::Running(_) => return Err(StartFault::Running),
+    };
+    if k == rounds.count() {
+        return Err(StartFault::Finished);
+    }
+    let round = rounds.round(k);
+    let marks = changed_switches(round);
+    match first_not_open(channels, &marks) {
+        Some(switch) => Err(StartFault::NotOpen(switch)),
+        None => Ok(round),
+    }
+}
+
+/// Makes room in each channel for what its turn has to send.
+fn reserve_all(channels: &mut [Channel], turns: &[Turn]) -> Result<(), Memory>
+    requires { length channels.old ≡ length turns.now }
+    ensures states { states_of channels.new ≡ states_of channels.old }
+    ensures room { OnOk result (HasRoomFrom 0 turns.now channels.new) }
+{
+    for number in 0..turns.len() {
+        channels[number].reserve(turns[number].text.len())?;
+    }
+    Ok(())
+}
+
+/// Sends to a switch what its turn has to send. There is room for it.
+fn ask(channel: &mut Channel, turn: &Turn)
+    requires { length turn.now.text.items ≤ channel.old.room }
+    ensures { channel.new.state ≡ told_by_turn turn.now channel.old.state }
+{
+    if let Some(xid) = turn.barrier {
+        channel.ask(&turn.text, xid);
+    }
+}
+
+/// Sends to each switch what its turn has to send. There is room for it.
+fn ask_all(channels: &mut [Channel], turns: &[Turn])
+    requires count { length channels.old ≡ length turns.now }
+    requires room { HasRoomFrom 0 turns.now channels.old }
+    ensures { states_of channels.new ≡ told_by_turns turns.now (states_of channels.old) }
+{
+    for number in 0..turns.len() {
+        ask(&mut channels[number], &turns[number]);
+    }
+}
+
+/// The next round begins: its turns are sent, and it is settled at once if no barrier is outstanding.
+pub(crate) fn begin(
+    turns: &[Turn],
+    phase: &mut Phase,
+    log: &mut Vec<Event>,
+    channels: &mut Vec<Channel>,
+) -> Result<(), Memory>
+    requires count { vec_len channels.old ≡ length turns.now }
+    requires most { begun_count phase.old + 1 < 2 ^ 32 }
+    ensures ok { OnOk result (with_states phase.new log.new.items channels.new.items ≡ begun_by_turns turns.now (with_states phase.old log.old.items channels.old.items)) }
+    ensures err { OnErr result (with_states phase.new log.new.items channels.new.items ≡ with_states phase.old log.old.items channels.old.items) }
+{
+    reserve(log, 2)?;
+    reserve_all(channels, turns)?;
+    // From here on nothing fails.
+    ask_all(channels, turns);
+    log.push_reserved(Event::Start);
+    *phase = started(*phase);
+    settle_if_answered(phase, log, channels);
+    Ok(())
+}
+
+/// Bytes come from a switch, whose changes of the running round have these events. Where it answers its barrier request, they
+/// are logged, and the round is settled if no barrier is outstanding.
+pub(crate) fn hear(
+    number: usize,
+    bytes: &[u8],
+    events: &[Event],
+    phase: &mut Phase,
+    log: &mut Vec<Event>,
+    channels: &mut Vec<Channel>,
+) -> Result<(), Memory>
+    requires { number < vec_len channels.old }
+    ensures ok { OnOk result (with_states phase.new log.new.items channels.new.items ≡ heard_with number events.now bytes.now (with_states phase.old log.old.items channels.old.items)) }
+    ensures err { OnErr result (with_states phase.new log.new.items channels.new.items ≡ with_states phase.old log.old.items channels.old.items) }
+{
+    let waited = channels[number].outstanding().is_some();
+    if waited {
+        reserve(log, events.len() + 1)?;
+    }
+    channels[number].feed(bytes)?;
+    if waited && channels[number].outstanding().is_none() {
+        extend_reserved(log, events);
+        settle_if_answered(phase, log, channels);
+    }
+    Ok(())
+}
