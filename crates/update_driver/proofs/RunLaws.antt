@@ -233,14 +233,14 @@ module _ (net : Network) (rounds : List (List Change)) (old : List (List Rule)) 
   follows_settled d k running f =
       cond_both (none_outstanding d.channels) (record d { phase = settled d.phase; log = d.log ++ event.Settle ∷ [] }) d Follows
       (λ none.
-        let st = state_after_run u d.log in
-        let w = running_waits d k running st.pending f.waits in
-        let none_here : (c : Change) → is_waited_for d.channels c ≡ false = λ c. not_some (get_or d.channels (switch_of c).0 first_channel).outstanding (all_at no_barrier d.channels (switch_of c).0 first_channel none refl) in
-        let off = all_off st.pending (round_after k rounds) w.0 (λ i c at. w.1 i c at ∙ ap Some (none_here c)) in
-        let may : IsEnabled net rounds st event.Settle = record { k = suc k; running = f.phase ∙ running; none_pending = off } in
-        let on = goes_on d.log (event.Settle ∷ []) f.run (may, tt) in
-        follows_from (record d { phase = settled d.phase; log = d.log ++ event.Settle ∷ [] }) (state_after_event net rounds st event.Settle) on.run on.state
-        (keeps_after st event.Settle f.keeps may) (ap settled f.phase) f.packets (subst (λ p. Waits rounds (settled p) d.channels st.pending) (sym running) tt))
+      let st = state_after_run u d.log in
+      let w = running_waits d k running st.pending f.waits in
+      let none_here : (c : Change) → is_waited_for d.channels c ≡ false = λ c. not_some (get_or d.channels (switch_of c).0 first_channel).outstanding (all_at no_barrier d.channels (switch_of c).0 first_channel none refl) in
+      let off = all_off st.pending (round_after k rounds) w.0 (λ i c at. w.1 i c at ∙ ap Some (none_here c)) in
+      let may : IsEnabled net rounds st event.Settle = record { k = suc k; running = f.phase ∙ running; none_pending = off } in
+      let on = goes_on d.log (event.Settle ∷ []) f.run (may, tt) in
+      follows_from (record d { phase = settled d.phase; log = d.log ++ event.Settle ∷ [] }) (state_after_event net rounds st event.Settle) on.run on.state
+      (keeps_after st event.Settle f.keeps may) (ap settled f.phase) f.packets (subst (λ p. Waits rounds (settled p) d.channels st.pending) (sym running) tt))
       (λ some. f)
 
   -- ---- bytes come
@@ -311,9 +311,9 @@ module _ (net : Network) (rounds : List (List Change)) (old : List (List Rule)) 
     follows_heard sound only f =
         cond_both (is_answered (channel_at d s).outstanding ch.outstanding) (made rounds s (with_channel s ch d)) (with_channel s ch d) Follows
         (λ hit.
-          let (some, none) = parts (is_some (channel_at d s).outstanding) ch.outstanding hit in
-          let r = runs_in d.phase refl sound.phase sound some in
-          follows_made r.k r.less r.running some (ap is_some none) f)
+        let (some, none) = parts (is_some (channel_at d s).outstanding) ch.outstanding hit in
+        let r = runs_in d.phase refl sound.phase sound some in
+        follows_made r.k r.less r.running some (ap is_some none) f)
         (λ miss. follows_quiet (elim (answered_or_not (channel_at d s) ch only) [ inl t ↦ absurd (let g : true ≡ false = sym t ∙ miss in cc) | inr same ↦ same ]) f)
 
   -- ---- a round starts

@@ -17,6 +17,7 @@ const SQUARE: &[u8] =
 
 /// HELLO of OpenFlow 1.0, and of 1.3 with a version bitmap.
 const HELLO: &str = "0100000800000000";
+
 const HELLO_13: &str = "04000010000000000001000800000010";
 
 /// What is sent first: HELLO with xid 0.
@@ -136,14 +137,21 @@ fn take(alloc: Global, driver: &mut Driver<'_>, step: &Step<'_>, singly: bool) -
             let started = driver.start();
             started.ok().ok_or("a start")?;
         }
-        Step::Feed(switch, text) if *switch < 4 && singly => feed_singly(alloc, driver, *switch, text)?,
+        Step::Feed(switch, text) if *switch < 4 && singly => feed_singly(
+            alloc, driver, *switch, text,
+        )?,
         Step::Feed(switch, text) if *switch < 4 => feed(alloc, driver, *switch, text)?,
         Step::Feed(_, _) => {}
     }
     Ok(())
 }
 
-fn play(alloc: Global, driver: &mut Driver<'_>, steps: &[Step<'_>], singly: bool) -> Result<(), Fail>
+fn play(
+    alloc: Global,
+    driver: &mut Driver<'_>,
+    steps: &[Step<'_>],
+    singly: bool,
+) -> Result<(), Fail>
     requires { switch_count driver.old.net ≡ 4 }
     ensures { driver.new.net ≡ driver.old.net }
 {
@@ -191,12 +199,14 @@ fn carries_out_two_rounds(alloc: Global, singly: bool) -> Result<bool, Fail> {
         Event::Change(0),
         Event::Settle,
     ];
-    Ok(driver.log() == log.as_slice()
-        && driver.phase() == Phase::Settled(2)
-        && has_sent(alloc, &driver, 0, &[FIRST, FIRST_ROUND])?
-        && has_sent(alloc, &driver, 1, &[FIRST])?
-        && has_sent(alloc, &driver, 2, &[FIRST, SECOND_ROUND])?
-        && has_sent(alloc, &driver, 3, &[FIRST])?)
+    Ok(
+        driver.log() == log.as_slice()
+            && driver.phase() == Phase::Settled(2)
+            && has_sent(alloc, &driver, 0, &[FIRST, FIRST_ROUND])?
+            && has_sent(alloc, &driver, 1, &[FIRST])?
+            && has_sent(alloc, &driver, 2, &[FIRST, SECOND_ROUND])?
+            && has_sent(alloc, &driver, 3, &[FIRST])?,
+    )
 }
 
 #[test]
@@ -239,7 +249,10 @@ fn a_session_fails_with_its_cause(rt: HostRuntime) -> Result<(), Fail> {
     }
     // Fewer than 8 bytes tell nothing, and messages of other types change nothing.
     assert_eq!(rt; session_after(alloc, "00000008000000")?, Session::Open);
-    assert_eq!(rt; session_after(alloc, "010a000c0000000000000000")?, Session::Open);
+    assert_eq!(rt;
+        session_after(alloc, "010a000c0000000000000000")?,
+        Session::Open
+    );
     assert_eq!(rt; session_after(alloc, HELLO)?, Session::Open);
     Ok(())
 }
@@ -253,7 +266,10 @@ fn the_first_message_is_a_hello(rt: HostRuntime) -> Result<(), Fail> {
     feed(alloc, &mut driver, 1, "0102000800000001")?;
     feed(alloc, &mut driver, 1, HELLO)?;
     assert_eq!(rt; driver.session(SwitchId(0)), Session::Waiting);
-    assert_eq!(rt; driver.session(SwitchId(1)), Session::Failed(Cause::NoHello));
+    assert_eq!(rt;
+        driver.session(SwitchId(1)),
+        Session::Failed(Cause::NoHello)
+    );
     assert!(rt; has_sent(alloc, &driver, 1, &[FIRST])?);
     Ok(())
 }
@@ -270,8 +286,18 @@ fn an_echo_is_answered_between_the_parts_of_a_round(rt: HostRuntime) -> Result<(
         Step::Feed(0, "0102000c00000007deadbeef0113000800000002"),
     ];
     play(alloc, &mut driver, &steps, false)?;
-    assert!(rt; has_sent(alloc, &driver, 0, &[FIRST, FIRST_ROUND, "0103000c00000007deadbeef"])?);
-    assert_eq!(rt; driver.log(), [Event::Start, Event::Change(0), Event::Settle].as_slice());
+    assert!(rt;
+        has_sent(
+            alloc,
+            &driver,
+            0,
+            &[FIRST, FIRST_ROUND, "0103000c00000007deadbeef"]
+        )?
+    );
+    assert_eq!(rt;
+        driver.log(),
+        [Event::Start, Event::Change(0), Event::Settle].as_slice()
+    );
     Ok(())
 }
 
