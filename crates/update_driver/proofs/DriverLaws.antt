@@ -11,7 +11,7 @@ use Rattle.net_base.specs.declared.ids.SwitchId.{SwitchId}
 use Rattle.net_base.proofs.MemberLaws.{each_append}
 use Rattle.topology.specs.Networks.{Network, switch_count}
 use Rattle.update_model.specs.Changes.{round_after}
-use Rattle.update_model.specs.States.{settled, started, settled_count}
+use Rattle.update_model.specs.States.{settled, settled_count}
 use Rattle.update_model.specs.Worlds.{running_round}
 use Rattle.update_model.specs.Ranges.{IsPlanChange}
 use Rattle.update_model.specs.declared.Change.{Change}
@@ -25,7 +25,7 @@ use Rattle.switch_session.specs.Channels.{ChannelState, first_channel, after_byt
 use Rattle.switch_session.specs.Laws.{OnlyReplies}
 use Rattle.switch_session.specs.Seen.{ChannelView}
 use Rattle.switch_session.proofs.ByteLaws.{only_replies}
-use Rattle.update_driver.specs.Drivers.{DriverState, first_driver, first_not_open, start_fault_in, channel_at, with_channel, none_outstanding, settled_if_answered, change_events, made, is_answered, heard, fed, told_all, started_driver, start_fault}
+use Rattle.update_driver.specs.Drivers.{DriverState, first_driver, first_not_open, start_fault_in, channel_at, with_channel, none_outstanding, settled_if_answered, change_events, made, is_answered, heard, fed, told_all, started_driver, start_fault, started}
 use Rattle.update_driver.specs.Calls.{Call, Start, Feed, IsCall, after_call, after_calls, driver_after, AreDrivable, DriverView, IsReached}
 use Rattle.update_driver.specs.Laws.{LogIsRun, begun_count}
 use Rattle.update_driver.specs.Answers.{with_state, IsRefusal}

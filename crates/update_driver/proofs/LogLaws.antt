@@ -7,13 +7,13 @@ use Rattle.net_base.specs.declared.ids.SwitchId.{SwitchId}
 use Rattle.net_base.proofs.MemberLaws.{each_append}
 use Rattle.topology.specs.Networks.{Network}
 use Rattle.update_model.specs.Changes.{switch_of}
-use Rattle.update_model.specs.States.{settled, started, settled_count}
+use Rattle.update_model.specs.States.{settled, settled_count}
 use Rattle.update_model.specs.Worlds.{running_round}
 use Rattle.update_model.specs.declared.Change.{Change}
 use Rattle.update_model.specs.declared.Event.{Event}
 use Rattle.update_model.specs.declared.Event.TheVariants as event
 use Rattle.switch_session.specs.Channels.{after_bytes}
-use Rattle.update_driver.specs.Drivers.{DriverState, first_driver, channel_at, with_channel, none_outstanding, settled_if_answered, change_events, made, is_answered, fed, told_all, started_driver, start_fault}
+use Rattle.update_driver.specs.Drivers.{DriverState, first_driver, channel_at, with_channel, none_outstanding, settled_if_answered, change_events, made, is_answered, fed, told_all, started_driver, start_fault, started}
 use Rattle.update_driver.specs.Calls.{Call, Start, Feed, IsCall, AreDrivable, after_call, after_calls, driver_after}
 use Rattle.update_driver.specs.Laws.{IsOfUpdate, LogIsRun, WaitsForBarriers}
 use Rattle.update_driver.proofs.SoundLaws.{sound_driver, begun}

@@ -11,7 +11,7 @@ use Rattle.topology.specs.Networks.{Network, switch_count}
 use Rattle.flow_rules.specs.declared.rules.Rule.{Rule}
 use Rattle.update_model.specs.Changes.{switch_of, round_after}
 use Rattle.update_model.specs.Mixtures.{Update, AreGoodRounds}
-use Rattle.update_model.specs.States.{State, first_state, IsEnabled, settled_count, settled, started, state_after_event}
+use Rattle.update_model.specs.States.{State, first_state, IsEnabled, settled_count, settled, state_after_event}
 use Rattle.update_model.specs.Runs.{AreEnabled, state_after, IsRun, state_after_run}
 use Rattle.update_model.specs.Worlds.{running_round}
 use Rattle.path_walk.specs.declared.Ended.TheVariants.{UnderWay}
@@ -25,7 +25,7 @@ use Rattle.schedule_pilot.proofs.PendingLaws.{pending_applies, same_count}
 use Rattle.switch_session.specs.Channels.{ChannelState, first_channel, after_bytes}
 use Rattle.switch_session.specs.Laws.{OnlyReplies}
 use Rattle.switch_session.proofs.ByteLaws.{only_replies}
-use Rattle.update_driver.specs.Drivers.{DriverState, first_driver, channel_at, with_channel, none_outstanding, settled_if_answered, change_events, made, is_answered, heard, fed, told_all, started_driver, start_fault}
+use Rattle.update_driver.specs.Drivers.{DriverState, first_driver, channel_at, with_channel, none_outstanding, settled_if_answered, change_events, made, is_answered, heard, fed, told_all, started_driver, start_fault, started}
 use Rattle.update_driver.specs.Calls.{Call, Start, Feed, IsCall, after_call, after_calls, driver_after}
 use Rattle.update_driver.specs.Laws.{update_from, IsOfUpdate, LogIsRun}
 use Rattle.update_driver.specs.Inside.{IsPhaseWithin}

@@ -12,7 +12,7 @@ use Rattle.net_base.proofs.MemberLaws.{each_append}
 use Rattle.topology.specs.Networks.{Network, switch_count}
 use Rattle.update_model.specs.Changes.{changes_at, round_after}
 use Rattle.update_model.specs.Ranges.{IsPlanChange}
-use Rattle.update_model.specs.States.{settled, started, settled_count}
+use Rattle.update_model.specs.States.{settled, settled_count}
 use Rattle.update_model.specs.Worlds.{running_round}
 use Rattle.update_model.specs.declared.Change.{Change}
 use Rattle.update_model.specs.declared.Event.TheVariants as event
@@ -27,7 +27,7 @@ use Rattle.round_messages.proofs.BySwitch.{messages_to-append, each_round}
 use Rattle.switch_session.specs.Channels.{ChannelState, first_channel, hello, echo_reply, asked, after_bytes}
 use Rattle.switch_session.specs.Laws.{IsEchoRequest, OnlyReplies}
 use Rattle.switch_session.proofs.ByteLaws.{only_replies}
-use Rattle.update_driver.specs.Drivers.{DriverState, first_driver, channel_at, with_channel, none_outstanding, settled_if_answered, change_events, made, is_answered, heard, fed, messages_for, barrier_in, told, told_all, started_driver, start_fault}
+use Rattle.update_driver.specs.Drivers.{DriverState, first_driver, channel_at, with_channel, none_outstanding, settled_if_answered, change_events, made, is_answered, heard, fed, messages_for, barrier_in, told, told_all, started_driver, start_fault, started}
 use Rattle.update_driver.specs.Calls.{Call, Start, Feed, IsCall, AreDrivable, after_call, after_calls, driver_after}
 use Rattle.update_driver.specs.Laws.{Part, Reply, Ask, part_text, IsPart, message_in, begun_count, messages_until, SendsOnly}
 use Rattle.update_driver.proofs.SoundLaws.{IsSound, MayBegin, sound_first, sound_call, may_begin, begun, none_is}

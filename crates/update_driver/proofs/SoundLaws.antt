@@ -8,7 +8,7 @@ use Rattle.std.proofs.lemmas.List.{length-replicate}
 use Rattle.net_base.specs.declared.ids.SwitchId.{SwitchId}
 use Rattle.topology.specs.Networks.{Network, switch_count}
 use Rattle.update_model.specs.Changes.{round_after}
-use Rattle.update_model.specs.States.{settled_count, settled, started}
+use Rattle.update_model.specs.States.{settled_count, settled}
 use Rattle.update_model.specs.Worlds.{running_round}
 use Rattle.update_model.specs.declared.Change.{Change}
 use Rattle.update_model.specs.declared.Event.{Event}
@@ -19,7 +19,7 @@ use Rattle.round_messages.specs.Requests.{switches_changed, switch_numbered}
 use Rattle.switch_session.specs.Channels.{ChannelState, first_channel, after_bytes}
 use Rattle.switch_session.specs.Laws.{OnlyReplies}
 use Rattle.switch_session.proofs.ByteLaws.{only_replies}
-use Rattle.update_driver.specs.Drivers.{DriverState, first_driver, channel_at, with_channel, none_outstanding, settled_if_answered, change_events, made, is_answered, heard, fed, messages_for, told, told_all, started_driver, first_not_open, start_fault_in, start_fault}
+use Rattle.update_driver.specs.Drivers.{DriverState, first_driver, channel_at, with_channel, none_outstanding, settled_if_answered, change_events, made, is_answered, heard, fed, messages_for, told, told_all, started_driver, first_not_open, start_fault_in, start_fault, started}
 use Rattle.update_driver.specs.Calls.{Call, Start, Feed, IsCall, after_call, after_calls, driver_after}
 use Rattle.update_driver.specs.Laws.{WaitsForBarriers}
 use Rattle.update_driver.specs.Inside.{IsPhaseWithin}

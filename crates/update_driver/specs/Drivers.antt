@@ -5,7 +5,7 @@ use Rattle.std.specs.Option.{option_map, option_map_or}
 use Rattle.net_base.specs.declared.ids.SwitchId.{SwitchId}
 use Rattle.topology.specs.Networks.{Network, switch_count}
 use Rattle.update_model.specs.Changes.{switch_of, round_after}
-use Rattle.update_model.specs.States.{settled_count, started, settled}
+use Rattle.update_model.specs.States.{settled_count, settled}
 use Rattle.update_model.specs.Worlds.{running_round}
 use Rattle.update_model.specs.declared.Change.{Change}
 use Rattle.update_model.specs.declared.Event.{Event}
@@ -93,6 +93,10 @@ told messages channel = option_map_or (λ xid. asked (flat_map wire_text message
 abbrev pub told_all : Network → List (List Change) → ℕ → ℕ → List ChannelState → List ChannelState
 told_all net rounds k n [] = []
 told_all net rounds k n (c ∷ channels) = told (messages_for net rounds k (switch_numbered n)) c ∷ told_all net rounds k (suc n) channels
+
+-- the phase after the next round starts
+abbrev pub started : Phase → Phase
+started phase = Running (suc (settled_count phase))
 
 -- a driver after the next round starts; a round without changes is settled at once
 abbrev pub started_driver : Network → List (List Change) → DriverState → DriverState

@@ -5,7 +5,6 @@ use Rattle.std.specs.Option.{option_map_or}
 use Rattle.net_base.specs.declared.ids.SwitchId.{SwitchId}
 use Rattle.topology.specs.Networks.{Network, switch_count}
 use Rattle.update_model.specs.Changes.{round_after}
-use Rattle.update_model.specs.States.{started}
 use Rattle.update_model.specs.Worlds.{running_round}
 use Rattle.update_model.specs.declared.Change.{Change}
 use Rattle.update_model.specs.declared.Event.{Event}
@@ -18,7 +17,7 @@ use Rattle.round_messages.specs.Requests.{Sent, first_xid, is_changed, switch_nu
 use Rattle.round_messages.specs.ToSwitch.{messages_to}
 use Rattle.switch_session.specs.Channels.{ChannelState, asked, after_bytes}
 use Rattle.switch_session.specs.Seen.{ChannelView}
-use Rattle.update_driver.specs.Drivers.{DriverState, channel_at, with_channel, settled_if_answered, change_events, is_answered, barrier_in, start_fault_in}
+use Rattle.update_driver.specs.Drivers.{DriverState, channel_at, with_channel, settled_if_answered, change_events, is_answered, barrier_in, start_fault_in, started}
 use Rattle.update_driver.specs.Calls.{DriverView, AreDrivable, IsReached}
 use Rattle.update_driver.specs.Laws.{begun_count}
 use Rattle.update_driver.specs.declared.StartFault.{StartFault}

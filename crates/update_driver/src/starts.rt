@@ -4,11 +4,11 @@ ghost use Rattle.std.specs.List.{AllByRecursion, list_all, range_with_len};
 ghost use Rattle.topology.specs.Networks.{switch_count};
 ghost use Rattle.update_model.specs.Changes.{switch_of};
 ghost use Rattle.update_model.specs.Ranges.{IsPlanChange};
-ghost use Rattle.update_model.specs.States.{settled, started};
+ghost use Rattle.update_model.specs.States.{settled, settled_count};
 ghost use Rattle.update_driver.specs.Laws.{begun_count};
 ghost use Rattle.round_messages.specs.Requests.{is_changed, switch_numbered};
 ghost use Rattle.switch_session.specs.Channels.{first_channel, is_open};
-ghost use Rattle.update_driver.specs.Drivers.{none_outstanding, settled_if_answered};
+ghost use Rattle.update_driver.specs.Drivers.{none_outstanding, settled_if_answered, started};
 ghost use Rattle.update_driver.specs.Inside.{states_of, with_states, HasRoomFrom, told_by_turn, told_by_turns, begun_by_turns, heard_with, IsPhaseWithin, MayStartWith, IsRefusedWith};
 
 use crate::StartFault;
@@ -86,15 +86,24 @@ fn settled(phase: Phase) -> Phase
     }
 }
 
+/// How many rounds are settled.
+fn settled_of(phase: Phase) -> u32
+    ensures value { result ≡ settled_count phase }
+    ensures most { result ≤ begun_count phase }
+{
+    match phase {
+        Phase::Settled(k) => k,
+        Phase::Running(k) if k > 0 => k - 1,
+        Phase::Running(_) => 0,
+    }
+}
+
 /// The phase after the next round starts.
 fn started(phase: Phase) -> Phase
     requires { begun_count phase + 1 < 2 ^ 32 }
     ensures { result ≡ started phase }
 {
-    match phase {
-        Phase::Settled(k) => Phase::Running(k + 1),
-        Phase::Running(k) => Phase::Running(k),
-    }
+    Phase::Running(settled_of(phase) + 1)
 }
 
 /// Settles the running round, if no barrier is outstanding. There is room for an event.

@@ -1,0 +1,5 @@
+//! Tests of flow statistics, through the public calls of `flow_stats`.
+#![tactic(auto)]
+
+#[cfg(test)]
+mod tests;

@@ -1,0 +1,5 @@
+//! Tests of the command `import`.
+#![tactic(auto)]
+
+#[cfg(test)]
+mod tests;
