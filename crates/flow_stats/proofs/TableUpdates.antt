@@ -4,9 +4,9 @@ use Rattle.std.specs.Prelude.{Some, slice_get, Result, Ok, Err, MatchResult}
 use Rattle.net_base.specs.Reading.{Fails}
 use Rattle.net_base.specs.declared.ids.SwitchId.{SwitchId}
 use Rattle.net_base.proofs.Turns.{Fails-bind}
+use Rattle.flow_rules.proofs.TableLaws.{rules_set, rules_get}
 use Rattle.flow_rules.specs.Tables.{TableState, rules_of_all}
 use Rattle.flow_rules.specs.declared.rules.Rule.{Rule}
-use Rattle.config_files.proofs.TableUpdates.{rules_set, rules_get}
 use Rattle.flow_stats.specs.declared.fault.StatsFault.{StatsFault}
 use Rattle.flow_stats.specs.declared.fault.StatsFault.TheVariants.{Memory}
 use Rattle.flow_stats.specs.Tables.{rules_with, with_rule}

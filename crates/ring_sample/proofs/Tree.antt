@@ -20,7 +20,6 @@ use Rattle.path_walk.specs.Paths.{Trace, IsPath}
 use Rattle.path_walk.proofs.PathLaws.{path_one}
 use Rattle.dest_classes.specs.Classes.{IsClass, boundaries, class_count}
 use Rattle.dest_classes.specs.declared.Class.{Class}
-use Rattle.dest_classes.proofs.RisingLaws.{in_from_get}
 use Rattle.demands.specs.Duties.{DemandView}
 use Rattle.demands.specs.Good.{HasGoodPath, HasGoodPaths}
 use Rattle.certificates.specs.Certified.{Task, classes_for, blocks_of}
@@ -32,6 +31,7 @@ use Rattle.ring_sample.proofs.Ranges.{in_range, from_range}
 use Rattle.ring_sample.proofs.Ways.{IsWay, IsFar, next_way, back_way, ahead, next_ahead, back, behind, back_behind}
 use Rattle.ring_sample.proofs.Walks.{place_at}
 use Rattle.ring_sample.proofs.ClassPaths.{firsts, within_block, ring_demand_of, none_through, table_at, ClassPath, class_path}
+use Rattle.net_base.proofs.ItemLaws.{in_from_get}
 
 -- ---- tables
 

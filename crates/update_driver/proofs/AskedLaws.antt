@@ -12,7 +12,7 @@ use Rattle.update_model.specs.Changes.{switch_of, changes_at, round_after}
 use Rattle.update_model.specs.Ranges.{IsPlanChange}
 use Rattle.update_model.specs.declared.Change.{Change}
 use Rattle.update_model.specs.declared.Change.TheVariants.{Insert, Delete, Replace}
-use Rattle.update_model.proofs.MadeLaws.{in_from_get}
+use Rattle.net_base.proofs.ItemLaws.{in_from_get}
 use Rattle.openflow10.specs.Messages.{wire_text, message_of}
 use Rattle.openflow10.specs.declared.Message.{Message}
 use Rattle.openflow10.specs.declared.Message.TheVariants.{BarrierRequest}
