@@ -19,6 +19,8 @@ use Rattle.simulate_command.specs.Names as simulate
 use Rattle.simulate_command.specs.Simulated.{IsSimulateAnswer}
 use Rattle.upgrade_command.specs.Texts.{IsUpgradeAnswer}
 use Rattle.emit_command.specs.Answers.{IsEmitAnswer}
+use Rattle.import_command.specs.Names as imports
+use Rattle.import_command.specs.Imported.{ImportMeaning, import_dialogue, IsImportAnswer}
 use Rattle.planner_cli.specs.declared.command.Command.{Command}
 use Rattle.planner_cli.specs.declared.command.Command.TheVariants as command
 
@@ -31,6 +33,7 @@ pub data Asked : Type 0 where
   Emit : PlanNames → Asked
   Replay : replay.ReplayNames → Asked
   Simulate : simulate.SimulateNames → Asked
+  Import : imports.ImportNames → Asked
 
 -- what the words after the program's name ask for; nothing where they are none of the listed forms
 abbrev pub asked : List (List ℕ) → Option Asked
@@ -43,6 +46,7 @@ asked (name ∷ words) =
     else if bytes_eq name (codes "emit") then option_map Emit (base.plan_names_in words)
     else if bytes_eq name (codes "replay") then option_map Replay (replay.names_in words)
     else if bytes_eq name (codes "simulate") then option_map Simulate (simulate.names_in words)
+    else if bytes_eq name (codes "import") then option_map Import (imports.names_in words)
     else None
 
 -- a command without where its names lie in memory
@@ -54,6 +58,7 @@ seen (command.Upgrade names) = Upgrade (base.plan_names_seen names)
 seen (command.Emit names) = Emit (base.plan_names_seen names)
 seen (command.Replay names) = Replay (replay.names_seen names)
 seen (command.Simulate names) = Simulate (simulate.names_seen names)
+seen (command.Import names) = Import (imports.names_seen names)
 
 -- of what a command says its answer
 pub data Ending : Type 0 where
@@ -64,6 +69,7 @@ pub data Ending : Type 0 where
   OfEmit : PlanMeaning → Ending
   OfReplay : ReplayMeaning → Ending
   OfSimulate : ℕ → ℕ → CheckMeaning → Ending
+  OfImport : ImportMeaning → Ending
   OfUsage : Ending
 
 -- on words that are none of the listed forms
@@ -79,6 +85,7 @@ IsSaid (OfUpgrade m) answer = IsUpgradeAnswer m answer
 IsSaid (OfEmit m) answer = IsEmitAnswer m answer
 IsSaid (OfReplay m) answer = IsReplayAnswer m answer
 IsSaid (OfSimulate start count m) answer = IsSimulateAnswer start count m answer
+IsSaid (OfImport m) answer = IsImportAnswer m answer
 IsSaid OfUsage answer = answer ≡ record { status = status.Usage; text = usage_line }
 
 -- the dialogue of a command
@@ -90,6 +97,7 @@ dialogue_of (Upgrade names) = and_then (reading_plan_files names) (λ m. Ends (O
 dialogue_of (Emit names) = and_then (reading_plan_files names) (λ m. Ends (OfEmit m))
 dialogue_of (Replay names) = and_then (replay_dialogue names) (λ m. Ends (OfReplay m))
 dialogue_of (Simulate names) = and_then (check_dialogue names.check) (λ m. Ends (OfSimulate names.start names.count m))
+dialogue_of (Import names) = and_then (import_dialogue names) (λ m. Ends (OfImport m))
 
 -- the dialogue of what is asked for, if anything is
 abbrev pub dialogue_on : Option Asked → Dialogue Ending

@@ -5,6 +5,7 @@ ghost use Rattle.planner_cli.specs.Commands.{asked, seen};
 use check_command::{CheckNames, check_names};
 use command_base::{PlanNames, UpdateNames, plan_names, update_names};
 use config_command::{ConfigNames, config_names};
+use import_command::{ImportNames, import_names};
 use replay_command::{ReplayNames, replay_names};
 use simulate_command::{SimulateNames, simulate_names};
 
@@ -18,6 +19,7 @@ pub enum Command<'a> {
     Emit(PlanNames<'a>),
     Replay(ReplayNames<'a>),
     Simulate(SimulateNames<'a>),
+    Import(ImportNames<'a>),
 }
 
 /// What the words after the program's name ask for; nothing where they are none of the listed forms.
@@ -35,6 +37,7 @@ pub fn command_of(words: &[String]) -> Option<Command<'_>>
         "emit" => plan_names(rest).map(Command::Emit),
         "replay" => replay_names(rest).map(Command::Replay),
         "simulate" => simulate_names(rest).map(Command::Simulate),
+        "import" => import_names(rest).map(Command::Import),
         _ => None,
     }
 }

@@ -18,7 +18,9 @@ ghost use Rattle.replay_command.specs.Names.{ReplayNames};
 ghost use Rattle.replay_command.specs.Promise.{ReplayPromise};
 ghost use Rattle.simulate_command.specs.Names.{SimulateNames};
 ghost use Rattle.simulate_command.specs.Promise.{SimulatePromise};
-ghost use Rattle.planner_cli.specs.Commands.{Config, Check, Plan, Upgrade, Emit, Replay, Simulate, asked, seen, dialogue, dialogue_of, IsSaid, usage_line};
+ghost use Rattle.import_command.specs.Names.{ImportNames};
+ghost use Rattle.import_command.specs.Promise.{ImportPromise};
+ghost use Rattle.planner_cli.specs.Commands.{Config, Check, Plan, Upgrade, Emit, Replay, Simulate, Import, asked, seen, dialogue, dialogue_of, IsSaid, usage_line};
 
 use crate::command::{Command, command_of};
 use check_command::check;
@@ -28,6 +30,8 @@ use config_command::config;
 use config_command::laws::config_promised;
 use emit_command::emit;
 use emit_command::laws::emit_promised;
+use import_command::import;
+use import_command::laws::import_promised;
 use net_base::{Sink, Source, WriteFault, pour};
 use plan_command::laws::plan_promised;
 use plan_command::plan;
@@ -54,6 +58,7 @@ fn reply_to<S: Source>(alloc: Global, command: &Command<'_>, source: &mut S) -> 
         Command::Emit(names) => emit(alloc, source, names),
         Command::Replay(names) => replay(alloc, source, names),
         Command::Simulate(names) => simulate(alloc, source, names),
+        Command::Import(names) => import(alloc, source, names),
     }
 }
 
@@ -145,6 +150,8 @@ pub fn run<S: Source, K: Sink>(
         → ReplayPromise files names (K.written sink.old) (K.written sink.new) result }
     ensures simulate { (files : Files) (names : SimulateNames) → S.held source.old ≡ Some files → asked (map string_bytes words.now) ≡ Some (Simulate names)
         → SimulatePromise files names (K.written sink.old) (K.written sink.new) result }
+    ensures import { (files : Files) (names : ImportNames) → S.held source.old ≡ Some files → asked (map string_bytes words.now) ≡ Some (Import names)
+        → ImportPromise files names (K.written sink.old) (K.written sink.new) result }
 {
     config_promised();
     check_promised();
@@ -153,5 +160,6 @@ pub fn run<S: Source, K: Sink>(
     emit_promised();
     replay_promised();
     simulate_promised();
+    import_promised();
     respond(alloc, words, source, sink)
 }

@@ -111,6 +111,27 @@ fn replay_runs(rt: HostRuntime) -> Result<(), Fail> {
     Ok(())
 }
 
+// The flow statistics of s1 are held in the place of the policy: 10.0.0.0/24 of priority 100, output to port 2.
+#[test]
+fn import_runs(rt: HostRuntime) -> Result<(), Fail> {
+    let alloc = rt.alloc();
+    let texts = UpdateTexts {
+        topology: square::topology(),
+        old: square::old(),
+        new: square::new(),
+        policy: b"s1 0111006c000000000001000000600000003220ef000000000000000000000000000000000000080000000000000000000a0000000000000000000000000000000064000000000000000000000000000000000000000000000000000000000000000000000000000800020000\n",
+    };
+    let mut source = update_source(alloc, &texts, square::plan(), 4096, 0)?;
+    let words = ["import", "topology", "policy"];
+    let (status, written) = ran(alloc, &words, &mut source, 4000, 0)?;
+    assert_eq!(rt; status, Status::Done);
+    assert_eq!(rt;
+        written.as_slice(),
+        b"{\"rules\":[{\"dst\":\"10.0.0.0/24\",\"out\":2,\"priority\":100,\"switch\":\"s1\"}]}\n".as_slice()
+    );
+    Ok(())
+}
+
 // Whether the run ends by the fault of that put, with what came before it written.
 fn writes_front(alloc: Global, texts: &[&str], failing: u64, text: &[u8]) -> Result<bool, Fail> {
     let (status, written) = ran_over_update(alloc, texts, failing)?;

@@ -7,7 +7,8 @@ use Rattle.replay_command.specs.Replayed.{replay_dialogue, IsReplayAnswer}
 use Rattle.simulate_command.specs.Simulated.{IsSimulateAnswer}
 use Rattle.upgrade_command.specs.Texts.{IsUpgradeAnswer}
 use Rattle.emit_command.specs.Answers.{IsEmitAnswer}
-use Rattle.planner_cli.specs.Commands.{Config, Check, Plan, Upgrade, Emit, Replay, Simulate, OfConfig, OfCheck, OfPlan, OfUpgrade, OfEmit, OfReplay, OfSimulate, IsSaid}
+use Rattle.import_command.specs.Imported.{import_dialogue, IsImportAnswer}
+use Rattle.planner_cli.specs.Commands.{Config, Check, Plan, Upgrade, Emit, Replay, Simulate, Import, OfConfig, OfCheck, OfPlan, OfUpgrade, OfEmit, OfReplay, OfSimulate, OfImport, IsSaid}
 use Rattle.planner_cli.proofs.Answered.{answered}
 use Rattle.planner_cli.proofs.run.run.Goals as goal
 
@@ -45,3 +46,8 @@ pub returns-clause-simulate : goal.returns-clause-simulate
 returns-clause-simulate g c = λ files names tells asks.
     c.simulate_promised.ensures files names _ _ _ (λ settled.
     answered_as (IsSimulateAnswer names.start names.count) IsSaid (OfSimulate names.start names.count) files (check_dialogue names.check) _ _ _ (λ m answer said. said) (answered _ _ _ _ _ files (Simulate names) (c.respond.ensures.all settled) tells asks))
+
+pub returns-clause-import : goal.returns-clause-import
+returns-clause-import g c = λ files names tells asks.
+    c.import_promised.ensures files names _ _ _ (λ settled.
+    answered_as IsImportAnswer IsSaid OfImport files (import_dialogue names) _ _ _ (λ m answer said. said) (answered _ _ _ _ _ files (Import names) (c.respond.ensures.all settled) tells asks))
