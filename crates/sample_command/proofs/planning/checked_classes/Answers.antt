@@ -1,0 +1,4 @@
+use Rattle.sample_command.proofs.planning.checked_classes.Goals as goal
+
+pub unreachable-requires : goal.unreachable-requires
+unreachable-requires c = let never = c.in-Refused.ensures.accepted.1 c.requires.certified in cc
