@@ -53,14 +53,7 @@ pub fn tree_plan(alloc: Global, files: &UpdateFiles) -> Result<Plan, Memory>
 {
     let classes = few_classes(alloc, files)?;
     let duties = Duties::make(alloc, &files.net, &files.demands, &classes)?;
-    match order(
-        alloc,
-        &files.net,
-        &files.old,
-        &files.new,
-        &duties,
-        &classes,
-    )? {
+    match order(alloc, &files.net, &files.old, &files.new, &duties, &classes)? {
         Ordered::Rounds(plan) => Ok(plan),
         Ordered::Stuck(_) => unreachable!(),
     }

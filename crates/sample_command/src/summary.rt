@@ -7,12 +7,7 @@ use net_base::Memory;
 use std::alloc::Global;
 
 // The ring, and the rounds and classes of its update.
-fn update_part(
-    alloc: Global,
-    switches: u32,
-    rounds: usize,
-    classes: u32,
-) -> Result<Vec<u8>, Memory>
+fn update_part(alloc: Global, switches: u32, rounds: usize, classes: u32) -> Result<Vec<u8>, Memory>
     ensures { IfOk result (λ t. t.items ≡ lines.update_part switches rounds classes) }
 {
     Ok(format!(in alloc;

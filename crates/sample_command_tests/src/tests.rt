@@ -70,7 +70,16 @@ fn large_rings_are_planned_and_accepted(rt: HostRuntime) -> Result<(), Fail> {
 #[test]
 fn a_ring_has_from_four_to_128_switches(rt: HostRuntime) -> Result<(), Fail> {
     let alloc = rt.alloc();
-    for word in ["3", "129", "08", "", "+8", "8 ", "0", "18446744073709551624"] {
+    for word in [
+        "3",
+        "129",
+        "08",
+        "",
+        "+8",
+        "8 ",
+        "0",
+        "18446744073709551624",
+    ] {
         assert!(rt; ring_size(&words(alloc, &[word])?).is_none(), "at {word:?}");
     }
     for (word, switches) in [("4", 4u32), ("128", 128)] {
