@@ -1,7 +1,7 @@
 // `import` over files in memory.
 use command_base::Status;
 use config_command::{ConfigNames, config};
-use example_files::{Answer, ConfigTexts, answer_of, config_source, square};
+use example_files::{Answer, answer_of, square};
 use import_command::{ImportNames, import};
 use net_base::MemorySource;
 use std::alloc::Global;
@@ -19,17 +19,35 @@ const HIGH: &str =
 const BEGUN: &str =
     "s1 0111006c000000000001000100600000003220ef000000000000000000000000000000000000080000000000000000000a0000000000000000000000000000000064000000000000000000000000000000000000000000000000000000000000000000000000000800020000\n";
 
-// What is answered to these lines, with the topology of the square.
-fn answered(alloc: Global, replies: &[u8]) -> Result<Answer, Fail> {
+// The topology of the square, and a second file.
+fn source_of(alloc: Global, name: &str, file: &[u8]) -> Result<MemorySource, Fail> {
     let mut source = MemorySource::make(alloc, 4096, Vec::new(alloc))?;
     let topology = square::topology().to_vec(alloc)?;
     source.add(String::from_str(alloc, "topology")?, topology)?;
-    source.add(String::from_str(alloc, "replies")?, replies.to_vec(alloc)?)?;
+    source.add(String::from_str(alloc, name)?, file.to_vec(alloc)?)?;
+    Ok(source)
+}
+
+// What `import` answers to these lines.
+fn answered(alloc: Global, replies: &[u8]) -> Result<Answer, Fail> {
+    let mut source = source_of(alloc, "replies", replies)?;
     let names = ImportNames {
         topology: "topology",
         replies: "replies",
     };
     let result = import(alloc, &mut source, &names);
+    Ok(answer_of(alloc, result))
+}
+
+// What `config` answers to this configuration.
+fn judged(alloc: Global, text: &[u8]) -> Result<Answer, Fail> {
+    let mut source = source_of(alloc, "config", text)?;
+    let names = ConfigNames {
+        topology: "topology",
+        config: "config",
+        policy: None,
+    };
+    let result = config(alloc, &mut source, &names);
     Ok(answer_of(alloc, result))
 }
 
@@ -40,19 +58,8 @@ fn what_a_switch_told_is_a_configuration(rt: HostRuntime) -> Result<(), Fail> {
         b"{\"rules\":[{\"dst\":\"10.0.0.0/24\",\"out\":2,\"priority\":100,\"switch\":\"s1\"}]}\n";
     let answer = answered(alloc, REPLY.as_bytes())?;
     assert!(rt; answer.is(Status::Done, text));
-    let texts = ConfigTexts {
-        topology: square::topology(),
-        config: &answer.text,
-        policy: None,
-    };
-    let names = ConfigNames {
-        topology: "topology",
-        config: "config",
-        policy: None,
-    };
-    let mut source = config_source(alloc, &texts, 4096, 0)?;
-    let result = config(alloc, &mut source, &names);
-    assert!(rt; answer_of(alloc, result).is(Status::Done, b"holds: 12 classes\n"));
+    let judged = judged(alloc, &answer.text)?;
+    assert!(rt; judged.is(Status::Done, b"holds: 12 classes\n"));
     Ok(())
 }
 

@@ -55,6 +55,7 @@ fn replace(switch: u32, port: u16, net: &Net) -> Change
 }
 
 /// A step of a controller: it starts a round, or bytes in hexadecimal come from a switch.
+#[derive(Clone, Copy)]
 enum Step<'a> {
     Start,
     Feed(u32, &'a str),
