@@ -1,5 +1,5 @@
 // The top call.
-ghost use Rattle.std.specs.Prelude.{◌≡◌, ◌≢◌, ◌⊎◌, ◌↔◌, ◌≤◌, ℕ, None, Some, IfErr, map, string_bytes};
+ghost use Rattle.std.specs.Prelude.{◌≡◌, ◌≢◌, ◌⊎◌, ◌↔◌, ◌≤◌, None, Some, map, string_bytes};
 ghost use Rattle.std.specs.Io.KnownBytes.{Appends, Keeps};
 ghost use Rattle.net_base.specs.Causes.{Rose};
 ghost use Rattle.net_base.specs.Outside.{Files, AppendsFront};
@@ -20,8 +20,7 @@ ghost use Rattle.simulate_command.specs.Names.{SimulateNames};
 ghost use Rattle.simulate_command.specs.Promise.{SimulatePromise};
 ghost use Rattle.import_command.specs.Names.{ImportNames};
 ghost use Rattle.import_command.specs.Promise.{ImportPromise};
-ghost use Rattle.sample_command.specs.Promise.{SamplePromise};
-ghost use Rattle.planner_cli.specs.Commands.{Config, Check, Plan, Upgrade, Emit, Replay, Simulate, Import, Sample, asked, seen, dialogue, dialogue_of, IsSaid, usage_line};
+ghost use Rattle.planner_cli.specs.Commands.{Config, Check, Plan, Upgrade, Emit, Replay, Simulate, Import, asked, seen, dialogue, dialogue_of, IsSaid, usage_line};
 
 use crate::command::{Command, command_of};
 use check_command::check;
@@ -38,8 +37,6 @@ use plan_command::laws::plan_promised;
 use plan_command::plan;
 use replay_command::laws::replay_promised;
 use replay_command::replay;
-use sample_command::laws::sample_promised;
-use sample_command::sample;
 use simulate_command::laws::simulate_promised;
 use simulate_command::simulate;
 use std::alloc::Global;
@@ -52,8 +49,6 @@ const USAGE_LINE: &[u8] = b"unknown command or wrong words\n";
 fn reply_to<S: Source>(alloc: Global, command: &Command<'_>, source: &mut S) -> Result<Reply, Exit>
     ensures meets { Meets IsSaid (S.held source.old) (dialogue_of (seen command.now)) (S.faults source.old) (S.faults source.new) result (S.selected source.new) (S.taken source.new) }
     ensures later { S.faults source.old ≤ S.faults source.new }
-    ensures unread { (n : ℕ) → seen command.now ≡ Sample n → source.new ≡ source.old }
-    ensures no_read_fault { (n : ℕ) → seen command.now ≡ Sample n → IfErr result (λ e. e ≢ Exit.ReadFault) }
 {
     match command {
         Command::Config(names) => config(alloc, source, names),
@@ -64,7 +59,6 @@ fn reply_to<S: Source>(alloc: Global, command: &Command<'_>, source: &mut S) -> 
         Command::Replay(names) => replay(alloc, source, names),
         Command::Simulate(names) => simulate(alloc, source, names),
         Command::Import(names) => import(alloc, source, names),
-        Command::Sample(size) => Ok(sample(alloc, *size)?),
     }
 }
 
@@ -103,10 +97,6 @@ fn respond<S: Source, K: Sink>(
     ensures read_fault { result ≡ Status.ReadFault
         → Rose (S.faults source.old) (S.faults source.new) ⊎ Lacks (S.held source.old) (dialogue (map string_bytes words.now)) }
     ensures write_fault { result ≡ Status.WriteFault → Rose (K.faults sink.old) (K.faults sink.new) }
-
-    // A sample leaves the source as it is.
-    ensures unread { (n : ℕ) → asked (map string_bytes words.now) ≡ Some (Sample n) → source.new ≡ source.old }
-    ensures no_read_fault { (n : ℕ) → asked (map string_bytes words.now) ≡ Some (Sample n) → result ≢ Status.ReadFault }
 {
     match command_of(words) {
         None => write_answer(sink, Status::Usage, USAGE_LINE),
@@ -162,10 +152,6 @@ pub fn run<S: Source, K: Sink>(
         → SimulatePromise files names (K.written sink.old) (K.written sink.new) result }
     ensures import { (files : Files) (names : ImportNames) → S.held source.old ≡ Some files → asked (map string_bytes words.now) ≡ Some (Import names)
         → ImportPromise files names (K.written sink.old) (K.written sink.new) result }
-
-    // A sample reads no file: its promise holds over every source, which it leaves as it is.
-    ensures sample { (n : ℕ) → asked (map string_bytes words.now) ≡ Some (Sample n) → SamplePromise n (K.written sink.old) (K.written sink.new) result }
-    ensures unread { (n : ℕ) → asked (map string_bytes words.now) ≡ Some (Sample n) → source.new ≡ source.old }
 {
     config_promised();
     check_promised();
@@ -175,6 +161,5 @@ pub fn run<S: Source, K: Sink>(
     replay_promised();
     simulate_promised();
     import_promised();
-    sample_promised();
     respond(alloc, words, source, sink)
 }
