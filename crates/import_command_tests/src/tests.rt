@@ -19,18 +19,12 @@ const HIGH: &str =
 const BEGUN: &str =
     "s1 0111006c000000000001000100600000003220ef000000000000000000000000000000000000080000000000000000000a0000000000000000000000000000000064000000000000000000000000000000000000000000000000000000000000000000000000000800020000\n";
 
-// The topology of the square, and a second file.
-fn source_of(alloc: Global, name: &str, file: &[u8]) -> Result<MemorySource, Fail> {
+// What `import` answers to these lines.
+fn answered(alloc: Global, replies: &[u8]) -> Result<Answer, Fail> {
     let mut source = MemorySource::make(alloc, 4096, Vec::new(alloc))?;
     let topology = square::topology().to_vec(alloc)?;
     source.add(String::from_str(alloc, "topology")?, topology)?;
-    source.add(String::from_str(alloc, name)?, file.to_vec(alloc)?)?;
-    Ok(source)
-}
-
-// What `import` answers to these lines.
-fn answered(alloc: Global, replies: &[u8]) -> Result<Answer, Fail> {
-    let mut source = source_of(alloc, "replies", replies)?;
+    source.add(String::from_str(alloc, "replies")?, replies.to_vec(alloc)?)?;
     let names = ImportNames {
         topology: "topology",
         replies: "replies",
@@ -41,7 +35,10 @@ fn answered(alloc: Global, replies: &[u8]) -> Result<Answer, Fail> {
 
 // What `config` answers to this configuration.
 fn judged(alloc: Global, text: &[u8]) -> Result<Answer, Fail> {
-    let mut source = source_of(alloc, "config", text)?;
+    let mut source = MemorySource::make(alloc, 4096, Vec::new(alloc))?;
+    let topology = square::topology().to_vec(alloc)?;
+    source.add(String::from_str(alloc, "topology")?, topology)?;
+    source.add(String::from_str(alloc, "config")?, text.to_vec(alloc)?)?;
     let names = ConfigNames {
         topology: "topology",
         config: "config",
