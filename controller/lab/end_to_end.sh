@@ -1,0 +1,77 @@
+#!/usr/bin/env bash
+# An update of Open vSwitch bridges under traffic: once by a plan, carried out by apply.py, and then the same changes at once, for comparison.
+#
+#   controller/lab/end_to_end.sh FOLDER [WAIT [MILLISECONDS]]
+#   controller/lab/end_to_end.sh ring N [WAIT [MILLISECONDS]]
+#
+# FOLDER has topology.json, old.json, new.json and policy.json, as examples/square has; `ring N` makes the files of a ring of N switches. WAIT is that
+# of apply.py (1 s). With MILLISECONDS each link takes so long. The changes are made at once SHOTS times (5), each time within SPREAD seconds (0.2) in
+# another order. PLANNER names another program than ./planner. Everything is on this machine: bridges of a userspace datapath that listen on the
+# loopback, with ports that no interface of the machine has. What is started here is ended here.
+#
+# Exit status: 0 where the update by the plan came to its end and broke no packet.
+set -u
+here=$(cd "$(dirname "$0")" && pwd)
+root=$here/../..
+planner=${PLANNER:-$root/planner}
+dir=$(mktemp -d -t controller-lab-XXXXXX)
+traffic=
+end() {
+    [ -z "$traffic" ] || kill "$traffic" 2>/dev/null
+    "$here/bridges.sh" stop "$dir"
+    rm -rf "$dir"
+}
+trap end EXIT
+trap 'exit 1' INT TERM
+fail() { echo "FAILED: $*"; exit 1; }
+
+if [ "${1:-}" = ring ]; then
+    name="ring of $2"; files=$dir
+    python3 -B "$here/ring.py" "$2" "$dir" || fail "the files of the ring"
+    shift 2
+else
+    name=$(basename "${1:?FOLDER, or ring N}"); files=$1
+    shift
+fi
+wait=${1:-1} delay=${2:-}
+update=("$files/topology.json" "$files/old.json" "$files/new.json" "$files/policy.json")
+
+pour() { # begins the traffic, which is noted in the file $1
+    python3 -B "$here/traffic.py" pour "$dir" "${update[@]}" "$1" & traffic=$!
+    sleep 0.5
+}
+drain() { # ends the traffic when the new tables have seen some of it, and lets its last packets leave
+    sleep 0.5
+    kill "$traffic"; wait "$traffic"; traffic=
+    python3 -c 'import sys; d, n = sys.argv[1:]; __import__("time").sleep(0.5 + float(d or 0) / 1000 * int(n))' "$delay" "$(grep -o '"capacity"' "$files/topology.json" | wc -l)"
+}
+judge() { python3 -B "$here/traffic.py" judge "$dir" "${update[@]}" "$1" "$2"; } # what became of the packets of the file $1; the sums go to the file $2
+sums() { awk '{ sent += $1; broken += $2 } END { print sent " packets sent, " broken " broken" }' "$1"; }
+
+"$here/bridges.sh" start "$dir" "$files/topology.json" "$delay" || fail "the bridges"
+python3 -B "$here/traffic.py" load "$dir" "${update[@]:0:2}"
+echo "== $name: the tables are read, and a plan is made from them"
+python3 -B "$here/../collect.py" "$files/topology.json" --switches "$dir/switches" >"$dir/replies" || fail collect
+"$planner" import "$files/topology.json" "$dir/replies" >"$dir/read.json" || fail import
+by_plan=("$files/topology.json" "$dir/read.json" "$files/new.json" "$files/policy.json" "$dir/made.json")
+"$planner" plan "${by_plan[@]:0:4}" >"$dir/made.json" || fail plan
+"$planner" check "${by_plan[@]}"
+echo "== $name: by the plan"
+pour "$dir/planned"
+PLANNER=$planner timeout 1800 python3 -B "$here/../apply.py" "${by_plan[@]}" "$dir/input" --switches "$dir/switches" --wait "$wait" 2>&1 || fail apply
+drain
+judge "$dir/planned" "$dir/by-plan"
+"$planner" drive "${by_plan[@]}" "$dir/input" | tail -n 1
+for seed in $(seq "${SHOTS:-5}"); do
+    echo "== $name: at once, in order $seed"
+    python3 -B "$here/traffic.py" load "$dir" "${update[@]:0:2}"
+    sleep 0.5
+    pour "$dir/careless$seed"
+    python3 -B "$here/traffic.py" at_once "$dir" "${update[@]}" "$seed" "${SPREAD:-0.2}"
+    drain
+    judge "$dir/careless$seed" "$dir/at-once"
+done
+echo "== $name"
+echo "by the plan, wait $wait s: $(sums "$dir/by-plan")"
+[ "${SHOTS:-5}" = 0 ] || echo "at once, ${SHOTS:-5} times within ${SPREAD:-0.2} s: $(sums "$dir/at-once")"
+sums "$dir/by-plan" | grep -q ' 0 broken$'

@@ -1,0 +1,229 @@
+#!/usr/bin/env python3
+"""Packets through the bridges of bridges.sh, and what became of each.
+
+  traffic.py bridges DIR TOPOLOGY [slow]                       the words for ovs-vsctl that make the bridges, a line each; the file DIR/switches
+  traffic.py load    DIR TOPOLOGY CONFIG                       gives each bridge a configuration's table
+  traffic.py pour    DIR TOPOLOGY OLD NEW POLICY SENT          packets at every host port to every prefix of the policy, one each 2 ms, until SIGTERM;
+                                                               they are noted in the file SENT
+  traffic.py judge   DIR TOPOLOGY OLD NEW POLICY SENT SUMS     says what became of each packet, by the records of the ports, and adds the numbers of
+                                                               packets that were sent and that were broken to the file SUMS
+  traffic.py at_once DIR TOPOLOGY OLD NEW POLICY SEED SECONDS  all changes, each at a random moment within so many seconds, as a controller does that
+                                                               doesn't plan
+
+A packet is broken where it came to a switch twice, left without having met its waypoints, was lost though it must arrive, or left with another VLAN.
+"""
+import collections
+import json
+import pathlib
+import random
+import signal
+import socket
+import struct
+import subprocess
+import sys
+import time
+
+FIRST_PORT = 17100
+PAUSE = 0.002
+
+
+def number_of(address):
+    return int.from_bytes(socket.inet_aton(address), "big")
+
+
+def is_in(address, prefix):
+    base, length = prefix.split("/")
+    return (number_of(base) ^ address) >> 32 - int(length) == 0
+
+
+def fits(rule, port, vlan, address):
+    """Whether a rule or a demand is for a packet."""
+    return rule.get("in_port", "any") in ("any", port) and str(rule.get("vlan", "any")) in ("any", vlan) and is_in(address, rule["dst"])
+
+
+# ---- the bridges
+
+def bridges(folder, topology, slow=""):
+    def add_port(end, more=""):
+        switch, port = end.split(":")
+        print(f"-- add-port {switch} {switch}_{port} -- set interface {switch}_{port} type=dummy ofport_request={port} "
+              f"options:tx_pcap={folder}/{switch}_{port}.tx options:rxq_pcap={folder}/{switch}_{port}.rx {more}")
+
+    with open(f"{folder}/switches", "w", encoding="ascii") as listed:
+        for number, switch in enumerate(topology["switches"]):
+            name = switch["name"]
+            print(f"-- add-br {name} -- set bridge {name} datapath_type=dummy protocols=OpenFlow10 fail_mode=secure other_config:datapath-id={number + 1:016x} "
+                  f"other_config:disable-in-band=true -- set-controller {name} ptcp:{FIRST_PORT + number}:127.0.0.1")
+            print(f"{name} {number + 1:016x} 127.0.0.1:{FIRST_PORT + number}", file=listed)
+    for host in topology["hosts"]:
+        add_port(host)
+    for left, right in topology["links"]:
+        name = left.replace(":", "_")
+        add_port(left, f"options:pstream=punix:{folder}/{name}.link")
+        add_port(right, f"options:stream=unix:{folder}/{name}.{slow or 'link'}")
+
+
+def flow(rule, with_action=True):
+    """A rule in the words of ovs-ofctl."""
+    vlan = rule.get("vlan", "any")
+    words = f"priority={rule['priority']},ip,nw_dst={rule['dst']}"
+    words += f",in_port={rule['in_port']}" if rule.get("in_port", "any") != "any" else ""
+    words += "" if vlan == "any" else ",dl_vlan=0xffff" if vlan == "untagged" else f",dl_vlan={vlan}"
+    return words + (f",actions={'drop' if rule['out'] == 'drop' else 'output:%d' % rule['out']}" if with_action else "")
+
+
+def ofctl(folder, command, switch, *words, text=None):
+    command = command if isinstance(command, list) else [command]
+    subprocess.run(["ovs-ofctl", "-O", "OpenFlow10", *command, f"unix:{folder}/{switch}.mgmt", *words], input=text, text=True, check=True, timeout=60)
+
+
+def load(folder, topology, config):
+    for switch in topology["switches"]:
+        rules = [flow(rule) for rule in config["rules"] if rule["switch"] == switch["name"]]
+        ofctl(folder, "replace-flows", switch["name"], "-", text="".join(f"{rule}\n" for rule in rules))
+
+
+def at_once(folder, topology, old, new, policy, seed, seconds):
+    def keyed(config):
+        return {(rule["switch"], rule["priority"], rule.get("in_port", "any"), str(rule.get("vlan", "any")), rule["dst"]): rule for rule in config["rules"]}
+
+    before, after, chance = keyed(old), keyed(new), random.Random(seed)
+    differing = [key for key in sorted({*before, *after}, key=str) if before.get(key) != after.get(key)]
+    moments = sorted((chance.random() * float(seconds), key) for key in differing)
+    begun = time.monotonic()
+    for moment, key in moments:
+        time.sleep(max(0.0, begun + moment - time.monotonic()))
+        if key in after:
+            ofctl(folder, "add-flow", key[0], flow(after[key]))
+        else:
+            ofctl(folder, ["--strict", "del-flows"], key[0], flow(before[key], with_action=False))
+    print(f"{len(moments)} changes in {time.monotonic() - begun:.2f} s")
+
+
+# ---- the packets
+
+class Control:
+    """Calls of the daemon that has the bridges."""
+
+    def __init__(self, folder):
+        self.sock = socket.socket(socket.AF_UNIX)
+        self.sock.settimeout(60)
+        self.sock.connect(f"{folder}/ovs-vswitchd.ctl")
+
+    def call(self, method, *words):
+        self.sock.sendall(json.dumps({"method": method, "params": list(words), "id": 0}).encode())
+        data = b""
+        while True:
+            data += self.sock.recv(1 << 16)
+            try:
+                return json.loads(data)
+            except ValueError:
+                pass
+
+
+def frame(number, vlan, address):
+    """A UDP packet to the address, with its number as content."""
+    tag = b"" if vlan == "untagged" else struct.pack("!HH", 0x8100, int(vlan))
+    ip = struct.pack("!BBHHHBBH", 0x45, 0, 32, number & 0xFFFF, 0, 64, 17, 0) + bytes([192, 0, 2, 1]) + struct.pack("!I", address)
+    return (bytes.fromhex("020000000002020000000001") + tag + b"\x08\x00" + ip + struct.pack("!HHHHI", 9, 9, 12, 0, number)).ljust(60, b"\0")
+
+
+def pour(folder, topology, old, new, policy, sent):
+    control, chance, going = Control(folder), random.Random(1), [True]
+    signal.signal(signal.SIGTERM, lambda *_: going.clear())
+    addresses = [number_of(demand["dst"].split("/")[0]) + 5 for demand in policy["demands"]]
+    number = int(time.time()) % 100000 * 20000       # no two runs share a number
+    with open(sent, "w", encoding="ascii") as out:
+        while going:
+            number += 1
+            entry, vlan, address = chance.choice(topology["hosts"]), str(chance.choice(topology["vlans"])), chance.choice(addresses)
+            print(json.dumps([number, entry, vlan, address]), file=out)
+            control.call("netdev-dummy/receive", entry.replace(":", "_"), frame(number, vlan, address).hex())
+            time.sleep(PAUSE)
+
+
+def recorded(folder):
+    """What the ports recorded, in order of time: (microseconds, whether it went out, port, packet number, VLAN)."""
+    found = []
+    for path in pathlib.Path(folder).glob("*.[rt]x"):
+        data, at = path.read_bytes(), 24
+        while at + 16 <= len(data):
+            seconds, micros, length = struct.unpack("<III", data[at:at + 12])
+            packet, at = data[at + 16:at + 16 + length], at + 16 + length
+            is_tagged = packet[12:14] == b"\x81\x00"
+            ip = packet[18:] if is_tagged else packet[14:]
+            if len(ip) >= 32 and ip[9] == 17:
+                vlan = str(int.from_bytes(packet[14:16], "big") & 4095) if is_tagged else "untagged"
+                found.append((seconds * 1000000 + micros, path.suffix == ".tx", ":".join(path.stem.rsplit("_", 1)), int.from_bytes(ip[28:32], "big"), vlan))
+    return sorted(found)
+
+
+def path_under(topology, config, entry, vlan, address):
+    """Where a packet comes in under one configuration, and the host port where it leaves, or None."""
+    links = {a: b for pair in topology["links"] for a, b in (pair, pair[::-1])}
+    stops = [entry]
+    while len(stops) <= len(topology["switches"]):
+        switch, port = stops[-1].split(":")
+        rule = max((one for one in config["rules"] if one["switch"] == switch and fits(one, int(port), vlan, address)), key=lambda one: one["priority"], default={"out": "drop"})
+        out = f"{switch}:{rule['out']}"
+        if rule["out"] == "drop" or out == stops[-1] or (out not in links and out not in topology["hosts"]):
+            return stops, None
+        if out in topology["hosts"]:
+            return stops, out
+        stops.append(links[out])
+    return stops, None
+
+
+def is_met(chain, switches):
+    rest = iter(switches)
+    return all(waypoint in rest for waypoint in chain)
+
+
+def faults(policy, entry, vlan, address, stops, end):
+    """What is broken of a packet with these stops that left at `end`, a port and a VLAN, or None."""
+    switches = [stop.split(":")[0] for stop in stops]
+    demands = [one for one in policy["demands"] if one.get("from", "any") in ("any", entry) and fits({**one, "in_port": "any"}, None, vlan, address)]
+    has_looped = len(set(switches)) < len(switches)
+    if has_looped:
+        yield "looped"
+    if end and not all(is_met(one.get("through", []), switches) for one in demands):
+        yield "missed a waypoint"
+    if not end and not has_looped and any(one.get("deliver") for one in demands):
+        yield "lost"
+    if end and end[1] != vlan:
+        yield "left with another VLAN"
+
+
+def judge(folder, topology, old, new, policy, sent, sums):
+    stops, ends = collections.defaultdict(list), {}
+    for _, is_out, port, number, vlan in recorded(folder):
+        if not is_out:
+            stops[number].append(port)
+        elif port in topology["hosts"]:
+            ends[number] = (port, vlan)
+    counts, examples, broken = collections.Counter(), {}, 0
+    packets = [json.loads(line) for line in pathlib.Path(sent).read_text(encoding="ascii").splitlines()]
+    for number, entry, vlan, address in packets:
+        way, end = stops[number], ends.get(number)
+        what = list(faults(policy, entry, vlan, address, way, end))
+        broken += bool(what)
+        if not what:
+            ways = [name for name, config in (("old", old), ("new", new)) if (way, end and end[0]) == path_under(topology, config, entry, vlan, address)]
+            what = [f"took the {' and the '.join(ways)} path" if ways else "took parts of both paths"]
+        counts[", ".join(what)] += 1
+        examples.setdefault(", ".join(what), f"{' '.join(way[:12])}{' ..' if len(way) > 12 else ''} {'left ' + end[0] if end else 'did not leave'}")
+    print(f"{len(packets)} packets sent, {broken} broken")
+    for what, count in counts.most_common():
+        print(f"  {count} {what}" + ("" if what.startswith("took the") else f", as: {examples[what]}"))
+    with open(sums, "a", encoding="ascii") as out:
+        print(len(packets), broken, file=out)
+
+
+def main(words):
+    command = {"bridges": bridges, "load": load, "pour": pour, "judge": judge, "at_once": at_once}[words[0]]
+    count = {"bridges": 1, "load": 2}.get(words[0], 4)       # how many of the words behind DIR are files to read
+    command(words[1], *[json.loads(pathlib.Path(word).read_text(encoding="utf-8")) for word in words[2:2 + count]], *words[2 + count:])
+
+
+if __name__ == "__main__":
+    main(sys.argv[1:])

@@ -1,0 +1,42 @@
+"""The program `planner`: runs of it, and what a run of `planner drive` says. The environment variable PLANNER names another program than the script
+`planner` of this repository."""
+import os
+import pathlib
+import subprocess
+
+import openflow
+
+PROGRAM = os.environ.get("PLANNER") or str(pathlib.Path(__file__).resolve().parent.parent / "planner")
+
+
+def run(*words):
+    """The exit status of a run, and its text in one piece."""
+    done = subprocess.run([PROGRAM, *map(str, words)], capture_output=True, text=True, check=False)
+    return done.returncode, done.stdout
+
+
+class Driven:
+    """What `planner drive` makes of a record: the bytes for each switch, the failed sessions, and how far the update is."""
+
+    def __init__(self, text):
+        self.sent, self.failed, self.running, self.settled, self.rounds, self.begun = {}, {}, False, 0, 0, False
+        for line in text.splitlines():
+            words = line.split()
+            if words[:2] == ["#", "sent"]:
+                self.sent[words[2]] = bytes.fromhex(words[3])
+            elif words[:2] == ["#", "failed"]:
+                self.failed[words[2]] = words[3:]
+            elif words[0] == "#":
+                self.running, self.rounds = words[1] == "running", int(words[4])
+                self.settled = int(words[2]) - self.running
+            else:
+                self.begun = True        # an event: the first is a start
+
+    def last_request(self, switch):
+        """The messages to a switch of the last round in which it has changes, and the xid of their barrier request; b"" and None before that."""
+        messages = [it for it in openflow.cut(self.sent[switch])[0] if openflow.type_of(it) in (openflow.FLOW_MOD, openflow.BARRIER_REQUEST)]
+        ends = [at for at, it in enumerate(messages) if openflow.type_of(it) == openflow.BARRIER_REQUEST]
+        if not ends:
+            return b"", None
+        first = ends[-2] + 1 if len(ends) > 1 else 0
+        return b"".join(messages[first:]), openflow.xid_of(messages[-1])
