@@ -41,6 +41,8 @@ NO_ROUNDS = {"format": 2, "kind": "ordered", "rules": [], "rounds": [], "numberi
 FED = (openflow.HELLO, openflow.ERROR, openflow.ECHO_REQUEST, openflow.BARRIER_REPLY)
 # Who hasn't answered yet is said so often while the patience lasts.
 TOLD = 12
+# From so many seconds on for a run of `drive` a switch that asks for an echo may not get it in time.
+SLOW = 2.0
 
 
 def is_own(message):
@@ -59,7 +61,7 @@ class Update:
         self.driven = None           # what `drive` said last
         self.tables = None           # the tables that are being read
         self.good_lines = 0          # how many lines of the record `drive` has read without a failed session
-        self.runs, self.seconds = 0, 0.0
+        self.runs, self.seconds, self.is_slow = 0, 0.0, False
         self.settled_at = self.started_at = None
         self.since = self.told = time.monotonic()       # since when it is waited for switches, and when that was said last
         self.asked = False
@@ -89,7 +91,11 @@ class Update:
         self.record.is_fresh = False
         before, last = time.monotonic(), self.driven
         status, text = planner.run("drive", *self.files, self.options.input)
-        self.runs, self.seconds = self.runs + 1, self.seconds + time.monotonic() - before
+        took = time.monotonic() - before
+        if took > SLOW and not self.is_slow:
+            self.is_slow = True
+            say(f"a run of `planner drive` takes {took:.1f} s: a switch that asks for an echo may close its connection; docs/CONTROLLER.md says what to do")
+        self.runs, self.seconds = self.runs + 1, self.seconds + took
         if status != 0:
             raise Stop(f"`planner drive` ended with status {status}{f' and said: {text.strip()}' if text else ''}",
                        "see docs/FORMATS.md for what it said" if text else "see that the program can run; then go on with --resume")

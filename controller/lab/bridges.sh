@@ -2,8 +2,9 @@
 # Bridges of Open vSwitch for a topology, in a userspace datapath without any interface of the machine.
 #
 #   bridges.sh start DIR TOPOLOGY [MILLISECONDS]    the daemons in DIR, and a bridge for each switch. Its ports are joined over unix sockets, and
-#                                                   record what comes and goes. Switch i, from 0, listens at 127.0.0.1:17100+i and has the datapath
-#                                                   id i+1. DIR/switches is the file of switches. With MILLISECONDS each link takes so long
+#                                                   record what comes and goes. Switch i, from 0, listens at port FIRST_PORT + i of the loopback
+#                                                   (17100 + i) and has the datapath id i + 1. DIR/switches is the file of switches. With
+#                                                   MILLISECONDS each link takes so long
 #   bridges.sh stop DIR                             ends what was started in DIR, by the process ids
 set -eu
 here=$(cd "$(dirname "$0")" && pwd)
@@ -20,9 +21,10 @@ start)
         echo $! >"$dir/slow_links.pid"
         for _ in $(seq 50); do [ -s "$dir/slow_links.log" ] && break; sleep 0.1; done
     fi
-    python3 -B "$here/traffic.py" bridges "$dir" "$topology" "${delay:+slow}" | while read -r line; do
+    python3 -B "$here/traffic.py" bridges "$dir" "$topology" "${delay:+slow}" >"$dir/commands"
+    while read -r line; do
         timeout 60 ovs-vsctl --db="unix:$dir/db.sock" $line
-    done
+    done <"$dir/commands"
     ;;
 stop)
     for one in ovs-vswitchd ovsdb-server; do

@@ -6,7 +6,8 @@
 #
 # FOLDER has topology.json, old.json, new.json and policy.json, as examples/square has; `ring N` makes the files of a ring of N switches. WAIT is that
 # of apply.py (1 s). With MILLISECONDS each link takes so long. The changes are made at once SHOTS times (5), each time within SPREAD seconds (0.2) in
-# another order. PLANNER names another program than ./planner. Everything is on this machine: bridges of a userspace datapath that listen on the
+# another order. PLANNER names another program than ./planner; PAUSE is the time between two packets (0.002 s), FIRST_PORT
+# the port of the first bridge (17100). Everything is on this machine: bridges of a userspace datapath that listen on the
 # loopback, with ports that no interface of the machine has. What is started here is ended here.
 #
 # Exit status: 0 where the update by the plan came to its end and broke no packet.
@@ -15,9 +16,9 @@ here=$(cd "$(dirname "$0")" && pwd)
 root=$here/../..
 planner=${PLANNER:-$root/planner}
 dir=$(mktemp -d -t controller-lab-XXXXXX)
-traffic=
+traffic= update=
 end() {
-    [ -z "$traffic" ] || kill "$traffic" 2>/dev/null
+    for one in $traffic $update; do kill "$one" 2>/dev/null && wait "$one" 2>/dev/null; done
     "$here/bridges.sh" stop "$dir"
     rm -rf "$dir"
 }
@@ -34,10 +35,10 @@ else
     shift
 fi
 wait=${1:-1} delay=${2:-}
-update=("$files/topology.json" "$files/old.json" "$files/new.json" "$files/policy.json")
+files_of_update=("$files/topology.json" "$files/old.json" "$files/new.json" "$files/policy.json")
 
 pour() { # begins the traffic, which is noted in the file $1
-    python3 -B "$here/traffic.py" pour "$dir" "${update[@]}" "$1" & traffic=$!
+    python3 -B "$here/traffic.py" pour "$dir" "${files_of_update[@]}" "$1" & traffic=$!
     sleep 0.5
 }
 drain() { # ends the traffic when the new tables have seen some of it, and lets its last packets leave
@@ -45,11 +46,11 @@ drain() { # ends the traffic when the new tables have seen some of it, and lets 
     kill "$traffic"; wait "$traffic"; traffic=
     python3 -c 'import sys; d, n = sys.argv[1:]; __import__("time").sleep(0.5 + float(d or 0) / 1000 * int(n))' "$delay" "$(grep -o '"capacity"' "$files/topology.json" | wc -l)"
 }
-judge() { python3 -B "$here/traffic.py" judge "$dir" "${update[@]}" "$1" "$2"; } # what became of the packets of the file $1; the sums go to the file $2
+judge() { python3 -B "$here/traffic.py" judge "$dir" "${files_of_update[@]}" "$1" "$2"; } # what became of the packets of the file $1; the sums go to the file $2
 sums() { awk '{ sent += $1; broken += $2 } END { print sent " packets sent, " broken " broken" }' "$1"; }
 
 "$here/bridges.sh" start "$dir" "$files/topology.json" "$delay" || fail "the bridges"
-python3 -B "$here/traffic.py" load "$dir" "${update[@]:0:2}"
+python3 -B "$here/traffic.py" load "$dir" "${files_of_update[@]:0:2}"
 echo "== $name: the tables are read, and a plan is made from them"
 python3 -B "$here/../collect.py" "$files/topology.json" --switches "$dir/switches" >"$dir/replies" || fail collect
 "$planner" import "$files/topology.json" "$dir/replies" >"$dir/read.json" || fail import
@@ -58,16 +59,18 @@ by_plan=("$files/topology.json" "$dir/read.json" "$files/new.json" "$files/polic
 "$planner" check "${by_plan[@]}"
 echo "== $name: by the plan"
 pour "$dir/planned"
-PLANNER=$planner timeout 1800 python3 -B "$here/../apply.py" "${by_plan[@]}" "$dir/input" --switches "$dir/switches" --wait "$wait" 2>&1 || fail apply
+PLANNER=$planner python3 -B "$here/../apply.py" "${by_plan[@]}" "$dir/input" --switches "$dir/switches" --wait "$wait" 2>&1 & update=$!
+wait "$update" || fail "apply.py"
+update=
 drain
 judge "$dir/planned" "$dir/by-plan"
 "$planner" drive "${by_plan[@]}" "$dir/input" | tail -n 1
 for seed in $(seq "${SHOTS:-5}"); do
     echo "== $name: at once, in order $seed"
-    python3 -B "$here/traffic.py" load "$dir" "${update[@]:0:2}"
+    python3 -B "$here/traffic.py" load "$dir" "${files_of_update[@]:0:2}"
     sleep 0.5
     pour "$dir/careless$seed"
-    python3 -B "$here/traffic.py" at_once "$dir" "${update[@]}" "$seed" "${SPREAD:-0.2}"
+    python3 -B "$here/traffic.py" at_once "$dir" "${files_of_update[@]}" "$seed" "${SPREAD:-0.2}"
     drain
     judge "$dir/careless$seed" "$dir/at-once"
 done

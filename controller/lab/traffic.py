@@ -3,8 +3,8 @@
 
   traffic.py bridges DIR TOPOLOGY [slow]                       the words for ovs-vsctl that make the bridges, a line each; the file DIR/switches
   traffic.py load    DIR TOPOLOGY CONFIG                       gives each bridge a configuration's table
-  traffic.py pour    DIR TOPOLOGY OLD NEW POLICY SENT          packets at every host port to every prefix of the policy, one each 2 ms, until SIGTERM;
-                                                               they are noted in the file SENT
+  traffic.py pour    DIR TOPOLOGY OLD NEW POLICY SENT          packets at every host port to every prefix of the policy, one each PAUSE seconds (0.002),
+                                                               until SIGTERM; they are noted in the file SENT
   traffic.py judge   DIR TOPOLOGY OLD NEW POLICY SENT SUMS     says what became of each packet, by the records of the ports, and adds the numbers of
                                                                packets that were sent and that were broken to the file SUMS
   traffic.py at_once DIR TOPOLOGY OLD NEW POLICY SEED SECONDS  all changes, each at a random moment within so many seconds, as a controller does that
@@ -14,6 +14,7 @@ A packet is broken where it came to a switch twice, left without having met its 
 """
 import collections
 import json
+import os
 import pathlib
 import random
 import signal
@@ -23,8 +24,8 @@ import subprocess
 import sys
 import time
 
-FIRST_PORT = 17100
-PAUSE = 0.002
+FIRST_PORT = int(os.environ.get("FIRST_PORT", "17100"))
+PAUSE = float(os.environ.get("PAUSE", "0.002"))
 
 
 def number_of(address):
@@ -49,11 +50,13 @@ def bridges(folder, topology, slow=""):
         print(f"-- add-port {switch} {switch}_{port} -- set interface {switch}_{port} type=dummy ofport_request={port} "
               f"options:tx_pcap={folder}/{switch}_{port}.tx options:rxq_pcap={folder}/{switch}_{port}.rx {more}")
 
+    for number in range(len(topology["switches"])):
+        socket.create_server(("127.0.0.1", FIRST_PORT + number)).close()      # fails where something listens there already
     with open(f"{folder}/switches", "w", encoding="ascii") as listed:
         for number, switch in enumerate(topology["switches"]):
             name = switch["name"]
             print(f"-- add-br {name} -- set bridge {name} datapath_type=dummy protocols=OpenFlow10 fail_mode=secure other_config:datapath-id={number + 1:016x} "
-                  f"other_config:disable-in-band=true -- set-controller {name} ptcp:{FIRST_PORT + number}:127.0.0.1")
+                  f"other_config:disable-in-band=true -- set-controller {name} ptcp:{FIRST_PORT + number}:127.0.0.1 -- set controller {name} inactivity_probe=0")
             print(f"{name} {number + 1:016x} 127.0.0.1:{FIRST_PORT + number}", file=listed)
     for host in topology["hosts"]:
         add_port(host)
@@ -142,20 +145,28 @@ def pour(folder, topology, old, new, policy, sent):
             time.sleep(PAUSE)
 
 
-def recorded(folder):
-    """What the ports recorded, in order of time: (microseconds, whether it went out, port, packet number, VLAN)."""
-    found = []
-    for path in pathlib.Path(folder).glob("*.[rt]x"):
-        data, at = path.read_bytes(), 24
-        while at + 16 <= len(data):
-            seconds, micros, length = struct.unpack("<III", data[at:at + 12])
-            packet, at = data[at + 16:at + 16 + length], at + 16 + length
-            is_tagged = packet[12:14] == b"\x81\x00"
-            ip = packet[18:] if is_tagged else packet[14:]
-            if len(ip) >= 32 and ip[9] == 17:
-                vlan = str(int.from_bytes(packet[14:16], "big") & 4095) if is_tagged else "untagged"
-                found.append((seconds * 1000000 + micros, path.suffix == ".tx", ":".join(path.stem.rsplit("_", 1)), int.from_bytes(ip[28:32], "big"), vlan))
-    return sorted(found)
+def recorded(path):
+    """What a port recorded: (microseconds, packet number, VLAN)."""
+    data, at = path.read_bytes(), 24
+    while at + 16 <= len(data):
+        seconds, micros, length = struct.unpack("<III", data[at:at + 12])
+        packet, at = data[at + 16:at + 16 + length], at + 16 + length
+        is_tagged = packet[12:14] == b"\x81\x00"
+        ip = packet[18:] if is_tagged else packet[14:]
+        if len(ip) >= 32 and ip[9] == 17:
+            yield seconds * 1000000 + micros, int.from_bytes(ip[28:32], "big"), str(int.from_bytes(packet[14:16], "big") & 4095) if is_tagged else "untagged"
+
+
+def ways(folder, topology):
+    """The ports where each packet came in, in order of time; and where it left, with its VLAN."""
+    found, ends = collections.defaultdict(list), {}
+    for end in [*topology["hosts"], *(end for link in topology["links"] for end in link)]:
+        path = pathlib.Path(folder, end.replace(":", "_"))
+        for moment, number, _ in recorded(path.with_suffix(".rx")):
+            found[number].append((moment, end))
+        for _, number, vlan in recorded(path.with_suffix(".tx")) if end in topology["hosts"] else []:
+            ends[number] = (end, vlan)
+    return {number: [end for _, end in sorted(stops)] for number, stops in found.items()}, ends
 
 
 def path_under(topology, config, entry, vlan, address):
@@ -195,21 +206,16 @@ def faults(policy, entry, vlan, address, stops, end):
 
 
 def judge(folder, topology, old, new, policy, sent, sums):
-    stops, ends = collections.defaultdict(list), {}
-    for _, is_out, port, number, vlan in recorded(folder):
-        if not is_out:
-            stops[number].append(port)
-        elif port in topology["hosts"]:
-            ends[number] = (port, vlan)
+    stops, ends = ways(folder, topology)
     counts, examples, broken = collections.Counter(), {}, 0
     packets = [json.loads(line) for line in pathlib.Path(sent).read_text(encoding="ascii").splitlines()]
     for number, entry, vlan, address in packets:
-        way, end = stops[number], ends.get(number)
+        way, end = stops.get(number, []), ends.get(number)
         what = list(faults(policy, entry, vlan, address, way, end))
         broken += bool(what)
         if not what:
-            ways = [name for name, config in (("old", old), ("new", new)) if (way, end and end[0]) == path_under(topology, config, entry, vlan, address)]
-            what = [f"took the {' and the '.join(ways)} path" if ways else "took parts of both paths"]
+            taken = [name for name, config in (("old", old), ("new", new)) if (way, end and end[0]) == path_under(topology, config, entry, vlan, address)]
+            what = [f"took the {' and the '.join(taken)} path" if taken else "took parts of both paths"]
         counts[", ".join(what)] += 1
         examples.setdefault(", ".join(what), f"{' '.join(way[:12])}{' ..' if len(way) > 12 else ''} {'left ' + end[0] if end else 'did not leave'}")
     print(f"{len(packets)} packets sent, {broken} broken")
