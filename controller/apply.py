@@ -125,8 +125,8 @@ class Update:
         self.send()
 
     def may_start(self):
-        """Whether the packets that entered before have left, by the operator's rule, and every switch is there."""
-        if self.driven.running or self.awaited():
+        """Whether there is a next round, every switch is there, and the packets that entered before have left, by the operator's rule."""
+        if self.driven.running or self.driven.settled == self.driven.rounds or self.awaited():
             return False
         return self.operator_says_so() if self.options.ask else time.monotonic() - self.settled_at >= self.options.wait
 

@@ -38,10 +38,10 @@ class Applying(unittest.TestCase):
         self.assertIn(then, last)
 
     def test_carries_out_both_examples(self):
-        for name in ("square", "detour"):
+        for name, wait in (("square", "0.05"), ("detour", "0")):
             with self.subTest(name):
                 net = Network(self, name)
-                self.settles(net, net.apply())
+                self.settles(net, net.apply("--wait", wait))
 
     def test_what_a_switch_receives_is_what_drive_says_and_questions_that_change_nothing(self):
         net = Network(self, "detour")
