@@ -41,6 +41,9 @@ NO_ROUNDS = {"format": 2, "kind": "ordered", "rules": [], "rounds": [], "numberi
 FED = (openflow.HELLO, openflow.ERROR, openflow.ECHO_REQUEST, openflow.BARRIER_REPLY)
 # Who hasn't answered yet is said so often while the patience lasts.
 TOLD = 12
+# What to do after a refusal of `drive`, by its exit status.
+AFTER_REFUSAL = {1: "make a plan that `planner check` accepts", 3: "correct that file; docs/FORMATS.md has every refusal",
+                 8: "the record can't be gone on with: plan anew, docs/CONTROLLER.md, 'After a failed session'"}
 # From so many seconds on for a run of `drive` a switch that asks for an echo may not get it in time.
 SLOW = 2.0
 
@@ -98,7 +101,7 @@ class Update:
         self.runs, self.seconds = self.runs + 1, self.seconds + took
         if status != 0:
             raise Stop(f"`planner drive` ended with status {status}{f' and said: {text.strip()}' if text else ''}",
-                       "see docs/FORMATS.md for what it said" if text else "see that the program can run; then go on with --resume")
+                       AFTER_REFUSAL.get(status, f"see that the program can run; then {'go on with --resume' if last else 'begin again'}"))
         self.driven = planner.Driven(text)
         if last is not None and self.driven.settled > last.settled:
             self.settled_at = time.monotonic()
@@ -175,7 +178,7 @@ class Update:
         name, words = connection.name, f"{connection.name} is connected: {connection.peer}, datapath id {connection.datapath:016x}"
         if name in self.unanswered():
             words += f"; the messages of round {self.driven.settled + 1} to it are sent again"
-            connection.send(self.driven.last_request(name)[0])
+            connection.send(self.driven.requests[name][0])
         self.record.remark(words)
         say(words)
         connection.given = len(self.driven.sent[name])
@@ -184,8 +187,7 @@ class Update:
 
     def unanswered(self):
         """The switches that haven't answered the barrier request of the running round."""
-        requests = {name: self.driven.last_request(name)[1] for name in self.listed}
-        return {name for name, xid in requests.items() if xid is not None and (name, xid) not in self.record.answered}
+        return {name for name, (_, xid) in self.driven.requests.items() if (name, xid) not in self.record.answered}
 
     def awaited(self):
         """The switches for which the update waits: they are away, or owe an answer."""
@@ -225,12 +227,13 @@ class Update:
 
 def stopped(update, why):
     """Says in one line why it stopped, how far it came, and what to do next."""
+    go_on = "go on with --resume" if update and (update.driven or update.options.resume) else "begin again"
     if isinstance(why, Stop):
         what, then = why.what, why.then
     elif isinstance(why, KeyboardInterrupt):
-        what, then = "the operator ended it", "go on with --resume"
+        what, then = "the operator ended it", go_on
     else:
-        what, then = str(why), "see to it; then go on with --resume" if update and update.driven else "see to it, and begin again"
+        what, then = str(why), f"see to it; then {go_on}"
     far = update.state() if update and update.driven else "nothing was sent"
     say(f"stopped: {what}; {far}. Next: {then}")
     if update is None:

@@ -87,10 +87,9 @@ class Reading:
         self.name, self.lines, self.faults = name, [], []
         self.tests, self.untagged, self.left_out = [], 0, {}
         try:
-            for number, reply in enumerate(flow):
+            for reply in flow:
                 kept = b"".join(self.keep(Entry(data)) for data in cut_entries(reply[12:], 88))
-                more = number + 1 < len(flow)
-                self.lines.append(f"{name} {openflow.message(openflow.STATS_REPLY, FLOW_XID, struct.pack('!HH', 1, more) + kept).hex()}")
+                self.lines.append(f"{name} {openflow.message(openflow.STATS_REPLY, FLOW_XID, reply[8:12] + kept).hex()}")
             if extended is not None:
                 self.compare([ExtendedEntry(data) for reply in extended for data in cut_entries(reply[24:], 48)])
         except (ValueError, struct.error):

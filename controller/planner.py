@@ -19,7 +19,7 @@ class Driven:
     """What `planner drive` makes of a record: the bytes for each switch, the failed sessions, and how far the update is."""
 
     def __init__(self, text):
-        self.sent, self.failed, self.running, self.settled, self.rounds, self.begun = {}, {}, False, 0, 0, False
+        self.sent, self.requests, self.failed, self.running, self.settled, self.rounds, self.begun = {}, {}, {}, False, 0, 0, False
         for line in text.splitlines():
             words = line.split()
             if words[:2] == ["#", "sent"]:
@@ -31,12 +31,15 @@ class Driven:
                 self.settled = int(words[2]) - self.running
             else:
                 self.begun = True        # an event: the first is a start
+        for switch, data in self.sent.items():
+            request = last_request(data)
+            if request:
+                self.requests[switch] = request
 
-    def last_request(self, switch):
-        """The messages to a switch of the last round in which it has changes, and the xid of their barrier request; b"" and None before that."""
-        messages = [it for it in openflow.cut(self.sent[switch])[0] if openflow.type_of(it) in (openflow.FLOW_MOD, openflow.BARRIER_REQUEST)]
-        ends = [at for at, it in enumerate(messages) if openflow.type_of(it) == openflow.BARRIER_REQUEST]
-        if not ends:
-            return b"", None
-        first = ends[-2] + 1 if len(ends) > 1 else 0
-        return b"".join(messages[first:]), openflow.xid_of(messages[-1])
+
+def last_request(data):
+    """Of all bytes to a switch, the messages of the last round in which it has changes, up to their barrier request, and the xid of this; or None."""
+    messages = [it for it in openflow.cut(data)[0] if openflow.type_of(it) in (openflow.FLOW_MOD, openflow.BARRIER_REQUEST)]
+    ends = [at for at, it in enumerate(messages) if openflow.type_of(it) == openflow.BARRIER_REQUEST]
+    first = ends[-2] + 1 if len(ends) > 1 else 0
+    return (b"".join(messages[first:]), openflow.xid_of(messages[-1])) if ends else None

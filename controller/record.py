@@ -2,6 +2,7 @@
 import datetime
 import fcntl
 import os
+import re
 
 import openflow
 from switches import Stop
@@ -38,9 +39,9 @@ class Record:
             raise Stop("the record was begun with other files, or with other contents of them", "give the files with which the update was begun")
         self.lines = len(lines)
         for line in lines:
-            words = line.split(" ")
-            if words[0] == "feed" and len(words) == 3:
-                self.note(words[1], bytes.fromhex(words[2]))
+            feed = re.fullmatch("feed ([^ ]+) (([0-9a-fA-F]{2}){8,})", line)     # other lines are for `drive` to judge
+            if feed:
+                self.note(feed[1], bytes.fromhex(feed[2]))
 
     def add(self, line):
         self.file.write(line.encode("ascii", "replace") + b"\n")

@@ -57,6 +57,11 @@ class Collecting(unittest.TestCase):
         (net.folder / "replies").write_text(run.stdout)
         self.assertEqual(planner("import", net.files[0], net.folder / "replies").count('"s1"'), 2)
 
+    def test_what_came_is_written_as_it_came(self):
+        net = Network(self, "square")
+        net.switches["s1"].entries = [entry(), entry(priority=90)]
+        self.assertIn("s1 " + struct.pack("!BBHIHH", 1, 17, 12 + 2 * 96, 0xFEA70001, 1, 0).hex() + (entry() + entry(priority=90)).hex() + "\n", net.collect().stdout)
+
     def test_a_test_of_the_priority_of_no_tag_is_taken_away(self):
         run, config = self.reading([entry(wildcards=0x002220ED, vlan=0xFFFF)])
         self.assertIn("# s1: a test of the priority of the tag was taken from 1 entries for untagged packets\n", run.stdout)
