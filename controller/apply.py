@@ -242,7 +242,7 @@ def stopped(update, why):
         os.unlink(update.options.input)      # nothing was begun
         return
     try:
-        update.record.remark(f"stopped: {what}; {far}")
+        update.record.remark(f"stopped: {what}; {far}. Next: {then}")
         update.record.keep()
     except OSError as fault:
         say(f"that line isn't in the record: {fault}")
