@@ -105,7 +105,8 @@ class Update:
         self.driven = planner.Driven(text)
         if last is not None and self.driven.settled > last.settled:
             self.settled_at = time.monotonic()
-            say(f"round {self.driven.settled} of {self.driven.rounds} is settled" + (f", {self.settled_at - self.started_at:.3f} s after its start" if self.started_at else ""))
+            seconds = f", {self.settled_at - self.started_at:.3f} s after its start" if self.started_at else ""
+            say(f"round {self.driven.settled} of {self.driven.rounds} is settled{seconds}")
         for name, cause in self.driven.failed.items():
             words = f" ({openflow.error_words(int(cause[1]), int(cause[2]))})" if cause[0] == "Error" else ""
             before_it = f"; the first {self.good_lines} lines of {self.options.input} are the record before it" if self.good_lines else ""
@@ -220,7 +221,8 @@ class Update:
             plan.flush()
             status, text = planner.run("check", self.options.topology, config, path, self.options.policy, plan.name)
         if status != 0:
-            raise Stop(f"the switches don't have the tables of {path}: {text.strip()}", f"make a plan from {config}, which has those that they have, and begin it with a record of its own")
+            raise Stop(f"the switches don't have the tables of {path}: {text.strip()}",
+                       f"make a plan from {config}, which has those that they have, and begin it with a record of its own")
         self.record.remark(f"the switches have the tables of {path}")
         say(f"the switches have the tables of {path}")
 

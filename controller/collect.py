@@ -117,7 +117,8 @@ class Reading:
         shown, faults = [one for one in extended if one.table == 0 and not one.without_effect()], []
         for one in shown:
             if one.widened:
-                faults.append(f"{self.name}: an entry of priority {one.priority} tests {', '.join(one.widened)}, which OpenFlow 1.0 can't say: its statistics show it wider than it is")
+                faults.append(f"{self.name}: an entry of priority {one.priority} tests {', '.join(one.widened)}, which OpenFlow 1.0 can't say: "
+                              "its statistics show it wider than it is")
         if not faults and not self.faults and sorted(map(repr, self.tests)) != sorted(repr(one.test()) for one in shown):
             faults.append(f"{self.name}: its two statistics differ: the table changed meanwhile, or has what isn't understood here")
         self.faults += faults

@@ -153,12 +153,18 @@ class Switches:
         while signs:
             for key, _ in signs:
                 if key.data is None:
-                    sock, peer = key.fileobj.accept()
-                    self.selector.register(sock, selectors.EVENT_READ, Connection(sock, "%s:%d" % peer[:2]))
+                    self.accept(key.fileobj)
                 elif key.data in self.connections():     # it isn't where its switch has connected anew meanwhile
                     found += self.look(key.data)
             signs = self.selector.select(quiet) if time.monotonic() < until else []
         return found
+
+    def accept(self, listener):
+        try:
+            sock, peer = listener.accept()
+        except OSError:
+            return           # it went away before it was taken
+        self.selector.register(sock, selectors.EVENT_READ, Connection(sock, "%s:%d" % peer[:2]))
 
     def look(self, one):
         pieces = one.receive()

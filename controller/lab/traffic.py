@@ -175,7 +175,8 @@ def path_under(topology, config, entry, vlan, address):
     stops = [entry]
     while len(stops) <= len(topology["switches"]):
         switch, port = stops[-1].split(":")
-        rule = max((one for one in config["rules"] if one["switch"] == switch and fits(one, int(port), vlan, address)), key=lambda one: one["priority"], default={"out": "drop"})
+        fitting = [one for one in config["rules"] if one["switch"] == switch and fits(one, int(port), vlan, address)]
+        rule = max(fitting, key=lambda one: one["priority"], default={"out": "drop"})
         out = f"{switch}:{rule['out']}"
         if rule["out"] == "drop" or out == stops[-1] or (out not in links and out not in topology["hosts"]):
             return stops, None

@@ -28,6 +28,11 @@ def actions_of(rule):
     return b"" if rule["out"] == "drop" else struct.pack("!HHHH", 0, 8, rule["out"], 0)
 
 
+def entry_of(match, priority, actions):
+    """An entry of flow statistics."""
+    return struct.pack("!HBx", 88 + len(actions), 0) + match + struct.pack("!IIHHH6x24x", 1, 0, priority, 0, 0) + actions
+
+
 def key_of(match, priority):
     """What two entries of one place in the table have in common: strict commands go by it."""
     wildcards, port, tag, kind = struct.unpack("!IH12xH2xH", match[:24])
@@ -155,8 +160,7 @@ class FakeSwitch(threading.Thread):
             self.table[key] = [self.table.get(key, [match])[0], priority, piece[72:]]
 
     def tell_table(self, sock, xid):
-        entries = [struct.pack("!HBx", 88 + len(actions), 0) + match + struct.pack("!IIHHH6x24x", 1, 0, priority, 0, 0) + actions for match, priority, actions in self.table.values()]
-        entries = entries if self.entries is None else list(self.entries)
+        entries = [entry_of(*one) for one in self.table.values()] if self.entries is None else list(self.entries)
         while True:
             body = b""
             while entries and 12 + len(body) + len(entries[0]) <= self.largest:

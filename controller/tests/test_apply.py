@@ -1,7 +1,6 @@
 """Tests of apply.py: whole updates of fake switches over the loopback. PLANNER names the program."""
 import re
 import socket
-import struct
 import time
 import unittest
 
@@ -9,8 +8,6 @@ from network import CONTROLLER, EXAMPLES, Network
 import collect
 import fake_switch
 import openflow
-
-ECHO = bytes.fromhex("0102000800000000")
 
 
 def sent(text):
@@ -78,7 +75,7 @@ class Applying(unittest.TestCase):
 
     def test_a_switch_that_never_answers_ends_the_patience(self):
         net = Network(self, "detour", only={"x": {"is_silent": True}})
-        self.stops(net.apply("--patience", "1"), "0 of 8 rounds are settled, round 1 is running, no answer yet from x", "see that x is connected and answers; then go on with --resume")
+        self.stops(net.apply("--patience", "2"), "0 of 8 rounds are settled, round 1 is running, no answer yet from x", "see that x is connected and answers; then go on with --resume")
         net.switches["x"].is_silent = False
         self.settles(net, net.apply("--resume"))
 
@@ -158,7 +155,8 @@ class Applying(unittest.TestCase):
 
     def test_entries_that_a_configuration_can_t_say_stop_the_update_before_it_begins(self):
         net = Network(self, "square")
-        net.switches["s2"].entries = [entry_of(32768)]
+        rule = {"dst": "10.0.0.0/24", "priority": 32768, "out": 2}
+        net.switches["s2"].entries = [fake_switch.entry_of(fake_switch.match_of(rule), 32768, fake_switch.actions_of(rule))]
         run = net.apply()
         self.stops(run, "1 of the entries can't be said", "CONTROLLER.md")
         self.assertIn("s2: priority 32768 type 0800 10.0.0.0/24 -> output 2: its priority isn't 1 to 16383", run[1])
@@ -171,15 +169,18 @@ class Applying(unittest.TestCase):
         self.assertFalse(net.record.exists())
 
     def test_hostile_bytes_of_a_switch_end_its_session(self):
-        for cause, noise in (("Version", "0403000800000000"), ("Length", "0103000400000000"), ("Xid 77", "011300080000004d"), ("Version", "474554202f20485454502f312e310d0a0d0a")):
+        noises = [("Version", bytes.fromhex("0403000800000000")), ("Length", bytes.fromhex("0103000400000000")), ("Xid 77", bytes.fromhex("011300080000004d")),
+                  ("Version", b"GET / HTTP/1.1\r\n\r\n")]
+        for cause, noise in noises:
             with self.subTest(cause):
-                net = Network(self, "square", only={"s1": {"noise": bytes.fromhex(noise)}})
+                net = Network(self, "square", only={"s1": {"noise": noise}})
                 self.stops(net.apply("--wait", "0.3"), f"the session with s1 failed: {cause}; 1 of 2 rounds are settled", "After a failed session")
 
     def test_hostile_connections_change_nothing(self):
         net = Network(self, "square")
         run = net.begin("--wait", "1")
-        strangers = [b"GET / HTTP/1.1\r\n\r\n", openflow.HELLO_BYTES + bytes(100), bytes.fromhex("010000080000000101060020fea7000000000000000000ff0000000001000000" "00000000"), b"\1"]
+        unknown_datapath = openflow.HELLO_BYTES + openflow.message(openflow.FEATURES_REPLY, 0xFEA70000, bytes(7) + b"\xff" + bytes(16))
+        strangers = [b"GET / HTTP/1.1\r\n\r\n", openflow.HELLO_BYTES + bytes(100), unknown_datapath, b"\1"]
         for data in strangers:
             for _ in range(100):
                 try:
@@ -202,7 +203,7 @@ class Applying(unittest.TestCase):
         self.settles(net, net.apply("--wait", "0.4"))
         waits = [float(it) for it in re.findall(r"starts, after a wait of ([0-9.]+) s", net.record.read_text())]
         self.assertEqual(len(waits), 2)
-        self.assertTrue(all(0.4 <= it < 2 for it in waits), waits)
+        self.assertTrue(all(0.4 <= it < 10 for it in waits), waits)
 
     def test_the_operator_s_key_starts_each_round(self):
         net = Network(self, "square")
@@ -222,11 +223,6 @@ class Applying(unittest.TestCase):
         net = Network(self, "square", listen=True)
         net.listed.write_text(net.listed.read_text().replace("a1 ", "b1 "))
         self.stops(net.apply(), "should be s1 but has the datapath id 00000000000000a1", "correct the file of switches")
-
-
-def entry_of(priority):
-    rule = {"dst": "10.0.0.0/24", "priority": priority, "out": 2}
-    return struct.pack("!HBx", 96, 0) + fake_switch.match_of(rule) + struct.pack("!IIHHH6x24x", 1, 0, priority, 0, 0) + fake_switch.actions_of(rule)
 
 
 if __name__ == "__main__":

@@ -5,7 +5,6 @@ import struct
 import unittest
 
 from network import Network, planner
-import fake_switch
 
 
 def entry(table=0, wildcards=0x003220EF, in_port=0, vlan=0, pcp=0, kind=0x0800, dst="10.0.0.0", priority=100, idle=0, hard=0, actions="0000000800020000"):
@@ -118,9 +117,11 @@ class Collecting(unittest.TestCase):
         self.is_refused("its two statistics differ", [entry(), entry(priority=90)], [extended(TYPE + PREFIX)])
 
     def test_extended_entries_that_say_the_same_are_taken(self):
-        run, config = self.reading([entry(wildcards=0x002220EC, in_port=1, vlan=0xFFFF), entry(wildcards=0x003020ED, vlan=20, dst="10.0.0.9", actions=""), entry(kind=0x0806, wildcards=0x003820EF)],
-                                   [extended("00000002" "0001" + TYPE + "00000802" "0000" + PREFIX), extended(TYPE + "00000904" "1014" "1fff" "00001004" "0a000009", actions=""),
-                                    extended("00000602" "0806")])
+        plain = [entry(wildcards=0x002220EC, in_port=1, vlan=0xFFFF), entry(wildcards=0x003020ED, vlan=20, dst="10.0.0.9", actions=""),
+                 entry(kind=0x0806, wildcards=0x003820EF)]
+        shown = [extended("00000002" "0001" + TYPE + "00000802" "0000" + PREFIX), extended(TYPE + "00000904" "1014" "1fff" "00001004" "0a000009", actions=""),
+                 extended("00000602" "0806")]
+        run, config = self.reading(plain, shown)
         self.assertEqual(run.returncode, 0, run.stderr)
         self.assertEqual(config.count('"s1"'), 2)
 
@@ -128,7 +129,8 @@ class Collecting(unittest.TestCase):
         self.assertIn("# s1: it has no extended statistics, and is taken at its word\n", self.reading([entry()])[0].stdout)
 
     def test_statistics_that_entries_don_t_fill_are_refused(self):
-        for entries, shown in [([entry()[:50]], None), ([entry() + b"\0"], None), ([entry()], [extended(TYPE + PREFIX)[:60]]), ([entry()], [b"\0\x30" + bytes(16) + b"\xff\xff" + bytes(28)])]:
+        too_long_a_match = b"\0\x30" + bytes(16) + b"\xff\xff" + bytes(28)
+        for entries, shown in [([entry()[:50]], None), ([entry() + b"\0"], None), ([entry()], [extended(TYPE + PREFIX)[:60]]), ([entry()], [too_long_a_match])]:
             self.is_refused("s1: entries don't fill its statistics", entries, shown)
 
     def test_a_switch_that_isn_t_there_is_named(self):
@@ -141,8 +143,8 @@ class Collecting(unittest.TestCase):
     def test_bad_files_of_switches_are_refused(self):
         net = Network(self, "square")
         good = net.listed.read_text()
-        for words, text in [("line 1: not", "s9" + good[2:]), ("line 1: not", good.replace("00a1", "a1")), ("line 5: not", good + good[:20]), ("line 2: not", good.replace("a2", "a1")),
-                            ("has no line for s4", good.replace("s4", "# s4")), ("line 1: not", good.replace("a1\n", "a1 here\n"))]:
+        for words, text in [("line 1: not", "s9" + good[2:]), ("line 1: not", good.replace("00a1", "a1")), ("line 5: not", good + good[:20]),
+                            ("line 2: not", good.replace("a2", "a1")), ("has no line for s4", good.replace("s4", "# s4")), ("line 1: not", good.replace("a1\n", "a1 here\n"))]:
             with self.subTest(words):
                 net.listed.write_text(text)
                 run = net.collect()
