@@ -15,6 +15,7 @@ pub enum FileKind {
     Plan,
     Schedule,
     Replies,
+    Input,
 }
 
 impl FileKind {
@@ -31,6 +32,7 @@ impl FileKind {
             FileKind::Plan => 512 * MEBIBYTE,
             FileKind::Schedule => 64 * MEBIBYTE,
             FileKind::Replies => 16 * MEBIBYTE,
+            FileKind::Input => 64 * MEBIBYTE,
         }
     }
 
@@ -47,6 +49,7 @@ impl FileKind {
             FileKind::Plan => "plan",
             FileKind::Schedule => "schedule",
             FileKind::Replies => "replies",
+            FileKind::Input => "input",
         }
     }
 }
