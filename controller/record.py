@@ -28,15 +28,19 @@ class Record:
         else:
             self.add(f"# {head}")
             self.keep()
+            folder = os.open(os.path.dirname(os.path.abspath(path)), os.O_RDONLY)
+            os.fsync(folder)         # so that the file is found again, too
+            os.close(folder)
 
     def take_up(self, head):
-        """Reads the lines that are there. A last line without its end was being written when the update was cut off: nothing followed from it, and it goes."""
+        """Reads the lines that are there. A last line without its end was being written when the update was cut off: nothing followed from it, and it
+        goes."""
         self.file.seek(0)
-        data = self.file.read()
-        self.file.truncate(data.rfind(b"\n") + 1)
-        lines = data[:data.rfind(b"\n") + 1].decode("ascii", "replace").splitlines()
-        if lines[:1] != [f"# {head}"]:
-            raise Stop("the record was begun with other files, or with other contents of them", "give the files with which the update was begun")
+        whole = self.file.read().rpartition(b"\n")[0] + b"\n"
+        lines = whole.decode("ascii", "replace").split("\n")[:-1]
+        if lines[0] != f"# {head}":
+            raise Stop("it isn't the record of an update with these files, as they are now", "give the files with which the update was begun")
+        self.file.truncate(len(whole))
         self.lines = len(lines)
         for line in lines:
             feed = re.fullmatch("feed ([^ ]+) (([0-9a-fA-F]{2}){8,})", line)     # other lines are for `drive` to judge
@@ -49,7 +53,8 @@ class Record:
         self.lines += 1
 
     def remark(self, words):
-        self.add(f"# {datetime.datetime.now(datetime.timezone.utc).isoformat(timespec='milliseconds')} {words}")
+        now = datetime.datetime.now(datetime.timezone.utc).isoformat(timespec="milliseconds")
+        self.add(f"# {now} {words}".replace("\n", " "))
 
     def feed(self, switch, piece):
         self.add(f"feed {switch} {piece.hex()}")

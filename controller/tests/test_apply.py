@@ -127,7 +127,14 @@ class Applying(unittest.TestCase):
         net = Network(self, "square")
         net.apply_until("round 1 starts")
         net.files[4] = EXAMPLES / "square" / "plan-at-once.json"
-        self.stops(net.apply("--resume"), "other files", "the files with which the update was begun")
+        self.stops(net.apply("--resume"), "isn't the record of an update with these files", "the files with which the update was begun")
+
+    def test_a_file_that_is_no_record_stays_as_it_is(self):
+        net = Network(self, "square")
+        net.record.write_text("what the operator wrote, without a line end")
+        self.stops(net.apply("--resume"), "isn't the record", "the files with which")
+        self.stops(net.apply(), "is there already", "another name")
+        self.assertEqual(net.record.read_text(), "what the operator wrote, without a line end")
 
     def test_an_operator_who_ends_it_is_told_how_to_go_on(self):
         net = Network(self, "square")
