@@ -208,14 +208,16 @@ def faults(policy, entry, vlan, address, stops, end):
 
 def judge(folder, topology, old, new, policy, sent, sums):
     stops, ends = ways(folder, topology)
-    counts, examples, broken = collections.Counter(), {}, 0
+    counts, examples, broken, paths = collections.Counter(), {}, 0, {}
     packets = [json.loads(line) for line in pathlib.Path(sent).read_text(encoding="ascii").splitlines()]
     for number, entry, vlan, address in packets:
         way, end = stops.get(number, []), ends.get(number)
         what = list(faults(policy, entry, vlan, address, way, end))
         broken += bool(what)
         if not what:
-            taken = [name for name, config in (("old", old), ("new", new)) if (way, end and end[0]) == path_under(topology, config, entry, vlan, address)]
+            if (entry, vlan, address) not in paths:
+                paths[entry, vlan, address] = [path_under(topology, config, entry, vlan, address) for config in (old, new)]
+            taken = [name for name, path in zip(("old", "new"), paths[entry, vlan, address]) if path == (way, end and end[0])]
             what = [f"took the {' and the '.join(taken)} path" if taken else "took parts of both paths"]
         counts[", ".join(what)] += 1
         examples.setdefault(", ".join(what), f"{' '.join(way[:12])}{' ..' if len(way) > 12 else ''} {'left ' + end[0] if end else 'did not leave'}")
