@@ -24,6 +24,10 @@ import subprocess
 import sys
 import time
 
+sys.path[:0] = [str(pathlib.Path(__file__).resolve().parents[1]), str(pathlib.Path(__file__).resolve().parents[1] / "tests")]
+import fake_switch
+import openflow
+
 FIRST_PORT = int(os.environ.get("FIRST_PORT", "17100"))
 PAUSE = float(os.environ.get("PAUSE", "0.002"))
 
@@ -66,24 +70,27 @@ def bridges(folder, topology, slow=""):
         add_port(right, f"options:stream=unix:{folder}/{name}.{slow or 'link'}")
 
 
-def flow(rule, with_action=True):
+def flow(rule):
     """A rule in the words of ovs-ofctl."""
     vlan = rule.get("vlan", "any")
     words = f"priority={rule['priority']},ip,nw_dst={rule['dst']}"
     words += f",in_port={rule['in_port']}" if rule.get("in_port", "any") != "any" else ""
     words += "" if vlan == "any" else ",dl_vlan=0xffff" if vlan == "untagged" else f",dl_vlan={vlan}"
-    return words + (f",actions={'drop' if rule['out'] == 'drop' else 'output:%d' % rule['out']}" if with_action else "")
-
-
-def ofctl(folder, command, switch, *words, text=None):
-    command = command if isinstance(command, list) else [command]
-    subprocess.run(["ovs-ofctl", "-O", "OpenFlow10", *command, f"unix:{folder}/{switch}.mgmt", *words], input=text, text=True, check=True, timeout=60)
+    return words + f",actions={'drop' if rule['out'] == 'drop' else 'output:%d' % rule['out']}\n"
 
 
 def load(folder, topology, config):
     for switch in topology["switches"]:
-        rules = [flow(rule) for rule in config["rules"] if rule["switch"] == switch["name"]]
-        ofctl(folder, "replace-flows", switch["name"], "-", text="".join(f"{rule}\n" for rule in rules))
+        rules = "".join(flow(rule) for rule in config["rules"] if rule["switch"] == switch["name"])
+        words = ["ovs-ofctl", "-O", "OpenFlow10", "replace-flows", f"unix:{folder}/{switch['name']}.mgmt", "-"]
+        subprocess.run(words, input=rules, text=True, check=True, timeout=60)
+
+
+def flow_message(rule, is_kept):
+    """The message (OpenFlow 1.0.0, section 5.3.3) that adds or replaces a rule, or deletes it."""
+    command = 0 if is_kept else 4
+    body = fake_switch.match_of(rule) + struct.pack("!8xHHHHIHH", command, 0, 0, rule["priority"], 0xFFFFFFFF, 0xFFFF, 0)
+    return openflow.message(openflow.FLOW_MOD, 1, body + (fake_switch.actions_of(rule) if is_kept else b""))
 
 
 def at_once(folder, topology, old, new, policy, seed, seconds):
@@ -93,14 +100,16 @@ def at_once(folder, topology, old, new, policy, seed, seconds):
     before, after, chance = keyed(old), keyed(new), random.Random(seed)
     differing = [key for key in sorted({*before, *after}, key=str) if before.get(key) != after.get(key)]
     moments = sorted((chance.random() * float(seconds), key) for key in differing)
+    socks = {one["name"]: socket.create_connection(("127.0.0.1", FIRST_PORT + number), timeout=60) for number, one in enumerate(topology["switches"])}
+    for sock in socks.values():
+        sock.sendall(openflow.HELLO_BYTES)
+        sock.recv(8)
     begun = time.monotonic()
     for moment, key in moments:
         time.sleep(max(0.0, begun + moment - time.monotonic()))
-        if key in after:
-            ofctl(folder, "add-flow", key[0], flow(after[key]))
-        else:
-            ofctl(folder, ["--strict", "del-flows"], key[0], flow(before[key], with_action=False))
+        socks[key[0]].sendall(flow_message(after.get(key, before.get(key)), key in after))
     print(f"{len(moments)} changes in {time.monotonic() - begun:.2f} s")
+    time.sleep(0.2)
 
 
 # ---- the packets
