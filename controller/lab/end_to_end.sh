@@ -41,10 +41,11 @@ pour() { # begins the traffic, which is noted in the file $1
     python3 -B "$here/traffic.py" pour "$dir" "${files_of_update[@]}" "$1" & traffic=$!
     sleep 0.5
 }
-drain() { # ends the traffic when the new tables have seen some of it, and lets its last packets leave
+drain() { # ends the traffic when the new tables have seen some of it, and waits until no port has recorded anything for 2 s
+    local before='' now
     sleep 0.5
     kill "$traffic"; wait "$traffic"; traffic=
-    python3 -c 'import sys; d, n = sys.argv[1:]; __import__("time").sleep(0.5 + float(d or 0) / 1000 * int(n))' "$delay" "$(grep -o '"capacity"' "$files/topology.json" | wc -l)"
+    while now=$(cat "$dir"/*.rx | wc -c); [ "$now" != "$before" ]; do before=$now; sleep 2; done
 }
 judge() { python3 -B "$here/traffic.py" judge "$dir" "${files_of_update[@]}" "$1" "$2"; } # what became of the packets of the file $1; the sums go to the file $2
 sums() { awk '{ sent += $1; broken += $2 } END { print sent " packets sent, " broken " broken" }' "$1"; }
