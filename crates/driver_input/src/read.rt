@@ -5,7 +5,7 @@ ghost use Rattle.driver_input.specs.declared.fault.InputFault.TheVariants.{Memor
 ghost use Rattle.driver_input.specs.Inputs as files;
 
 use crate::fault::InputFault;
-use crate::inputs::{Input, InputLine, Inputs};
+use crate::inputs::{InputLine, Inputs};
 use crate::lines::{is_comment, is_line_end, read_line_input};
 use net_base::place_of;
 use std::alloc::Global;
