@@ -1,1 +1,3 @@
+pub mod LogLaws
+pub mod ReportLaws
 pub mod DriveLaws

@@ -5,9 +5,9 @@ ghost use Rattle.drive_command.specs.Names.{names_seen};
 ghost use Rattle.drive_command.specs.Driven.{drive_dialogue, IsDriveAnswer};
 
 use crate::names::DriveNames;
-use crate::readings::read_input_file;
+use crate::readings::{read_check_files, read_input_file};
 use crate::verdict::drive_verdict;
-use command_base::{Exit, Reply, read_plan_file, read_update};
+use command_base::{Exit, Reply};
 use net_base::Source;
 use std::alloc::Global;
 
@@ -23,8 +23,7 @@ pub fn drive<S: Source>(
     ensures held { S.held source.new ≡ S.held source.old }
     ensures later { S.faults source.old ≤ S.faults source.new }
 {
-    let files = read_update(alloc, source, &names.check.update)?;
-    let plan = read_plan_file(alloc, source, &files.net, names.check.plan)?;
-    let inputs = read_input_file(alloc, source, &files.net, names.input)?;
-    Ok(drive_verdict(alloc, &files, &plan, &inputs)?)
+    let files = read_check_files(alloc, source, &names.check)?;
+    let inputs = read_input_file(alloc, source, &files.update.net, names.input)?;
+    Ok(drive_verdict(alloc, &files.update, &files.plan, &inputs)?)
 }
