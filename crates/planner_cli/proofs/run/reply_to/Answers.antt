@@ -1,5 +1,3 @@
-use Rattle.std.proofs.Common.{sym, ◌∙◌}
-use Rattle.std.proofs.lemmas.Result.{IfErr-weaker}
 use Rattle.command_base.proofs.DialogueLaws.{meets_as}
 use Rattle.planner_cli.specs.Commands.{IsSaid, OfConfig, OfCheck, OfPlan, OfUpgrade, OfEmit, OfReplay, OfSimulate, OfImport}
 use Rattle.planner_cli.proofs.Sampled.{sample_meets}
@@ -32,54 +30,3 @@ returns-in-Import-clause-meets g c = rw c.in-Import.is (meets_as IsSaid OfImport
 
 pub returns-in-Sample-clause-meets : goal.returns-in-Sample-clause-meets
 returns-in-Sample-clause-meets g c = rw c.in-Sample.is (sample_meets _ c.in-Sample.size.switches _ _ c.sample_reply.result _ _ c.sample_reply.ensures.says c.sample_reply.ensures.memory)
-
-pub returns-in-Config-clause-unread : goal.returns-in-Config-clause-unread
-returns-in-Config-clause-unread g c = λ n is. absurd (let other = rw c.in-Config.is at is in cc)
-
-pub returns-in-Config-clause-no_read_fault : goal.returns-in-Config-clause-no_read_fault
-returns-in-Config-clause-no_read_fault g c = λ n is. absurd (let other = rw c.in-Config.is at is in cc)
-
-pub returns-in-Check-clause-unread : goal.returns-in-Check-clause-unread
-returns-in-Check-clause-unread g c = λ n is. absurd (let other = rw c.in-Check.is at is in cc)
-
-pub returns-in-Check-clause-no_read_fault : goal.returns-in-Check-clause-no_read_fault
-returns-in-Check-clause-no_read_fault g c = λ n is. absurd (let other = rw c.in-Check.is at is in cc)
-
-pub returns-in-Plan-clause-unread : goal.returns-in-Plan-clause-unread
-returns-in-Plan-clause-unread g c = λ n is. absurd (let other = rw c.in-Plan.is at is in cc)
-
-pub returns-in-Plan-clause-no_read_fault : goal.returns-in-Plan-clause-no_read_fault
-returns-in-Plan-clause-no_read_fault g c = λ n is. absurd (let other = rw c.in-Plan.is at is in cc)
-
-pub returns-in-Upgrade-clause-unread : goal.returns-in-Upgrade-clause-unread
-returns-in-Upgrade-clause-unread g c = λ n is. absurd (let other = rw c.in-Upgrade.is at is in cc)
-
-pub returns-in-Upgrade-clause-no_read_fault : goal.returns-in-Upgrade-clause-no_read_fault
-returns-in-Upgrade-clause-no_read_fault g c = λ n is. absurd (let other = rw c.in-Upgrade.is at is in cc)
-
-pub returns-in-Emit-clause-unread : goal.returns-in-Emit-clause-unread
-returns-in-Emit-clause-unread g c = λ n is. absurd (let other = rw c.in-Emit.is at is in cc)
-
-pub returns-in-Emit-clause-no_read_fault : goal.returns-in-Emit-clause-no_read_fault
-returns-in-Emit-clause-no_read_fault g c = λ n is. absurd (let other = rw c.in-Emit.is at is in cc)
-
-pub returns-in-Replay-clause-unread : goal.returns-in-Replay-clause-unread
-returns-in-Replay-clause-unread g c = λ n is. absurd (let other = rw c.in-Replay.is at is in cc)
-
-pub returns-in-Replay-clause-no_read_fault : goal.returns-in-Replay-clause-no_read_fault
-returns-in-Replay-clause-no_read_fault g c = λ n is. absurd (let other = rw c.in-Replay.is at is in cc)
-
-pub returns-in-Simulate-clause-unread : goal.returns-in-Simulate-clause-unread
-returns-in-Simulate-clause-unread g c = λ n is. absurd (let other = rw c.in-Simulate.is at is in cc)
-
-pub returns-in-Simulate-clause-no_read_fault : goal.returns-in-Simulate-clause-no_read_fault
-returns-in-Simulate-clause-no_read_fault g c = λ n is. absurd (let other = rw c.in-Simulate.is at is in cc)
-
-pub returns-in-Import-clause-unread : goal.returns-in-Import-clause-unread
-returns-in-Import-clause-unread g c = λ n is. absurd (let other = rw c.in-Import.is at is in cc)
-
-pub returns-in-Import-clause-no_read_fault : goal.returns-in-Import-clause-no_read_fault
-returns-in-Import-clause-no_read_fault g c = λ n is. absurd (let other = rw c.in-Import.is at is in cc)
-
-pub returns-in-Sample-clause-no_read_fault : goal.returns-in-Sample-clause-no_read_fault
-returns-in-Sample-clause-no_read_fault g c = λ n is. IfErr-weaker c.sample_reply.result _ _ (λ e memory. λ read. let both = sym memory ∙ read in cc) c.sample_reply.ensures.memory

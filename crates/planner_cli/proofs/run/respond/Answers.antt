@@ -1,4 +1,4 @@
-use Rattle.std.proofs.Common.{map, string_bytes, sym, ◌∙◌, inl, inr}
+use Rattle.std.proofs.Common.{map, string_bytes, inl, inr}
 use Rattle.command_base.specs.Replies.{answer_of}
 use Rattle.command_base.proofs.DialogueLaws.{leads_early}
 use Rattle.planner_cli.specs.Commands.{IsSaid, dialogue_of, seen}
@@ -56,27 +56,3 @@ returns-in-Err-ReadFault-clause-read_fault g c = λ is.
       | inl rose ↦ inl rose
       | inr lacks ↦ inr (lacks_asked _ (map string_bytes c.args.words.now) (seen c.in-Some.command) c.in-Some.ensures lacks)
     ]
-
-pub returns-in-Ok-clause-unread : goal.returns-in-Ok-clause-unread
-returns-in-Ok-clause-unread g c = λ n asks. c.in-Ok.ensures.unread n (let there = c.in-Some.ensures in cc)
-
-pub returns-in-Err-Says-clause-unread : goal.returns-in-Err-Says-clause-unread
-returns-in-Err-Says-clause-unread g c = λ n asks. c.in-Err-Says.ensures.unread n (let there = c.in-Some.ensures in cc)
-
-pub returns-in-Err-ReadFault-clause-unread : goal.returns-in-Err-ReadFault-clause-unread
-returns-in-Err-ReadFault-clause-unread g c = λ n asks. c.in-Err-ReadFault.ensures.unread n (let there = c.in-Some.ensures in cc)
-
-pub returns-in-Err-Memory-clause-unread : goal.returns-in-Err-Memory-clause-unread
-returns-in-Err-Memory-clause-unread g c = λ n asks. c.in-Err-Memory.ensures.unread n (let there = c.in-Some.ensures in cc)
-
-pub returns-in-None-clause-no_read_fault : goal.returns-in-None-clause-no_read_fault
-returns-in-None-clause-no_read_fault g c = λ n asks is. let none = c.in-None.ensures in cc
-
-pub returns-in-Ok-clause-no_read_fault : goal.returns-in-Ok-clause-no_read_fault
-returns-in-Ok-clause-no_read_fault g c = λ n asks is. elim c.write_answer-in-Ok.ensures.done [ inl fault ↦ (cc) | inr h ↦ c.in-Ok.reply.no_read_fault (sym h.0 ∙ is) ]
-
-pub returns-in-Err-Says-clause-no_read_fault : goal.returns-in-Err-Says-clause-no_read_fault
-returns-in-Err-Says-clause-no_read_fault g c = λ n asks is. elim c.write_answer-in-Err-Says.ensures.done [ inl fault ↦ (cc) | inr h ↦ c.in-Err-Says.reply.no_read_fault (sym h.0 ∙ is) ]
-
-pub returns-in-Err-ReadFault-clause-no_read_fault : goal.returns-in-Err-ReadFault-clause-no_read_fault
-returns-in-Err-ReadFault-clause-no_read_fault g c = λ n asks is. c.in-Err-ReadFault.ensures.no_read_fault n (let there = c.in-Some.ensures in cc) c.in-Err-ReadFault.field-0-is
