@@ -5,6 +5,7 @@ ghost use Rattle.planner_cli.specs.Commands.{asked, seen};
 use check_command::{CheckNames, check_names};
 use command_base::{PlanNames, UpdateNames, plan_names, update_names};
 use config_command::{ConfigNames, config_names};
+use drive_command::{DriveNames, drive_names};
 use import_command::{ImportNames, import_names};
 use replay_command::{ReplayNames, replay_names};
 use sample_command::{RingSize, ring_size};
@@ -21,6 +22,7 @@ pub enum Command<'a> {
     Replay(ReplayNames<'a>),
     Simulate(SimulateNames<'a>),
     Import(ImportNames<'a>),
+    Drive(DriveNames<'a>),
     Sample(RingSize),
 }
 
@@ -40,6 +42,7 @@ pub fn command_of(words: &[String]) -> Option<Command<'_>>
         "replay" => replay_names(rest).map(Command::Replay),
         "simulate" => simulate_names(rest).map(Command::Simulate),
         "import" => import_names(rest).map(Command::Import),
+        "drive" => drive_names(rest).map(Command::Drive),
         "sample" => match ring_size(rest) {
             Some(size) => Some(Command::Sample(size)),
             None => None,

@@ -20,9 +20,11 @@ ghost use Rattle.simulate_command.specs.Names.{SimulateNames};
 ghost use Rattle.simulate_command.specs.Promise.{SimulatePromise};
 ghost use Rattle.import_command.specs.Names.{ImportNames};
 ghost use Rattle.import_command.specs.Promise.{ImportPromise};
+ghost use Rattle.drive_command.specs.Names.{DriveNames};
+ghost use Rattle.drive_command.specs.Promise.{DrivePromise};
 ghost use Rattle.sample_command.specs.Summaries.{SaysSummary};
 ghost use Rattle.sample_command.specs.Promise.{SamplePromise};
-ghost use Rattle.planner_cli.specs.Commands.{Config, Check, Plan, Upgrade, Emit, Replay, Simulate, Import, Sample, asked, seen, dialogue, dialogue_of, IsSaid, usage_line};
+ghost use Rattle.planner_cli.specs.Commands.{Config, Check, Plan, Upgrade, Emit, Replay, Simulate, Import, Drive, Sample, asked, seen, dialogue, dialogue_of, IsSaid, usage_line};
 
 use crate::command::{Command, command_of};
 use check_command::check;
@@ -30,6 +32,8 @@ use check_command::laws::check_promised;
 use command_base::{Exit, Reply, Status};
 use config_command::config;
 use config_command::laws::config_promised;
+use drive_command::drive;
+use drive_command::laws::drive_promised;
 use emit_command::emit;
 use emit_command::laws::emit_promised;
 use import_command::import;
@@ -76,6 +80,7 @@ fn reply_to<S: Source>(alloc: Global, command: &Command<'_>, source: &mut S) -> 
         Command::Replay(names) => replay(alloc, source, names),
         Command::Simulate(names) => simulate(alloc, source, names),
         Command::Import(names) => import(alloc, source, names),
+        Command::Drive(names) => drive(alloc, source, names),
         Command::Sample(size) => sample_reply(alloc, *size),
     }
 }
@@ -174,6 +179,8 @@ pub fn run<S: Source, K: Sink>(
         → SimulatePromise files names (K.written sink.old) (K.written sink.new) result }
     ensures import { (files : Files) (names : ImportNames) → S.held source.old ≡ Some files → asked (map string_bytes words.now) ≡ Some (Import names)
         → ImportPromise files names (K.written sink.old) (K.written sink.new) result }
+    ensures drive { (files : Files) (names : DriveNames) → S.held source.old ≡ Some files → asked (map string_bytes words.now) ≡ Some (Drive names)
+        → DrivePromise files names (K.written sink.old) (K.written sink.new) result }
 
     // A sample reads no file: its promise holds over every source, which it leaves as it is.
     ensures sample { (n : ℕ) → asked (map string_bytes words.now) ≡ Some (Sample n) → SamplePromise n (K.written sink.old) (K.written sink.new) result }
@@ -187,6 +194,7 @@ pub fn run<S: Source, K: Sink>(
     replay_promised();
     simulate_promised();
     import_promised();
+    drive_promised();
     sample_promised();
     respond(alloc, words, source, sink)
 }

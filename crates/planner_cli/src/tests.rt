@@ -170,6 +170,42 @@ fn planning_that_fails_to_write_leaves_a_front(rt: HostRuntime) -> Result<(), Fa
     Ok(())
 }
 
+// A source with the files of the square, its plan and a start.
+fn driven_source(alloc: Global) -> Result<MemorySource, Fail> {
+    let texts = square::update();
+    let mut source = MemorySource::make(alloc, 4096, Vec::new(alloc))?;
+    source.add(
+        String::from_str(alloc, "topology")?,
+        texts.topology.to_vec(alloc)?,
+    )?;
+    source.add(String::from_str(alloc, "old")?, texts.old.to_vec(alloc)?)?;
+    source.add(String::from_str(alloc, "new")?, texts.new.to_vec(alloc)?)?;
+    source.add(
+        String::from_str(alloc, "policy")?,
+        texts.policy.to_vec(alloc)?,
+    )?;
+    source.add(
+        String::from_str(alloc, "plan")?,
+        square::plan().to_vec(alloc)?,
+    )?;
+    source.add(
+        String::from_str(alloc, "input")?,
+        b"# s1 hasn't said HELLO\nstart\n".to_vec(alloc)?,
+    )?;
+    Ok(source)
+}
+
+#[test]
+fn drive_runs(rt: HostRuntime) -> Result<(), Fail> {
+    let alloc = rt.alloc();
+    let texts = ["drive", "topology", "old", "new", "policy", "plan", "input"];
+    let mut source = driven_source(alloc)?;
+    let (status, written) = ran(alloc, &texts, &mut source, 4000, 0)?;
+    assert!(rt; status == Status::NotARun);
+    assert_eq!(rt; written.as_slice(), b"not a run: line 2\n".as_slice());
+    Ok(())
+}
+
 #[test]
 fn a_sample_that_fails_to_write_leaves_a_front(rt: HostRuntime) -> Result<(), Fail> {
     for failing in 1..=SAMPLE_LINE.len() as u64 {
