@@ -59,12 +59,7 @@ fn add_session(
 }
 
 // Adds what was sent to each switch.
-fn add_sent(
-    text: &mut Vec<u8>,
-    alloc: Global,
-    net: &Net,
-    driver: &Driver<'_>,
-) -> Result<(), Memory>
+fn add_sent(text: &mut Vec<u8>, alloc: Global, net: &Net, driver: &Driver<'_>) -> Result<(), Memory>
     requires { driver.now.net ≡ net.now }
     ensures { OnOk result (text.new.items ≡ text.old.items ++ text_of (reports.by_switch (reports.sent_to driver.now.state) 0 net.now.names)) }
 {
@@ -88,7 +83,12 @@ fn add_sessions(
 {
     for number in 0..net.switches() {
         let switch = SwitchId(number);
-        add_session(text, alloc, switch_text(net, switch), driver.session(switch))?;
+        add_session(
+            text,
+            alloc,
+            switch_text(net, switch),
+            driver.session(switch),
+        )?;
     }
     Ok(())
 }

@@ -3,7 +3,9 @@
 use check_command::CheckNames;
 use command_base::Status;
 use drive_command::{DriveNames, drive};
-use example_files::{Answer, UpdateTexts, answer_of, detour, detour_plans, none, square, update_names, wide};
+use example_files::{
+    Answer, UpdateTexts, answer_of, detour, detour_plans, none, square, update_names, wide,
+};
 use net_base::{Memory, MemorySource};
 use std::alloc::Global;
 use std::process::Abort;
@@ -143,10 +145,22 @@ fn bytes_may_come_singly(rt: HostRuntime) {
 fn a_session_fails_by_its_cause(rt: HostRuntime) {
     let alloc = rt.alloc();
     let rows: [(&str, &str); 9] = [
-        ("feed s1 0000000800000000\n", "# failed s1 Version\n# settled 0 of 2\n"),
-        ("feed s1 0402000800000000\n", "# failed s1 Version\n# settled 0 of 2\n"),
-        ("feed s1 0100000700000000\n", "# failed s1 Length\n# settled 0 of 2\n"),
-        ("feed s1 0102000800000000\n", "# failed s1 NoHello\n# settled 0 of 2\n"),
+        (
+            "feed s1 0000000800000000\n",
+            "# failed s1 Version\n# settled 0 of 2\n",
+        ),
+        (
+            "feed s1 0402000800000000\n",
+            "# failed s1 Version\n# settled 0 of 2\n",
+        ),
+        (
+            "feed s1 0100000700000000\n",
+            "# failed s1 Length\n# settled 0 of 2\n",
+        ),
+        (
+            "feed s1 0102000800000000\n",
+            "# failed s1 NoHello\n# settled 0 of 2\n",
+        ),
         // What comes behind is dropped.
         (
             "feed s1 0100000800000000\nfeed s1 0101000c00000001000300050000000000\nfeed s1 01000008\n",
@@ -187,11 +201,19 @@ fn an_echo_is_answered_in_mid_round(rt: HostRuntime) {
     let front = joined(
         &rt,
         alloc,
-        &[SENT_S1, "0103000c00000007a1b2c3d4\n# sent s2 0100000800000000\n"],
+        &[
+            SENT_S1,
+            "0103000c00000007a1b2c3d4\n# sent s2 0100000800000000\n",
+        ],
     );
     assert!(rt; answer.status == Status::Done);
     assert!(rt; answer.text.as_slice().starts_with(&front));
-    assert!(rt; answer.text.as_slice().ends_with(b"\nstart\nchange 0\nsettle\n# settled 1 of 2\n"));
+    assert!(rt;
+        answer
+            .text
+            .as_slice()
+            .ends_with(b"\nstart\nchange 0\nsettle\n# settled 1 of 2\n")
+    );
 }
 
 #[test]
@@ -213,7 +235,13 @@ fn switches_answer_in_any_order(rt: HostRuntime) {
     ];
     for (lines, end) in rows {
         let input = joined(&rt, alloc, &[DETOUR_HELLOS, lines]);
-        let answer = answered(&rt, alloc, &detour::update(), detour_plans::two_phases(), &input);
+        let answer = answered(
+            &rt,
+            alloc,
+            &detour::update(),
+            detour_plans::two_phases(),
+            &input,
+        );
         assert!(rt; answer.status == Status::Done, "{lines}");
         assert!(rt; answer.text.as_slice().ends_with(end.as_bytes()), "{lines}");
     }
@@ -238,9 +266,15 @@ fn a_start_may_be_refused(rt: HostRuntime) {
     let rows: [(&str, &str); 4] = [
         // Before the switch has said HELLO.
         ("start\n", "not a run: line 1\n"),
-        ("feed s3 0100000800000000\n\n# s1 hasn't\nstart\n", "not a run: line 4\n"),
+        (
+            "feed s3 0100000800000000\n\n# s1 hasn't\nstart\n",
+            "not a run: line 4\n",
+        ),
         // While a round is running.
-        ("feed s1 0100000800000000\nstart\nstart\nstart\n", "not a run: line 3\n"),
+        (
+            "feed s1 0100000800000000\nstart\nstart\nstart\n",
+            "not a run: line 3\n",
+        ),
         // When all rounds are settled.
         (
             "feed s1 0100000800000000\nfeed s3 0100000800000000\nstart\nfeed s1 0113000800000002\nstart\nfeed s3 0113000800000004\nstart\n",
@@ -276,9 +310,21 @@ fn inputs_that_are_bad_are_named(rt: HostRuntime) {
 fn other_plans_are_refused(rt: HostRuntime) {
     let alloc = rt.alloc();
     // All files are read first.
-    let answer = answered(&rt, alloc, &square::update(), square::both_at_once(), b"stop");
+    let answer = answered(
+        &rt,
+        alloc,
+        &square::update(),
+        square::both_at_once(),
+        b"stop",
+    );
     assert!(rt; answer.is(Status::BadFile, b"bad input: 1 BadLine at 1\n"));
-    let answer = answered(&rt, alloc, &square::update(), square::both_at_once(), b"start");
+    let answer = answered(
+        &rt,
+        alloc,
+        &square::update(),
+        square::both_at_once(),
+        b"start",
+    );
     assert!(rt;
         answer.is(
             Status::Refused,

@@ -180,7 +180,7 @@ module _ (net : Network) (keeps : IsNetwork net) where
       lines_again lines each ∙ append_assoc front (events ++ behind) ([] ∷ []) ∙ ap (λ (ls : List (List ℕ)). front ++ ls) (append_assoc events behind ([] ∷ [])) in
       let last : AllByRecursion (λ l. is_comment l ≡ true) (behind ++ [] ∷ []) = each_append (λ l. is_comment l ≡ true) behind ([] ∷ []) cb (refl, tt) in
       ap (in_turn (line_at net) 1 []) cut ∙ comments_pass 1 [] front (events ++ (behind ++ [] ∷ [])) cf
-          ∙ events_again (1 + length front) [] es (behind ++ [] ∷ []) h last (omega arith) (omega arith)
+      ∙ events_again (1 + length front) [] es (behind ++ [] ∷ []) h last (omega arith) (omega arith)
 
   -- the same with comments after them alone
   pub lines_read : (es : List Event) (comments : List (List ℕ)) → AllByRecursion (HasLine net) es → length es ≤ 4000000 → AllByRecursion (λ l. is_comment l ≡ true) comments → AllByRecursion (Lacks 10) comments
