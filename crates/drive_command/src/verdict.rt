@@ -1,5 +1,5 @@
 // What is said of a plan and its inputs: too many classes, what the driver does, or the first reason why the plan isn't certified.
-ghost use Rattle.std.specs.Prelude.{◌≤◌, IfOk};
+ghost use Rattle.std.specs.Prelude.{◌≡◌, ◌≤◌, List, Ok, IfOk};
 ghost use Rattle.flow_rules.specs.Tables.{rules_of_all};
 ghost use Rattle.path_walk.specs.UserConfigs.{IsUserConfig};
 ghost use Rattle.dest_classes.specs.Classes.{class_count};
@@ -9,7 +9,9 @@ ghost use Rattle.plan_checker.specs.Fits.{Fits};
 ghost use Rattle.driver_input.specs.Inputs.{AreInputs};
 ghost use Rattle.command_base.specs.Updates.{meaning_of, task_for};
 ghost use Rattle.command_base.specs.Replies.{answer_of};
-ghost use Rattle.drive_command.specs.Driven.{IsDriven, IsDriveAnswer};
+ghost use Rattle.driver_input.specs.declared.inputs.InputLine.{InputLine};
+ghost use Rattle.drive_command.specs.Driving.{driven_by};
+ghost use Rattle.drive_command.specs.Driven.{IsDriven, IsDriveAnswer, SaysReport};
 
 use crate::driving::{DriveFault, give_all};
 use crate::report::report_text;
@@ -23,7 +25,30 @@ use replay_command::not_a_run_reply;
 use schedule_pilot::laws::certified_begins_safely;
 use std::alloc::Global;
 use update_driver::Driver;
-use update_driver::laws::{only_replies_and_messages_are_sent, rounds_wait_for_barriers};
+
+// The report on the driver of a certified plan.
+fn report_reply(
+    alloc: Global,
+    files: &UpdateFiles,
+    plan: &Plan,
+    driver: &Driver<'_>,
+) -> Result<Reply, Memory>
+    requires old { IsUserConfig files.now.net (rules_of_all files.now.old) }
+    requires new { IsUserConfig files.now.net (rules_of_all files.now.new) }
+    requires certified { IsCertified (task_for (meaning_of files.now) plan.now) plan.now.evidence }
+    requires net { driver.now.net ≡ files.now.net }
+    requires rounds { driver.now.rounds ≡ plan.now.rounds }
+    ensures { IfOk result (λ r. (inputs : List InputLine) → driven_by files.now.net plan.now.rounds inputs ≡ Ok driver.now.state
+        → SaysReport (task_for (meaning_of files.now) plan.now).update inputs (answer_of r)) }
+{
+    certified_begins_safely(&files.net, &files.old, &files.new, &files.demands, plan);
+    files.net.keeps_rules();
+    driver.keeps_rules();
+    Ok(Reply {
+        status: Status::Done,
+        text: report_text(alloc, &files.net, driver, plan.rounds.count())?,
+    })
+}
 
 // What the driver of a certified plan does with the inputs.
 fn driven_reply(
@@ -39,16 +64,9 @@ fn driven_reply(
     requires certified { IsCertified (task_for (meaning_of files.now) plan.now) plan.now.evidence }
     ensures { IfOk result (λ r. IsDriven (task_for (meaning_of files.now) plan.now).update inputs.now (answer_of r)) }
 {
-    certified_begins_safely(&files.net, &files.old, &files.new, &files.demands, plan);
-    only_replies_and_messages_are_sent();
-    rounds_wait_for_barriers();
-    files.net.keeps_rules();
     let mut driver = Driver::make(alloc, &files.net, &plan.rounds)?;
     match give_all(&mut driver, inputs.list()) {
-        Ok(()) => Ok(Reply {
-            status: Status::Done,
-            text: report_text(alloc, &files.net, &driver, plan.rounds.count())?,
-        }),
+        Ok(()) => report_reply(alloc, files, plan, &driver),
         Err(DriveFault::NotARun(line)) => not_a_run_reply(alloc, line),
         Err(DriveFault::Memory) => Err(Memory),
     }
