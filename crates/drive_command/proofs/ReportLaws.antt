@@ -5,7 +5,6 @@ use Rattle.std.specs.List.{AllByRecursion}
 use Rattle.std.proofs.Math.ListN.{get_or-eq_default}
 use Rattle.std.proofs.lemmas.Bool.{cases_lt}
 use Rattle.std.proofs.lemmas.Grind.{flat_map-append}
-use Rattle.std.proofs.lemmas.List.{drop_more, drop_all}
 use Rattle.hex.specs.Hex.{encode_with, encode_lower, lower_digits}
 use Rattle.net_base.proofs.Cuts.{Lacks, Lacks-append, Lacks-cons}
 use Rattle.net_base.proofs.MemberLaws.{each_append}
@@ -28,16 +27,6 @@ use Rattle.update_driver.specs.Drivers.{DriverState, channel_at}
 use Rattle.drive_command.specs.Reports.{sent_line, cause_text, failed_line, session_lines, by_switch, sent_to, session_of, front_lines, last_line, log_text, report_text}
 
 -- ---- the lines on the switches
-
-module _ (lines : ℕ → List ℕ → List (List ℕ)) (names : List (List ℕ)) where
-  -- one switch more
-  pub switch_more : (i : ℕ) (d : List ℕ) → i < length names → by_switch lines i (drop i names) ≡ lines i (get_or names i d) ++ by_switch lines (i + 1) (drop (i + 1) names)
-  switch_more i d lt =
-      let next : suc i ≡ i + 1 = omega arith in
-      ap (by_switch lines i) (drop_more names i d lt) ∙ ap (λ (k : ℕ). lines i (get_or names i d) ++ by_switch lines k (drop (i + 1) names)) next
-
-  pub switch_none : (i : ℕ) → length names ≤ i → by_switch lines i (drop i names) ≡ []
-  switch_none i past = ap (by_switch lines i) (drop_all names i past)
 
 -- what holds of the lines on each switch holds of all
 each_switch : (P : List ℕ → Type 0) (lines : ℕ → List ℕ → List (List ℕ)) → ((i : ℕ) (name : List ℕ) → IsName name → AllByRecursion P (lines i name))

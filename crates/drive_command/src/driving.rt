@@ -3,7 +3,7 @@ ghost use Rattle.std.specs.Prelude.{◌≡◌, Ok, MatchResult};
 ghost use Rattle.net_base.specs.Reading.{Fails};
 ghost use Rattle.driver_input.specs.Inputs.{AreInputs};
 ghost use Rattle.driver_input.specs.Lines.{IsInput};
-ghost use Rattle.drive_command.specs.declared.driving.DriveFault as fault;
+ghost use Rattle.drive_command.specs.declared.driving.DriveFault.TheVariants as fault;
 ghost use Rattle.drive_command.specs.Driving as driving;
 
 use driver_input::{Input, InputLine};

@@ -27,3 +27,8 @@ returns-clause-meets g c = record {
       (leads_then _ c.read_input_file.ensures.held (c.in_ok-inputs.ensures.gives _)
       (record { led = (c.in_ok-drive_verdict.ensures, c.in_ok-inputs.ensures.whole) }));
 }
+
+pub returns-in_err-drive_verdict-clause-meets : goal.returns-in_err-drive_verdict-clause-meets
+returns-in_err-drive_verdict-clause-meets g c =
+    let p = err_from_is_err_and c.from_residual-in_err-drive_verdict.result c.from_residual-in_err-drive_verdict.ensures.1 in
+    rw (p.1, p.2) (record { met = record { ended = tt {0} } })

@@ -7,6 +7,6 @@ use Rattle.drive_command.proofs.verdict.judge_plan.Goals as goal
 
 pub class_of-class-requires : goal.class_of-class-requires
 class_of-class-requires c =
-    let are = c.classes-classes.ensures ∙ c.in-Refused.ensures.fits.classes in
+    let are = c.classes.ensures ∙ c.in-Refused.ensures.fits.classes in
     subst (λ classes. IfSome (lines.class_named c.in-Refused.reason) (λ n. n < class_count classes)) (sym are)
     (named_fits (task_for (meaning_of c.args.files.now) c.args.plan.now) c.args.plan.now.evidence c.in-Refused.reason c.in-Refused.ensures.refused)
