@@ -60,7 +60,7 @@ begun m = record { net = m.net; rounds = m.plan.rounds; state = first_state m.ol
 abbrev pub ended : ReplayMeaning → WorldState
 ended m = record { net = m.net; rounds = m.plan.rounds; state = state_after_run (update_in m) (events_of m.schedule) }
 
--- on a schedule whose event in this line isn't enabled
+-- on a file in whose line something stands that can't happen: an event that isn't enabled, or a start that is refused
 abbrev pub not_a_run_line : ℕ → List ℕ
 not_a_run_line line = codes "not a run: line " ++ decimal line ++ codes "\n"
 

@@ -9,3 +9,4 @@ mod replaying;
 
 pub use crate::command::replay;
 pub use crate::names::{ReplayNames, replay_names};
+pub use crate::replaying::not_a_run_reply;

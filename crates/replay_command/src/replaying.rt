@@ -14,8 +14,8 @@ use std::alloc::Global;
 use topology::Net;
 use update_model::World;
 
-// The reply on an event that isn't enabled, in this line of the schedule.
-fn not_a_run_reply(alloc: Global, line: u32) -> Result<Reply, Memory>
+/// The reply that names the line of a file in which something stands that can't happen.
+pub fn not_a_run_reply(alloc: Global, line: u32) -> Result<Reply, Memory>
     ensures { IfOk result (λ r. answer_of r ≡ record { status = Status.NotARun; text = not_a_run_line line }) }
 {
     Ok(Reply {

@@ -160,15 +160,32 @@ module _ (net : Network) (keeps : IsNetwork net) where
   events_lack [] = tt
   events_lack (e ∷ es) = (Lacks-from 32 10 (event_text net e) (omega arith) (event_from e), events_lack es)
 
-  -- reading the lines of events, and comments after them, gives the events
+  comments_pass : (n : ℕ) (before : List ScheduleLine) (lines rest : List (List ℕ)) → AllByRecursion (λ l. is_comment l ≡ true) lines → in_turn (line_at net) n before (lines ++ rest) ≡ in_turn (line_at net) (n + length lines) before rest
+  unfolding in_turn
+  comments_pass n before [] rest h = let same : n ≡ n + 0 = omega arith in ap (λ (k : ℕ). in_turn (line_at net) k before rest) same
+  comments_pass n before (l ∷ lines) rest h =
+      let same : suc n + length lines ≡ n + suc (length lines) = omega arith in
+      rw h.0 (comments_pass (suc n) before lines rest h.1 ∙ ap (λ (k : ℕ). in_turn (line_at net) k before rest) same)
+
+  -- reading the lines of events, with comments before and after them, gives the events
+  pub lines_between : (front : List (List ℕ)) (es : List Event) (behind : List (List ℕ)) → AllByRecursion (λ l. is_comment l ≡ true) front → AllByRecursion (Lacks 10) front
+      → AllByRecursion (HasLine net) es → length es ≤ 4000000 → length front ≤ 1000000
+      → AllByRecursion (λ l. is_comment l ≡ true) behind → AllByRecursion (Lacks 10) behind
+      → schedule_in net (text_of (front ++ (map (event_text net) es ++ behind))) ≡ Ok (numbered (1 + length front) es)
+  lines_between front es behind cf lf h few short cb lb =
+      let events : List (List ℕ) = map (event_text net) es in
+      let lines : List (List ℕ) = front ++ (events ++ behind) in
+      let each : AllByRecursion (Lacks 10) lines = each_append (Lacks 10) front (events ++ behind) lf (each_append (Lacks 10) events behind (events_lack es) lb) in
+      let cut : lines_of (text_of lines) ≡ front ++ (events ++ (behind ++ [] ∷ [])) =
+      lines_again lines each ∙ append_assoc front (events ++ behind) ([] ∷ []) ∙ ap (λ (ls : List (List ℕ)). front ++ ls) (append_assoc events behind ([] ∷ [])) in
+      let last : AllByRecursion (λ l. is_comment l ≡ true) (behind ++ [] ∷ []) = each_append (λ l. is_comment l ≡ true) behind ([] ∷ []) cb (refl, tt) in
+      ap (in_turn (line_at net) 1 []) cut ∙ comments_pass 1 [] front (events ++ (behind ++ [] ∷ [])) cf
+      ∙ events_again (1 + length front) [] es (behind ++ [] ∷ []) h last (omega arith) (omega arith)
+
+  -- the same with comments after them alone
   pub lines_read : (es : List Event) (comments : List (List ℕ)) → AllByRecursion (HasLine net) es → length es ≤ 4000000 → AllByRecursion (λ l. is_comment l ≡ true) comments → AllByRecursion (Lacks 10) comments
       → schedule_in net (text_of (map (event_text net) es ++ comments)) ≡ Ok (numbered 1 es)
-  lines_read es comments h few c lacks =
-      let lines : List (List ℕ) = map (event_text net) es ++ comments in
-      let each : AllByRecursion (Lacks 10) lines = each_append (Lacks 10) (map (event_text net) es) comments (events_lack es) lacks in
-      let cut : lines_of (text_of lines) ≡ map (event_text net) es ++ (comments ++ [] ∷ []) = lines_again lines each ∙ append_assoc (map (event_text net) es) comments ([] ∷ []) in
-      let last : AllByRecursion (λ l. is_comment l ≡ true) (comments ++ [] ∷ []) = each_append (λ l. is_comment l ≡ true) comments ([] ∷ []) c (refl, tt) in
-      ap (in_turn (line_at net) 1 []) cut ∙ events_again 1 [] es (comments ++ [] ∷ []) h last (omega arith) (omega arith)
+  lines_read es comments h few c lacks = lines_between [] es comments tt tt h few (omega arith) c lacks
 
   pub schedule_again : (es : List Event) → AllByRecursion (HasLine net) es → length es ≤ 4000000 → schedule_in net (schedule_text net es) ≡ Ok (numbered 1 es)
   schedule_again es h few =

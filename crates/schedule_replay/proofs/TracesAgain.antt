@@ -20,10 +20,11 @@ use Rattle.schedule_replay.specs.Traces.{packet_text, stops_text, end_text, pack
 use Rattle.schedule_replay.proofs.Printed.{are_from, from-append, are_lower, Lacks-from, decimal_from, name_from}
 use Rattle.schedule_replay.proofs.EventsAgain.{stop_from, place_from, entry_from, lines_read}
 
-number_from : (n : ℕ) → are_from 32 (decimal n) ≡ true
+pub number_from : (n : ℕ) → are_from 32 (decimal n) ≡ true
 number_from n = are_lower 48 32 (decimal n) (omega arith) (decimal_from n)
 
-phase_from : (phase : Phase) (rounds : ℕ) → are_from 32 (phase_line phase rounds) ≡ true
+-- the line of a phase holds neither a line end nor another byte below 32
+pub phase_from : (phase : Phase) (rounds : ℕ) → are_from 32 (phase_line phase rounds) ≡ true
 phase_from (Settled k) rounds =
     from-append 32 (codes "settled " ++ decimal k ++ codes " of ") (decimal rounds)
     (from-append 32 (codes "settled " ++ decimal k) (codes " of ") (from-append 32 (codes "settled ") (decimal k) refl (number_from k)) refl) (number_from rounds)
@@ -63,7 +64,7 @@ module _ (net : Network) (keeps : IsNetwork net) where
       let head : List ℕ = packet_text net i p in
       from-append 32 (head ++ stops_text net p.visits) (end_text net p.ended) (from-append 32 head (stops_text net p.visits) (head_from i p) (stops_from p.visits)) (end_from p.ended)
 
-  abbrev IsPlain : List ℕ → Type 0
+  abbrev pub IsPlain : List ℕ → Type 0
   IsPlain line = are_from 32 line ≡ true
 
   packets_from : (i : ℕ) (ps : List Packet) → AllByRecursion IsPlain (packet_lines net i ps)
@@ -75,11 +76,11 @@ module _ (net : Network) (keeps : IsNetwork net) where
       each_append IsPlain (packet_lines net 0 w.state.packets) (phase_line w.state.phase (length w.rounds) ∷ []) (packets_from 0 w.state.packets)
       (phase_from w.state.phase (length w.rounds), tt)
 
-  are_comments : (lines : List (List ℕ)) → AllByRecursion (λ l. is_comment l ≡ true) (marked (codes "# ") lines)
+  pub are_comments : (lines : List (List ℕ)) → AllByRecursion (λ l. is_comment l ≡ true) (marked (codes "# ") lines)
   are_comments [] = tt
   are_comments (line ∷ lines) = (refl, are_comments lines)
 
-  comments_lack : (lines : List (List ℕ)) → AllByRecursion IsPlain lines → AllByRecursion (Lacks 10) (marked (codes "# ") lines)
+  pub comments_lack : (lines : List (List ℕ)) → AllByRecursion IsPlain lines → AllByRecursion (Lacks 10) (marked (codes "# ") lines)
   comments_lack [] h = tt
   comments_lack (line ∷ lines) h = (Lacks-from 32 10 (codes "# " ++ line) (omega arith) (from-append 32 (codes "# ") line refl h.0), comments_lack lines h.1)
 

@@ -9,9 +9,9 @@ mod running;
 mod schedule;
 mod traces;
 
-pub use event_texts::{runs_have_lines, schedule_text};
+pub use event_texts::{add_line, events_text, runs_have_lines, schedule_text, switch_text};
 pub use fault::ScheduleFault;
 pub use read::read_schedule;
 pub use running::{ReplayFault, replay};
 pub use schedule::{Schedule, ScheduleLine};
-pub use traces::{record_text, traces_text};
+pub use traces::{phase_line, record_text, traces_text};

@@ -76,8 +76,8 @@ fn packet_line(alloc: Global, net: &Net, i: usize, packet: &Packet) -> Result<Ve
     Ok(text)
 }
 
-/// How many of so many rounds are settled, or which is running.
-fn phase_line(alloc: Global, phase: Phase, rounds: usize) -> Result<Vec<u8>, Memory>
+/// How many of so many rounds are settled, or which is running: `settled K of N` or `running K of N`.
+pub fn phase_line(alloc: Global, phase: Phase, rounds: usize) -> Result<Vec<u8>, Memory>
     ensures { IfOk result (λ t. t.items ≡ texts.phase_line phase rounds) }
 {
     match phase {

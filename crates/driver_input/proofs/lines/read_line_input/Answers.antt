@@ -1,0 +1,8 @@
+use Rattle.driver_input.proofs.Texts.{line_read, none_read}
+use Rattle.driver_input.proofs.lines.read_line_input.Goals as goal
+
+pub returns-in-Ok-clause-read : goal.returns-in-Ok-clause-read
+returns-in-Ok-clause-read c = line_read c.args.net.now c.args.number c.args.line.now c.in-Ok.text.now c.in-Ok.ensures.cases.0 c.in-Ok.ensures.cases.1 c.read_text.result c.read_text.ensures.read
+
+pub returns-in-Err-clause-read : goal.returns-in-Err-clause-read
+returns-in-Err-clause-read c = none_read c.args.net.now c.args.number c.args.line.now c.in-Err.ensures.cases.0
