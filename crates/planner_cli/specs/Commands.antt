@@ -17,14 +17,18 @@ use Rattle.replay_command.specs.Names as replay
 use Rattle.replay_command.specs.Replayed.{ReplayMeaning, replay_dialogue, IsReplayAnswer}
 use Rattle.simulate_command.specs.Names as simulate
 use Rattle.simulate_command.specs.Simulated.{IsSimulateAnswer}
+use Rattle.sample_command.specs.Sizes as sample
+use Rattle.sample_command.specs.Summaries.{SaysSummary}
 use Rattle.upgrade_command.specs.Texts.{IsUpgradeAnswer}
 use Rattle.emit_command.specs.Answers.{IsEmitAnswer}
 use Rattle.import_command.specs.Names as imports
 use Rattle.import_command.specs.Imported.{ImportMeaning, import_dialogue, IsImportAnswer}
+use Rattle.drive_command.specs.Names as drive
+use Rattle.drive_command.specs.Driven.{DriveMeaning, drive_dialogue, IsDriveAnswer}
 use Rattle.planner_cli.specs.declared.command.Command.{Command}
 use Rattle.planner_cli.specs.declared.command.Command.TheVariants as command
 
--- a command, with the names of its files
+-- a command, with the names of its files, or the number of switches of a sample
 pub data Asked : Type 0 where
   Config : config.ConfigNames → Asked
   Check : check.CheckNames → Asked
@@ -34,6 +38,8 @@ pub data Asked : Type 0 where
   Replay : replay.ReplayNames → Asked
   Simulate : simulate.SimulateNames → Asked
   Import : imports.ImportNames → Asked
+  Drive : drive.DriveNames → Asked
+  Sample : ℕ → Asked
 
 -- what the words after the program's name ask for; nothing where they are none of the listed forms
 abbrev pub asked : List (List ℕ) → Option Asked
@@ -47,6 +53,8 @@ asked (name ∷ words) =
     else if bytes_eq name (codes "replay") then option_map Replay (replay.names_in words)
     else if bytes_eq name (codes "simulate") then option_map Simulate (simulate.names_in words)
     else if bytes_eq name (codes "import") then option_map Import (imports.names_in words)
+    else if bytes_eq name (codes "drive") then option_map Drive (drive.names_in words)
+    else if bytes_eq name (codes "sample") then option_map Sample (sample.size_in words)
     else None
 
 -- a command without where its names lie in memory
@@ -59,6 +67,8 @@ seen (command.Emit names) = Emit (base.plan_names_seen names)
 seen (command.Replay names) = Replay (replay.names_seen names)
 seen (command.Simulate names) = Simulate (simulate.names_seen names)
 seen (command.Import names) = Import (imports.names_seen names)
+seen (command.Drive names) = Drive (drive.names_seen names)
+seen (command.Sample size) = Sample size.switches
 
 -- of what a command says its answer
 pub data Ending : Type 0 where
@@ -70,6 +80,8 @@ pub data Ending : Type 0 where
   OfReplay : ReplayMeaning → Ending
   OfSimulate : ℕ → ℕ → CheckMeaning → Ending
   OfImport : ImportMeaning → Ending
+  OfDrive : DriveMeaning → Ending
+  OfSample : ℕ → Ending
   OfUsage : Ending
 
 -- on words that are none of the listed forms
@@ -86,6 +98,8 @@ IsSaid (OfEmit m) answer = IsEmitAnswer m answer
 IsSaid (OfReplay m) answer = IsReplayAnswer m answer
 IsSaid (OfSimulate start count m) answer = IsSimulateAnswer start count m answer
 IsSaid (OfImport m) answer = IsImportAnswer m answer
+IsSaid (OfDrive m) answer = IsDriveAnswer m answer
+IsSaid (OfSample n) answer = SaysSummary n answer
 IsSaid OfUsage answer = answer ≡ record { status = status.Usage; text = usage_line }
 
 -- the dialogue of a command
@@ -98,6 +112,8 @@ dialogue_of (Emit names) = and_then (reading_plan_files names) (λ m. Ends (OfEm
 dialogue_of (Replay names) = and_then (replay_dialogue names) (λ m. Ends (OfReplay m))
 dialogue_of (Simulate names) = and_then (check_dialogue names.check) (λ m. Ends (OfSimulate names.start names.count m))
 dialogue_of (Import names) = and_then (import_dialogue names) (λ m. Ends (OfImport m))
+dialogue_of (Drive names) = and_then (drive_dialogue names) (λ m. Ends (OfDrive m))
+dialogue_of (Sample n) = Ends (OfSample n)
 
 -- the dialogue of what is asked for, if anything is
 abbrev pub dialogue_on : Option Asked → Dialogue Ending

@@ -5,11 +5,13 @@ ghost use Rattle.planner_cli.specs.Commands.{asked, seen};
 use check_command::{CheckNames, check_names};
 use command_base::{PlanNames, UpdateNames, plan_names, update_names};
 use config_command::{ConfigNames, config_names};
+use drive_command::{DriveNames, drive_names};
 use import_command::{ImportNames, import_names};
 use replay_command::{ReplayNames, replay_names};
+use sample_command::{RingSize, ring_size};
 use simulate_command::{SimulateNames, simulate_names};
 
-/// A command, with the names of its files.
+/// A command, with the names of its files, or the number of switches of a sample.
 #[derive(Clone, Copy)]
 pub enum Command<'a> {
     Config(ConfigNames<'a>),
@@ -20,6 +22,8 @@ pub enum Command<'a> {
     Replay(ReplayNames<'a>),
     Simulate(SimulateNames<'a>),
     Import(ImportNames<'a>),
+    Drive(DriveNames<'a>),
+    Sample(RingSize),
 }
 
 /// What the words after the program's name ask for; nothing where they are none of the listed forms.
@@ -38,6 +42,11 @@ pub fn command_of(words: &[String]) -> Option<Command<'_>>
         "replay" => replay_names(rest).map(Command::Replay),
         "simulate" => simulate_names(rest).map(Command::Simulate),
         "import" => import_names(rest).map(Command::Import),
+        "drive" => drive_names(rest).map(Command::Drive),
+        "sample" => match ring_size(rest) {
+            Some(size) => Some(Command::Sample(size)),
+            None => None,
+        },
         _ => None,
     }
 }

@@ -1,11 +1,11 @@
 // The top call.
-ghost use Rattle.std.specs.Prelude.{◌≡◌, ◌≢◌, ◌⊎◌, ◌↔◌, ◌≤◌, None, Some, map, string_bytes};
+ghost use Rattle.std.specs.Prelude.{◌≡◌, ◌≢◌, ◌⊎◌, ◌↔◌, ◌≤◌, ℕ, None, Some, IfOk, IfErr, map, string_bytes};
 ghost use Rattle.std.specs.Io.KnownBytes.{Appends, Keeps};
 ghost use Rattle.net_base.specs.Causes.{Rose};
 ghost use Rattle.net_base.specs.Outside.{Files, AppendsFront};
 ghost use Rattle.command_base.specs.Dialogues.{Lacks};
 ghost use Rattle.command_base.specs.Names.{UpdateNames, PlanNames};
-ghost use Rattle.command_base.specs.Replies.{Meets};
+ghost use Rattle.command_base.specs.Replies.{answer_of, Meets};
 ghost use Rattle.command_base.specs.Runs.{IsSettled, EndsAs, AnswersAll, AnswersFront};
 ghost use Rattle.config_command.specs.Names.{ConfigNames};
 ghost use Rattle.config_command.specs.Promise.{ConfigPromise};
@@ -20,7 +20,11 @@ ghost use Rattle.simulate_command.specs.Names.{SimulateNames};
 ghost use Rattle.simulate_command.specs.Promise.{SimulatePromise};
 ghost use Rattle.import_command.specs.Names.{ImportNames};
 ghost use Rattle.import_command.specs.Promise.{ImportPromise};
-ghost use Rattle.planner_cli.specs.Commands.{Config, Check, Plan, Upgrade, Emit, Replay, Simulate, Import, asked, seen, dialogue, dialogue_of, IsSaid, usage_line};
+ghost use Rattle.drive_command.specs.Names.{DriveNames};
+ghost use Rattle.drive_command.specs.Promise.{DrivePromise};
+ghost use Rattle.sample_command.specs.Summaries.{SaysSummary};
+ghost use Rattle.sample_command.specs.Promise.{SamplePromise};
+ghost use Rattle.planner_cli.specs.Commands.{Config, Check, Plan, Upgrade, Emit, Replay, Simulate, Import, Drive, Sample, asked, seen, dialogue, dialogue_of, IsSaid, usage_line};
 
 use crate::command::{Command, command_of};
 use check_command::check;
@@ -28,15 +32,19 @@ use check_command::laws::check_promised;
 use command_base::{Exit, Reply, Status};
 use config_command::config;
 use config_command::laws::config_promised;
+use drive_command::drive;
+use drive_command::laws::drive_promised;
 use emit_command::emit;
 use emit_command::laws::emit_promised;
 use import_command::import;
 use import_command::laws::import_promised;
-use net_base::{Sink, Source, WriteFault, pour};
+use net_base::{Memory, Sink, Source, WriteFault, pour};
 use plan_command::laws::plan_promised;
 use plan_command::plan;
 use replay_command::laws::replay_promised;
 use replay_command::replay;
+use sample_command::laws::sample_promised;
+use sample_command::{RingSize, sample};
 use simulate_command::laws::simulate_promised;
 use simulate_command::simulate;
 use std::alloc::Global;
@@ -45,10 +53,23 @@ use upgrade_command::upgrade;
 
 const USAGE_LINE: &[u8] = b"unknown command or wrong words\n";
 
-// The reply to a command.
+// The reply to a sample, which reads no file.
+fn sample_reply(alloc: Global, size: RingSize) -> Result<Reply, Exit>
+    ensures says { IfOk result (λ r. SaysSummary size.switches (answer_of r)) }
+    ensures memory { IfErr result (λ e. e ≡ Exit.Memory) }
+{
+    match sample(alloc, size) {
+        Ok(reply) => Ok(reply),
+        Err(Memory) => Err(Exit::Memory),
+    }
+}
+
+// The reply to a command. A sample leaves the source as it is, so it has no fault of reading.
 fn reply_to<S: Source>(alloc: Global, command: &Command<'_>, source: &mut S) -> Result<Reply, Exit>
     ensures meets { Meets IsSaid (S.held source.old) (dialogue_of (seen command.now)) (S.faults source.old) (S.faults source.new) result (S.selected source.new) (S.taken source.new) }
     ensures later { S.faults source.old ≤ S.faults source.new }
+    ensures unread { (n : ℕ) → seen command.now ≡ Sample n → source.new ≡ source.old }
+    ensures no_read_fault { (n : ℕ) → seen command.now ≡ Sample n → IfErr result (λ e. e ≢ Exit.ReadFault) }
 {
     match command {
         Command::Config(names) => config(alloc, source, names),
@@ -59,6 +80,8 @@ fn reply_to<S: Source>(alloc: Global, command: &Command<'_>, source: &mut S) -> 
         Command::Replay(names) => replay(alloc, source, names),
         Command::Simulate(names) => simulate(alloc, source, names),
         Command::Import(names) => import(alloc, source, names),
+        Command::Drive(names) => drive(alloc, source, names),
+        Command::Sample(size) => sample_reply(alloc, *size),
     }
 }
 
@@ -97,6 +120,10 @@ fn respond<S: Source, K: Sink>(
     ensures read_fault { result ≡ Status.ReadFault
         → Rose (S.faults source.old) (S.faults source.new) ⊎ Lacks (S.held source.old) (dialogue (map string_bytes words.now)) }
     ensures write_fault { result ≡ Status.WriteFault → Rose (K.faults sink.old) (K.faults sink.new) }
+
+    // A sample leaves the source as it is.
+    ensures unread { (n : ℕ) → asked (map string_bytes words.now) ≡ Some (Sample n) → source.new ≡ source.old }
+    ensures no_read_fault { (n : ℕ) → asked (map string_bytes words.now) ≡ Some (Sample n) → result ≢ Status.ReadFault }
 {
     match command_of(words) {
         None => write_answer(sink, Status::Usage, USAGE_LINE),
@@ -152,6 +179,12 @@ pub fn run<S: Source, K: Sink>(
         → SimulatePromise files names (K.written sink.old) (K.written sink.new) result }
     ensures import { (files : Files) (names : ImportNames) → S.held source.old ≡ Some files → asked (map string_bytes words.now) ≡ Some (Import names)
         → ImportPromise files names (K.written sink.old) (K.written sink.new) result }
+    ensures drive { (files : Files) (names : DriveNames) → S.held source.old ≡ Some files → asked (map string_bytes words.now) ≡ Some (Drive names)
+        → DrivePromise files names (K.written sink.old) (K.written sink.new) result }
+
+    // A sample reads no file: its promise holds over every source, which it leaves as it is.
+    ensures sample { (n : ℕ) → asked (map string_bytes words.now) ≡ Some (Sample n) → SamplePromise n (K.written sink.old) (K.written sink.new) result }
+    ensures unread { (n : ℕ) → asked (map string_bytes words.now) ≡ Some (Sample n) → source.new ≡ source.old }
 {
     config_promised();
     check_promised();
@@ -161,5 +194,7 @@ pub fn run<S: Source, K: Sink>(
     replay_promised();
     simulate_promised();
     import_promised();
+    drive_promised();
+    sample_promised();
     respond(alloc, words, source, sink)
 }

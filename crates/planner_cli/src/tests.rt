@@ -64,9 +64,13 @@ const SQUARE_LINES: &str =
 2 s3 0112000800000004
 ";
 
+// The ring of four switches.
+const SAMPLE_LINE: &[u8] =
+    b"sample 4: ordered, 12 rounds, 24 classes, 21 numberings, 32 picks, accepted\n";
+
 #[test]
 fn each_command_runs(rt: HostRuntime) -> Result<(), Fail> {
-    let rows: [(&[&str], &[u8]); 6] = [
+    let rows: [(&[&str], &[u8]); 7] = [
         (&["config", "topology", "old"], b"holds: 12 classes\n"),
         (
             &["check", "topology", "old", "new", "policy", "plan"],
@@ -84,6 +88,7 @@ fn each_command_runs(rt: HostRuntime) -> Result<(), Fail> {
             ],
             b"start\nchange 0\nsettle\nstart\nchange 0\nsettle\n# settled 2 of 2\n",
         ),
+        (&["sample", "4"], SAMPLE_LINE),
     ];
     for (texts, text) in rows {
         let (status, written) = ran_over_update(rt.alloc(), texts, 0)?;
@@ -165,6 +170,51 @@ fn planning_that_fails_to_write_leaves_a_front(rt: HostRuntime) -> Result<(), Fa
     Ok(())
 }
 
+// A source with the files of the square, its plan and a start.
+fn driven_source(alloc: Global) -> Result<MemorySource, Fail> {
+    let texts = square::update();
+    let mut source = MemorySource::make(alloc, 4096, Vec::new(alloc))?;
+    source.add(
+        String::from_str(alloc, "topology")?,
+        texts.topology.to_vec(alloc)?,
+    )?;
+    source.add(String::from_str(alloc, "old")?, texts.old.to_vec(alloc)?)?;
+    source.add(String::from_str(alloc, "new")?, texts.new.to_vec(alloc)?)?;
+    source.add(
+        String::from_str(alloc, "policy")?,
+        texts.policy.to_vec(alloc)?,
+    )?;
+    source.add(
+        String::from_str(alloc, "plan")?,
+        square::plan().to_vec(alloc)?,
+    )?;
+    source.add(
+        String::from_str(alloc, "input")?,
+        b"# s1 hasn't said HELLO\nstart\n".to_vec(alloc)?,
+    )?;
+    Ok(source)
+}
+
+#[test]
+fn drive_runs(rt: HostRuntime) -> Result<(), Fail> {
+    let alloc = rt.alloc();
+    let texts = ["drive", "topology", "old", "new", "policy", "plan", "input"];
+    let mut source = driven_source(alloc)?;
+    let (status, written) = ran(alloc, &texts, &mut source, 4000, 0)?;
+    assert!(rt; status == Status::NotARun);
+    assert_eq!(rt; written.as_slice(), b"not a run: line 2\n".as_slice());
+    Ok(())
+}
+
+#[test]
+fn a_sample_that_fails_to_write_leaves_a_front(rt: HostRuntime) -> Result<(), Fail> {
+    for failing in 1..=SAMPLE_LINE.len() as u64 {
+        let front = writes_front(rt.alloc(), &["sample", "4"], failing, SAMPLE_LINE)?;
+        assert!(rt; front, "at {failing}");
+    }
+    Ok(())
+}
+
 #[test]
 fn the_third_take_of_sixteen_bytes_fails(rt: HostRuntime) -> Result<(), Fail> {
     let alloc = rt.alloc();
@@ -194,10 +244,12 @@ fn a_file_past_its_limit_is_too_long(rt: HostRuntime) -> Result<(), Fail> {
 #[test]
 fn other_words_and_names(rt: HostRuntime) -> Result<(), Fail> {
     let usage = b"unknown command or wrong words\n".as_slice();
-    let table: [(&[&str], Status, &[u8]); 7] = [
+    let table: [(&[&str], Status, &[u8]); 9] = [
         (&[], Status::Usage, usage),
         (&["sample", "3"], Status::Usage, usage),
         (&["sample", "08"], Status::Usage, usage),
+        (&["sample", "129"], Status::Usage, usage),
+        (&["sample", ""], Status::Usage, usage),
         (
             &["plan", "topology", "config", "config"],
             Status::Usage,

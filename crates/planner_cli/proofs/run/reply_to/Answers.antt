@@ -1,5 +1,6 @@
 use Rattle.command_base.proofs.DialogueLaws.{meets_as}
-use Rattle.planner_cli.specs.Commands.{IsSaid, OfConfig, OfCheck, OfPlan, OfUpgrade, OfEmit, OfReplay, OfSimulate, OfImport}
+use Rattle.planner_cli.specs.Commands.{IsSaid, OfConfig, OfCheck, OfPlan, OfUpgrade, OfEmit, OfReplay, OfSimulate, OfImport, OfDrive}
+use Rattle.planner_cli.proofs.Sampled.{sample_meets}
 use Rattle.planner_cli.proofs.run.reply_to.Goals as goal
 
 pub returns-in-Config-clause-meets : goal.returns-in-Config-clause-meets
@@ -26,3 +27,9 @@ returns-in-Simulate-clause-meets g c =
 
 pub returns-in-Import-clause-meets : goal.returns-in-Import-clause-meets
 returns-in-Import-clause-meets g c = rw c.in-Import.is (meets_as IsSaid OfImport (λ m answer said. said) c.import.ensures.meets)
+
+pub returns-in-Drive-clause-meets : goal.returns-in-Drive-clause-meets
+returns-in-Drive-clause-meets g c = rw c.in-Drive.is (meets_as IsSaid OfDrive (λ m answer said. said) c.drive.ensures.meets)
+
+pub returns-in-Sample-clause-meets : goal.returns-in-Sample-clause-meets
+returns-in-Sample-clause-meets g c = rw c.in-Sample.is (sample_meets _ c.in-Sample.size.switches _ _ c.sample_reply.result _ _ c.sample_reply.ensures.says c.sample_reply.ensures.memory)

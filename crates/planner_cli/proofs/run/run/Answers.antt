@@ -1,3 +1,4 @@
+use Rattle.std.proofs.Common.{map, string_bytes}
 use Rattle.command_base.specs.Readings.{reading_update, reading_plan_files}
 use Rattle.command_base.proofs.RunLaws.{answered_as}
 use Rattle.config_command.specs.Configs.{config_dialogue, IsConfigAnswer}
@@ -8,8 +9,10 @@ use Rattle.simulate_command.specs.Simulated.{IsSimulateAnswer}
 use Rattle.upgrade_command.specs.Texts.{IsUpgradeAnswer}
 use Rattle.emit_command.specs.Answers.{IsEmitAnswer}
 use Rattle.import_command.specs.Imported.{import_dialogue, IsImportAnswer}
-use Rattle.planner_cli.specs.Commands.{Config, Check, Plan, Upgrade, Emit, Replay, Simulate, Import, OfConfig, OfCheck, OfPlan, OfUpgrade, OfEmit, OfReplay, OfSimulate, OfImport, IsSaid}
+use Rattle.drive_command.specs.Driven.{drive_dialogue, IsDriveAnswer}
+use Rattle.planner_cli.specs.Commands.{Config, Check, Plan, Upgrade, Emit, Replay, Simulate, Import, Drive, OfConfig, OfCheck, OfPlan, OfUpgrade, OfEmit, OfReplay, OfSimulate, OfImport, OfDrive, IsSaid}
 use Rattle.planner_cli.proofs.Answered.{answered}
+use Rattle.planner_cli.proofs.Sampled.{sample_ends}
 use Rattle.planner_cli.proofs.run.run.Goals as goal
 
 pub returns-clause-config : goal.returns-clause-config
@@ -51,3 +54,12 @@ pub returns-clause-import : goal.returns-clause-import
 returns-clause-import g c = λ files names tells asks.
     c.import_promised.ensures files names _ _ _ (λ settled.
     answered_as IsImportAnswer IsSaid OfImport files (import_dialogue names) _ _ _ (λ m answer said. said) (answered _ _ _ _ _ files (Import names) (c.respond.ensures.all settled) tells asks))
+
+pub returns-clause-drive : goal.returns-clause-drive
+returns-clause-drive g c = λ files names tells asks.
+    c.drive_promised.ensures files names _ _ _ (λ settled.
+    answered_as IsDriveAnswer IsSaid OfDrive files (drive_dialogue names) _ _ _ (λ m answer said. said) (answered _ _ _ _ _ files (Drive names) (c.respond.ensures.all settled) tells asks))
+
+pub returns-clause-sample : goal.returns-clause-sample
+returns-clause-sample g c = λ n asks.
+    c.sample_promised.ensures n _ _ _ _ _ _ (sample_ends _ _ _ _ _ n (map string_bytes c.args.words.now) _ c.respond.ensures.ends asks) (c.respond.ensures.no_read_fault n asks)

@@ -1,0 +1,4 @@
+pub mod LogLaws
+pub mod ReportLaws
+pub mod CarriedLaws
+pub mod DriveLaws

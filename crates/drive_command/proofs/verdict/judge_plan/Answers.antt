@@ -1,0 +1,12 @@
+use Rattle.std.proofs.Common.{◌∙◌, sym, subst, IfSome, ◌<◌}
+use Rattle.dest_classes.specs.Classes.{class_count}
+use Rattle.check_command.specs.ReasonLines as lines
+use Rattle.command_base.specs.Updates.{meaning_of, task_for}
+use Rattle.check_command.proofs.ReasonLaws.{named_fits}
+use Rattle.drive_command.proofs.verdict.judge_plan.Goals as goal
+
+pub class_of-class-requires : goal.class_of-class-requires
+class_of-class-requires c =
+    let are = c.classes.ensures ∙ c.in-Refused.ensures.fits.classes in
+    subst (λ classes. IfSome (lines.class_named c.in-Refused.reason) (λ n. n < class_count classes)) (sym are)
+    (named_fits (task_for (meaning_of c.args.files.now) c.args.plan.now) c.args.plan.now.evidence c.in-Refused.reason c.in-Refused.ensures.refused)

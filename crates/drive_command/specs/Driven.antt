@@ -1,0 +1,152 @@
+-- What the files of `drive` mean, and what is said of them.
+use Rattle.std.specs.Prelude.{◌≡◌, ◌⊎◌, ℕ, ◌<◌, ◌≤◌, List, Option, None, Ok, Err}
+use Rattle.std.specs.Io.KnownBytes.{Appends}
+use Rattle.std.specs.List.{AllByRecursion}
+use Rattle.net_base.specs.Outside.{Files}
+use Rattle.net_base.specs.declared.ids.SwitchId.{SwitchId}
+use Rattle.topology.specs.Networks.{Network, switch_count}
+use Rattle.update_model.specs.Mixtures.{Update}
+use Rattle.update_model.specs.Runs.{IsRun}
+use Rattle.certificates.specs.Certified.{IsCertified}
+use Rattle.schedule_replay.specs.Schedules.{schedule_in, numbered}
+use Rattle.driver_input.specs.Faults as input_fault
+use Rattle.driver_input.specs.Inputs.{inputs_in}
+use Rattle.driver_input.specs.declared.fault.InputFault.{InputFault}
+use Rattle.driver_input.specs.declared.inputs.InputLine.{InputLine}
+use Rattle.update_driver.specs.Drivers.{DriverState}
+use Rattle.update_driver.specs.Laws.{IsOfUpdate, SendsOnly, WaitsForBarriers}
+use Rattle.command_base.specs.declared.kinds.FileKind.TheVariants as kind
+use Rattle.command_base.specs.declared.status.Status.TheVariants as status
+use Rattle.command_base.specs.Answers.{Answer}
+use Rattle.command_base.specs.Dialogues.{Dialogue, Ends, and_then}
+use Rattle.command_base.specs.Judgements.{SaysTooMany, SaysWhyNot, most_classes}
+use Rattle.command_base.specs.Lines.{FaultWords}
+use Rattle.command_base.specs.Meanings.{IsReadAs}
+use Rattle.command_base.specs.Readings.{reading}
+use Rattle.command_base.specs.Updates.{meaning_of}
+use Rattle.check_command.specs.Checks.{CheckMeaning, FilesMeanPlan, IsRefusedLine, check_count, check_dialogue, task_in}
+use Rattle.replay_command.specs.Replayed.{not_a_run_line}
+use Rattle.drive_command.specs.declared.readings.CheckFiles.{CheckFiles}
+use Rattle.drive_command.specs.declared.driving.DriveFault.{DriveFault}
+use Rattle.drive_command.specs.declared.driving.DriveFault.TheVariants.{NotARun}
+use Rattle.drive_command.specs.Driving.{driven_by}
+use Rattle.drive_command.specs.Names.{DriveNames}
+use Rattle.drive_command.specs.Reports.{report_text}
+
+-- an update and a plan of it, and inputs
+pub record DriveMeaning : Type 0 where
+  pub check : CheckMeaning
+  pub inputs : List InputLine
+
+-- the meaning of an update and a plan that were read
+abbrev pub check_meaning_of : CheckFiles → CheckMeaning
+check_meaning_of files = record { update = meaning_of files.update; plan = files.plan }
+
+-- what is printed of a fault of inputs
+abbrev pub input_words : InputFault → FaultWords
+input_words f = record { number = input_fault.fault_number f; name = input_fault.fault_name f; field = None; place = input_fault.fault_place f }
+
+-- reads inputs for the network
+abbrev pub reading_input : Network → List ℕ → Dialogue (List InputLine)
+reading_input net name = reading kind.Input input_words (inputs_in net) name
+
+-- reads an update, its plan and the inputs
+unfoldable pub drive_dialogue : DriveNames → Dialogue DriveMeaning
+drive_dialogue names =
+    and_then (check_dialogue names.check) (λ m. and_then (reading_input m.update.net names.input) (λ inputs. Ends (record { check = m; inputs = inputs })))
+
+-- The driver carries the update out as far as it is. Its log is a run of the update, without packets. To a switch it sent HELLO, and
+-- then replies to echo requests and the messages of the rounds that were begun, all of them, in their order and with their xids.
+-- While no round is running no barrier is outstanding: no round was begun before every barrier of the round before was answered.
+pub record CarriesOut (u : Update) (d : DriverState) : Type 0 where
+  pub run : IsRun u d.log
+  pub no_packets : AllByRecursion IsOfUpdate d.log
+  pub sends : (s : SwitchId) → s.0 < switch_count u.net → SendsOnly u.net u.rounds d s
+  pub waits : WaitsForBarriers d
+
+-- the text is the report on the driver that was made with the rounds and given all inputs; read as a schedule, it is the log
+pub record IsReport (u : Update) (inputs : List InputLine) (text : List ℕ) : Type 0 where
+  pub driver : DriverState
+  pub driven : driven_by u.net u.rounds inputs ≡ Ok driver
+  pub carries_out : CarriesOut u driver
+  pub text_is : text ≡ report_text u.net u.rounds driver
+  pub first : ℕ
+  pub means : schedule_in u.net text ≡ Ok (numbered first driver.log)
+
+-- the driver is given all inputs, and the answer is the report on it
+pub record SaysReport (u : Update) (inputs : List InputLine) (answer : Answer) : Type 0 where
+  pub text : List ℕ
+  pub report : IsReport u inputs text
+  pub answer_is : answer ≡ record { status = status.Done; text = text }
+
+-- a start is refused, and the answer names the line of the first one
+pub record SaysRefusedStart (u : Update) (inputs : List InputLine) (answer : Answer) : Type 0 where
+  pub line : ℕ
+  pub refused : driven_by u.net u.rounds inputs ≡ Err (NotARun line)
+  pub answer_is : answer ≡ record { status = status.NotARun; text = not_a_run_line line }
+
+-- the answer on inputs of a plan that is certified
+abbrev pub IsDriven : Update → List InputLine → Answer → Type 0
+IsDriven u inputs answer = SaysReport u inputs answer ⊎ SaysRefusedStart u inputs answer
+
+-- the plan is certified, over few enough classes, and the answer is that on the inputs
+pub record SaysDriven (m : DriveMeaning) (answer : Answer) : Type 0 where
+  pub few : check_count m.check ≤ most_classes
+  pub certified : IsCertified (task_in m.check) m.check.plan.evidence
+  pub driven : IsDriven (task_in m.check).update m.inputs answer
+
+-- the answer of `drive`: too many classes; over a certified plan, what its driver does with the inputs; or why the plan isn't certified
+abbrev pub IsDriveAnswer : DriveMeaning → Answer → Type 0
+IsDriveAnswer m answer =
+    SaysTooMany (check_count m.check) answer
+    ⊎ (SaysDriven m answer ⊎ SaysWhyNot (check_count m.check) (IsCertified (task_in m.check) m.check.plan.evidence) (IsRefusedLine (task_in m.check) m.check.plan.evidence) answer)
+
+-- the files mean this update and plan, and these inputs
+pub record FilesMeanDrive (files : Files) (names : DriveNames) (m : DriveMeaning) : Type 0 where
+  pub check_is : FilesMeanPlan files names.check m.check
+  pub input_is : IsReadAs files kind.Input (inputs_in m.check.update.net) names.input m.inputs
+
+-- all files are read, there are few enough classes, and the plan is certified
+pub record FilesAreDrivable (files : Files) (names : DriveNames) (m : DriveMeaning) : Type 0 where
+  pub mean : FilesMeanDrive files names m
+  pub few : check_count m.check ≤ most_classes
+  pub certified : IsCertified (task_in m.check) m.check.plan.evidence
+
+-- the plan can be driven, and its driver takes all inputs
+pub record FilesAreDriven (files : Files) (names : DriveNames) : Type 0 where
+  pub meaning : DriveMeaning
+  pub drivable : FilesAreDrivable files names meaning
+  pub driver : DriverState
+  pub driven : driven_by meaning.check.update.net meaning.check.plan.rounds meaning.inputs ≡ Ok driver
+
+-- the plan can be driven, and a start is refused
+pub record FilesAreNoRun (files : Files) (names : DriveNames) : Type 0 where
+  pub meaning : DriveMeaning
+  pub drivable : FilesAreDrivable files names meaning
+  pub line : ℕ
+  pub refused : driven_by meaning.check.update.net meaning.check.plan.rounds meaning.inputs ≡ Err (NotARun line)
+
+-- all files are read, there are few enough classes, and the plan isn't certified
+pub record FilesAreNotCertified (files : Files) (names : DriveNames) : Type 0 where
+  pub meaning : DriveMeaning
+  pub mean : FilesMeanDrive files names meaning
+  pub few : check_count meaning.check ≤ most_classes
+  pub refused : ¬ IsCertified (task_in meaning.check) meaning.check.plan.evidence
+
+-- all files are read, and there are too many classes
+pub record FilesMakeTooMany (files : Files) (names : DriveNames) : Type 0 where
+  pub meaning : DriveMeaning
+  pub mean : FilesMeanDrive files names meaning
+  pub many : most_classes < check_count meaning.check
+
+-- a report was written
+pub record WritesReport (m : DriveMeaning) (old new : Option (List ℕ)) : Type 0 where
+  pub text : List ℕ
+  pub report : IsReport (task_in m.check).update m.inputs text
+  pub written : Appends old new text
+
+-- the line that was written names the line of the first start that is refused
+pub record NamesRefusedStart (m : DriveMeaning) (old new : Option (List ℕ)) : Type 0 where
+  pub line : ℕ
+  pub refused : driven_by m.check.update.net m.check.plan.rounds m.inputs ≡ Err (NotARun line)
+  pub written : Appends old new (not_a_run_line line)

@@ -1,0 +1,28 @@
+-- What a run of `drive` promises over the files of a source that tells.
+use Rattle.std.specs.Prelude.{◌≡◌, ◌↔◌, ℕ, List, Option, Some}
+use Rattle.std.specs.Io.KnownBytes.{Appends}
+use Rattle.net_base.specs.Outside.{Files}
+use Rattle.command_base.specs.declared.status.Status.{Status}
+use Rattle.command_base.specs.declared.status.Status.TheVariants as status
+use Rattle.command_base.specs.Lines.{classes_line}
+use Rattle.command_base.specs.Runs.{IsSettled}
+use Rattle.check_command.specs.Checks.{NamesFirstReason, check_count}
+use Rattle.drive_command.specs.Names.{DriveNames}
+use Rattle.drive_command.specs.Driven.{DriveMeaning, FilesMeanDrive, FilesAreDriven, FilesAreNoRun, FilesAreNotCertified, FilesMakeTooMany, NamesRefusedStart, WritesReport}
+
+-- the files and their names, what was written before and after the run, and how it ended
+pub record DrivePromise (files : Files) (names : DriveNames) (old new : Option (List ℕ)) (result : Status) : Type 0 where
+  -- Done comes exactly where all files are read, the plan is certified over at most 8192 classes, and no start of the inputs is refused.
+  pub done : IsSettled result → ((result ≡ status.Done) ↔ FilesAreDriven files names)
+  -- Then the report on the driver was written: what it sent, its log, which is a run of the plan, and how far it is. Read as a
+  -- schedule, the report is the log.
+  pub report : (m : DriveMeaning) → FilesMeanDrive files names m → result ≡ status.Done → WritesReport m old new
+  -- NotARun comes exactly where a start of the inputs of a certified plan is refused; the line names that of the first one.
+  pub not_a_run : IsSettled result → ((result ≡ status.NotARun) ↔ FilesAreNoRun files names)
+  pub first_start : (m : DriveMeaning) → FilesMeanDrive files names m → result ≡ status.NotARun → NamesRefusedStart m old new
+  -- Refused comes exactly where all files are read and the plan isn't certified; the line names the first reason.
+  pub refused : IsSettled result → ((result ≡ status.Refused) ↔ FilesAreNotCertified files names)
+  pub first : (m : DriveMeaning) → FilesMeanDrive files names m → result ≡ status.Refused → NamesFirstReason m.check old new
+  -- Too many classes are a bad file, and their line is written for no other cause.
+  pub classes : IsSettled result → (many : FilesMakeTooMany files names) → (result ≡ status.BadFile) × Appends old new (classes_line (check_count many.meaning.check))
+  pub classes_only : (before : List ℕ) (classes : ℕ) → old ≡ Some before → result ≡ status.BadFile → Appends old new (classes_line classes) → FilesMakeTooMany files names

@@ -1,0 +1,5 @@
+//! Tests of the command `drive`.
+#![tactic(auto)]
+
+#[cfg(test)]
+mod tests;
