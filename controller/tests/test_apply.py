@@ -41,7 +41,7 @@ class Applying(unittest.TestCase):
                 self.settles(net, net.apply("--wait", wait))
 
     def test_what_a_switch_receives_is_what_drive_says_and_questions_that_change_nothing(self):
-        net = Network(self, "detour")
+        net = Network(self, "square")
         text = self.settles(net, net.apply())
         features = openflow.message(openflow.FEATURES_REQUEST, 0xFEA70000)
         for name, data in sent(text).items():
@@ -74,9 +74,9 @@ class Applying(unittest.TestCase):
         self.assertIn("1 of 2 rounds are settled, round 2 is running, no answer yet from s3", run[1])
 
     def test_a_switch_that_never_answers_ends_the_patience(self):
-        net = Network(self, "detour", only={"x": {"is_silent": True}})
-        self.stops(net.apply("--patience", "2"), "0 of 8 rounds are settled, round 1 is running, no answer yet from x", "see that x is connected and answers; then go on with --resume")
-        net.switches["x"].is_silent = False
+        net = Network(self, "square", only={"s3": {"is_silent": True}})
+        self.stops(net.apply("--patience", "2"), "1 of 2 rounds are settled, round 2 is running, no answer yet from s3", "see that s3 is connected and answers; then go on with")
+        net.switches["s3"].is_silent = False
         self.settles(net, net.apply("--resume"))
 
     def test_a_switch_that_isn_t_there_ends_the_patience(self):
@@ -92,27 +92,27 @@ class Applying(unittest.TestCase):
         self.stops(net.apply("--resume"), "the session with w failed: Error 3 0", "After a failed session")
 
     def test_after_a_failed_session_the_lines_before_it_are_a_record_to_go_on_with(self):
-        net = Network(self, "detour", only={"w": {"error_at": 2}})
+        net = Network(self, "square", only={"s3": {"error_at": 1}})
         said = net.apply()[1]
         count = int(re.search(r"the first (\d+) lines of", said)[1])
         net.record.write_text("".join(net.record.read_text().splitlines(keepends=True)[:count]))
         self.settles(net, net.apply("--resume"))
 
     def test_a_switch_that_goes_and_comes_back_gets_the_messages_of_the_round_again(self):
-        net = Network(self, "detour", only={"y": {"close_at": 2}})
+        net = Network(self, "square", only={"s3": {"close_at": 1}})
         run = net.apply()
         text = self.settles(net, run)
-        self.assertIn("y closed its connection; 3 of 8 rounds are settled, round 4 is running", run[1])
-        self.assertIn("the messages of round 4 to it are sent again", run[1])
-        self.assertEqual((net.switches["y"].connections, text.count("# failed")), (2, 0))
+        self.assertIn("s3 closed its connection; 1 of 2 rounds are settled, round 2 is running", run[1])
+        self.assertIn("the messages of round 2 to it are sent again", run[1])
+        self.assertEqual((net.switches["s3"].connections, text.count("# failed")), (2, 0))
 
     def test_a_killed_update_is_resumed(self):
-        for name, text in (("square", "round 1 starts"), ("square", "\nstart\n"), ("detour", "round 4 starts")):
+        for text in ("round 1 starts", "\nstart\n", "round 2 starts"):
             with self.subTest(text):
-                net = Network(self, name, delay=0.05)
+                net = Network(self, "square", delay=0.05)
                 net.apply_until(text, "--wait", "0.1")
                 with open(net.record, "ab") as file:
-                    file.write(b"feed s 0113")       # a line that was being written
+                    file.write(b"feed s1 0113")       # a line that was being written
                 self.stops(net.apply(), "is there already", "--resume")
                 self.settles(net, net.apply("--resume"))
 
