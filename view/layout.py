@@ -13,8 +13,9 @@ DIRECTIONS = [turn * math.pi / 12 for turn in range(24)]
 
 def by_graphviz(count, edges):
     """Returns the places of the switches as `neato` lays them out, or None where that can't be had."""
-    lines = ["graph {", "graph [start=7, overlap=false];", "node [shape=box, width=0.5, height=0.4, label=\"\"];"]
-    lines += [f"n{number};" for number in range(count)] + [f"n{one} -- n{other} [len=1.6];" for one, other in edges] + ["}"]
+    lines = ["graph {", "graph [overlap=false];", "node [shape=box, width=0.5, height=0.4, label=\"\"];"]
+    lines += [f'n{number} [pos="{x:.3f},{y:.3f}"];' for number, (x, y) in enumerate(on_circle(count, edges))]
+    lines += [f"n{one} -- n{other} [len=1.6];" for one, other in edges] + ["}"]
     try:
         done = subprocess.run(["neato", "-Tplain"], input="\n".join(lines), capture_output=True, text=True, timeout=SECONDS, check=True)
     except (OSError, subprocess.SubprocessError):
@@ -62,13 +63,19 @@ def walk_order(count, edges):
     return order
 
 
-def by_ourselves(count, edges):
-    """Returns places at which switches are about as far from one another as links lie between them: from a circle on, each switch moves again and
-    again to the mean of where the others want it."""
-    wanted, places = distances(count, edges), [(0.0, 0.0)] * count
+def on_circle(count, edges):
+    """Returns places on a circle in the order of that walk: where both layouts begin."""
+    places = [(0.0, 0.0)] * count
     for turn, switch in enumerate(walk_order(count, edges)):
         angle = 2 * math.pi * turn / count
         places[switch] = (count / 6 * math.cos(angle), count / 6 * math.sin(angle))
+    return places
+
+
+def by_ourselves(count, edges):
+    """Returns places at which switches are about as far from one another as links lie between them: from a circle on, each switch moves again and
+    again to the mean of where the others want it."""
+    wanted, places = distances(count, edges), on_circle(count, edges)
     for _ in range(ROUNDS):
         for one in range(count):
             x0, y0 = places[one]
@@ -135,9 +142,9 @@ def layout(count, links, hosts, graphviz=True):
     nearest = min((math.dist(one, other) for at, one in enumerate(places) for other in places[:at]), default=0) or 1.0
     # How far host ports lie away depends on the scale, which depends on where they lie: so it is tried from the greatest on.
     xs, ys = [x for x, _ in places], [y for _, y in places]
-    scale = min((WIDTH - 2 * MARGIN) / (max(xs) - min(xs) or 1e-6), (HEIGHT - 2 * MARGIN) / (max(ys) - min(ys) or 1e-6), 260 / nearest)
+    scale = min((WIDTH - 2 * MARGIN) / (max(xs) - min(xs) or 1e-6), (HEIGHT - 2 * MARGIN) / (max(ys) - min(ys) or 1e-6), 330 / nearest)
     for _ in range(400):
-        size = min(SIZE, 0.3 * scale * nearest)
+        size = min(SIZE, 0.26 * scale * nearest)
         switches = [(x * scale, y * scale) for x, y in places]
         ends = [(switches[host[0]][0] + HOST_AWAY * size * math.cos(angle), switches[host[0]][1] + HOST_AWAY * size * math.sin(angle))
                 for host, angle in zip(hosts, directions)]

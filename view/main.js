@@ -37,8 +37,7 @@ class View {
     let number = reason.host ? this.refusedClass() : -1;
     if (number < 0) number = accepted || reason.round ? this.touchedClass(position, -1) : -1;
     if (number < 0) number = this.order.length ? this.order[0] : -1;
-    const at = reason.switch !== undefined && update.number.has(reason.switch) ? update.number.get(reason.switch) : null;
-    return { position, class: number, chosen: at, event: 0 };
+    return { position, class: number, chosen: 0, pinned: false, event: 0 };
   }
 
   refusedClass() {
@@ -105,7 +104,7 @@ class View {
     let from = null, moved = false;
     svg.addEventListener("click", (click) => {
       const node = click.target.closest(".switch");
-      if (node && !moved) this.choose({ chosen: this.update.number.get(node.dataset.switch) });
+      if (node && !moved) this.choose({ chosen: this.update.number.get(node.dataset.switch), pinned: true });
     });
     svg.addEventListener("wheel", (wheel) => {
       const box = svg.getBoundingClientRect();
@@ -140,7 +139,7 @@ class View {
     if (has("event") && this.player) this.toEvent(Number(words.get("event")));
     if (has("round")) this.position = Math.max(0, Math.min(this.update.last, Number(words.get("round")) || 0));
     if (has("class") && Number(words.get("class")) < this.update.classCount) this.class = Number(words.get("class"));
-    if (this.update.number.has(words.get("switch"))) this.chosen = this.update.number.get(words.get("switch"));
+    if (this.update.number.has(words.get("switch"))) Object.assign(this, { chosen: this.update.number.get(words.get("switch")), pinned: true });
     if (has("near")) this.near = words.get("near") === "1";
   }
 
@@ -154,7 +153,7 @@ class View {
     const none = { places: [], end: { what: "drop", from: 0 } };
     this.shown = { steps: stepsOf(places), bad, oldPath: it ? pathOf(update, update.old, it) : none, newPath: it ? pathOf(update, update.new, it) : none,
       evidence: it ? update.numbersIn(this.position, this.class) : null, duties: it ? update.duties(it) : { some: false, chains: [], deliver: false } };
-    if (this.chosen === null || this.chosen === undefined) this.chosen = this.firstToShow(bad);
+    if (!this.pinned) this.chosen = this.firstToShow(bad);
     this.drawBad(it, bad);
     this.drawChanges();
     if (it) this.drawClass(it);
@@ -164,8 +163,10 @@ class View {
     this.lookAgain();
   }
 
+  // Where no switch was chosen, the rules of one of those that change are shown; where the planner refuses the plan, of the one that it names.
   firstToShow(bad) {
-    const changes = this.update.changesIn(this.position);
+    const changes = this.update.changesIn(this.position), { reason } = this.data.verdict;
+    if (this.update.number.has(reason.switch) && (reason.round === this.position || reason.number === 13)) return this.update.number.get(reason.switch);
     if (bad) return bad.steps[0].place.at;
     return changes.length ? changes[0].rule.at : 0;
   }
@@ -217,7 +218,7 @@ class View {
 
   switchButton(at) {
     const made = make("button", this.update.names[at], { class: "name", title: "shows its rules" });
-    made.addEventListener("click", () => this.choose({ chosen: at }));
+    made.addEventListener("click", () => this.choose({ chosen: at, pinned: true }));
     return made;
   }
 
@@ -242,8 +243,8 @@ class View {
     const update = this.update, name = (at) => update.names[at];
     if (!update.isRound(this.position)) return [];
     if (update.kind === "two-phase") {
-      const labels = [...update.labelsIn(this.position)].map(([vlan, { version, user }]) => `${vlan === 0 ? "untagged" : vlan} = ${version} rules for ${vlanText(user)}`);
-      return [make("p", [make("b", "tags "), labels.join("; ") || "the plan says nothing of them in this round"], { id: "labels" })];
+      const labels = [...update.labelsIn(this.position)].map(([vlan, { version, user }]) => `${vlan === 0 ? "untagged" : vlan} goes by the ${version} rules (came ${user === 0 ? "untagged" : `with VLAN ${user}`})`);
+      return [make("p", [make("b", "VLANs of packets "), labels.join("; ") || "the plan says nothing of them in this round"], { id: "labels" })];
     }
     if (!evidence) return [make("p", "The plan has no numbers for them in this round.", { class: "wrong" })];
     const positions = duties.chains.flat();
@@ -273,7 +274,7 @@ class View {
   // The rules of the chosen switch, one beside the other.
   drawTable() {
     const update = this.update, at = this.chosen, box = element("table");
-    if (at === null || at === undefined || at >= update.names.length) { box.replaceChildren(); return; }
+    if (at >= update.names.length) { box.replaceChildren(); return; }
     const [left, right, before, after] = this.position === 0 ? ["old rules", "new rules", update.old[at], update.new[at]]
       : update.isRound(this.position) ? [`before round ${this.position}`, `after round ${this.position}`, update.tableBefore(this.position, at), update.tableBehind(this.position, at)]
         : ["after the last round", "new rules", update.tableAfter(update.rounds.length, at), update.new[at]];

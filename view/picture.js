@@ -6,11 +6,12 @@ class Picture {
   constructor(svg, update, layout) {
     Object.assign(this, { svg, update, layout, unit: layout.size / 20, places: layout.switches, hostPlaces: layout.hosts });
     this.bends = this.bendsOf();
+    this.lines = new Map();
     this.view = null;
     const arrow = (name, colour) => `<marker id="${name}" viewBox="0 0 10 10" refX="8" refY="5" markerWidth="4" markerHeight="4" orient="auto">`
       + `<path d="M0 0L10 5L0 10z" fill="${colour}"/></marker>`;
     const markers = [["mold", COLOURS.old], ["mnew", COLOURS.new], ["mink", COLOURS.ink], ["mbad", COLOURS.bad]].map(([name, colour]) => arrow(name, colour));
-    svg.innerHTML = `<defs>${markers.join("")}</defs><g id="bands"></g><g id="links">${this.links()}</g><g id="steps"></g>`
+    svg.innerHTML = `<defs>${markers.join("")}</defs><g id="bands"></g><g id="links">${this.linkLines()}</g><g id="steps"></g>`
       + `<g id="ports">${this.ports()}</g><g id="walk"></g><g id="nodes"></g><g id="riders"></g>`;
     this.parts = Object.fromEntries(["bands", "steps", "walk", "nodes", "riders"].map((name) => [name, svg.querySelector(`#${name}`)]));
   }
@@ -39,8 +40,13 @@ class Picture {
     return part > 0 && part < 1 && Math.hypot(x0 + part * dx - x, y0 + part * dy - y) < 26 * this.unit;
   }
 
-  // The points of the line from a port of a switch to what is there.
+  // The points of the line from a port of a switch to what is there. They are kept, since they never change.
   line(at, port) {
+    if (!this.lines.has(`${at} ${port}`)) this.lines.set(`${at} ${port}`, this.lineOf(at, port));
+    return this.lines.get(`${at} ${port}`);
+  }
+
+  lineOf(at, port) {
     const end = this.update.ends[at].get(port), from = this.places[at];
     if (end.host !== undefined) return this.clear([from, this.hostPlaces[end.host]], at, null);
     if (end.to === at) {
@@ -94,7 +100,7 @@ class Picture {
 
   width(much) { return (much * this.unit).toFixed(2); }
 
-  links() {
+  linkLines() {
     const style = `stroke="${COLOURS.line}" stroke-width="${this.width(2)}"`;
     const lines = this.linkEnds.map(([[at, port]]) => this.path(this.line(at, port), style));
     const hosts = this.update.hosts.map(([at, port], host) => {
@@ -116,7 +122,8 @@ class Picture {
 
   // A line without so much of its beginning and of its end.
   between(points, begin, end) {
-    const from = Math.min(this.reach(points, begin), points.length - 2), to = points.length - this.reach([...points].reverse(), end);
+    const long = Math.hypot(points[points.length - 1][0] - points[0][0], points[points.length - 1][1] - points[0][1]) / this.unit, most = long / 4;
+    const from = Math.min(this.reach(points, Math.min(begin, most)), points.length - 2), to = points.length - this.reach([...points].reverse(), Math.min(end, most));
     return points.slice(from, Math.max(to, from + 2));
   }
 
@@ -158,7 +165,7 @@ class Picture {
   // Where the packets of the class enter.
   entry({ entry }) {
     if (entry === null) return "";
-    const [at, port] = this.update.hosts[entry], points = this.line(at, port).reverse(), [x, y] = this.hostPlaces[entry];
+    const [at, port] = this.update.hosts[entry], points = [...this.line(at, port)].reverse(), [x, y] = this.hostPlaces[entry];
     return this.path(this.between(points, 8, 15), `class="entry" stroke="${COLOURS.ink}" stroke-width="${this.width(3)}" marker-end="url(#mink)"`)
       + this.text(x, y - 11 * this.unit, "enter here", 10.5, `font-style="italic" stroke="#fff" stroke-width="${this.width(3)}" paint-order="stroke"`);
   }
@@ -171,9 +178,9 @@ class Picture {
     const dashes = one.when === "before" || one.when === "between" ? `stroke-dasharray="${this.width(7)} ${this.width(4)}"` : "";
     const arrow = this.path(part, `class="step" stroke="${COLOURS[colour]}" stroke-width="${this.width(3)}" ${dashes} marker-end="url(#m${colour})"`);
     if (!shown.tagged || one.what !== "go") return arrow;
-    const middle = part[Math.floor(part.length * 0.4)], words = one.vlan === 0 ? "untagged" : `tag ${one.vlan}`, half = 3.1 * words.length;
-    return `${arrow}<rect x="${(middle[0] - half * this.unit).toFixed(1)}" y="${(middle[1] - 16 * this.unit).toFixed(1)}" width="${this.width(2 * half)}"`
-      + ` height="${this.width(12)}" fill="#ffffffd9"/>${this.text(middle[0], middle[1] - 6.5 * this.unit, words, 10.5, `class="tag" fill="${COLOURS.ink}"`)}`;
+    const [x, y] = this.aside(part, 12)[Math.floor(part.length * 0.4)], words = one.vlan === 0 ? "untagged" : `tag ${one.vlan}`, wide = 6.2 * words.length;
+    return `${arrow}<rect x="${(x - wide / 2 * this.unit).toFixed(1)}" y="${(y - 6 * this.unit).toFixed(1)}" width="${this.width(wide)}"`
+      + ` height="${this.width(12)}" fill="#ffffffd9"/>${this.text(x, y + 3.6 * this.unit, words, 10.5, `class="tag" fill="${COLOURS.ink}"`)}`;
   }
 
   bad(walk) {
@@ -195,17 +202,15 @@ class Picture {
     marks.push(box(0, `fill="${changing ? COLOURS.mark : "#f3f4f6"}" stroke="${COLOURS.ink}" stroke-width="${this.width(at === shown.chosen ? 3.5 : 1.5)}"`
       + (changing && shown.pending && shown.pending.has(at) ? ` stroke-dasharray="${this.width(5)} ${this.width(3)}"` : "")));
     const size = Math.min(15, 1.75 * half / unit / name.length);
-    marks.push(this.text(x, y + 5 * unit, name, size, 'font-weight="bold"'));
-    const words = [];
-    if (shown.drops.has(at)) words.push("&#10005; drops");
-    if (changing) words.push(!shown.pending ? "changes" : shown.pending.has(at) ? "pending" : "changed");
-    if (shown.waypoints.has(at)) words.push("waypoint");
-    const low = y + (shown.waypoints.has(at) ? 31 : 27) * unit;
-    if (words.length) marks.push(this.text(x, low, words.join(", "), 10.5, `class="words" font-style="italic" stroke="#fff" stroke-width="${this.width(3)}" paint-order="stroke"`));
+    marks.push(this.text(x, y + (changing ? 1.5 : 5) * unit, name, size, 'font-weight="bold"'));
+    if (changing) marks.push(this.text(x, y + 11.5 * unit, !shown.pending ? "changes" : shown.pending.has(at) ? "pending" : "changed", 9, 'class="words" font-style="italic"'));
+    const below = [...shown.drops.has(at) ? ["&#10005; drops"] : [], ...shown.waypoints.has(at) ? ["waypoint"] : []];
+    const halo = `stroke="#fff" stroke-width="${this.width(3)}" paint-order="stroke"`;
+    if (below.length) marks.push(this.text(x, y + (shown.waypoints.has(at) ? 30 : 26) * unit, below.join(", "), 10.5, `class="words" font-style="italic" ${halo}`));
     if (shown.numbers) {
-      const on = shown.visited.has(at), cx = x + half, cy = y - 15 * unit;
-      marks.push(`<circle cx="${cx.toFixed(1)}" cy="${cy.toFixed(1)}" r="${this.width(10)}" fill="${on ? COLOURS.ink : "#d1d5db"}"/>`
-        + this.text(cx, cy + 4.3 * unit, shown.numbers[at], 12, `class="number" fill="${on ? "#fff" : "#6b7280"}" font-weight="bold"`));
+      const on = shown.visited.has(at), cx = x + half, cy = y - 15 * unit, wide = 6.5 + 3.6 * String(shown.numbers[at]).length;
+      marks.push(`<rect x="${(cx - wide * unit).toFixed(1)}" y="${(cy - 10 * unit).toFixed(1)}" width="${this.width(2 * wide)}" height="${this.width(20)}" rx="${this.width(10)}"`
+        + ` fill="${on ? COLOURS.ink : "#d1d5db"}"/>${this.text(cx, cy + 4.3 * unit, shown.numbers[at], 12, `class="number" fill="${on ? "#fff" : "#6b7280"}" font-weight="bold"`)}`);
     }
     return `<g class="switch" data-switch="${name}"><title>${name}</title>${marks.join("")}</g>`;
   }

@@ -52,7 +52,7 @@ function pathText(update, path) { return `${shortened(path.places.map((it) => up
 
 function dutiesText(update, duties) {
   if (!duties.some) return "The policy demands nothing of these packets, but that they come to no switch twice.";
-  const chains = duties.chains.map((chain) => `must meet ${chain.map((at) => update.names[at]).join(" and then ")} where they leave`);
+  const chains = duties.chains.map((chain) => `must have met ${chain.map((at) => update.names[at]).join(" and then ")} when they leave`);
   return `By the policy these packets ${[...chains, duties.deliver ? "must arrive" : "may be dropped"].join(", and ")}.`;
 }
 
