@@ -13,7 +13,7 @@ DIRECTIONS = [turn * math.pi / 12 for turn in range(24)]
 
 def by_graphviz(count, edges):
     """Returns the places of the switches as `neato` lays them out, or None where that can't be had."""
-    lines = ["graph {", "graph [overlap=false];", "node [shape=box, width=0.5, height=0.4, label=\"\"];"]
+    lines = ["graph {", "graph [overlap=true];", "node [shape=box, width=0.5, height=0.4, label=\"\"];"]
     lines += [f'n{number} [pos="{x:.3f},{y:.3f}"];' for number, (x, y) in enumerate(on_circle(count, edges))]
     lines += [f"n{one} -- n{other} [len=1.6];" for one, other in edges] + ["}"]
     try:

@@ -167,7 +167,7 @@ class Picture {
     if (entry === null) return "";
     const [at, port] = this.update.hosts[entry], points = [...this.line(at, port)].reverse(), [x, y] = this.hostPlaces[entry];
     return this.path(this.between(points, 8, 15), `class="entry" stroke="${COLOURS.ink}" stroke-width="${this.width(3)}" marker-end="url(#mink)"`)
-      + this.text(x, y - 11 * this.unit, "enter here", 10.5, `font-style="italic" stroke="#fff" stroke-width="${this.width(3)}" paint-order="stroke"`);
+      + this.text(x, y + (y > this.places[at][1] ? 18 : -11) * this.unit, "enter here", 10.5, `font-style="italic" stroke="#fff" stroke-width="${this.width(3)}" paint-order="stroke"`);
   }
 
   step({ place, one }, shown) {
