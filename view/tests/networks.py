@@ -40,6 +40,31 @@ def ring(count):
     return Update(topology, rules(2), rules(3), {"demands": demands})
 
 
+def some_crossing(seed):
+    """Returns a random update that no order of single changes carries out: packets pass a waypoint in the middle of a chain in the other direction."""
+    chance = random.Random(seed)
+    first, second = chance.randint(1, 2), chance.randint(1, 2)
+    names = [f"n{i}" for i in range(first + second + 3)]
+    start, middle, end = names[0], names[first + 1], names[-1]
+    before, behind = names[1:first + 1], names[first + 2:-1]
+    chance.shuffle(names)
+    vlans = ["untagged", 10] if chance.random() < 0.5 else ["untagged"]
+    old = [start, *before, middle, *behind, end]
+    new = [start, *reversed(behind), middle, *reversed(before), end]
+    next_port, port, links = dict.fromkeys(names, 2), {}, []
+    for one, other in [*zip(old, old[1:]), *zip(new, new[1:])]:
+        if (one, other) not in port:
+            port[one, other], port[other, one] = next_port[one], next_port[other]
+            links.append([f"{one}:{next_port[one]}", f"{other}:{next_port[other]}"])
+            next_port[one] += 1
+            next_port[other] += 1
+    topology = {"switches": [{"name": name, "capacity": 40} for name in names], "links": links, "hosts": [f"{start}:1", f"{end}:1"], "vlans": vlans,
+                "tags": [3000, 3003]}
+    sides = [{"rules": [{"switch": one, "priority": 100, "dst": "10.0.0.0/24", "out": port[one, other]} for one, other in zip(way, way[1:])]
+              + [{"switch": end, "priority": 100, "dst": "10.0.0.0/24", "out": 1}]} for way in (old, new)]
+    return Update(topology, *sides, {"demands": [{"from": f"{start}:1", "dst": "10.0.0.0/24", "through": [middle], "deliver": True}]})
+
+
 def some_update(seed):
     """Returns a random small update: on both sides trees lead to each destination, for one VLAN sometimes another tree; some packets must arrive, and
     some have a waypoint that lies on both paths."""
