@@ -92,21 +92,27 @@ def by_ourselves(count, edges):
 
 
 def turned(places, edges):
-    """Returns the places turned so that they fill the picture and that links lie level or upright, with the first switch at the top left."""
-    angles = [math.atan2(places[other][1] - places[one][1], places[other][0] - places[one][0]) for one, other in edges if one != other]
+    """Returns the places turned, or mirrored and turned, so that they fill the picture, links lie level or upright, the first switch is at the top left
+    and the second one to its right."""
     best = None
-    for turn in [math.radians(degree) for degree in range(0, 180, 5)] + [-angle for angle in angles[:90]]:
-        cos, sin = math.cos(turn), math.sin(turn)
-        now = [(x * cos - y * sin, x * sin + y * cos) for x, y in places]
-        wide, high = (max(it[axis] for it in now) - min(it[axis] for it in now) for axis in (0, 1))
-        fill = min(WIDTH / (wide or 1e-6), HEIGHT / (high or 1e-6))
-        level = sum(abs(math.cos(2 * (angle + turn))) > 0.9999 for angle in angles) / max(len(angles), 1)
-        if best is None or fill * (1 + level) > best[0] + 1e-9:
-            best = (fill * (1 + level), now)
-    now = best[1]
-    x, y = (sum(it[axis] for it in now) / len(now) for axis in (0, 1))
-    right, low = now[0][0] > x + 1e-6, now[0][1] > y + 1e-6
-    return [(-px if right else px, -py if low else py) for px, py in now]
+    for sign in (1, -1):
+        mirrored = [(sign * x, y) for x, y in places]
+        angles = [math.atan2(mirrored[other][1] - mirrored[one][1], mirrored[other][0] - mirrored[one][0]) for one, other in edges if one != other]
+        for turn in [math.radians(degree) for degree in range(0, 180, 5)] + [-angle for angle in angles[:90]]:
+            now = first_top_left([(x * math.cos(turn) - y * math.sin(turn), x * math.sin(turn) + y * math.cos(turn)) for x, y in mirrored])
+            wide, high = (max(it[axis] for it in now) - min(it[axis] for it in now) for axis in (0, 1))
+            fill = min(WIDTH / (wide or 1e-6), HEIGHT / (high or 1e-6))
+            level = sum(abs(math.cos(2 * (angle + turn))) > 0.9999 for angle in angles) / max(len(angles), 1)
+            right = math.cos(math.atan2(now[1][1] - now[0][1], now[1][0] - now[0][0])) if len(now) > 1 else 0
+            if best is None or fill * (1 + level + 0.1 * right) > best[0] + 1e-9:
+                best = (fill * (1 + level + 0.1 * right), now)
+    return best[1]
+
+
+def first_top_left(places):
+    x, y = (sum(it[axis] for it in places) / len(places) for axis in (0, 1))
+    right, low = places[0][0] > x + 1e-6, places[0][1] > y + 1e-6
+    return [(-px if right else px, -py if low else py) for px, py in places]
 
 
 def host_directions(places, links, hosts):

@@ -173,13 +173,15 @@ class View {
 
   drawPicture(places) {
     const { steps, bad, oldPath, newPath, evidence, duties } = this.shown, changes = this.update.changesIn(this.position);
-    const playing = this.playing && this.player.state.running;
-    const pending = playing ? new Set([...this.player.state.pending].map((at) => changes[at].rule.at)) : null;
+    const pending = this.playing ? new Set([...this.pendingNow()].map((at) => changes[at].rule.at)) : null;
     this.picture.draw({ steps, bad, oldPath, newPath, numbers: evidence && evidence.numbers, changing: new Set(changes.map((change) => change.rule.at)), pending,
       visited: new Set(places.map((place) => place.at)), waypoints: this.waypoints, own: new Set(duties.chains.flat()), chosen: this.chosen,
       tagged: this.update.kind === "two-phase", entry: this.class >= 0 ? this.update.classOf(this.class).host : null,
       drops: new Set(steps.filter(({ one }) => one.what === "drop").map(({ place }) => place.at)), packets: this.playing ? this.player.state.packets.filter((packet) => packet.end === null) : [] });
   }
+
+  // The changes of the round that are still to be made in the run that is played.
+  pendingNow() { return this.player.state.running ? this.player.state.pending : new Set(); }
 
   lookAgain() {
     const around = this.near ? this.around() : null, name = around ? around.join() : "whole";
@@ -208,7 +210,7 @@ class View {
     else if (!update.isRound(this.position)) parts.push(make("h2", "After the update"), make("p", "All rounds are settled."));
     else parts.push(make("h2", `Changes of round ${this.position}, in any order`));
     if (update.isRound(this.position) && !changes.length) parts.push(make("p", "None: this round only waits until the packets that entered before are gone."));
-    const done = (change) => this.playing && this.player.state.running ? (this.player.state.pending.has(change.at) ? "pending: " : "done: ") : "";
+    const done = (change) => !this.playing ? "" : this.pendingNow().has(change.at) ? "pending: " : "done: ";
     const lines = changes.slice(0, MOST_LINES).map((change) => make("li", [make("span", done(change), { class: "grey" }), this.switchButton(change.rule.at), " ",
       make("span", changeText(change), { class: "code" }), make("span", ` (priority ${change.rule.priority})`, { class: "grey" })]));
     if (lines.length) parts.push(make("ul", lines, { class: lines.length > 8 ? "scroll" : "" }));
@@ -343,8 +345,11 @@ class View {
     element("event").textContent = `event ${player.count} of ${events.length}; ${where}`;
     element("packets").replaceChildren(...state.packets.slice(-MOST_LINES).map((packet) => {
       const end = packet.end === null ? `at ${this.update.names[packet.at]}${packet.vlan ? `, with VLAN ${packet.vlan}` : ""}` : ends ? ends[packet.number] : packet.end;
-      return make("div", [make("b", `packet ${packet.number} `), `${packet.entry}: ${shortened(packet.stops, 12)} `, make("b", end, { class: packet.end ? "end" : "grey" })], { "data-packet": packet.number });
+      return make("div", [make("b", `packet ${packet.number} `), `${packet.entry}: ${shortened(packet.stops, 12)} `, make("b", end, { class: packet.end ? "end" : "grey" })],
+        { "data-packet": packet.number, class: packet.number === state.packet ? "now" : "" });
     }));
+    const now = element("packets").querySelector(".now");
+    if (now) element("packets").scrollTop = now.offsetTop - element("packets").offsetTop - 55;
   }
 }
 
