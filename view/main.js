@@ -159,8 +159,8 @@ class View {
     if (it) this.drawClass(it);
     this.drawTable();
     this.drawPicture(places);
-    if (this.player) this.drawPlayer();
     this.lookAgain();
+    if (this.player) this.drawPlayer();
   }
 
   // Where no switch was chosen, the rules of one of those that change are shown; where the planner refuses the plan, of the one that it names.
@@ -305,7 +305,6 @@ class View {
       if (line === player.stop) made.append("   this can't happen here: ", this.data.schedule.answers[0]);
       return made;
     });
-    element("events").append(...this.eventLines.slice(0, 20000));
     player.to(Infinity);
     if (this.data.schedule.run && !player.agrees()) element("packets").before(make("p", "This page's packets go otherwise than the planner's: the planner is right.", { class: "wrong" }));
     player.to(0);
@@ -333,17 +332,23 @@ class View {
     this.timer = setInterval(() => { this.play(this.event + 1); if (this.event === this.player.events.length) stop(); }, 700);
   }
 
+  // The lines of the schedule around one of them; that one is marked, where an event has happened.
+  drawEvents(line) {
+    const list = element("events"), first = Math.max(0, Math.min(line - MOST_LINES, this.eventLines.length - 2 * MOST_LINES));
+    for (const marked of list.querySelectorAll(".now")) marked.classList.remove("now");
+    if (this.firstLine !== first) list.replaceChildren(...this.eventLines.slice(first, first + 2 * MOST_LINES));
+    this.firstLine = first;
+    if (this.player.count) this.eventLines[line].classList.add("now");
+    list.scrollTop = this.eventLines.length ? this.eventLines[line].offsetTop - list.offsetTop - 55 : 0;
+  }
+
   drawPlayer() {
     const { player } = this, { state, events, ends } = player;
-    for (const line of element("events").querySelectorAll(".now")) line.classList.remove("now");
-    const line = player.count ? this.eventLines[events[player.count - 1].line] : null;
-    if (line) {
-      line.classList.add("now");
-      element("events").scrollTop = line.offsetTop - element("events").offsetTop - 55;
-    }
+    this.drawEvents(player.count ? events[player.count - 1].line : 0);
     const where = state.running ? `round ${state.settled + 1} runs` : `${state.settled} of ${this.update.rounds.length} rounds settled`;
     element("event").textContent = `event ${player.count} of ${events.length}; ${where}`;
-    element("packets").replaceChildren(...state.packets.slice(-MOST_LINES).map((packet) => {
+    const shown = state.packets.filter((packet) => packet.end === null || packet.number === state.packet || packet.number >= state.packets.length - MOST_LINES);
+    element("packets").replaceChildren(...shown.map((packet) => {
       const end = packet.end === null ? `at ${this.update.names[packet.at]}${packet.vlan ? `, with VLAN ${packet.vlan}` : ""}` : ends ? ends[packet.number] : packet.end;
       return make("div", [make("b", `packet ${packet.number} `), `${packet.entry}: ${shortened(packet.stops, 12)} `, make("b", end, { class: packet.end ? "end" : "grey" })],
         { "data-packet": packet.number, class: packet.number === state.packet ? "now" : "" });

@@ -12,8 +12,10 @@ class Picture {
       + `<path d="M0 0L10 5L0 10z" fill="${colour}"/></marker>`;
     const markers = [["mold", COLOURS.old], ["mnew", COLOURS.new], ["mink", COLOURS.ink], ["mbad", COLOURS.bad]].map(([name, colour]) => arrow(name, colour));
     svg.innerHTML = `<defs>${markers.join("")}</defs><g id="bands"></g><g id="links">${this.linkLines()}</g><g id="steps"></g>`
-      + `<g id="ports">${this.ports()}</g><g id="walk"></g><g id="nodes"></g><g id="riders"></g>`;
-    this.parts = Object.fromEntries(["bands", "steps", "walk", "nodes", "riders"].map((name) => [name, svg.querySelector(`#${name}`)]));
+      + `<g id="ports">${this.ports()}</g><g id="walk"></g><g id="nodes">${this.emptyNodes()}</g><g id="riders"></g>`;
+    this.parts = Object.fromEntries(["bands", "steps", "walk", "riders"].map((name) => [name, svg.querySelector(`#${name}`)]));
+    update.names.forEach((_, at) => { this.parts[`node${at}`] = svg.querySelector(`#nodes > :nth-child(${at + 1})`); });
+    this.filled = new Map();
   }
 
   // By how much each link bends aside: links between the same two switches, and links that would cross another switch.
@@ -139,11 +141,18 @@ class Picture {
 
   // Draws what is shown: the paths, the steps, the bad walk, the switches and the packets.
   draw(shown) {
-    this.parts.bands.innerHTML = this.band(shown.oldPath, COLOURS.paleOld, -6, "old-path") + this.band(shown.newPath, COLOURS.paleNew, 6, "new-path");
-    this.parts.steps.innerHTML = this.entry(shown) + shown.steps.map((step) => this.step(step, shown)).join("");
-    this.parts.walk.innerHTML = shown.bad ? this.bad(shown.bad) : "";
-    this.parts.nodes.innerHTML = this.update.names.map((name, at) => this.node(name, at, shown)).join("");
-    this.parts.riders.innerHTML = this.riders(shown.packets || []);
+    this.fill("bands", this.band(shown.oldPath, COLOURS.paleOld, -6, "old-path") + this.band(shown.newPath, COLOURS.paleNew, 6, "new-path"));
+    this.fill("steps", this.entry(shown) + shown.steps.map((step) => this.step(step, shown)).join(""));
+    this.fill("walk", shown.bad ? this.bad(shown.bad) : "");
+    this.update.names.forEach((name, at) => this.fill(`node${at}`, this.node(name, at, shown)));
+    this.fill("riders", this.riders(shown.packets || []));
+  }
+
+  // Fills a part of the picture, unless it is as it was.
+  fill(name, text) {
+    if (this.filled.get(name) === text) return;
+    this.filled.set(name, text);
+    this.parts[name].innerHTML = text;
   }
 
   // A path as a broad band beside its links.
@@ -193,6 +202,8 @@ class Picture {
     }).join("");
   }
 
+  emptyNodes() { return this.update.names.map((name) => `<g class="switch" data-switch="${name}"></g>`).join(""); }
+
   node(name, at, shown) {
     const [x, y] = this.places[at], unit = this.unit, half = this.half(Object.assign([x, y], { at })), changing = shown.changing.has(at);
     const box = (more, style) => `<rect x="${(x - half - more * unit).toFixed(1)}" y="${(y - (15 + more) * unit).toFixed(1)}" width="${(2 * half + 2 * more * unit).toFixed(1)}"`
@@ -212,7 +223,7 @@ class Picture {
       marks.push(`<rect x="${(cx - wide * unit).toFixed(1)}" y="${(cy - 10 * unit).toFixed(1)}" width="${this.width(2 * wide)}" height="${this.width(20)}" rx="${this.width(10)}"`
         + ` fill="${on ? COLOURS.ink : "#d1d5db"}"/>${this.text(cx, cy + 4.3 * unit, shown.numbers[at], 12, `class="number" fill="${on ? "#fff" : "#6b7280"}" font-weight="bold"`)}`);
     }
-    return `<g class="switch" data-switch="${name}"><title>${name}</title>${marks.join("")}</g>`;
+    return `<title>${name}</title>${marks.join("")}`;
   }
 
   // Packets under way, above the switches where they are.

@@ -17,7 +17,7 @@ WATCH = """(() => {
     for (let event = 0; event < player.events.length; event++) {
         const [what, number] = player.events[event].words;
         if (what !== 'hop') continue;
-        view.play(event);
+        view.toEvent(event);
         const packet = { ...player.state.packets[number] };
         view.choose({ class: packet.of });
         const steps = shown(), trace = TRACES[number], at = packet.stops.length;
