@@ -150,7 +150,7 @@ def layout(count, links, hosts, graphviz=True):
     xs, ys = [x for x, _ in places], [y for _, y in places]
     scale = min((WIDTH - 2 * MARGIN) / (max(xs) - min(xs) or 1e-6), (HEIGHT - 2 * MARGIN) / (max(ys) - min(ys) or 1e-6), 330 / nearest)
     for _ in range(400):
-        size = min(SIZE, 0.26 * scale * nearest)
+        size = min(SIZE, 0.23 * scale * nearest)
         switches = [(x * scale, y * scale) for x, y in places]
         ends = [(switches[host[0]][0] + HOST_AWAY * size * math.cos(angle), switches[host[0]][1] + HOST_AWAY * size * math.sin(angle))
                 for host, angle in zip(hosts, directions)]
@@ -160,5 +160,5 @@ def layout(count, links, hosts, graphviz=True):
             break
         scale *= 0.985
     across, down = (WIDTH - left - right) / 2, (HEIGHT - top - low) / 2
-    moved = [[[round(x + across, 1), round(y + down, 1)] for x, y in it] for it in (switches, ends)]
+    moved = [[[round(x + across, 2), round(y + down, 2)] for x, y in it] for it in (switches, ends)]
     return {"width": WIDTH, "height": HEIGHT, "size": round(size, 2), "switches": moved[0], "hosts": moved[1]}

@@ -233,7 +233,10 @@ class View {
     const differ = steps.filter(({ one }) => one.when !== "always");
     const title = update.isRound(this.position) ? (differ.length ? "Steps that they may take in this round" : "Steps that they take in this round, which doesn't change them") : "Steps that they take";
     parts.push(make("h2", title));
-    if (differ.length && steps.length > 12) parts.push(make("p", `${steps.length} in all; this round changes: ${differ.map((step) => this.stepText(step, evidence)).join("; ")}`));
+    if (differ.length && steps.length > 12) {
+      const which = differ.length > 4 ? `${differ.length} of them hang on changes of this round.` : `This round changes: ${differ.map((step) => this.stepText(step, evidence)).join("; ")}.`;
+      parts.push(make("p", `${steps.length} in all. ${which}`));
+    }
     const lines = new Map(steps.map((step) => this.stepLine(step, evidence)).map((line) => [line.textContent + line.dataset.to, line]));
     parts.push(make("ul", [...lines.values()], { id: "steps", class: steps.length > 10 ? "scroll" : "" }));
     if (!this.data.verdict.accepted && !bad && update.isRound(this.position)) parts.push(make("p", "The page finds no walk here that the policy forbids.", { class: "grey" }));
@@ -260,7 +263,7 @@ class View {
     const tag = this.update.kind !== "two-phase" ? "" : one.what === "go" ? ` [${tagText(this.update, this.position, one.vlan)}]` : `, ${vlanText(one.vlan)}`;
     if (one.what === "go") return `${name(place.at)} → ${name(to.at)}${tag}${when}`;
     if (one.what === "leave") return `${name(place.at)} leaves at port ${one.port}${tag}${when}`;
-    return `${name(place.at)} drops${when}`;
+    return `${name(place.at)} drops${place.from === null ? "" : ` what comes in at port ${place.port}`}${when}`;
   }
 
   stepLine(step, evidence) {
@@ -339,7 +342,7 @@ class View {
     if (this.firstLine !== first) list.replaceChildren(...this.eventLines.slice(first, first + 2 * MOST_LINES));
     this.firstLine = first;
     if (this.player.count) this.eventLines[line].classList.add("now");
-    list.scrollTop = this.eventLines.length ? this.eventLines[line].offsetTop - list.offsetTop - 55 : 0;
+    list.scrollTop = this.eventLines.length ? this.eventLines[line].offsetTop - 55 : 0;
   }
 
   drawPlayer() {
@@ -354,7 +357,7 @@ class View {
         { "data-packet": packet.number, class: packet.number === state.packet ? "now" : "" });
     }));
     const now = element("packets").querySelector(".now");
-    if (now) element("packets").scrollTop = now.offsetTop - element("packets").offsetTop - 55;
+    if (now) element("packets").scrollTop = now.offsetTop - 55;
   }
 }
 

@@ -93,7 +93,7 @@ class Picture {
   }
 
   path(points, style) {
-    return `<path d="${points.map(([x, y], at) => `${at ? "L" : "M"}${x.toFixed(1)} ${y.toFixed(1)}`).join("")}" fill="none" ${style}/>`;
+    return `<path d="${points.map(([x, y], at) => `${at ? "L" : "M"}${x.toFixed(2)} ${y.toFixed(2)}`).join("")}" fill="none" ${style}/>`;
   }
 
   text(x, y, words, size, style = "") {
@@ -122,9 +122,15 @@ class Picture {
     }).join("")).join("");
   }
 
+  // How long a line is, from its one end straight to the other, in units of the picture.
+  lengthOf(points) {
+    const [[x0, y0], [x1, y1]] = [points[0], points[points.length - 1]];
+    return Math.hypot(x1 - x0, y1 - y0) / this.unit;
+  }
+
   // A line without so much of its beginning and of its end.
   between(points, begin, end) {
-    const long = Math.hypot(points[points.length - 1][0] - points[0][0], points[points.length - 1][1] - points[0][1]) / this.unit, most = long / 4;
+    const most = this.lengthOf(points) / 4;
     const from = Math.min(this.reach(points, Math.min(begin, most)), points.length - 2), to = points.length - this.reach([...points].reverse(), Math.min(end, most));
     return points.slice(from, Math.max(to, from + 2));
   }
@@ -182,8 +188,9 @@ class Picture {
   step({ place, one }, shown) {
     if (one.what === "drop") return "";
     const colour = one.when === "before" ? "old" : one.when === "after" ? "new" : "ink";
-    const port = one.what === "go" ? one.out : one.port, points = this.aside(this.line(place.at, port), one.when === "before" ? 3.5 : one.when === "after" ? 5.5 : 4);
-    const part = this.between(points, 15, one.what === "go" ? 15 : 2);
+    const port = one.what === "go" ? one.out : one.port, line = this.line(place.at, port), isShort = one.what === "go" && this.lengthOf(line) < 60;
+    const points = this.aside(line, (isShort ? 8 : 0) + (one.when === "before" ? 3.5 : one.when === "after" ? 5.5 : 4));
+    const part = isShort ? points : this.between(points, 15, one.what === "go" ? 15 : 2);
     const dashes = one.when === "before" || one.when === "between" ? `stroke-dasharray="${this.width(7)} ${this.width(4)}"` : "";
     const arrow = this.path(part, `class="step" stroke="${COLOURS[colour]}" stroke-width="${this.width(3)}" ${dashes} marker-end="url(#m${colour})"`);
     if (!shown.tagged || one.what !== "go") return arrow;
