@@ -9,7 +9,8 @@ import tempfile
 import time
 
 NAMES = ("chromium", "chromium-browser", "google-chrome", "google-chrome-stable")
-SECONDS = 40
+# How long an answer may take, and how long a browser may live whatever becomes of the tests.
+SECONDS, LIFE = 60, 600
 
 
 def program():
@@ -29,7 +30,7 @@ class Browser:
         there, to_browser = os.pipe()
         from_browser, back = os.pipe()
         self.write_end, self.read_end, self.rest, self.count = to_browser, from_browser, b"", 0
-        self.console, self.requests = [], []
+        self.console, self.requests, self.is_lost = [], [], False
 
         def connect():
             # 3 and 4 are where the browser reads and writes; the two ends may stand there in the wrong order.
@@ -39,7 +40,8 @@ class Browser:
 
         self.process = subprocess.Popen(
             [path, "--headless=new", "--no-sandbox", "--disable-gpu", "--disable-dev-shm-usage", "--remote-debugging-pipe", "--no-first-run",
-             "--disable-background-networking", f"--user-data-dir={self.folder}", "--window-size=1280,800", "about:blank"],
+             "--disable-background-networking", "--disable-renderer-backgrounding", "--disable-backgrounding-occluded-windows", "--no-zygote", "--in-process-gpu",
+             "--disable-extensions", f"--user-data-dir={self.folder}", "--window-size=1280,800", "about:blank"],
             preexec_fn=connect, pass_fds=(3, 4), start_new_session=True, stdin=subprocess.DEVNULL, stdout=subprocess.DEVNULL, stderr=subprocess.DEVNULL)
         os.close(there)
         os.close(back)
@@ -68,6 +70,8 @@ class Browser:
         """Returns the next message."""
         while b"\0" not in self.rest:
             if not select.select([self.read_end], [], [], max(0.0, until - time.monotonic()))[0]:
+                # What it answers later would be taken for the answer to another question: so it is given up.
+                self.is_lost = True
                 raise Fault("the browser doesn't answer")
             part = os.read(self.read_end, 1 << 20)
             if not part:
@@ -90,6 +94,8 @@ class Browser:
             self.requests.append(given["request"]["url"])
 
     def ask(self, method, **given):
+        if self.is_lost:
+            raise Fault("the browser didn't answer before")
         until = time.monotonic() + SECONDS
         self.count += 1
         message = {"id": self.count, "method": method, "params": given}

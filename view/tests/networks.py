@@ -66,13 +66,13 @@ def some_crossing(seed):
 
 
 def some_update(seed):
-    """Returns a random small update: on both sides trees lead to each destination, for one VLAN sometimes another tree; some packets must arrive, and
-    some have a waypoint that lies on both paths."""
+    """Returns a random small update: on both sides trees lead to each destination, for one VLAN and for half of the addresses sometimes another tree; some
+    packets must arrive, and some have a waypoint that lies on both paths."""
     chance = random.Random(seed)
-    count = chance.randint(4, 6)
+    count = chance.randint(5, 7)
     pairs = [(i, chance.randrange(i)) for i in range(1, count)]
     others = [(i, j) for i in range(count) for j in range(i) if (i, j) not in pairs]
-    pairs += chance.sample(others, min(len(others), chance.randint(1, 3)))
+    pairs += chance.sample(others, min(len(others), chance.randint(3, 6)))
     next_port, ports, links = [2] * count, {}, []
     for one, other in pairs:
         ports[one, other], ports[other, one] = next_port[one], next_port[other]
@@ -82,7 +82,7 @@ def some_update(seed):
     vlans = ["untagged", 10] if chance.random() < 0.5 else ["untagged"]
     topology = {"switches": [{"name": f"n{i}", "capacity": 40} for i in range(count)], "links": links, "hosts": [f"n{i}:1" for i in range(count)],
                 "vlans": vlans, "tags": [3000, 3003]}
-    sides, demands = ([], []), []
+    sides, demands = ([], []), []  # the old and the new rules
     for destination, home in enumerate(chance.sample(range(count), 2)):
         trees = [tree(chance, count, ports, home) for _ in sides]
         for side, toward in zip(sides, trees):
@@ -90,6 +90,9 @@ def some_update(seed):
         if len(vlans) > 1 and destination == 0:
             for side in sides:
                 side += rules_of(tree(chance, count, ports, home), ports, count, 200, {"dst": "10.0.0.0/24", "vlan": 10})
+        if destination == 1:
+            # Half of the addresses have rules of their own, on one side only: so there are inserts or deletes.
+            chance.choice(sides).extend(rules_of(tree(chance, count, ports, home), ports, count, 150, {"dst": "10.0.1.0/25"}))
         for start in chance.sample([it for it in range(count) if it != home], 2):
             both = set(path(trees[0], start)) & set(path(trees[1], start)) - {start, home}
             through = [f"n{chance.choice(sorted(both))}"] if both and chance.random() < 0.7 else []

@@ -1,5 +1,6 @@
 """Runs: what the page plays, and the steps that it shows, beside what the planner's replay says."""
 import os
+import re
 import unittest
 
 import networks
@@ -7,23 +8,28 @@ from common import PagesInBrowser
 from test_examples import paths
 
 # Random updates, each by a maker and a seed.
-UPDATES = [(networks.some_update, seed) for seed in range(8)] + [(networks.some_crossing, seed) for seed in range(4)]
-PACKETS = 24
+UPDATES = [(networks.some_update, seed) for seed in range(8)] + [(networks.some_crossing, seed) for seed in range(3)]
+# How many packets enter for each round: so many that some do in each.
+PACKETS = 12
 
-# The steps that the page shows, and for each event of the run whether a hop of it is among those of its class, in the round in which the run is.
+# The hops of the run that are not among the steps which the page shows for the class of the packet, in the round in which the run is.
 WATCH = """(() => {
-    const shown = () => [...document.querySelectorAll('#steps li')].map((it) => [it.dataset.what, it.dataset.from, it.dataset.to || ''].join(' '));
-    const missing = [], player = view.player;
+    const missing = [], known = new Map(), player = view.player;
+    const shown = (position, number) => {
+        if (!known.has(`${position} ${number}`)) {
+            view.choose({ position, class: number });
+            known.set(`${position} ${number}`, [...document.querySelectorAll('#steps li')].map((it) => [it.dataset.what, it.dataset.from, it.dataset.to || ''].join(' ')));
+        }
+        return known.get(`${position} ${number}`);
+    };
     for (let event = 0; event < player.events.length; event++) {
         const [what, number] = player.events[event].words;
         if (what !== 'hop') continue;
-        view.toEvent(event);
-        const packet = { ...player.state.packets[number] };
-        view.choose({ class: packet.of });
-        const steps = shown(), trace = TRACES[number], at = packet.stops.length;
-        const from = packet.stops[at - 1].split(':')[0];
-        const hop = at < trace.stops.length ? `go ${from} ${trace.stops[at]}` : trace.end[0] === 'left' ? `leave ${from} ${trace.end[1]}` : `drop ${from} `;
-        if (!steps.includes(hop)) missing.push([event, number, hop, view.position, steps]);
+        player.to(event);
+        const packet = player.state.packets[number], trace = TRACES[number], from = packet.stops[packet.stops.length - 1].split(':')[0];
+        const next = packet.stops.length < trace.stops.length ? `go ${from} ${trace.stops[packet.stops.length]}` :
+            trace.end[0] === 'left' ? `leave ${from} ${trace.end[1]}` : `drop ${from} `;
+        if (!shown(player.position(), packet.of).includes(next)) missing.push([event, number, next, player.position()]);
     }
     return missing;
 })()"""
@@ -101,18 +107,18 @@ class Runs(PagesInBrowser):
         self.assertIn("bad schedule: 1 BadLine at 1", said)
 
     def test_runs_of_random_updates(self):
-        kinds = []
+        changes = set()
         for maker, seed in UPDATES:
             with self.subTest(maker=maker.__name__, seed=seed):
                 files = self.files(maker(seed))
-                status, text = self.ask("plan", *files)
-                self.assertEqual(0, status, text)
-                files.append(networks.write(self.folder, "plan.json", text))
-                kinds.append(networks.read(files[4])["kind"])
-                status, text = self.ask("simulate", *files, str(seed * 7919), str(PACKETS))
+                files.append(self.plan(files))
+                plan = networks.read(files[4])
+                changes |= {(plan["kind"], what) for one in plan["rounds"] for what, _ in one}
+                status, text = self.ask("simulate", *files, str(seed * 7919), str(PACKETS * (len(plan["rounds"]) + 1)))
                 self.assertEqual(0, status)
+                self.assertEqual(set(range(len(plan["rounds"]) + 1)), set(map(int, re.findall(r" born (\d+):", text))))
                 self.check_run(files, networks.write(self.folder, "record", text))
-        self.assertEqual({"ordered", "two-phase"}, set(kinds))
+        self.assertEqual({(kind, what) for kind in ("ordered", "two-phase") for what in ("insert", "delete", "replace")}, changes)
 
     def test_no_walk_is_forbidden_where_the_planner_accepts(self):
         for maker, seed in UPDATES:
