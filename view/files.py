@@ -1,0 +1,100 @@
+"""Reads the files of an update into the values of which the page is made.
+
+The planner has read the files before, so nothing is checked here.
+
+A rule is a list: switch, priority, ingress port (0 for any), VLAN (-1 for any, 0 for untagged), first address and length of the prefix, output
+(0 for drop), and what is done with the VLAN (0 nothing, -1 the tag is stripped, else this id is set). Switches and host ports have their numbers.
+"""
+import json
+
+ANY, UNTAGGED = -1, 0
+DROP = 0
+KEEP, STRIP = 0, -1
+
+
+def read_json(path):
+    with open(path, encoding="utf-8") as file:
+        return json.load(file)
+
+
+def vlan_of(value):
+    return {"any": ANY, "untagged": UNTAGGED}.get(value, value)
+
+
+def prefix_of(text):
+    """Returns the first address and the length of a prefix."""
+    address, _, length = text.partition("/")
+    first = 0
+    for part in address.split("."):
+        first = first * 256 + int(part)
+    return first, int(length)
+
+
+class Files:
+    """The update of some files, as values for the page."""
+
+    def __init__(self, topology, old, new, policy, plan):
+        self.rules, self.number_of_rule = [], {}
+        self.read_topology(read_json(topology))
+        self.old, self.new = (self.read_configuration(read_json(path)) for path in (old, new))
+        self.demands = [self.demand_of(demand) for demand in read_json(policy)["demands"]]
+        self.read_plan(read_json(plan))
+
+    def read_topology(self, topology):
+        self.names = [switch["name"] for switch in topology["switches"]]
+        self.capacities = [switch["capacity"] for switch in topology["switches"]]
+        self.number_of = {name: number for number, name in enumerate(self.names)}
+        self.links = [[*self.port_of(one), *self.port_of(other)] for one, other in topology["links"]]
+        self.hosts = [self.port_of(host) for host in topology["hosts"]]
+        self.vlans = [vlan_of(vlan) for vlan in topology["vlans"]]
+
+    def port_of(self, text):
+        """Returns the number of the switch and the port of a port reference."""
+        name, _, port = text.rpartition(":")
+        return [self.number_of[name], int(port)]
+
+    def keep(self, rule):
+        """Returns the number of a rule. Each rule stands once."""
+        first, length = prefix_of(rule["dst"])
+        in_port, out = rule.get("in_port", "any"), rule["out"]
+        rewrite = STRIP if rule.get("strip") else rule.get("set", KEEP)
+        kept = (self.number_of[rule["switch"]], rule["priority"], 0 if in_port == "any" else in_port, vlan_of(rule.get("vlan", "any")),
+                first, length, DROP if out == "drop" else out, rewrite)
+        if kept not in self.number_of_rule:
+            self.number_of_rule[kept] = len(self.rules)
+            self.rules.append(kept)
+        return self.number_of_rule[kept]
+
+    def read_configuration(self, configuration):
+        return [self.keep(rule) for rule in configuration["rules"]]
+
+    def demand_of(self, demand):
+        source = demand.get("from", "any")
+        host = -1 if source == "any" else self.hosts.index(self.port_of(source))
+        through = list(dict.fromkeys(self.number_of[name] for name in demand.get("through", [])))
+        return {"host": host, "vlan": vlan_of(demand.get("vlan", "any")), "prefix": prefix_of(demand["dst"]), "through": through,
+                "deliver": demand.get("deliver", False)}
+
+    def read_plan(self, plan):
+        self.kind = plan["kind"]
+        if plan["format"] == 1:
+            self.rounds = [[[change["do"], self.keep(change)] for change in changes] for changes in plan["rounds"]]
+        else:
+            self.rounds = [[[do, self.keep(plan["rules"][rule])] for do, rule in changes] for changes in plan["rounds"]]
+        if self.kind == "two-phase":
+            self.evidence = {"labels": [[[vlan_of(vlan), version, vlan_of(user)] for vlan, version, user in table] for table in plan["labels"]],
+                             "picks": plan["picks"]}
+            return
+        self.evidence = {"numberings": plan["numberings"], "befores": plan["befores"]}
+        if plan["format"] == 2:
+            self.evidence |= {"uses": plan["uses"], "picks": plan["picks"]}
+            return
+        uses = {}
+        picks = [[at, of, uses.setdefault((numbering, tuple(befores)), len(uses))] for at, of, numbering, befores in plan["picks"]]
+        self.evidence |= {"uses": [[numbering, list(befores)] for numbering, befores in uses], "picks": picks}
+
+    def values(self):
+        """Returns what the page's script takes."""
+        return {"switches": [{"name": name, "capacity": capacity} for name, capacity in zip(self.names, self.capacities)], "links": self.links,
+                "hosts": self.hosts, "vlans": self.vlans, "rules": self.rules, "old": self.old, "new": self.new, "demands": self.demands,
+                "kind": self.kind, "rounds": self.rounds, "evidence": self.evidence}

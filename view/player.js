@@ -1,0 +1,96 @@
+// A recorded run: its events one by one, from the old tables on.
+
+class Player {
+  constructor(update, schedule) {
+    Object.assign(this, { update, schedule });
+    this.events = [];
+    schedule.lines.forEach((line, at) => { if (line !== "" && !line.startsWith("#")) this.events.push({ line: at, words: line.split(" ") }); });
+    // Where the planner found that the schedule is no run, only the events before that line are played.
+    this.stop = schedule.run ? null : Number(/line (\d+)$/.exec(schedule.answers[0])[1]) - 1;
+    if (this.stop !== null) this.events = this.events.filter((event) => event.line < this.stop);
+    this.ends = schedule.run ? schedule.answers.slice(0, -1).map((line) => / (left .*|dropped .*|lost|under way)$/.exec(line)[1]) : null;
+    this.count = 0;
+    this.undo = [];
+    this.state = { settled: 0, running: false, pending: new Set(), tables: update.old.slice(), packets: [], packet: null };
+  }
+
+  // Goes on or back until so many events have happened.
+  to(count) {
+    const wanted = Math.max(0, Math.min(count, this.events.length));
+    while (this.count < wanted) this.on();
+    while (this.count > wanted) { this.count--; this.undo.pop()(); }
+  }
+
+  on() {
+    const [what, ...words] = this.events[this.count].words, state = this.state, packet = state.packet;
+    const back = this[`do_${what}`](state, words);
+    this.undo.push(() => { back(); state.packet = packet; });
+    this.count++;
+  }
+
+  // The position of the slider at which the run is.
+  position() {
+    return this.state.running ? this.state.settled + 1 : this.state.settled;
+  }
+
+  do_start(state) {
+    const before = state.pending;
+    state.running = true;
+    state.pending = new Set(this.update.rounds[state.settled].map((change) => change.at));
+    state.packet = null;
+    return () => { state.running = false; state.pending = before; };
+  }
+
+  do_change(state, [number]) {
+    const change = this.update.rounds[state.settled][Number(number)], at = change.rule.at, before = state.tables[at], pending = state.pending;
+    state.tables[at] = changed(before, change);
+    state.pending = new Set([...pending].filter((it) => it !== change.at));
+    state.packet = null;
+    return () => { state.tables[at] = before; state.pending = pending; };
+  }
+
+  do_settle(state) {
+    state.running = false;
+    state.settled++;
+    state.packet = null;
+    return () => { state.running = true; state.settled--; };
+  }
+
+  do_enter(state, [place, vlan, address]) {
+    const cut = place.lastIndexOf(":"), at = this.update.number.get(place.slice(0, cut)), port = Number(place.slice(cut + 1));
+    const to = address.split(".").reduce((sum, part) => sum * 256 + Number(part), 0), carried = vlan === "untagged" ? 0 : Number(vlan);
+    const entry = this.update.classNumber(this.update.hosts.findIndex((it) => it[0] === at && it[1] === port), carried, to);
+    state.packet = state.packets.length;
+    state.packets.push({ number: state.packets.length, of: entry, born: state.settled, entry: `${place} ${vlan} ${address}`, address: to, at, port, vlan: carried, stops: [place], end: null });
+    return () => state.packets.pop();
+  }
+
+  do_hop(state, [number]) {
+    const packet = state.packets[Number(number)], before = { ...packet };
+    const one = this.update.outcome(state.tables[packet.at], packet.at, packet.port, packet.vlan, packet.address);
+    state.packet = packet.number;
+    if (one.what === "go") {
+      Object.assign(packet, { at: one.at, port: one.port, vlan: one.vlan, stops: [...packet.stops, `${this.update.names[one.at]}:${one.port}`] });
+    } else if (one.what === "leave") {
+      packet.end = `left ${this.update.names[one.at]}:${one.port} ${one.vlan === 0 ? "untagged" : one.vlan}`;
+    } else {
+      packet.end = `dropped ${this.update.names[packet.at]}`;
+    }
+    return () => Object.assign(packet, before);
+  }
+
+  do_lose(state, [number]) {
+    const packet = state.packets[Number(number)];
+    packet.end = "lost";
+    state.packet = packet.number;
+    return () => { packet.end = null; };
+  }
+
+  // The line of a packet as the planner's replay writes it, with the end that the packet has now in this page.
+  trace(packet) { return `packet ${packet.number} ${packet.entry} born ${packet.born}: ${packet.stops.join(" ")} ${packet.end || "under way"}`; }
+
+  // Whether the whole run ends here as the planner says.
+  agrees() {
+    return this.state.packets.every((packet) => this.trace(packet) === this.schedule.answers[packet.number]);
+  }
+}

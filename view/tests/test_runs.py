@@ -1,0 +1,136 @@
+"""Runs: what the page plays, and the steps that it shows, beside what the planner's replay says."""
+import os
+import re
+import unittest
+
+import networks
+from common import PagesInBrowser
+from test_examples import paths
+
+# Random updates, each by a maker and a seed.
+UPDATES = [(networks.some_update, seed) for seed in range(8)] + [(networks.some_crossing, seed) for seed in range(3)]
+# How many packets enter for each round: so many that some do in each.
+PACKETS = 12
+
+# The hops of the run that are not among the steps which the page shows for the class of the packet, in the round in which the run is.
+WATCH = """(() => {
+    const missing = [], known = new Map(), player = view.player;
+    const shown = (position, number) => {
+        if (!known.has(`${position} ${number}`)) {
+            view.choose({ position, class: number });
+            known.set(`${position} ${number}`, [...document.querySelectorAll('#steps li')].map((it) => [it.dataset.what, it.dataset.from, it.dataset.to || ''].join(' ')));
+        }
+        return known.get(`${position} ${number}`);
+    };
+    for (let event = 0; event < player.events.length; event++) {
+        const [what, number] = player.events[event].words;
+        if (what !== 'hop') continue;
+        player.to(event);
+        const packet = player.state.packets[number], trace = TRACES[number], from = packet.stops[packet.stops.length - 1].split(':')[0];
+        const next = packet.stops.length < trace.stops.length ? `go ${from} ${trace.stops[packet.stops.length]}` :
+            trace.end[0] === 'left' ? `leave ${from} ${trace.end[1]}` : `drop ${from} `;
+        if (!shown(player.position(), packet.of).includes(next)) missing.push([event, number, next, player.position()]);
+    }
+    return missing;
+})()"""
+
+
+def trace_of(line):
+    """Returns the stops of a line of replay, and its end in words."""
+    words = line.partition("born ")[2].split(" ")[1:]
+    at = next(it for it, word in enumerate(words) if word in ("left", "dropped", "lost", "under"))
+    return {"stops": words[:at], "end": words[at:]}
+
+
+class Runs(PagesInBrowser):
+    def replayed(self, files, schedule):
+        status, text = self.ask("replay", files[0], files[1], files[4], schedule)
+        self.assertEqual(0, status, text)
+        return text.splitlines()
+
+    def ends(self):
+        """Returns the ends of packets that the player shows."""
+        return self.text("#packets .end")
+
+    def check_run(self, files, schedule):
+        """Each hop is among the steps that are shown, and each packet ends as replay says."""
+        lines = self.replayed(files, schedule)
+        traces = [trace_of(line) for line in lines[:-1]]
+        self.open(*files, "--schedule", schedule)
+        self.assertEqual([], self.tab.value(WATCH.replace("TRACES", str(traces))))
+        self.tab.value("view.play(Infinity)")
+        self.assertEqual([" ".join(it["end"]) for it in traces], self.ends())
+        self.assertEqual(lines[:-1], self.tab.value("view.player.state.packets.map((it) => view.player.trace(it))"))
+        self.assertEqual([], self.text("#player .wrong"))
+
+    def test_the_run_of_the_square_network_step_by_step(self):
+        files, schedule = paths("square"), os.path.join(networks.ROOT, "examples/square/schedule")
+        self.check_run(files, schedule)
+        self.tab.value("view.play(0)")
+        self.assertEqual([], self.text("#packets div"))
+        places = []
+        for _ in range(8):
+            self.tab.value("document.getElementById('next').click()")
+            places.append(self.tab.value("[...document.querySelectorAll('#riders .rider')].map((it) => it.dataset.at).join()"))
+        self.assertEqual(["", "s1", "s2", "s2", "s3", "s4", "", ""], places)
+        self.assertEqual(["left s4:3 untagged"], self.ends())
+        self.assertIn("event 8 of 8; 1 of 2 rounds settled", self.seen("#event"))
+        self.tab.value("for (let turn = 0; turn < 5; turn++) document.getElementById('previous').click()")
+        self.assertEqual(["pending"], self.tab.value("[...document.querySelectorAll('#nodes .words')].map((it) => it.textContent)"))
+        self.tab.value("document.getElementById('next').click()")
+        self.assertEqual(["changed"], self.tab.value("[...document.querySelectorAll('#nodes .words')].map((it) => it.textContent)"))
+        self.assertEqual("change 0", self.seen("#events .now"))
+
+    def test_a_tagged_packet_of_the_detour_network(self):
+        files = paths("detour")
+        status, text = self.ask("simulate", *files, "5", "30")
+        self.assertEqual(0, status)
+        self.check_run(files, networks.write(self.folder, "record", text))
+
+    def test_a_schedule_that_is_no_run_stops_where_the_planner_says(self):
+        schedule = networks.write(self.folder, "schedule", "# a record\nstart\nenter s1:1 untagged 10.0.0.1\nsettle\nhop 0\n")
+        self.open(*paths("square"), "--schedule", schedule)
+        self.assertIn("not a run: line 4", self.seen("#events .cannot"))
+        self.tab.value("view.play(Infinity)")
+        self.assertIn("event 2 of 2", self.seen("#event"))
+
+    def test_a_packet_that_is_lost(self):
+        schedule = networks.write(self.folder, "schedule", "enter s1:1 untagged 10.0.0.1\nhop 0\nlose 0\n\n")
+        files = paths("square")
+        self.open(*files, "--schedule", schedule)
+        self.tab.value("view.play(Infinity)")
+        self.assertEqual(["lost"], self.ends())
+
+    def test_a_bad_schedule_gives_no_page(self):
+        schedule = networks.write(self.folder, "schedule", "begin\n")
+        _, said = self.page(*paths("square"), "--schedule", schedule, status=3)
+        self.assertIn("bad schedule: 1 BadLine at 1", said)
+
+    def test_runs_of_random_updates(self):
+        changes = set()
+        for maker, seed in UPDATES:
+            with self.subTest(maker=maker.__name__, seed=seed):
+                files = self.files(maker(seed))
+                files.append(self.plan(files))
+                plan = networks.read(files[4])
+                changes |= {(plan["kind"], what) for one in plan["rounds"] for what, _ in one}
+                status, text = self.ask("simulate", *files, str(seed * 7919), str(PACKETS * (len(plan["rounds"]) + 1)))
+                self.assertEqual(0, status)
+                self.assertEqual(set(range(len(plan["rounds"]) + 1)), set(map(int, re.findall(r" born (\d+):", text))))
+                self.check_run(files, networks.write(self.folder, "record", text))
+        self.assertEqual({(kind, what) for kind in ("ordered", "two-phase") for what in ("insert", "delete", "replace")}, changes)
+
+    def test_no_walk_is_forbidden_where_the_planner_accepts(self):
+        for maker, seed in UPDATES:
+            with self.subTest(maker=maker.__name__, seed=seed):
+                files = self.files(maker(seed))
+                self.open(*files, self.plan(files))
+                found = self.tab.value("""(() => { const found = [];
+                    for (let round = 0; round <= view.update.last; round++) for (const number of view.order) {
+                        const it = view.update.classOf(number), walk = badWalk(view.update, round, it, walksOf(view.update, round, it), null);
+                        if (walk) found.push([round, number, walk.kind]); } return found; })()""")
+                self.assertEqual([], found)
+
+
+if __name__ == "__main__":
+    unittest.main()

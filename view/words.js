@@ -1,0 +1,95 @@
+// Texts: addresses, rules, changes, classes, paths.
+
+function addressText(it) { return [24, 16, 8, 0].map((shift) => Math.floor(it / 2 ** shift) % 256).join("."); }
+
+function vlanText(vlan) { return vlan === ANY_VLAN ? "any VLAN" : vlan === 0 ? "untagged" : `VLAN ${vlan}`; }
+
+function prefixText(rule) { return `${addressText(rule.base)}/${rule.length}`; }
+
+function matchText(rule) {
+  const port = rule.port ? [`from port ${rule.port}`] : [], vlan = rule.vlan === ANY_VLAN ? [] : [vlanText(rule.vlan)];
+  return [prefixText(rule), ...port, ...vlan].join(", ");
+}
+
+function actionText(rule) {
+  if (!rule.out) return "drop";
+  const rewrite = rule.rewrite === STRIP ? "strip the tag, " : rule.rewrite ? `set VLAN ${rule.rewrite}, ` : "";
+  return `${rewrite}port ${rule.out}`;
+}
+
+function changeText(change) { return `${change.what} ${matchText(change.rule)} -> ${actionText(change.rule)}`; }
+
+// The addresses of an atom: as a prefix where they are one.
+function atomText({ first, last }) {
+  const length = 32 - Math.log2(last - first + 1);
+  if (Number.isInteger(length) && first % (last - first + 1) === 0) return `${addressText(first)}/${length}`;
+  return `${addressText(first)} to ${addressText(last)}`;
+}
+
+function hostText(update, host) { const [at, port] = update.hosts[host]; return `${update.names[at]}:${port}`; }
+
+function classText(update, it) { return `${hostText(update, it.host)} ${it.vlan === 0 ? "untagged" : it.vlan} to ${atomText(it.atom)}`; }
+
+function positionText(update, position) {
+  if (position === 0) return "before the update";
+  return position === update.last ? "after the update" : `round ${position} of ${update.rounds.length}`;
+}
+
+// A long list of names with its middle left out.
+function shortened(names, most = 24) {
+  if (names.length <= most) return names.join(" ");
+  const half = most / 2;
+  return `${names.slice(0, half).join(" ")} .. ${names.slice(-half).join(" ")} (${names.length} switches)`;
+}
+
+function endText(update, end) {
+  if (end.what === "leave") return `leaves at ${update.names[end.at]}:${end.port}`;
+  if (end.what === "drop") return `dropped by ${update.names[end.from]}`;
+  return `comes to ${update.names[end.at]} again`;
+}
+
+function pathText(update, path) { return `${shortened(path.places.map((it) => update.names[it.at]))}, ${endText(update, path.end)}`; }
+
+function dutiesText(update, duties) {
+  if (!duties.some) return "The policy demands nothing of these packets, but that they come to no switch twice.";
+  const chains = duties.chains.map((chain) => `must have met ${chain.map((at) => update.names[at]).join(" and then ")} when they leave`);
+  return `By the policy these packets ${[...chains, duties.deliver ? "must arrive" : "may be dropped"].join(", and ")}.`;
+}
+
+// What the state of a switch is when it makes an outcome.
+function whenText(when) {
+  return { always: "", before: "before its change", after: "after its change", between: "with a part of its changes" }[when];
+}
+
+function whenWords(when) {
+  return { always: "", before: ", not changed yet,", after: ", changed already,", between: ", with a part of its changes," }[when];
+}
+
+function tagText(update, position, vlan) {
+  const label = update.labelsIn(position).get(vlan), tag = vlan === 0 ? "untagged" : `tag ${vlan}`;
+  return label ? `${tag}, ${label.version} rules` : tag;
+}
+
+// What goes wrong on a bad walk, in one sentence.
+function badText(update, it, walk) {
+  const names = walk.steps.map(({ place }) => update.names[place.at]), last = names[names.length - 1];
+  const packet = `A packet that enters at ${hostText(update, it.host)} ${vlanText(it.vlan)} for ${addressText(it.address)}`;
+  if (walk.kind === "loop") return `${packet} can come back to ${last}, where it has been: ${shortened(names)}.`;
+  if (walk.kind === "drop") return `${packet} can be dropped by ${last}, though it must arrive: ${shortened(names)}.`;
+  if (walk.kind === "missed") return `${packet} can leave the network without having met ${update.names[walk.missed]} in its place: ${shortened(names)}.`;
+  const end = walk.steps[walk.steps.length - 1].one, way = end.what === "go" ? [...names, update.names[end.at]] : names;
+  return `${packet} can go neither the old path nor the new one: ${shortened(way)}.`;
+}
+
+// What each switch of a bad walk does, one sentence a switch.
+function badSteps(update, walk) {
+  const name = (at) => update.names[at];
+  return walk.steps.map(({ place, one }) => {
+    if (!one) return `The packet is at ${name(place.at)} again.`;
+    const by = `${name(place.at)}${whenWords(one.when)}`;
+    if (one.what === "leave") return `${by} sends it out of the network at port ${one.port}.`;
+    if (one.what === "drop") return `${by} drops it.`;
+    const carrying = one.vlan === place.vlan ? "" : one.vlan === 0 ? ", without a tag" : `, with tag ${one.vlan}`;
+    return `${by} sends it to ${name(one.at)}${carrying}.`;
+  });
+}
