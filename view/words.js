@@ -51,7 +51,7 @@ function endText(update, end) {
 function pathText(update, path) { return `${shortened(path.places.map((it) => update.names[it.at]))}, ${endText(update, path.end)}`; }
 
 function dutiesText(update, duties) {
-  if (!duties.some) return "The policy demands nothing of these packets, but that they come to no switch twice.";
+  if (!duties.some) return "The policy demands nothing of these packets; like all, they must not come to a switch twice.";
   const chains = duties.chains.map((chain) => `must have met ${chain.map((at) => update.names[at]).join(" and then ")} when they leave`);
   return `By the policy these packets ${[...chains, duties.deliver ? "must arrive" : "may be dropped"].join(", and ")}.`;
 }

@@ -9,8 +9,8 @@ import tempfile
 import time
 
 NAMES = ("chromium", "chromium-browser", "google-chrome", "google-chrome-stable")
-# How long an answer may take, and how long a browser may live whatever becomes of the tests.
-SECONDS, LIFE = 60, 600
+# How long an answer may take.
+SECONDS = 60
 
 
 def program():

@@ -68,6 +68,7 @@ class PagesInBrowser(Pages):
     def setUpClass(cls):
         super().setUpClass()
         if browser.program() is None:
+            print(NO_BROWSER, file=sys.stderr)
             raise unittest.SkipTest(NO_BROWSER)
         if PagesInBrowser.shared is None:
             PagesInBrowser.shared = browser.Browser(browser.program())
