@@ -30,7 +30,7 @@ class Browser:
         there, to_browser = os.pipe()
         from_browser, back = os.pipe()
         self.write_end, self.read_end, self.rest, self.count = to_browser, from_browser, b"", 0
-        self.console, self.requests, self.is_lost = [], [], False
+        self.console, self.requests, self.loaded, self.is_lost = [], [], set(), False
 
         def connect():
             # 3 and 4 are where the browser reads and writes; the two ends may stand there in the wrong order.
@@ -51,6 +51,7 @@ class Browser:
             self.session = self.ask("Target.attachToTarget", targetId=target, flatten=True)["sessionId"]
             for domain in ("Page", "Runtime", "Log", "Network"):
                 self.ask(f"{domain}.enable")
+            self.ask("Page.setLifecycleEventsEnabled", enabled=True)
             self.ask("Emulation.setDeviceMetricsOverride", width=1280, height=800, deviceScaleFactor=1, mobile=False)
         except BaseException:
             self.close()
@@ -90,6 +91,8 @@ class Browser:
             self.console.append(" ".join(str(it.get("value")) for it in given["args"]))
         elif what == "Log.entryAdded":
             self.console.append(given["entry"]["text"])
+        elif what == "Page.lifecycleEvent" and given["name"] == "load":
+            self.loaded.add(given["loaderId"])
         elif what == "Network.requestWillBeSent":
             self.requests.append(given["request"]["url"])
 
@@ -118,12 +121,10 @@ class Browser:
         self.go(f"file://{path}{words}")
 
     def go(self, url):
+        loader = self.ask("Page.navigate", url=url)["loaderId"]
         until = time.monotonic() + SECONDS
-        self.ask("Page.navigate", url=url)
-        while self.value("document.readyState") != "complete":
-            if time.monotonic() > until:
-                raise Fault(f"{url} isn't loaded")
-            time.sleep(0.02)
+        while loader not in self.loaded:
+            self.receive(until)
 
     def value(self, script):
         """Returns the value of an expression in the page."""
