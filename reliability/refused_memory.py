@@ -1,0 +1,99 @@
+#!/usr/bin/env python3
+"""Runs each command over the example files with one allocation refused: the first, the second, and so on until a run meets none; each time
+once with that allocation alone refused, and once with all later ones refused too. A run has to end with status 9 and nothing written, or with
+the answer of a run in which nothing is refused. One allocation for each file, that of the copy of its name, may end a run with status 6 and
+nothing written. Prints what it found; the exit status is 1 where a run ended otherwise.
+
+    PLANNER=.. reliability/refused_memory.py [--every N] [--workers N]
+
+Up to allocation --every (5000) each one is refused; above it the number grows by a hundredth from run to run."""
+import argparse
+import collections
+import concurrent.futures
+import pathlib
+import sys
+import tempfile
+
+import runs
+
+MORE = [["sample", "16"], ["check", *runs.update("leaf-spine", "plan.json")], ["plan", *runs.update("leaf-spine")]]
+WANTING = runs.Answer(runs.MEMORY_WANTING, b"")
+UNREAD = runs.Answer(runs.READING_FAILED, b"")
+
+
+def places(every):
+    """The numbers of the allocations that are refused."""
+    at = 1
+    while True:
+        yield at
+        at += 1 if at < every else max(1, at // 100)
+
+
+def kind_of(ample, answer):
+    """What a run in which an allocation was refused shows."""
+    if answer == ample:
+        return "answered"
+    if answer == WANTING:
+        return "wanting"
+    return "unread" if answer == UNREAD else "changed"
+
+
+def refuse_each(program, words, folder, library, every):
+    """All runs of one command: how many of each kind, the bytes written too many, and the last allocation that was refused."""
+    ample = runs.plain_run(program, words, folder)
+    found = collections.Counter()
+    for at in places(every):
+        for stay in (False, True):
+            answer, met = runs.refused_run(program, words, folder, library, "memory", at, stay)
+            if not met:
+                found["changed"] += answer != ample
+                return found
+            kind = kind_of(ample, answer)
+            found["runs"] += 1
+            found[kind] += 1
+            found["last"] = at
+            if kind == "changed":
+                found["bytes"] += len(answer.text) + len(answer.errors)
+                print(f"  {runs.title(words)}, allocation {at}: status {answer.status}, {len(answer.text)} bytes")
+
+
+def too_many_unread(words, found):
+    """How many runs more than two for each file ended as though a file couldn't be read."""
+    return max(0, found["unread"] - 2 * len(runs.files(words)))
+
+
+def line(title, found):
+    return (f"{title}: {found['runs']} runs, {found['wanting']} status 9 and nothing written, {found['unread']} status 6 and nothing written, "
+            f"{found['answered']} with the answer; answers changed {found['changed']}, bytes written too many {found['bytes']}")
+
+
+def attack(program, commands, folder, every, workers):
+    """Runs all commands; prints a line for each, and the sum, which it answers."""
+    library = runs.library(folder)
+    total = collections.Counter()
+    with concurrent.futures.ThreadPoolExecutor(workers) as pool:
+        tasks = [pool.submit(refuse_each, program, words, folder, library, every) for words in commands]
+        for words, task in zip(commands, tasks):
+            found = task.result()
+            found["changed"] += too_many_unread(words, found)
+            reach = "" if found["last"] <= every else f", from {every} on in growing steps"
+            print(line(f"{runs.title(words)} (to allocation {found['last']}{reach})", found), flush=True)
+            total += found
+    print(line("all", total), flush=True)
+    return total
+
+
+def main():
+    parser = argparse.ArgumentParser()
+    parser.add_argument("--every", type=int, default=5000)
+    parser.add_argument("--workers", type=int, default=2)
+    chosen = parser.parse_args()
+    with tempfile.TemporaryDirectory() as name:
+        folder = pathlib.Path(name)
+        runs.example_folder(folder)
+        total = attack(runs.program(), runs.example_commands() + MORE, folder, chosen.every, chosen.workers)
+    sys.exit(1 if total["changed"] or not total["runs"] else 0)
+
+
+if __name__ == "__main__":
+    main()
