@@ -1,0 +1,225 @@
+#!/usr/bin/env python3
+"""Explores every interleaving of the changes and hops of one packet, and of two, in small networks: for plans that `plan` wrote and `check`
+accepted, of the examples and of random networks of 3 to 5 switches; and looks for a packet that comes to a switch twice, leaves without its
+waypoints, is dropped though it must arrive, or under a two-phase plan goes a path that is neither the old nor the new one. The model is its own
+(model.py). Prints plans, states and counterexamples; the exit status is 1 where there is a counterexample.
+
+    PLANNER=.. reliability/explore.py [--networks N] [--pairs N] [--seed N]
+    PLANNER=.. reliability/explore.py --refused
+
+One packet of each class is tried alone, and --pairs pairs of classes a plan, chosen by the seed. With --refused it takes plans with all changes in
+one round that `check` refuses for reason 7, and shows the counterexamples; the exit status is 1 where the one of the square network has none."""
+import argparse
+import collections
+import itertools
+import json
+import pathlib
+import random
+import subprocess
+import sys
+import tempfile
+
+import model
+import runs
+
+FILES = ("topology", "old", "new", "policy")
+
+
+def random_tree(rng, links, home):
+    """A random tree over the links to a switch: the port of each other switch on its way there."""
+    ways, inside = {}, [home]
+    while True:
+        open_ends = [(mine, port) for (mine, port), (other, _) in links.items() if other in inside and mine not in inside]
+        if not open_ends:
+            return ways
+        switch, port = rng.choice(sorted(open_ends))
+        ways[switch] = port
+        inside.append(switch)
+
+
+def topology_of(rng, names, joined, hosts):
+    """A topology with links between these pairs of switches and a host at each of these."""
+    used = collections.Counter()
+
+    def port(switch):
+        used[switch] += 1
+        return f"{switch}:{used[switch]}"
+    links = [[port(one), port(other)] for one, other in joined]
+    vlans = rng.choice([["untagged"], ["untagged"], ["untagged", 10]])
+    return {"switches": [{"name": name, "capacity": 64} for name in names], "links": links, "hosts": [port(switch) for switch in hosts],
+            "vlans": vlans, "tags": [3000, 3009]}
+
+
+def rules_of(ways, dst, priority):
+    return [{"switch": switch, "priority": priority, "dst": dst, "out": port} for switch, port in ways.items()]
+
+
+def demand(rng, host, dst, through):
+    return {"from": f"{host[0]}:{host[1]}", "dst": dst, "through": through, "deliver": rng.random() < 0.8}
+
+
+def random_trees(rng):
+    """An update of one or two destinations, each along one tree before and another after; the demands are met by both."""
+    names = [f"s{i}" for i in range(rng.randint(3, 5))]
+    joined = [(rng.choice(names[:i]), names[i]) for i in range(1, len(names))]
+    joined += rng.choices(list(itertools.combinations(names, 2)), k=rng.randint(1, 4))
+    topology = topology_of(rng, names, joined, rng.sample(names, rng.randint(2, 3)))
+    network = model.Network.read(topology)
+    links = {end: other for end, other in network.ends.items() if other != model.HOST}
+    destinations = [("10.0.0.0/24", 100), ("10.0.0.7/32", 200)][:rng.randint(1, 2)]
+    old, new, demands = [], [], []
+    for dst, priority in destinations:
+        home, out = rng.choice(network.hosts)
+        for rules in (old, new):
+            rules += rules_of({home: out} | random_tree(rng, links, home), dst, priority)
+    tables = [model.tables_in(network, {"rules": rules}) for rules in (old, new)]
+    for dst, _ in destinations:
+        for host in network.hosts:
+            walks = [model.path(network, table, (*host, network.vlans[0]), model.bounds(dst)[0]) for table in tables]
+            if all(walk[1][0] == "leave" for walk in walks):
+                shared = sorted({stop[0] for stop in walks[0][0]} & {stop[0] for stop in walks[1][0]})
+                own = "10.0.0.0/30" if len(destinations) == 2 and dst == "10.0.0.0/24" else dst
+                demands.append(demand(rng, host, own, rng.sample(shared, min(len(shared), rng.randint(0, 1)))))
+    return dict(zip(FILES, (topology, {"rules": old}, {"rules": new}, {"demands": demands})))
+
+
+def random_detour(rng):
+    """An update after which packets pass the inner switches of their path in the opposite order, and have to pass each of them, or one."""
+    names = [f"s{i}" for i in range(rng.randint(4, 5))]
+    walks = [names, [names[0], *names[-2:0:-1], names[-1]]]
+    joined = sorted({tuple(sorted(pair)) for walk in walks for pair in zip(walk, walk[1:])})
+    topology = topology_of(rng, names, joined, [names[0], names[-1], rng.choice(names[1:-1])])
+    network = model.Network.read(topology)
+    configs = []
+    for walk in walks:
+        ways = {one: next(port for (at, port), end in network.ends.items() if at == one and end[0] == other) for one, other in zip(walk, walk[1:])}
+        ways[names[-1]] = dict(network.hosts)[names[-1]]
+        configs.append({"rules": rules_of(ways, "10.0.0.0/24", 100)})
+    inner = names[1:-1] if rng.random() < 0.5 else names[2:3]
+    demands = [demand(rng, network.hosts[0], "10.0.0.0/24", [switch]) for switch in inner]
+    return dict(zip(FILES, (topology, *configs, {"demands": demands})))
+
+
+def random_update(seed):
+    """The four files of a random update that changes something."""
+    rng = random.Random(seed)
+    while True:
+        update = random_detour(rng) if rng.random() < 0.25 else random_trees(rng)
+        if any(rule not in update["new"]["rules"] for rule in update["old"]["rules"]):
+            return update
+
+
+def example(name):
+    return {file: json.loads((runs.ROOT / "examples" / name / f"{file}.json").read_text()) for file in FILES}
+
+
+def ask(program, folder, *words):
+    """The exit status and the text of the program."""
+    done = subprocess.run([program, *words], cwd=folder, stdout=subprocess.PIPE, text=True)
+    return done.returncode, done.stdout
+
+
+class Planner:
+    """The program, over the files of one update in a folder."""
+
+    def __init__(self, program, folder, update):
+        self.program, self.folder = program, folder
+        for file in FILES:
+            (folder / f"{file}.json").write_text(json.dumps(update[file]))
+        self.names = [f"{file}.json" for file in FILES]
+
+    def plan(self):
+        """A plan, or None."""
+        status, text = ask(self.program, self.folder, "plan", *self.names)
+        return json.loads(text) if status == 0 else None
+
+    def check(self, plan):
+        (self.folder / "plan.json").write_text(json.dumps(plan))
+        return ask(self.program, self.folder, "check", *self.names, "plan.json")
+
+
+def at_once(plan, update):
+    """The plan with all changes in one round, and with evidence that names a numbering for every class."""
+    switches = len(update["topology"]["switches"])
+    return plan | {"rounds": [[change for round_ in plan["rounds"] for change in round_]], "befores": [], "numberings": [list(range(switches, 0, -1))],
+                   "uses": [[0, []]], "picks": [[1, i, 0] for i in range(8192)]}
+
+
+def explore(update, plan, rng, pairs):
+    """Explores one plan; answers the number of states, of explorations with two packets, and the counterexamples."""
+    motion = model.Update(**update, plan=plan)
+    classes = motion.classes()
+    chosen = [(c,) for c in classes]
+    two = list(itertools.combinations_with_replacement(classes, 2))
+    chosen += rng.sample(two, min(pairs, len(two)))
+    states, wrong = 0, []
+    for some in chosen:
+        count, found = motion.explore(some)
+        states += count
+        wrong += found
+    return states, len(chosen) - len(classes), wrong
+
+
+def show(run, breaks):
+    print("  " + "; ".join(run) + ": the packet " + breaks)
+
+
+def accepted(program, chosen, folder):
+    """Explores accepted plans; answers whether there is a counterexample."""
+    found = collections.Counter()
+    updates = [example("square"), example("detour")] + [random_update(f"{chosen.seed} {i}") for i in range(chosen.networks)]
+    for i, update in enumerate(updates):
+        planner = Planner(program, folder, update)
+        plan = planner.plan()
+        if plan is None or planner.check(plan)[0] != 0:
+            found["without a plan"] += 1
+            continue
+        states, two, wrong = explore(update, plan, random.Random(f"{chosen.seed} {i} pairs"), chosen.pairs)
+        found.update({plan["kind"]: 1, "plans": 1, "rounds": len(plan["rounds"]), "states": states, "pairs": two, "wrong": len(wrong)})
+        if wrong:
+            print(f"update {i}, {plan['kind']}: {len(wrong)} counterexamples")
+            show(*wrong[0])
+    print(f"{found['plans']} plans ({found['ordered']} ordered, {found['two-phase']} two-phase, {found['rounds']} rounds), {found['without a plan']} "
+          f"updates without a plan, {found['pairs']} pairs of packets, {found['states']} states, {found['wrong']} counterexamples")
+    return found["wrong"] > 0 or not found["plans"]
+
+
+def refused(program, chosen, folder):
+    """Explores plans that are refused for reason 7; answers whether the one of the square network has no counterexample."""
+    square = example("square")
+    tried = [(square, json.loads((runs.ROOT / "examples" / "square" / "plan-at-once.json").read_text()))]
+    for i in range(chosen.networks):
+        update = random_update(f"{chosen.seed} {i}")
+        plan = Planner(program, folder, update).plan()
+        if plan and plan["kind"] == "ordered" and len(plan["rounds"]) > 1:
+            tried.append((update, at_once(plan, update)))
+    plans = broken = 0
+    missing = True
+    for i, (update, plan) in enumerate(tried):
+        status, text = Planner(program, folder, update).check(plan)
+        if status != 1 or not text.startswith("refused: 7 "):
+            continue
+        states, _, wrong = explore(update, plan, random.Random(f"{chosen.seed} {i} pairs"), chosen.pairs)
+        plans, broken = plans + 1, broken + bool(wrong)
+        if i == 0:
+            missing = not wrong
+            print(f"the square network, all at once: {states} states, {len(wrong)} counterexamples, the first of them:")
+            for one in wrong[:1]:
+                show(*one)
+    print(f"{plans} plans refused for reason 7, {broken} of them with counterexamples")
+    return missing
+
+
+def main():
+    parser = argparse.ArgumentParser()
+    parser.add_argument("--networks", type=int, default=200)
+    parser.add_argument("--pairs", type=int, default=5)
+    parser.add_argument("--seed", type=int, default=1)
+    parser.add_argument("--refused", action="store_true")
+    chosen = parser.parse_args()
+    with tempfile.TemporaryDirectory() as name:
+        sys.exit(1 if (refused if chosen.refused else accepted)(runs.program(), chosen, pathlib.Path(name)) else 0)
+
+
+if __name__ == "__main__":
+    main()
