@@ -1,0 +1,164 @@
+"""Tests that the scripts of this folder find faults: against a stand-in that does something wrong they say so, against one that doesn't they don't.
+The program itself isn't needed:
+
+    cd reliability && python3 -B -m unittest discover -s tests"""
+import argparse
+import contextlib
+import io
+import json
+import pathlib
+import random
+import subprocess
+import tempfile
+import unittest
+
+import explore
+import failing_calls
+import memory_limits
+import model
+import refused_memory
+import runs
+
+HERE = pathlib.Path(__file__).resolve().parent
+
+
+class WithFolder(unittest.TestCase):
+    def setUp(self):
+        held = tempfile.TemporaryDirectory()
+        self.addCleanup(held.cleanup)
+        self.folder = pathlib.Path(held.name)
+        runs.example_folder(self.folder)
+
+    def stand_in(self, *faults):
+        built = self.folder / "stand_in"
+        subprocess.run(["cc", *(f"-D{fault}" for fault in faults), "-o", str(built), str(HERE / "stand_in.c")], check=True)
+        return str(built)
+
+    @staticmethod
+    def quietly(call, *arguments):
+        with contextlib.redirect_stdout(io.StringIO()):
+            return call(*arguments)
+
+
+class RefusedMemory(WithFolder):
+    def found(self, *faults):
+        commands = [["upgrade", "square/topology.json", "square/plan.json"]]
+        return self.quietly(refused_memory.attack, self.stand_in(*faults), commands, self.folder, 5000, 1)
+
+    def test_a_careful_program_passes(self):
+        found = self.found()
+        self.assertEqual((found["runs"], found["wanting"], found["changed"]), (2, 2, 0))
+
+    def test_another_answer_is_found(self):
+        self.assertEqual(self.found("ANSWERS_WITHOUT_MEMORY")["changed"], 2)
+
+    def test_a_crash_is_found(self):
+        self.assertEqual(self.found("USES_REFUSED_MEMORY")["changed"], 2)
+
+    def test_bytes_before_want_of_memory_are_found(self):
+        found = self.found("WRITES_TOO_EARLY")
+        self.assertEqual((found["changed"], found["bytes"]), (2, 8))
+
+    def test_more_unread_files_than_there_are_files_are_found(self):
+        found = self.found("SAYS_UNREAD")
+        self.assertEqual((found["unread"], found["changed"]), (200, 196))
+
+
+class FailingCalls(WithFolder):
+    def found(self, *faults):
+        commands = [["upgrade", "square/topology.json", "square/plan.json"]]
+        return self.quietly(failing_calls.attack, self.stand_in(*faults), commands, self.folder)
+
+    def test_a_careful_program_passes(self):
+        found = self.found()
+        self.assertEqual((found["changed"], found["answered"]), (0, 0))
+        self.assertEqual((found["unread"], found["front"]), (2 * 2 + 4 * 2, 1 + 25))
+
+    def test_a_failed_read_that_is_hidden_is_found(self):
+        self.assertGreater(self.found("HIDES_FAILED_READ")["answered"], 0)
+
+    def test_a_failed_write_that_is_hidden_is_found(self):
+        self.assertGreater(self.found("HIDES_FAILED_WRITE")["changed"], 0)
+
+
+class MemoryLimits(WithFolder):
+    def found(self, *faults):
+        attack = memory_limits.Attack(("upgrade", "square/topology.json", "plan.json"), "plan.json", "numbers")
+        return self.quietly(memory_limits.attack_all, self.stand_in("TAKES=100000000", *faults), self.folder, [attack], 100000)[0]
+
+    def test_a_careful_program_passes(self):
+        found = self.found()
+        self.assertEqual((found["wanting"], found["answered"], found["changed"]), (2, 1, 0))
+
+    def test_a_crash_is_found(self):
+        found = self.found("USES_REFUSED_MEMORY")
+        self.assertEqual((found["changed"], found["signals"]), (2, 2))
+
+    def test_another_answer_is_found(self):
+        self.assertEqual(self.found("ANSWERS_WITHOUT_MEMORY")["changed"], 2)
+
+    def test_each_file_is_of_its_size_and_is_json(self):
+        for attack in memory_limits.attacks(()):
+            with self.subTest(attack):
+                length = memory_limits.write(attack, self.folder, 100000)
+                self.assertLess(length, 110000)
+                if attack.file.endswith(".json"):
+                    json.loads((self.folder / attack.file).read_text())
+
+
+class Exploring(WithFolder):
+    def explored(self, name, plan):
+        update = explore.example(name)
+        text = (runs.ROOT / "examples" / name / plan).read_text()
+        return explore.explore(update, json.loads(text), random.Random(1), 3)
+
+    def test_the_plans_of_the_examples_have_no_counterexample(self):
+        self.assertEqual(self.explored("square", "plan.json")[2], [])
+        self.assertEqual(self.explored("detour", "plan.json")[2], [])
+
+    def test_all_at_once_has_one(self):
+        wrong = self.explored("square", "plan-at-once.json")[2]
+        self.assertIn((["start", "change 1", "enter s1:1 0 10.0.0.0", "hop 0", "hop 0", "hop 0"], "came to s1 again"), wrong)
+
+    def wrong_with_rounds(self, kept, demands):
+        """What is wrong with the plan of the detour network where only these of its rounds, from 0, are carried out."""
+        update = explore.example("detour")
+        plan = json.loads((runs.ROOT / "examples" / "detour" / "plan.json").read_text())
+        plan["rounds"] = [plan["rounds"][i] for i in kept]
+        if not demands:
+            update["policy"] = {"demands": []}
+        return {breaks for _, breaks in explore.explore(update, plan, random.Random(1), 0)[2]}
+
+    def test_a_missed_waypoint_and_a_drop_are_found(self):
+        self.assertEqual(self.wrong_with_rounds([3], True) - {"mixed path"}, {"missed a waypoint", "dropped"})
+
+    def test_a_mixed_path_is_found(self):
+        self.assertIn("mixed path", self.wrong_with_rounds([3], False))
+        self.assertEqual(self.wrong_with_rounds([0, 1, 2, 3], False), set())
+
+    def test_a_program_that_accepts_all_at_once_is_found(self):
+        liar = self.folder / "liar"
+        plan = runs.ROOT / "examples" / "square" / "plan-at-once.json"
+        liar.write_text(f'#!/bin/sh\n[ "$1" != plan ] || cat {plan}\n')
+        liar.chmod(0o755)
+        chosen = argparse.Namespace(networks=0, seed=1, pairs=0)
+        square = lambda name: original("square")
+        original, explore.example = explore.example, square
+        self.addCleanup(setattr, explore, "example", original)
+        self.assertTrue(self.quietly(explore.accepted, str(liar), chosen, self.folder))
+
+    def test_lookups(self):
+        rule = model.rule_in({"priority": 1, "dst": "10.0.0.0/24", "out": 2, "vlan": "untagged", "set": 5})
+        self.assertTrue(rule.covers(1, 0, 0x0A0000FF))
+        self.assertFalse(rule.covers(1, 0, 0x0A000100))
+        self.assertFalse(rule.covers(1, 7, 0x0A000000))
+        network = model.Network(["a"], {("a", 2): model.HOST}, [("a", 2)], [0])
+        other = model.rule_in({"priority": 1, "dst": "10.0.0.0/8", "out": "drop"})
+        self.assertEqual(model.outcomes(network, {1: rule}, "a", 1, 0, 0x0A000000), {("leave", 2, 5)})
+        self.assertEqual(model.outcomes(network, {1: rule}, "a", 2, 0, 0x0A000000), {("drop",)})
+        self.assertEqual(model.outcomes(network, {1: rule, 2: other}, "a", 1, 0, 0x0A000000), {("drop",), ("leave", 2, 5)})
+        self.assertEqual(model.outcomes(network, {}, "a", 1, 0, 0x0A000000), {("drop",)})
+
+
+if __name__ == "__main__":
+    unittest.main()
