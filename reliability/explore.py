@@ -7,8 +7,9 @@ waypoints, is dropped though it must arrive, or under a two-phase plan goes a pa
     PLANNER=.. reliability/explore.py [--networks N] [--pairs N] [--seed N]
     PLANNER=.. reliability/explore.py --refused
 
-One packet of each class is tried alone, and --pairs pairs of classes a plan, chosen by the seed. With --refused it takes plans with all changes in
-one round that `check` refuses for reason 7, and shows the counterexamples; the exit status is 1 where the one of the square network has none."""
+One packet of each class is tried alone, and --pairs (5) pairs of classes a plan, chosen by the seed. Plans with a round of more than 10 changes are
+left out. With --refused it takes plans with all changes in one round that `check` refuses for reason 7, and shows the first counterexample of the
+square network, as lines of a schedule; the exit status is 1 where that network has none."""
 import argparse
 import collections
 import itertools
@@ -23,6 +24,7 @@ import model
 import runs
 
 FILES = ("topology", "old", "new", "policy")
+MOST_CHANGES = 10
 
 
 def random_tree(rng, links, home):
@@ -45,7 +47,7 @@ def topology_of(rng, names, joined, hosts):
         used[switch] += 1
         return f"{switch}:{used[switch]}"
     links = [[port(one), port(other)] for one, other in joined]
-    vlans = rng.choice([["untagged"], ["untagged"], ["untagged", 10]])
+    vlans = rng.choice([["untagged"], ["untagged"], ["untagged"], ["untagged", 10]])
     return {"switches": [{"name": name, "capacity": 64} for name in names], "links": links, "hosts": [port(switch) for switch in hosts],
             "vlans": vlans, "tags": [3000, 3009]}
 
@@ -174,14 +176,23 @@ def accepted(program, chosen, folder):
         if plan is None or planner.check(plan)[0] != 0:
             found["without a plan"] += 1
             continue
+        if max(len(round_) for round_ in plan["rounds"]) > MOST_CHANGES:
+            found["left out"] += 1
+            continue
         states, two, wrong = explore(update, plan, random.Random(f"{chosen.seed} {i} pairs"), chosen.pairs)
         found.update({plan["kind"]: 1, "plans": 1, "rounds": len(plan["rounds"]), "states": states, "pairs": two, "wrong": len(wrong)})
         if wrong:
             print(f"update {i}, {plan['kind']}: {len(wrong)} counterexamples")
             show(*wrong[0])
-    print(f"{found['plans']} plans ({found['ordered']} ordered, {found['two-phase']} two-phase, {found['rounds']} rounds), {found['without a plan']} "
-          f"updates without a plan, {found['pairs']} pairs of packets, {found['states']} states, {found['wrong']} counterexamples")
+        if i % 20 == 19:
+            print(f"so far, {i + 1} updates: {summary(found)}", flush=True)
+    print(summary(found))
     return found["wrong"] > 0 or not found["plans"]
+
+
+def summary(found):
+    return (f"{found['plans']} plans ({found['ordered']} ordered, {found['two-phase']} two-phase, {found['rounds']} rounds), {found['without a plan']} updates "
+            f"without a plan, {found['left out']} left out, {found['pairs']} pairs of packets, {found['states']} states, {found['wrong']} counterexamples")
 
 
 def refused(program, chosen, folder):

@@ -6,7 +6,7 @@ exit status is 1 where a run ended otherwise.
 
     PLANNER=.. reliability/memory_limits.py [--mebibytes N] [--worst N]
 
-The files have --mebibytes (4) MiB; the shape that took most memory is tried again with --worst (16) MiB."""
+The files have --mebibytes (4) MiB; the shape that took most memory is tried again with files of --worst (16) MiB, with fewer commands."""
 import argparse
 import collections
 import dataclasses
@@ -192,7 +192,7 @@ def main():
         runs.example_folder(folder)
         total, worst, most = attack_all(program, folder, attacks(WITH_EVERY_COMMAND), chosen.mebibytes * 2**20)
         print(line(f"files of {chosen.mebibytes} MiB", total, most), flush=True)
-        again = [attack for attack in attacks((worst.shape,)) if attack.shape == worst.shape]
+        again = [attack for attack in attacks(()) if attack.shape == worst.shape]
         more, _, most = attack_all(program, folder, again, chosen.worst * 2**20)
         print(line(f"{worst.shape}, files of {chosen.worst} MiB", more, most))
     sys.exit(1 if total["changed"] or more["changed"] else 0)

@@ -240,7 +240,8 @@ class Update:
             put = lambda new: (settled, bits, packets[:i] + (new,) + packets[i + 1:])
             if packet == WAITS:
                 (switch, port, vlan), address = classes[i]
-                yield f"enter {switch}:{port} {vlan} {ipaddress.ip_address(address)}", put(Packet(settled, switch, port, vlan, ((switch, port),))), None
+                entered = f"enter {switch}:{port} {vlan or 'untagged'} {ipaddress.ip_address(address)}"
+                yield entered, put(Packet(settled, switch, port, vlan, ((switch, port),))), None
                 continue
             yield f"lose {i}", put(GONE), None
             for end in self.steps(settled, bits, packet, classes[i][1]):

@@ -6,7 +6,7 @@ nothing written. Prints what it found; the exit status is 1 where a run ended ot
 
     PLANNER=.. reliability/refused_memory.py [--every N] [--workers N]
 
-Up to allocation --every (10000) each one is refused; above it the number grows by a hundredth from run to run."""
+Up to allocation --every (5000) each one is refused; above it the number grows by a hundredth from run to run."""
 import argparse
 import collections
 import concurrent.futures
@@ -85,7 +85,7 @@ def attack(program, commands, folder, every, workers):
 
 def main():
     parser = argparse.ArgumentParser()
-    parser.add_argument("--every", type=int, default=10000)
+    parser.add_argument("--every", type=int, default=5000)
     parser.add_argument("--workers", type=int, default=2)
     chosen = parser.parse_args()
     with tempfile.TemporaryDirectory() as name:

@@ -118,7 +118,7 @@ class Exploring(WithFolder):
 
     def test_all_at_once_has_one(self):
         wrong = self.explored("square", "plan-at-once.json")[2]
-        self.assertIn((["start", "change 1", "enter s1:1 0 10.0.0.0", "hop 0", "hop 0", "hop 0"], "came to s1 again"), wrong)
+        self.assertIn((["start", "change 1", "enter s1:1 untagged 10.0.0.0", "hop 0", "hop 0", "hop 0"], "came to s1 again"), wrong)
 
     def wrong_with_rounds(self, kept, demands):
         """What is wrong with the plan of the detour network where only these of its rounds, from 0, are carried out."""
