@@ -53,6 +53,10 @@ WASTE = {
 }
 
 
+def listed_picks(count):
+    return "[" + ",".join(f"[{1 + i // 8192},{i % 8192},0,[]]" for i in range(count)) + "]"
+
+
 def change(i):
     return (f'{{"do":"insert","switch":"s{1 + i % 4}","priority":{1 + i % 16383},"in_port":{1 + i // 16383 % 60000},'
             f'"dst":"10.0.{i % 256}.0/24","out":2}}')
@@ -69,7 +73,7 @@ WITH_EVERY_COMMAND = ("lists of one number", "objects in objects", "members with
 PLANS = {
     "a round of many changes": lambda size: plan_of("[[" + ",".join(map(change, range(size // 95))) + "]]", "[]", "[]"),
     "many numberings": lambda size: plan_of("[[]]", listed("[0,0,0,0]", size), "[]"),
-    "many picks": lambda size: plan_of("[[]]", "[[0,0,0,0]]", "[" + ",".join(f"[1,{i % 8192},0,[]]" for i in range(min(8192, size // 14))) + "]"),
+    "many picks": lambda size: plan_of(listed("[]", 3 * 4200), "[[0,0,0,0]]", listed_picks(size // 15)),
 }
 SCHEDULES = {
     "packets that go through": lambda size: "".join(f"enter s1:1 untagged 10.0.0.1\n" + f"hop {i}\n" * 4 for i in range(size // 70)),
@@ -114,13 +118,11 @@ def attacks(with_every_command):
 
 def write(attack, folder, size):
     """Writes the large file; answers its size."""
-    for made in (PLANS, SCHEDULES, INPUTS, REPLIES):
-        if attack.shape in made:
-            text = made[attack.shape](size)
-            break
-    else:
+    if attack.shape in WASTE:
         example = (folder / "square" / attack.file).read_text().strip()
         text = '{"ignored":' + WASTE[attack.shape](size) + "," + example[1:]
+    else:
+        text = (PLANS | SCHEDULES | INPUTS | REPLIES)[attack.shape](size)
     (folder / attack.file).write_text(text)
     return len(text)
 
