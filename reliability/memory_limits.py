@@ -2,7 +2,7 @@
 """Runs the commands over large and wasteful files under limits of the system on memory (RLIMIT_AS): 32 MB, 64 MB, and so on, until a run
 answers. A run has to end with status 9 and nothing written, or with the answer of a run without a limit, and never by a signal. Where memory for
 the copy of a file's name is refused the status may be 6, with nothing written. Prints for each file the greatest memory for a byte of it; the
-exit status is 1 where a run ended otherwise.
+exit status is 1 where a run ended otherwise. As memory of a run the system counts at least that of this script, which is about 35 MB.
 
     PLANNER=.. reliability/memory_limits.py [--mebibytes N] [--worst N]
 
@@ -32,7 +32,7 @@ def listed(item, size):
 
 def members(size):
     """An object of many members with short names, each another."""
-    return "{" + ",".join(f'"{i:x}":0' for i in range(size // 10)) + "}"
+    return "{" + ",".join(f'"{i:x}":0' for i in range(size // 11)) + "}"
 
 
 # JSON values of about so many bytes, which stand in a member of a file that is ignored.
@@ -49,7 +49,7 @@ WASTE = {
     "objects in objects": lambda size: listed('{"":' * DEEPEST + "0" + "}" * DEEPEST, size),
     "one long text": lambda size: '"' + "a" * size + '"',
     "a text of escapes": lambda size: '"' + "\\u0041" * (size // 6) + '"',
-    "members with long names": lambda size: "{" + ",".join(f'"{i}{"n" * 1000}":0' for i in range(size // 1008)) + "}",
+    "members with long names": lambda size: "{" + ",".join(f'"{i}{"n" * 1000}":0' for i in range(size // 1010)) + "}",
 }
 
 
@@ -120,7 +120,8 @@ def write(attack, folder, size):
     """Writes the large file; answers its size."""
     if attack.shape in WASTE:
         example = (folder / "square" / attack.file).read_text().strip()
-        text = '{"ignored":' + WASTE[attack.shape](size) + "," + example[1:]
+        front = '{"ignored":'
+        text = front + WASTE[attack.shape](size - len(front) - len(example) - 2) + "," + example[1:]
     else:
         text = (PLANS | SCHEDULES | INPUTS | REPLIES)[attack.shape](size)
     (folder / attack.file).write_text(text)
