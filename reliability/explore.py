@@ -173,8 +173,12 @@ def accepted(program, chosen, folder):
     for i, update in enumerate(updates):
         planner = Planner(program, folder, update)
         plan = planner.plan()
-        if plan is None or planner.check(plan)[0] != 0:
+        if plan is None:
             found["without a plan"] += 1
+            continue
+        if planner.check(plan)[0] != 0:
+            print(f"update {i}: check refuses what plan wrote")
+            found["refused"] += 1
             continue
         if max(len(round_) for round_ in plan["rounds"]) > MOST_CHANGES:
             found["left out"] += 1
@@ -187,7 +191,7 @@ def accepted(program, chosen, folder):
         if i % 20 == 19:
             print(f"so far, {i + 1} updates: {summary(found)}", flush=True)
     print(summary(found))
-    return found["wrong"] > 0 or not found["plans"]
+    return found["wrong"] > 0 or found["refused"] > 0 or not found["plans"]
 
 
 def summary(found):
@@ -223,7 +227,7 @@ def refused(program, chosen, folder):
 
 def main():
     parser = argparse.ArgumentParser()
-    parser.add_argument("--networks", type=int, default=200)
+    parser.add_argument("--networks", type=int, default=98)
     parser.add_argument("--pairs", type=int, default=5)
     parser.add_argument("--seed", type=int, default=1)
     parser.add_argument("--refused", action="store_true")

@@ -11,6 +11,7 @@ import random
 import subprocess
 import tempfile
 import unittest
+import unittest.mock
 
 import explore
 import failing_calls
@@ -136,16 +137,21 @@ class Exploring(WithFolder):
         self.assertIn("mixed path", self.wrong_with_rounds([3], False))
         self.assertEqual(self.wrong_with_rounds([0, 1, 2, 3], False), set())
 
-    def test_a_program_that_accepts_all_at_once_is_found(self):
+    def fails_over_the_square(self, check_status):
+        """Whether the script finds fault with a program that plans the square network all at once, and whose check ends so."""
         liar = self.folder / "liar"
         plan = runs.ROOT / "examples" / "square" / "plan-at-once.json"
-        liar.write_text(f'#!/bin/sh\n[ "$1" != plan ] || cat {plan}\n')
+        liar.write_text(f'#!/bin/sh\n[ "$1" = check ] && exit {check_status}\ncat {plan}\n')
         liar.chmod(0o755)
-        chosen = argparse.Namespace(networks=0, seed=1, pairs=0)
-        square = lambda name: original("square")
-        original, explore.example = explore.example, square
-        self.addCleanup(setattr, explore, "example", original)
-        self.assertTrue(self.quietly(explore.accepted, str(liar), chosen, self.folder))
+        square = explore.example("square")
+        with unittest.mock.patch.object(explore, "example", lambda name: square):
+            return self.quietly(explore.accepted, str(liar), argparse.Namespace(networks=0, seed=1, pairs=0), self.folder)
+
+    def test_a_program_that_accepts_all_at_once_is_found(self):
+        self.assertTrue(self.fails_over_the_square(0))
+
+    def test_a_plan_that_check_refuses_is_found(self):
+        self.assertTrue(self.fails_over_the_square(1))
 
     def test_lookups(self):
         rule = model.rule_in({"priority": 1, "dst": "10.0.0.0/24", "out": 2, "vlan": "untagged", "set": 5})
