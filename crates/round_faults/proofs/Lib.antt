@@ -1,0 +1,4 @@
+pub mod BadLaws
+pub mod UnclearLaws
+pub mod FaultLaws
+pub mod RestLaws

@@ -1,0 +1,24 @@
+use Rattle.std.proofs.Common.{◌≡◌, ◌+◌, List, [], ◌∷◌, drop, suc, sym, ◌∙◌, ap, subst, add-one}
+use Rattle.std.proofs.Math.Seq.{drop-cons}
+use Rattle.flow_rules.specs.Tables.{rules_of_all}
+use Rattle.flow_rules.specs.declared.rules.Rule.{Rule}
+use Rattle.update_model.specs.Changes.{IsGoodRound, tables_after}
+use Rattle.update_model.specs.declared.Change.{Change}
+use Rattle.round_faults.proofs.RestLaws.{good_rest}
+use Rattle.round_faults.proofs.make_all.Goals as goal
+
+pub loop-change-preserved : goal.loop-change-preserved
+loop-change-preserved c =
+    let i = c.loop-change.change-index in
+    let round = c.args.round.now in
+    let d = c.change-item.result in
+    let rest = drop (i + 1) round in
+    let tables = c.loop-change.tables in
+    let split : drop i round ≡ d ∷ rest =
+    drop-cons round i d c.loop-change-test.true ∙ ap (λ (x : Change). x ∷ drop (suc i) round) (sym c.change-item.is) ∙ ap (λ n. d ∷ drop n round) (sym (add-one i)) in
+    let good : IsGoodRound (rules_of_all tables) (d ∷ rest) = subst (IsGoodRound (rules_of_all tables)) split c.loop-change.invariant.good in
+    let after : rules_of_all c.change_tables.new.config ≡ tables_after (d ∷ []) (rules_of_all tables) = c.in_ok-change_tables.ensures.ok in
+    record {
+      good = subst (λ (ts : List (List Rule)). IsGoodRound ts rest) (sym after) (good_rest (rules_of_all tables) d rest good);
+      rules = ap (tables_after rest) after ∙ ap (λ (cs : List Change). tables_after cs (rules_of_all tables)) (sym split) ∙ c.loop-change.invariant.rules;
+    }
