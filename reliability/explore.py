@@ -227,7 +227,7 @@ def refused(program, chosen, folder):
 
 def main():
     parser = argparse.ArgumentParser()
-    parser.add_argument("--networks", type=int, default=98)
+    parser.add_argument("--networks", type=int, default=200)
     parser.add_argument("--pairs", type=int, default=5)
     parser.add_argument("--seed", type=int, default=1)
     parser.add_argument("--refused", action="store_true")
