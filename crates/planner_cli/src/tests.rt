@@ -64,6 +64,10 @@ const SQUARE_LINES: &str =
 2 s3 0112000800000004
 ";
 
+// A simulation without packets.
+const SQUARE_RECORD: &[u8] =
+    b"start\nchange 0\nsettle\nstart\nchange 0\nsettle\n# settled 2 of 2\n";
+
 // The ring of four switches.
 const SAMPLE_LINE: &[u8] =
     b"sample 4: ordered, 12 rounds, 24 classes, 21 numberings, 32 picks, accepted\n";
@@ -86,7 +90,7 @@ fn each_command_runs(rt: HostRuntime) -> Result<(), Fail> {
             &[
                 "simulate", "topology", "old", "new", "policy", "plan", "0", "0",
             ],
-            b"start\nchange 0\nsettle\nstart\nchange 0\nsettle\n# settled 2 of 2\n",
+            SQUARE_RECORD,
         ),
         (&["sample", "4"], SAMPLE_LINE),
     ];
@@ -163,9 +167,29 @@ fn a_write_that_fails_leaves_a_front(rt: HostRuntime) -> Result<(), Fail> {
 #[test]
 fn planning_that_fails_to_write_leaves_a_front(rt: HostRuntime) -> Result<(), Fail> {
     let texts = ["plan", "topology", "old", "new", "policy"];
-    for failing in [1u64, 2, 100] {
+    for failing in 1..=square::plan().len() as u64 {
         let front = writes_front(rt.alloc(), &texts, failing, square::plan())?;
         assert!(rt; front, "at {failing}");
+    }
+    Ok(())
+}
+
+#[test]
+fn messages_and_records_that_fail_to_write_leave_a_front(rt: HostRuntime) -> Result<(), Fail> {
+    let rows: [(&[&str], &[u8]); 2] = [
+        (&["emit", "topology", "plan"], SQUARE_LINES.as_bytes()),
+        (
+            &[
+                "simulate", "topology", "old", "new", "policy", "plan", "0", "0",
+            ],
+            SQUARE_RECORD,
+        ),
+    ];
+    for (texts, text) in rows {
+        for failing in 1..=text.len() as u64 {
+            let front = writes_front(rt.alloc(), texts, failing, text)?;
+            assert!(rt; front, "at {failing} of {texts:?}");
+        }
     }
     Ok(())
 }
