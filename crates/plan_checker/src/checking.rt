@@ -51,8 +51,9 @@ fn end_breaks(case: &Case, new: bool, room: &mut CheckRoom) -> Option<Breaks>
     .err()
 }
 
-/// The first reason of the two configurations, if there is one.
-fn end_reason(case: &Case, room: &mut CheckRoom) -> Option<Reason>
+/// The first reason of the two configurations, if there is one: a class without a good path in the old one, or else in the
+/// new one. The room was made for these values, and can be used again.
+pub fn end_reason(case: &Case, room: &mut CheckRoom) -> Option<Reason>
     requires { Fits case.now.task room.old }
     ensures none { IfNone result (EndsAreGood case.now.task) }
     ensures some { IfSome result (IsFirstReason case.now.task case.now.evidence) }

@@ -6,5 +6,5 @@ mod prefixes;
 mod room;
 
 pub use check_reasons::{Reason, Verdict};
-pub use checking::check;
+pub use checking::{check, end_reason};
 pub use room::{CheckRoom, RoomFault};

@@ -113,4 +113,11 @@ impl CheckRoom {
     {
         &self.classes
     }
+
+    /// The duties of the classes.
+    pub fn duties(&self) -> &Duties
+        ensures { result.now ≡ self.now.duties }
+    {
+        &self.duties
+    }
 }
