@@ -1,5 +1,5 @@
 -- The first bad change of a round, and rounds without one.
-use Rattle.std.proofs.Common.{◌≡◌, ◌≢◌, ◌⊎◌, ℕ, zero, suc, ◌+◌, ◌<◌, ◌≤◌, List, [], ◌∷◌, length, map, take, refl, sym, ◌∙◌, subst, ap, inl, inr, arith}
+use Rattle.std.proofs.Common.{◌≡◌, ℕ, zero, suc, ◌+◌, ◌<◌, ◌≤◌, List, [], ◌∷◌, length, map, take, refl, sym, ◌∙◌, subst, ap, inl, inr, arith}
 use Rattle.std.specs.Prelude.{slice_get, Option, Some, None}
 use Rattle.std.proofs.lemmas.Bool.{cases_lt}
 use Rattle.std.proofs.lemmas.Option.{slice_get_within}
@@ -9,22 +9,11 @@ use Rattle.net_base.proofs.ItemLaws.{in_from_get}
 use Rattle.flow_rules.specs.declared.rules.Rule.{Rule}
 use Rattle.update_model.specs.Changes.{switch_of, Applies, entry_named, IsGoodRound}
 use Rattle.update_model.specs.declared.Change.{Change}
-use Rattle.round_faults.specs.Finding.{IsNamed, IsFresh, IsGoodAt, IsBadAt, IsLeastBad, AreJudged}
+use Rattle.round_faults.specs.Finding.{IsGoodAt, IsBadAt, IsLeastBad, AreJudged}
 
 -- two readings of one place are the same
 pub one_read : {A : Type 0} (xs : List A) (i : ℕ) (x y : A) → slice_get xs i ≡ Some x → slice_get xs i ≡ Some y → x ≡ y
 one_read xs i x y p q = let e : Some x ≡ Some y = sym p ∙ q in cc
-
--- one more change that names another entry
-pub fresh_more : (round : List Change) (i : ℕ) (change x : Change) → IsFresh round i change → slice_get round i ≡ Some x → entry_named x ≢ entry_named change → IsFresh round (i + 1) change
-fresh_more round i change x fresh at ne j other less at_j same =
-    elim (cases_lt j i) [
-      | inl below ↦ fresh j other below at_j same
-      | inr more ↦ (
-          let e : j ≡ i = omega arith in
-          let is : x ≡ other = one_read round i x other at (subst (λ (n : ℕ). slice_get round n ≡ Some other) e at_j) in
-          ne (ap entry_named is ∙ same))
-    ]
 
 pub good_not_bad : (tables : List (List Rule)) (round : List Change) (i : ℕ) (c : Change) → IsGoodAt tables round i c → ¬ IsBadAt tables round i c
 good_not_bad tables round i c good (inl never) = never good.applies

@@ -1,5 +1,5 @@
 -- The rest of a good round after its first change.
-use Rattle.std.proofs.Common.{◌≡◌, ◌<◌, List, ◌∷◌, map, length, sym, ◌∙◌, subst, ap, inl, inr, length-set}
+use Rattle.std.proofs.Common.{◌≡◌, ◌<◌, List, ◌∷◌, map, sym, ◌∙◌, subst, ap, inl, inr, length-set}
 use Rattle.std.specs.Prelude.{ℕ, ◌==◌}
 use Rattle.std.proofs.lemmas.Bool.{eq-eqb, ne_eqb, cases_eq, cond-true, cond-false}
 use Rattle.net_base.specs.Members.{IsIn}

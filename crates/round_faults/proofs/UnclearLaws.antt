@@ -1,8 +1,8 @@
 -- Whether the mixtures of a table and good changes of it are clear.
-use Rattle.std.proofs.Common.{◌≡◌, ◌≢◌, ℕ, suc, ◌+◌, ◌<◌, ◌≤◌, Bool, true, false, cond, List, [], ◌∷◌, length, map, take, refl, sym, ◌∙◌, subst, ap, inl, inr, arith}
-use Rattle.std.specs.Prelude.{slice_get, filter, Option, Some, None, IsSomeAnd, ◌==◌}
+use Rattle.std.proofs.Common.{◌≡◌, ℕ, suc, ◌+◌, ◌<◌, ◌≤◌, Bool, true, false, cond, List, [], ◌∷◌, length, take, refl, sym, ◌∙◌, subst, ap, inl, inr, arith}
+use Rattle.std.specs.Prelude.{slice_get, filter, Option, Some, None, IsSomeAnd}
 use Rattle.std.proofs.Math.ListN.{get_or-map}
-use Rattle.std.proofs.lemmas.Bool.{ne_eqb, cond-false, cases_lt}
+use Rattle.std.proofs.lemmas.Bool.{cases_lt}
 use Rattle.std.proofs.lemmas.List.{length-map, get_or_past}
 use Rattle.std.proofs.lemmas.Option.{get_or_from_slice_get}
 use Rattle.net_base.specs.Members.{IsIn, IsSubsequence}
@@ -11,7 +11,7 @@ use Rattle.net_base.proofs.ItemLaws.{in_from_get}
 use Rattle.net_base.specs.declared.ids.SwitchId.{SwitchId}
 use Rattle.flow_rules.specs.Tables.{TableState, IsTable, rules_at, rules_of_all}
 use Rattle.flow_rules.specs.declared.rules.Rule.{Rule}
-use Rattle.update_model.specs.Changes.{switch_of, Applies, AppliesTo, rules_after, changes_at, IsGoodRound}
+use Rattle.update_model.specs.Changes.{AppliesTo, rules_after, changes_at, IsGoodRound}
 use Rattle.update_model.specs.Mixtures.{entries_needed, is_insert}
 use Rattle.update_model.specs.declared.Change.{Change}
 use Rattle.update_model.proofs.ChangeLaws.{key_named}
@@ -70,14 +70,7 @@ rules_read tables s t at =
     get_or-map (λ (x : TableState). x.rules) tables s.0 (record { rules = []; spare = 0 })
     ∙ ap (λ (x : TableState). x.rules) (get_or_from_slice_get tables s.0 t (record { rules = []; spare = 0 }) at)
 
-none_past : (tables : List (List Rule)) (n : ℕ) (cs : List Change) (s : SwitchId) → length tables ≡ n → IsGoodRound tables cs → n ≤ s.0 → changes_at s cs ≡ []
-none_past tables n [] s len good past = refl
-none_past tables n (c ∷ cs) s len good past =
-    let ne : (switch_of c).0 ≢ s.0 = omega (arith, good.applies.0.0) in
-    cond-false ((switch_of c).0 == s.0) (c ∷ changes_at s cs) (changes_at s cs) (ne_eqb _ _ ne)
-    ∙ none_past tables n cs s len (record { applies = good.applies.1; distinct = good.distinct.1 }) past
-
-nothing_made : (made : List Change) → IsSubsequence made [] → made ≡ []
+pub nothing_made : (made : List Change) → IsSubsequence made [] → made ≡ []
 nothing_made [] h = refl
 nothing_made (c ∷ made) h = absurd h
 
@@ -85,30 +78,30 @@ clear_none : AreClear [] []
 clear_none mixed held h a b in_a in_b over_a over_b same =
     absurd (subst (λ (cs : List Change). IsIn a (rules_after cs [])) (nothing_made held.made held.some) ((held.same a).0 in_a))
 
--- beyond the last switch all is clear
-clear_past : (tables : List (List Rule)) (round : List Change) (s : SwitchId) → IsGoodRound tables round → length tables ≤ s.0 → AreClear (rules_at tables s) (changes_at s round)
-clear_past tables round s good past =
-    subst (λ (rs : List Rule). AreClear rs (changes_at s round)) (sym (get_or_past tables s.0 [] past))
-    (subst (AreClear []) (sym (none_past tables (length tables) round s refl good past)) clear_none)
+-- there are as many lists of rules as tables
+pub length_rules : (tables : List TableState) → length (rules_of_all tables) ≡ length tables
+length_rules tables = length-map tables (λ (t : TableState). t.rules)
 
--- so all is clear where it is at each switch
-pub clear_all : (tables : List TableState) (round : List Change) → IsGoodRound (rules_of_all tables) round
-    → ((s : SwitchId) → s.0 < length tables → AreClear (rules_at (rules_of_all tables) s) (changes_at s round))
-    → (s : SwitchId) → AreClear (rules_at (rules_of_all tables) s) (changes_at s round)
-clear_all tables round good each s =
+-- beyond the last switch nothing is unclear
+clear_past : (tables : List (List Rule)) (s : SwitchId) → length tables ≤ s.0 → AreClear (rules_at tables s) []
+clear_past tables s past = subst (λ (rs : List Rule). AreClear rs []) (sym (get_or_past tables s.0 [] past)) clear_none
+
+-- so all tables are clear where each is
+pub clear_all : (tables : List TableState) → ((s : SwitchId) → s.0 < length tables → AreClear (rules_at (rules_of_all tables) s) []) → (s : SwitchId) → AreClear (rules_at (rules_of_all tables) s) []
+clear_all tables each s =
     elim (cases_lt s.0 (length tables)) [
       | inl less ↦ each s less
-      | inr past ↦ clear_past (rules_of_all tables) round s good (let len = length-map tables (λ (t : TableState). t.rules) in omega arith)
+      | inr past ↦ clear_past (rules_of_all tables) s (let len = length_rules tables in omega arith)
     ]
 
 -- one switch more
-pub clear_more : (tables : List (List Rule)) (round : List Change) (i : ℕ) → ((s : SwitchId) → s.0 < i → AreClear (rules_at tables s) (changes_at s round))
-    → AreClear (rules_at tables (record { 0 = i })) (changes_at (record { 0 = i }) round) → (s : SwitchId) → s.0 < i + 1 → AreClear (rules_at tables s) (changes_at s round)
-clear_more tables round i below here s less =
+pub clear_more : (tables : List (List Rule)) (i : ℕ) → ((s : SwitchId) → s.0 < i → AreClear (rules_at tables s) [])
+    → AreClear (rules_at tables (record { 0 = i })) [] → (s : SwitchId) → s.0 < i + 1 → AreClear (rules_at tables s) []
+clear_more tables i below here s less =
     elim (cases_lt s.0 i) [
       | inl lower ↦ below s lower
       | inr more ↦ (let e : s.0 ≡ i = omega arith in
-          subst (λ (n : ℕ). let o : SwitchId = record { 0 = n } in AreClear (rules_at tables o) (changes_at o round)) (sym e) here)
+          subst (λ (n : ℕ). let o : SwitchId = record { 0 = n } in AreClear (rules_at tables o) []) (sym e) here)
     ]
 
 -- what is prepared is clear

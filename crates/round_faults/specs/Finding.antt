@@ -56,6 +56,15 @@ pub record IsFirstUnclear (tables : List (List Rule)) (round : List Change) (s :
 abbrev pub AreClearOr : List (List Rule) → List Change → Option SwitchId → Type 0
 AreClearOr tables round found = MatchOption found ((s : SwitchId) → AreClear (rules_at tables s) (changes_at s round)) (IsFirstUnclear tables round)
 
+-- the switch is below the one that was found, if one was
+abbrev pub IsBelow : Option SwitchId → SwitchId → Type 0
+IsBelow found s = MatchOption found (Unit {0}) (λ other. s.0 < other.0)
+
+-- a switch that isn't clear with these changes takes the place of what was found, if it is below that; else that stays
+abbrev pub IsNext : List Rule → List Change → SwitchId → Option SwitchId → Option SwitchId → Type 0
+IsNext rules changes s found next =
+    ((next ≡ found) × ((¬ IsBelow found s) ⊎ AreClear rules changes)) ⊎ ((next ≡ Some s) × IsBelow found s × IsUnclearMix rules changes)
+
 -- a round is good, and each mixture of each switch is clear
 pub record IsSound (tables : List (List Rule)) (round : List Change) : Type 0 where
   pub good : IsGoodRound tables round

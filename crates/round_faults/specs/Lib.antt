@@ -1,2 +1,4 @@
 pub mod Sound
 pub mod Finding
+pub mod Entries
+pub mod Groups

@@ -1,4 +1,4 @@
-use Rattle.std.proofs.Common.{◌≡◌, ◌+◌, ◌<◌, ℕ, List, length, sym, ◌∙◌, subst, ap, inl, inr, arith, add-one}
+use Rattle.std.proofs.Common.{◌≡◌, ◌<◌, ℕ, List, length, sym, ◌∙◌, subst, ap, inl, inr, arith, add-one}
 use Rattle.std.specs.Prelude.{IfErr}
 use Rattle.std.proofs.lemmas.Bool.{cases_lt}
 use Rattle.std.proofs.lemmas.Result.{err_from_is_err_and, IfErr-at_err, IfErr-weaker}
@@ -11,12 +11,14 @@ use Rattle.update_model.specs.Mixtures.{Update}
 use Rattle.round_faults.specs.Finding.{IsSound, IsFirstOf}
 use Rattle.round_faults.specs.Sound.{IsFault}
 use Rattle.round_faults.proofs.FaultLaws.{fault_from_first}
+use Rattle.round_faults.proofs.LookLaws.{next_before}
 use Rattle.round_faults.proofs.sound_rounds.Goals as goal
 
 pub loop-k-init : goal.loop-k-init
 loop-k-init c = record {
   tables = c.in_ok-tables.ensures ∙ sym (settled_start c.args.rounds.now (rules_of_all c.args.old.now));
   sound = λ j less. absurd (omega arith);
+  before = c.in_ok-before.ensures;
 }
 
 pub loop-k-preserved : goal.loop-k-preserved
@@ -31,12 +33,14 @@ loop-k-preserved c =
     subst (λ (ts : List (List Rule)). IsSound ts (round_after k rounds)) before
     (subst (λ (cs : List Change). IsSound (rules_of_all c.loop-k.tables) cs) same c.in_ok-check_round.ensures.ok) in
     record {
-      tables = c.in_ok-make_all.ensures ∙ ap (λ (cs : List Change). tables_after cs (rules_of_all c.loop-k.tables)) same
+      tables = c.in_ok-make_round.ensures.rules ∙ ap (λ (cs : List Change). tables_after cs (rules_of_all c.loop-k.tables)) same
           ∙ ap (tables_after (round_after k rounds)) before ∙ sym (settled_next rounds k old less) ∙ ap (λ (n : ℕ). settled_tables rounds n old) (sym (add-one k));
       sound = λ j within. elim (cases_lt j k) [
         | inl lower ↦ c.loop-k.invariant.sound j lower
         | inr more ↦ (let e : j ≡ k = omega arith in subst (λ (n : ℕ). IsSound (settled_tables rounds n old) (round_after n rounds)) (sym e) here)
       ];
+      before = next_before (rules_of_all c.loop-k.tables) (rules_of_all c.make_round.new.tables) c.round-changes.result.now c.in_ok-before.before c.in_ok-check_round.ensures.ok
+          c.in_ok-make_round.ensures.rules c.loop-k.invariant.before;
     }
 
 pub returns-clause-clear : goal.returns-clause-clear

@@ -1,11 +1,17 @@
-use Rattle.std.proofs.Common.{◌≡◌, ◌+◌, List, [], ◌∷◌, drop, suc, sym, ◌∙◌, ap, subst, add-one}
+use Rattle.std.proofs.Common.{◌≡◌, ◌+◌, List, [], ◌∷◌, drop, length, suc, sym, ◌∙◌, ap, subst, add-one}
 use Rattle.std.proofs.Math.Seq.{drop-cons}
-use Rattle.flow_rules.specs.Tables.{rules_of_all}
+use Rattle.flow_rules.specs.Tables.{TableState, rules_of_all}
 use Rattle.flow_rules.specs.declared.rules.Rule.{Rule}
 use Rattle.update_model.specs.Changes.{IsGoodRound, tables_after}
 use Rattle.update_model.specs.declared.Change.{Change}
+use Rattle.update_model.proofs.ChangeLaws.{length-tables_after}
+use Rattle.round_faults.proofs.UnclearLaws.{length_rules}
 use Rattle.round_faults.proofs.RestLaws.{good_rest}
-use Rattle.round_faults.proofs.make_all.Goals as goal
+use Rattle.round_faults.proofs.make_round.Goals as goal
+
+-- tables whose rules are those after changes are as many
+count_kept : (before after : List TableState) (cs : List Change) → rules_of_all after ≡ tables_after cs (rules_of_all before) → length after ≡ length before
+count_kept before after cs e = sym (length_rules after) ∙ ap length e ∙ length-tables_after cs (rules_of_all before) ∙ length_rules before
 
 pub loop-change-preserved : goal.loop-change-preserved
 loop-change-preserved c =
@@ -21,4 +27,5 @@ loop-change-preserved c =
     record {
       good = subst (λ (ts : List (List Rule)). IsGoodRound ts rest) (sym after) (good_rest (rules_of_all tables) d rest good);
       rules = ap (tables_after rest) after ∙ ap (λ (cs : List Change). tables_after cs (rules_of_all tables)) (sym split) ∙ c.loop-change.invariant.rules;
+      count = count_kept tables c.change_tables.new.config (d ∷ []) after ∙ c.loop-change.invariant.count;
     }
