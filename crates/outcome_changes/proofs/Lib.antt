@@ -1,0 +1,4 @@
+pub mod NumberLaws
+pub mod TrialLaws
+pub mod AppliedLaws
+pub mod GivingLaws
