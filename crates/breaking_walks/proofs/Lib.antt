@@ -1,0 +1,9 @@
+pub mod ChainLaws
+pub mod NodeLaws
+pub mod PutLaws
+pub mod SearchLaws
+pub mod TrailLaws
+pub mod WithinLaws
+pub mod BreakLaws
+pub mod CutLaws
+pub mod SurveyLaws

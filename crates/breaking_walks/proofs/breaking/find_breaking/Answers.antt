@@ -1,0 +1,36 @@
+use Rattle.std.proofs.Common.{subst}
+use Rattle.std.specs.Prelude.{Option, IfSome, IfNone}
+use Rattle.std.proofs.lemmas.Option.{IfSome_then}
+use Rattle.std.proofs.lemmas.Result.{IfOk-weaker}
+use Rattle.topology.specs.Networks.{IsNetwork, switch_count}
+use Rattle.demands.specs.Duties.{PacketDuties, duties_of}
+use Rattle.round_outcomes.specs.Rounds.{alone}
+use Rattle.breaking_walks.specs.Breaking.{HasBreakingWalk}
+use Rattle.breaking_walks.specs.Broken.{IsBroken, IsNoneDropped, IsNoneUnmet, IsNoneTwice}
+use Rattle.breaking_walks.specs.declared.BreakingWalk.{BreakingWalk}
+use Rattle.breaking_walks.proofs.BreakLaws.{none_then, none_breaks}
+use Rattle.breaking_walks.proofs.WithinLaws.{end_within}
+use Rattle.breaking_walks.proofs.breaking.find_breaking.Goals as goal
+
+pub returns-clause-some : goal.returns-clause-some
+returns-clause-some c =
+    let u = alone c.args.round.now in
+    let entry = c.args.class.entry in
+    let dst = c.args.class.first in
+    let duties = duties_of c.args.duties.now.demands entry dst in
+    IfOk-weaker c.find_seen_repeat.result (λ (found : Option BreakingWalk). IfSome found (λ w. (d : PacketDuties) → IsBroken u 0 dst entry d w.rest w.end))
+    (λ (found : Option BreakingWalk). IfSome found (λ w. IsBroken u 0 dst entry duties w.rest w.end)) (λ found broken. IfSome_then found broken (λ w all. all duties)) c.find_seen_repeat.ensures.some
+
+pub returns-clause-none : goal.returns-clause-none
+returns-clause-none c =
+    let r = c.args.round.now in
+    let u = alone r in
+    let entry = c.args.class.entry in
+    let dst = c.args.class.first in
+    let duties = duties_of c.args.duties.now.demands entry dst in
+    let n = switch_count r.net in
+    let valid : IsNetwork r.net = subst IsNetwork c.net.ensures c.keeps_rules.ensures in
+    let dropped : IsNoneDropped u 0 dst entry duties = subst (λ (o : Option BreakingWalk). IfNone o (IsNoneDropped u 0 dst entry duties)) c.in_default.is c.in_ok-dropped.ensures.none in
+    let unmet : IsNoneUnmet u 0 dst entry duties = subst (λ (o : Option BreakingWalk). IfNone o (IsNoneUnmet u 0 dst entry duties)) c.in_default-missed.is c.in_ok-missed.ensures.none in
+    IfOk-weaker c.find_seen_repeat.result (λ (found : Option BreakingWalk). IfNone found (IsNoneTwice u 0 dst entry n)) (λ (found : Option BreakingWalk). IfNone found (¬ HasBreakingWalk u 0 dst entry duties))
+    (λ found none. none_then found (none_breaks u 0 dst entry duties n (λ rest walk. end_within u valid 0 dst entry rest c.requires.entry walk) dropped unmet) none) c.find_seen_repeat.ensures.none

@@ -1,0 +1,29 @@
+use Rattle.std.proofs.Common.{List, [], ◌∷◌, subst}
+use Rattle.std.specs.Prelude.{Option, IfSome, IfNone}
+use Rattle.net_base.specs.declared.ids.Place.{Place}
+use Rattle.net_base.specs.declared.ids.SwitchId.{SwitchId}
+use Rattle.round_outcomes.specs.Rounds.{alone}
+use Rattle.breaking_walks.specs.declared.search.Aim.TheVariants.{Meet}
+use Rattle.breaking_walks.specs.Searches.{IsFound, IsNoneFound}
+use Rattle.breaking_walks.proofs.BreakLaws.{twice_broken, none_twice_next}
+use Rattle.breaking_walks.proofs.breaking.find_repeat.Goals as goal
+
+pub returns-in-Some-clause-some : goal.returns-in-Some-clause-some
+returns-in-Some-clause-some c d =
+    let u = alone c.args.round.now in
+    let entry = c.args.class.entry in
+    let dst = c.args.class.first in
+    let s : SwitchId = record { 0 = c.loop-i.i } in
+    let found : IsFound u 0 dst entry (s ∷ s ∷ []) Meet c.in-Some.rest =
+    subst (λ (o : Option (List Place)). IfSome o (λ walk. IsFound u 0 dst entry (s ∷ s ∷ []) Meet walk)) c.in-Some.is c.in_ok-found.ensures.some in
+    twice_broken u 0 dst entry d s c.in-Some.rest found
+
+pub loop-i-preserved : goal.loop-i-preserved
+loop-i-preserved c =
+    let u = alone c.args.round.now in
+    let entry = c.args.class.entry in
+    let dst = c.args.class.first in
+    let s : SwitchId = record { 0 = c.loop-i.i } in
+    let none : IsNoneFound u 0 dst entry (s ∷ s ∷ []) Meet =
+    subst (λ (o : Option (List Place)). IfNone o (IsNoneFound u 0 dst entry (s ∷ s ∷ []) Meet)) c.in_default.is c.in_ok-found.ensures.none in
+    none_twice_next u 0 dst entry s none c.loop-i.invariant

@@ -1,0 +1,5 @@
+pub mod Breaking
+pub mod Searches
+pub mod Trails
+pub mod Broken
+pub mod Surveys

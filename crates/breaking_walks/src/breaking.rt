@@ -1,0 +1,229 @@
+// Mixed walks that break the duties of a class: by a discard, by a leave with a chain unmet, or by a switch that stands twice.
+ghost use Rattle.std.specs.Prelude.{◌≡◌, ◌<◌, true, false, IfOk, IfSome, IfNone};
+ghost use Rattle.net_base.specs.Members.{IsIn};
+ghost use Rattle.net_base.specs.Walks.{end_of};
+ghost use Rattle.net_base.specs.declared.ids.Port.{Port as PortOf};
+ghost use Rattle.net_base.specs.declared.ids.Vlan.{Vlan as VlanOf};
+ghost use Rattle.topology.specs.Networks.{switch_count};
+ghost use Rattle.dest_classes.specs.Classes.{IsClass, class_count};
+ghost use Rattle.demands.specs.Duties.{PacketDuties, duties_of};
+ghost use Rattle.update_model.specs.Mixtures.{IsPossible};
+ghost use Rattle.round_outcomes.specs.Rounds.{alone};
+ghost use Rattle.breaking_walks.specs.Searches.{MayLeaveAt, IsNoneFound};
+ghost use Rattle.breaking_walks.specs.Breaking.{HasBreakingWalk};
+ghost use Rattle.breaking_walks.specs.Surveys.{NeverDrops, NeverRepeats};
+ghost use Rattle.breaking_walks.specs.Broken.{IsBroken, IsNoneDropped, IsNoneUnmet, IsNoneTwice};
+
+use crate::BreakingWalk;
+use crate::search::{Aim, find};
+use crate::surveying::{Survey, look_over};
+use demands::Duties;
+use dest_classes::Class;
+use net_base::{Memory, Place, Port, SwitchId, Vlan};
+use path_walk::Outcome;
+use round_outcomes::RoundOutcomes;
+use std::alloc::Global;
+
+/// The last place of a walk.
+fn last_place(entry: Place, rest: &[Place]) -> Place
+    ensures { result ≡ end_of entry rest.now }
+{
+    match rest {
+        [] => entry,
+        [.., last] => *last,
+    }
+}
+
+/// The port and the VLAN of the first outcome by which a packet leaves.
+fn first_leave(outcomes: &[Outcome]) -> Option<(Port, Vlan)>
+    ensures some { IfSome result (λ by. IsIn (Outcome.Leave by.0 by.1) outcomes.now) }
+    ensures none { IfNone result ((port : PortOf) (vlan : VlanOf) → ¬ IsIn (Outcome.Leave port vlan) outcomes.now) }
+{
+    for outcome in outcomes {
+        if let Outcome::Leave(port, vlan) = *outcome {
+            return Some((port, vlan));
+        }
+    }
+    None
+}
+
+/// A port and a VLAN with which a packet may leave at a place where one may.
+fn leave_at(
+    alloc: Global,
+    round: &RoundOutcomes<'_>,
+    place: Place,
+    dst: u32,
+) -> Result<(Port, Vlan), Memory>
+    requires within { place.switch.0 < switch_count round.now.net }
+    requires leaves { MayLeaveAt (alone round.now) 0 dst place }
+    ensures { IfOk result (λ by. IsPossible (alone round.now) 0 dst place (Outcome.Leave by.0 by.1)) }
+{
+    let outcomes = round.possible(alloc, place, dst)?;
+    match first_leave(outcomes.list()) {
+        Some(by) => Ok(by),
+        None => unreachable!(),
+    }
+}
+
+/// A mixed walk to a place where a packet of the class may be discarded, if the packets must arrive.
+fn find_drop(
+    alloc: Global,
+    round: &RoundOutcomes<'_>,
+    duties: &Duties,
+    number: u32,
+    class: Class,
+) -> Result<Option<BreakingWalk>, Memory>
+    requires number { number < class_count duties.now.classes }
+    requires class { IsClass duties.now.classes number class }
+    requires entry { class.entry.switch.0 < switch_count round.now.net }
+    ensures some { IfOk result (λ found. IfSome found (λ w. IsBroken (alone round.now) 0 class.first class.entry (duties_of duties.now.demands class.entry class.first) w.rest w.end)) }
+    ensures none { IfOk result (λ found. IfNone found (IsNoneDropped (alone round.now) 0 class.first class.entry (duties_of duties.now.demands class.entry class.first))) }
+{
+    if !duties.must_arrive(number) {
+        return Ok(None);
+    }
+    match find(alloc, round, class, &[], Aim::Drop)? {
+        Some(rest) => Ok(Some(BreakingWalk {
+            rest,
+            end: Some(Outcome::Discard),
+        })),
+        None => Ok(None),
+    }
+}
+
+/// A mixed walk to a place where a packet of the class may leave without having met the chain.
+fn find_unmet(
+    alloc: Global,
+    round: &RoundOutcomes<'_>,
+    class: Class,
+    chain: &[SwitchId],
+) -> Result<Option<BreakingWalk>, Memory>
+    requires { class.entry.switch.0 < switch_count round.now.net }
+    ensures some { IfOk result (λ found. IfSome found (λ w. (d : PacketDuties) → IsIn chain.now d.chains → IsBroken (alone round.now) 0 class.first class.entry d w.rest w.end)) }
+    ensures none { IfOk result (λ found. IfNone found (IsNoneFound (alone round.now) 0 class.first class.entry chain.now Aim.LeaveUnmet)) }
+{
+    match find(alloc, round, class, chain, Aim::LeaveUnmet)? {
+        Some(rest) => {
+            round.net().keeps_rules();
+            let place = last_place(class.entry, rest.list());
+            let (port, vlan) = leave_at(alloc, round, place, class.first)?;
+            Ok(Some(BreakingWalk {
+                rest,
+                end: Some(Outcome::Leave(port, vlan)),
+            }))
+        }
+        None => Ok(None),
+    }
+}
+
+/// A mixed walk to a place where a packet of the class may leave with one of its chains unmet.
+fn find_miss(
+    alloc: Global,
+    round: &RoundOutcomes<'_>,
+    duties: &Duties,
+    number: u32,
+    class: Class,
+) -> Result<Option<BreakingWalk>, Memory>
+    requires number { number < class_count duties.now.classes }
+    requires class { IsClass duties.now.classes number class }
+    requires entry { class.entry.switch.0 < switch_count round.now.net }
+    ensures some { IfOk result (λ found. IfSome found (λ w. IsBroken (alone round.now) 0 class.first class.entry (duties_of duties.now.demands class.entry class.first) w.rest w.end)) }
+    ensures none { IfOk result (λ found. IfNone found (IsNoneUnmet (alone round.now) 0 class.first class.entry (duties_of duties.now.demands class.entry class.first))) }
+{
+    for i in 0..duties.chains(number) {
+        let found = find_unmet(alloc, round, class, duties.chain(number, i))?;
+        if let Some(walk) = found {
+            return Ok(Some(walk));
+        }
+    }
+    Ok(None)
+}
+
+/// A mixed walk of the class on which a switch stands twice.
+fn find_repeat(
+    alloc: Global,
+    round: &RoundOutcomes<'_>,
+    class: Class,
+) -> Result<Option<BreakingWalk>, Memory>
+    requires { class.entry.switch.0 < switch_count round.now.net }
+    ensures some { IfOk result (λ found. IfSome found (λ w. (d : PacketDuties) → IsBroken (alone round.now) 0 class.first class.entry d w.rest w.end)) }
+    ensures none { IfOk result (λ found. IfNone found (IsNoneTwice (alone round.now) 0 class.first class.entry (switch_count round.now.net))) }
+{
+    for i in 0..round.net().switches() {
+        let switch = SwitchId(i);
+        let found = find(alloc, round, class, &[switch, switch], Aim::Meet)?;
+        if let Some(rest) = found {
+            return Ok(Some(BreakingWalk { rest, end: None }));
+        }
+    }
+    Ok(None)
+}
+
+/// A mixed walk to a place where a packet of the class may be discarded, if the packets must arrive; there is none where a
+/// survey saw none.
+fn find_seen_drop(
+    alloc: Global,
+    round: &RoundOutcomes<'_>,
+    duties: &Duties,
+    number: u32,
+    class: Class,
+    seen: Survey,
+) -> Result<Option<BreakingWalk>, Memory>
+    requires number { number < class_count duties.now.classes }
+    requires class { IsClass duties.now.classes number class }
+    requires entry { class.entry.switch.0 < switch_count round.now.net }
+    requires seen { seen.may_drop ≡ false → NeverDrops (alone round.now) 0 class.first class.entry }
+    ensures some { IfOk result (λ found. IfSome found (λ w. IsBroken (alone round.now) 0 class.first class.entry (duties_of duties.now.demands class.entry class.first) w.rest w.end)) }
+    ensures none { IfOk result (λ found. IfNone found (IsNoneDropped (alone round.now) 0 class.first class.entry (duties_of duties.now.demands class.entry class.first))) }
+{
+    if !seen.may_drop {
+        return Ok(None);
+    }
+    find_drop(alloc, round, duties, number, class)
+}
+
+/// A mixed walk of the class on which a switch stands twice; there is none where a survey saw numbers that fall along each step.
+fn find_seen_repeat(
+    alloc: Global,
+    round: &RoundOutcomes<'_>,
+    class: Class,
+    seen: Survey,
+) -> Result<Option<BreakingWalk>, Memory>
+    requires entry { class.entry.switch.0 < switch_count round.now.net }
+    requires seen { seen.falls ≡ true → NeverRepeats (alone round.now) 0 class.first class.entry }
+    ensures some { IfOk result (λ found. IfSome found (λ w. (d : PacketDuties) → IsBroken (alone round.now) 0 class.first class.entry d w.rest w.end)) }
+    ensures none { IfOk result (λ found. IfNone found (IsNoneTwice (alone round.now) 0 class.first class.entry (switch_count round.now.net))) }
+{
+    if seen.falls {
+        return Ok(None);
+    }
+    find_repeat(alloc, round, class)
+}
+
+/// A mixed walk that breaks the duties of the class, and the outcome at its last place by which it does so; none where a switch
+/// stands twice.
+pub(crate) fn find_breaking(
+    alloc: Global,
+    round: &RoundOutcomes<'_>,
+    duties: &Duties,
+    number: u32,
+    class: Class,
+) -> Result<Option<BreakingWalk>, Memory>
+    requires number { number < class_count duties.now.classes }
+    requires class { IsClass duties.now.classes number class }
+    requires entry { class.entry.switch.0 < switch_count round.now.net }
+    ensures some { IfOk result (λ found. IfSome found (λ w. IsBroken (alone round.now) 0 class.first class.entry (duties_of duties.now.demands class.entry class.first) w.rest w.end)) }
+    ensures none { IfOk result (λ found. IfNone found (¬ HasBreakingWalk (alone round.now) 0 class.first class.entry (duties_of duties.now.demands class.entry class.first))) }
+{
+    let seen = look_over(alloc, round, class)?;
+    let dropped = find_seen_drop(alloc, round, duties, number, class, seen)?;
+    if let Some(walk) = dropped {
+        return Ok(Some(walk));
+    }
+    let missed = find_miss(alloc, round, duties, number, class)?;
+    if let Some(walk) = missed {
+        return Ok(Some(walk));
+    }
+    round.net().keeps_rules();
+    find_seen_repeat(alloc, round, class, seen)
+}

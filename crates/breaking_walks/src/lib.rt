@@ -1,0 +1,52 @@
+//! Mixed walks of one round that break the duties of a class.
+#![tactic(auto)]
+
+ghost use Rattle.std.specs.Prelude.{◌≡◌, ◌<◌, IfOk, IfSome, IfNone};
+ghost use Rattle.topology.specs.Networks.{switch_count};
+ghost use Rattle.dest_classes.specs.Classes.{IsClass, class_count};
+ghost use Rattle.demands.specs.Duties.{duties_of};
+ghost use Rattle.round_outcomes.specs.Rounds.{alone};
+ghost use Rattle.breaking_walks.specs.Breaking.{HasBreakingWalk, IsBreakingWalk};
+
+mod breaking;
+mod cutting;
+mod search;
+mod surveying;
+mod trail;
+
+use breaking::find_breaking;
+use cutting::cut;
+use demands::Duties;
+use dest_classes::Class;
+use net_base::{ListOf, Memory, Place};
+use path_walk::Outcome;
+use round_outcomes::RoundOutcomes;
+use std::alloc::Global;
+
+/// A mixed walk that breaks its duties at its end: the places after the entry, and the outcome at the last place by which the
+/// packet leaves or is discarded. Where there is none, the switch of the last place stands earlier in the walk.
+#[derive(Drop)]
+pub struct BreakingWalk {
+    pub rest: ListOf<Place>,
+    pub end: Option<Outcome>,
+}
+
+/// A mixed walk of the round that breaks the duties of a class, if there is one.
+pub fn breaking_walk(
+    alloc: Global,
+    round: &RoundOutcomes<'_>,
+    duties: &Duties,
+    number: u32,
+    class: Class,
+) -> Result<Option<BreakingWalk>, Memory>
+    requires number { number < class_count duties.now.classes }
+    requires class { IsClass duties.now.classes number class }
+    requires entry { class.entry.switch.0 < switch_count round.now.net }
+    ensures some { IfOk result (λ found. IfSome found (λ w. IsBreakingWalk (alone round.now) 0 class.first class.entry (duties_of duties.now.demands class.entry class.first) w.rest w.end)) }
+    ensures none { IfOk result (λ found. IfNone found (¬ HasBreakingWalk (alone round.now) 0 class.first class.entry (duties_of duties.now.demands class.entry class.first))) }
+{
+    match find_breaking(alloc, round, duties, number, class)? {
+        Some(walk) => Ok(Some(cut(alloc, class.entry, walk)?)),
+        None => Ok(None),
+    }
+}

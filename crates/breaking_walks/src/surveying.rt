@@ -1,0 +1,131 @@
+// What one pass over the places of the mixed walks of a class shows: so most classes need no search.
+ghost use Rattle.std.specs.Prelude.{◌≡◌, ◌↔◌, ◌<◌, ℕ, List, IsTrue, true, false, length, slice_index, IfOk, OnOk};
+ghost use Rattle.net_base.specs.Members.{IsIn};
+ghost use Rattle.topology.specs.Networks.{switch_count};
+ghost use Rattle.path_walk.specs.declared.Outcome.TheVariants.{Discard as Discarded};
+ghost use Rattle.acyclic_numbering.specs.Heights.{IsEdge, IsLower, Falls};
+ghost use Rattle.round_outcomes.specs.Rounds.{alone};
+ghost use Rattle.breaking_walks.specs.Surveys.{AreAdded, NeverDrops, NeverRepeats};
+
+use crate::search::{has_discard, put_next};
+use crate::trail::{Node, Trail};
+use acyclic_numbering::Edge;
+use dest_classes::Class;
+use net_base::{Memory, SwitchId};
+use path_walk::Outcome;
+use round_outcomes::RoundOutcomes;
+use std::alloc::Global;
+
+/// Whether a packet may be discarded on a mixed walk of a class; and whether there are numbers that fall along each step, so
+/// that no switch stands twice on one. There may be none although no switch does.
+#[derive(Clone, Copy, Debug, PartialEq, Eq)]
+pub(crate) struct Survey {
+    pub(crate) may_drop: bool,
+    pub(crate) falls: bool,
+}
+
+/// Adds the steps from a switch by the outcomes of a place there.
+fn add_edges(edges: &mut Vec<Edge>, from: SwitchId, found: &[Outcome]) -> Result<(), Memory>
+    ensures { OnOk result (AreAdded edges.old.items from found.now edges.new.items) }
+{
+    for outcome in found {
+        if let Outcome::Go(place) = *outcome {
+            edges.push(Edge {
+                from,
+                to: place.switch,
+            })?;
+        }
+    }
+    Ok(())
+}
+
+/// The number of a switch; 0 where it has none.
+fn number_at(numbers: &[u32], switch: SwitchId) -> u32
+    ensures { result ≡ slice_index numbers.now switch.0 }
+{
+    match numbers.get(switch.0 as usize) {
+        Some(number) => *number,
+        None => 0,
+    }
+}
+
+/// Raises the number of each switch above those to which its steps lead, the last steps first.
+fn raise(numbers: &mut Vec<u32>, edges: &[Edge])
+    ensures { length numbers.new.items ≡ length numbers.old.items }
+{
+    for edge in edges.iter().rev() {
+        let least = number_at(numbers, edge.to).saturating_add(1);
+        if let Some(number) = numbers.get_mut(edge.from.0 as usize) {
+            *number = least.max(*number);
+        }
+    }
+}
+
+/// Whether the numbers fall along a step.
+fn is_falling(numbers: &[u32], edge: &Edge) -> bool
+    ensures { IsTrue result ↔ IsLower numbers.now edge.now.from edge.now.to }
+{
+    number_at(numbers, edge.to) < number_at(numbers, edge.from)
+}
+
+/// Whether the numbers fall along each step.
+fn are_falling(numbers: &[u32], edges: &[Edge]) -> bool
+    ensures { IsTrue result ↔ Falls (IsEdge edges.now) numbers.now }
+{
+    for edge in edges {
+        if !is_falling(numbers, edge) {
+            return false;
+        }
+    }
+    true
+}
+
+/// Whether there are numbers that fall along each step: they are raised as often as there are switches, at most.
+fn have_falling(alloc: Global, switches: u32, edges: &[Edge]) -> Result<bool, Memory>
+    ensures { IfOk result (λ found. found ≡ true → (numbers : List ℕ) × Falls (IsEdge edges.now) numbers) }
+{
+    let mut numbers = vec![in alloc; 0; switches as usize]?;
+    for _ in 0..switches {
+        raise(&mut numbers, edges);
+        if are_falling(&numbers, edges) {
+            return Ok(true);
+        }
+    }
+    Ok(false)
+}
+
+/// Whether a packet may be discarded at a place with these outcomes, or may be before.
+fn sees_drop(before: bool, found: &[Outcome]) -> bool
+    ensures { result ≡ false → (before ≡ false) × ¬ IsIn Discarded found.now }
+{
+    before || has_discard(found)
+}
+
+/// Looks once at each place of the mixed walks of a class.
+pub(crate) fn look_over(
+    alloc: Global,
+    round: &RoundOutcomes<'_>,
+    class: Class,
+) -> Result<Survey, Memory>
+    requires { class.entry.switch.0 < switch_count round.now.net }
+    ensures drops { IfOk result (λ seen. seen.may_drop ≡ false → NeverDrops (alone round.now) 0 class.first class.entry) }
+    ensures falls { IfOk result (λ seen. seen.falls ≡ true → NeverRepeats (alone round.now) 0 class.first class.entry) }
+{
+    round.net().keeps_rules();
+    let place = class.entry;
+    let mut trail = Trail::start(alloc, Node { place, met: 0 })?;
+    let mut edges = Vec::new(alloc);
+    let mut may_drop = false;
+    let mut next = 0;
+    'looking: while next < trail.count() {
+        let (node, _) = trail.at(next);
+        let outcomes = round.possible(alloc, node.place, class.first)?;
+        let found = outcomes.list();
+        may_drop = sees_drop(may_drop, found);
+        add_edges(&mut edges, node.place.switch, found)?;
+        put_next(&mut trail, &[], node, next, found)?;
+        next += 1;
+    }
+    let falls = have_falling(alloc, round.net().switches(), &edges)?;
+    Ok(Survey { may_drop, falls })
+}
