@@ -1,0 +1,11 @@
+pub mod WholeRounds
+pub mod RunLaws
+pub mod ChangeRuns
+pub mod StepLaws
+pub mod ShownLaws
+pub mod FewLaws
+pub mod StageLaws
+pub mod AddLaws
+pub mod ViewLaws
+pub mod TouchLaws
+pub mod ClassLaws

@@ -1,0 +1,4 @@
+pub mod Showing
+pub mod Explaining
+pub mod Steps
+pub mod Stages
