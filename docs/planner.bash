@@ -4,12 +4,12 @@ _planner() {
     local files=0
     COMPREPLY=()
     if [ "$COMP_CWORD" -eq 1 ]; then
-        mapfile -t COMPREPLY < <(compgen -W "config check plan upgrade emit import replay simulate drive sample --help" -- "${COMP_WORDS[1]}")
+        mapfile -t COMPREPLY < <(compgen -W "config check plan upgrade emit import replay simulate explain drive sample --help" -- "${COMP_WORDS[1]}")
         return
     fi
     case ${COMP_WORDS[1]} in
         config) files=3 ;;
-        check | simulate) files=5 ;;
+        check | simulate | explain) files=5 ;;
         plan | replay) files=4 ;;
         upgrade | emit | import) files=2 ;;
         drive) files=6 ;;

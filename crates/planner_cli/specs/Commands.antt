@@ -23,6 +23,7 @@ use Rattle.upgrade_command.specs.Texts.{IsUpgradeAnswer}
 use Rattle.emit_command.specs.Answers.{IsEmitAnswer}
 use Rattle.import_command.specs.Names as imports
 use Rattle.import_command.specs.Imported.{ImportMeaning, import_dialogue, IsImportAnswer}
+use Rattle.explain_command.specs.Explained.{IsExplainAnswer}
 use Rattle.drive_command.specs.Names as drive
 use Rattle.drive_command.specs.Driven.{DriveMeaning, drive_dialogue, IsDriveAnswer}
 use Rattle.planner_cli.specs.declared.command.Command.{Command}
@@ -37,6 +38,7 @@ pub data Asked : Type 0 where
   Emit : PlanNames → Asked
   Replay : replay.ReplayNames → Asked
   Simulate : simulate.SimulateNames → Asked
+  Explain : check.CheckNames → Asked
   Import : imports.ImportNames → Asked
   Drive : drive.DriveNames → Asked
   Sample : ℕ → Asked
@@ -52,6 +54,7 @@ asked (name ∷ words) =
     else if bytes_eq name (codes "emit") then option_map Emit (base.plan_names_in words)
     else if bytes_eq name (codes "replay") then option_map Replay (replay.names_in words)
     else if bytes_eq name (codes "simulate") then option_map Simulate (simulate.names_in words)
+    else if bytes_eq name (codes "explain") then option_map Explain (check.names_in words)
     else if bytes_eq name (codes "import") then option_map Import (imports.names_in words)
     else if bytes_eq name (codes "drive") then option_map Drive (drive.names_in words)
     else if bytes_eq name (codes "sample") then option_map Sample (sample.size_in words)
@@ -66,6 +69,7 @@ seen (command.Upgrade names) = Upgrade (base.plan_names_seen names)
 seen (command.Emit names) = Emit (base.plan_names_seen names)
 seen (command.Replay names) = Replay (replay.names_seen names)
 seen (command.Simulate names) = Simulate (simulate.names_seen names)
+seen (command.Explain names) = Explain (check.names_seen names)
 seen (command.Import names) = Import (imports.names_seen names)
 seen (command.Drive names) = Drive (drive.names_seen names)
 seen (command.Sample size) = Sample size.switches
@@ -79,6 +83,7 @@ pub data Ending : Type 0 where
   OfEmit : PlanMeaning → Ending
   OfReplay : ReplayMeaning → Ending
   OfSimulate : ℕ → ℕ → CheckMeaning → Ending
+  OfExplain : CheckMeaning → Ending
   OfImport : ImportMeaning → Ending
   OfDrive : DriveMeaning → Ending
   OfSample : ℕ → Ending
@@ -97,6 +102,7 @@ IsSaid (OfUpgrade m) answer = IsUpgradeAnswer m answer
 IsSaid (OfEmit m) answer = IsEmitAnswer m answer
 IsSaid (OfReplay m) answer = IsReplayAnswer m answer
 IsSaid (OfSimulate start count m) answer = IsSimulateAnswer start count m answer
+IsSaid (OfExplain m) answer = IsExplainAnswer m answer
 IsSaid (OfImport m) answer = IsImportAnswer m answer
 IsSaid (OfDrive m) answer = IsDriveAnswer m answer
 IsSaid (OfSample n) answer = SaysSummary n answer
@@ -111,6 +117,7 @@ dialogue_of (Upgrade names) = and_then (reading_plan_files names) (λ m. Ends (O
 dialogue_of (Emit names) = and_then (reading_plan_files names) (λ m. Ends (OfEmit m))
 dialogue_of (Replay names) = and_then (replay_dialogue names) (λ m. Ends (OfReplay m))
 dialogue_of (Simulate names) = and_then (check_dialogue names.check) (λ m. Ends (OfSimulate names.start names.count m))
+dialogue_of (Explain names) = and_then (check_dialogue names) (λ m. Ends (OfExplain m))
 dialogue_of (Import names) = and_then (import_dialogue names) (λ m. Ends (OfImport m))
 dialogue_of (Drive names) = and_then (drive_dialogue names) (λ m. Ends (OfDrive m))
 dialogue_of (Sample n) = Ends (OfSample n)

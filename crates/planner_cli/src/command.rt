@@ -21,6 +21,7 @@ pub enum Command<'a> {
     Emit(PlanNames<'a>),
     Replay(ReplayNames<'a>),
     Simulate(SimulateNames<'a>),
+    Explain(CheckNames<'a>),
     Import(ImportNames<'a>),
     Drive(DriveNames<'a>),
     Sample(RingSize),
@@ -41,6 +42,7 @@ pub fn command_of(words: &[String]) -> Option<Command<'_>>
         "emit" => plan_names(rest).map(Command::Emit),
         "replay" => replay_names(rest).map(Command::Replay),
         "simulate" => simulate_names(rest).map(Command::Simulate),
+        "explain" => check_names(rest).map(Command::Explain),
         "import" => import_names(rest).map(Command::Import),
         "drive" => drive_names(rest).map(Command::Drive),
         "sample" => match ring_size(rest) {

@@ -18,13 +18,14 @@ ghost use Rattle.replay_command.specs.Names.{ReplayNames};
 ghost use Rattle.replay_command.specs.Promise.{ReplayPromise};
 ghost use Rattle.simulate_command.specs.Names.{SimulateNames};
 ghost use Rattle.simulate_command.specs.Promise.{SimulatePromise};
+ghost use Rattle.explain_command.specs.Promise.{ExplainPromise};
 ghost use Rattle.import_command.specs.Names.{ImportNames};
 ghost use Rattle.import_command.specs.Promise.{ImportPromise};
 ghost use Rattle.drive_command.specs.Names.{DriveNames};
 ghost use Rattle.drive_command.specs.Promise.{DrivePromise};
 ghost use Rattle.sample_command.specs.Summaries.{SaysSummary};
 ghost use Rattle.sample_command.specs.Promise.{SamplePromise};
-ghost use Rattle.planner_cli.specs.Commands.{Config, Check, Plan, Upgrade, Emit, Replay, Simulate, Import, Drive, Sample, asked, seen, dialogue, dialogue_of, IsSaid, usage_line};
+ghost use Rattle.planner_cli.specs.Commands.{Config, Check, Plan, Upgrade, Emit, Replay, Simulate, Explain, Import, Drive, Sample, asked, seen, dialogue, dialogue_of, IsSaid, usage_line};
 
 use crate::command::{Command, command_of};
 use check_command::check;
@@ -36,6 +37,8 @@ use drive_command::drive;
 use drive_command::laws::drive_promised;
 use emit_command::emit;
 use emit_command::laws::emit_promised;
+use explain_command::explain;
+use explain_command::laws::explain_promised;
 use import_command::import;
 use import_command::laws::import_promised;
 use net_base::{Memory, Sink, Source, WriteFault, pour};
@@ -79,6 +82,7 @@ fn reply_to<S: Source>(alloc: Global, command: &Command<'_>, source: &mut S) -> 
         Command::Emit(names) => emit(alloc, source, names),
         Command::Replay(names) => replay(alloc, source, names),
         Command::Simulate(names) => simulate(alloc, source, names),
+        Command::Explain(names) => explain(alloc, source, names),
         Command::Import(names) => import(alloc, source, names),
         Command::Drive(names) => drive(alloc, source, names),
         Command::Sample(size) => sample_reply(alloc, *size),
@@ -177,6 +181,8 @@ pub fn run<S: Source, K: Sink>(
         → ReplayPromise files names (K.written sink.old) (K.written sink.new) result }
     ensures simulate { (files : Files) (names : SimulateNames) → S.held source.old ≡ Some files → asked (map string_bytes words.now) ≡ Some (Simulate names)
         → SimulatePromise files names (K.written sink.old) (K.written sink.new) result }
+    ensures explain { (files : Files) (names : CheckNames) → S.held source.old ≡ Some files → asked (map string_bytes words.now) ≡ Some (Explain names)
+        → ExplainPromise files names (K.written sink.old) (K.written sink.new) result }
     ensures import { (files : Files) (names : ImportNames) → S.held source.old ≡ Some files → asked (map string_bytes words.now) ≡ Some (Import names)
         → ImportPromise files names (K.written sink.old) (K.written sink.new) result }
     ensures drive { (files : Files) (names : DriveNames) → S.held source.old ≡ Some files → asked (map string_bytes words.now) ≡ Some (Drive names)
@@ -193,6 +199,7 @@ pub fn run<S: Source, K: Sink>(
     emit_promised();
     replay_promised();
     simulate_promised();
+    explain_promised();
     import_promised();
     drive_promised();
     sample_promised();

@@ -68,13 +68,16 @@ const SQUARE_LINES: &str =
 const SQUARE_RECORD: &[u8] =
     b"start\nchange 0\nsettle\nstart\nchange 0\nsettle\n# settled 2 of 2\n";
 
+// Each mixed walk of the plan of the square is good.
+const NO_RUN: &[u8] = b"no run: every mixed walk is good\n";
+
 // The ring of four switches.
 const SAMPLE_LINE: &[u8] =
     b"sample 4: ordered, 12 rounds, 24 classes, 21 numberings, 32 picks, accepted\n";
 
 #[test]
 fn each_command_runs(rt: HostRuntime) -> Result<(), Fail> {
-    let rows: [(&[&str], &[u8]); 7] = [
+    let rows: [(&[&str], &[u8]); 8] = [
         (&["config", "topology", "old"], b"holds: 12 classes\n"),
         (
             &["check", "topology", "old", "new", "policy", "plan"],
@@ -91,6 +94,10 @@ fn each_command_runs(rt: HostRuntime) -> Result<(), Fail> {
                 "simulate", "topology", "old", "new", "policy", "plan", "0", "0",
             ],
             SQUARE_RECORD,
+        ),
+        (
+            &["explain", "topology", "old", "new", "policy", "plan"],
+            NO_RUN,
         ),
         (&["sample", "4"], SAMPLE_LINE),
     ];

@@ -1,5 +1,5 @@
 use Rattle.command_base.proofs.DialogueLaws.{meets_as}
-use Rattle.planner_cli.specs.Commands.{IsSaid, OfConfig, OfCheck, OfPlan, OfUpgrade, OfEmit, OfReplay, OfSimulate, OfImport, OfDrive}
+use Rattle.planner_cli.specs.Commands.{IsSaid, OfConfig, OfCheck, OfPlan, OfUpgrade, OfEmit, OfReplay, OfSimulate, OfExplain, OfImport, OfDrive}
 use Rattle.planner_cli.proofs.Sampled.{sample_meets}
 use Rattle.planner_cli.proofs.run.reply_to.Goals as goal
 
@@ -24,6 +24,9 @@ returns-in-Replay-clause-meets g c = rw c.in-Replay.is (meets_as IsSaid OfReplay
 pub returns-in-Simulate-clause-meets : goal.returns-in-Simulate-clause-meets
 returns-in-Simulate-clause-meets g c =
     rw c.in-Simulate.is (meets_as IsSaid (OfSimulate c.in-Simulate.names.start c.in-Simulate.names.count) (λ m answer said. said) c.simulate.ensures.meets)
+
+pub returns-in-Explain-clause-meets : goal.returns-in-Explain-clause-meets
+returns-in-Explain-clause-meets g c = rw c.in-Explain.is (meets_as IsSaid OfExplain (λ m answer said. said) c.explain.ensures.meets)
 
 pub returns-in-Import-clause-meets : goal.returns-in-Import-clause-meets
 returns-in-Import-clause-meets g c = rw c.in-Import.is (meets_as IsSaid OfImport (λ m answer said. said) c.import.ensures.meets)

@@ -6,11 +6,12 @@ use Rattle.check_command.specs.Checks.{check_dialogue, IsCheckAnswer}
 use Rattle.plan_command.specs.Planned.{IsPlanned}
 use Rattle.replay_command.specs.Replayed.{replay_dialogue, IsReplayAnswer}
 use Rattle.simulate_command.specs.Simulated.{IsSimulateAnswer}
+use Rattle.explain_command.specs.Explained.{IsExplainAnswer}
 use Rattle.upgrade_command.specs.Texts.{IsUpgradeAnswer}
 use Rattle.emit_command.specs.Answers.{IsEmitAnswer}
 use Rattle.import_command.specs.Imported.{import_dialogue, IsImportAnswer}
 use Rattle.drive_command.specs.Driven.{drive_dialogue, IsDriveAnswer}
-use Rattle.planner_cli.specs.Commands.{Config, Check, Plan, Upgrade, Emit, Replay, Simulate, Import, Drive, OfConfig, OfCheck, OfPlan, OfUpgrade, OfEmit, OfReplay, OfSimulate, OfImport, OfDrive, IsSaid}
+use Rattle.planner_cli.specs.Commands.{Config, Check, Plan, Upgrade, Emit, Replay, Simulate, Explain, Import, Drive, OfConfig, OfCheck, OfPlan, OfUpgrade, OfEmit, OfReplay, OfSimulate, OfExplain, OfImport, OfDrive, IsSaid}
 use Rattle.planner_cli.proofs.Answered.{answered}
 use Rattle.planner_cli.proofs.Sampled.{sample_ends}
 use Rattle.planner_cli.proofs.run.run.Goals as goal
@@ -49,6 +50,11 @@ pub returns-clause-simulate : goal.returns-clause-simulate
 returns-clause-simulate g c = λ files names tells asks.
     c.simulate_promised.ensures files names _ _ _ (λ settled.
     answered_as (IsSimulateAnswer names.start names.count) IsSaid (OfSimulate names.start names.count) files (check_dialogue names.check) _ _ _ (λ m answer said. said) (answered _ _ _ _ _ files (Simulate names) (c.respond.ensures.all settled) tells asks))
+
+pub returns-clause-explain : goal.returns-clause-explain
+returns-clause-explain g c = λ files names tells asks.
+    c.explain_promised.ensures files names _ _ _ (λ settled.
+    answered_as IsExplainAnswer IsSaid OfExplain files (check_dialogue names) _ _ _ (λ m answer said. said) (answered _ _ _ _ _ files (Explain names) (c.respond.ensures.all settled) tells asks))
 
 pub returns-clause-import : goal.returns-clause-import
 returns-clause-import g c = λ files names tells asks.

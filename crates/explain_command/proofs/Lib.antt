@@ -1,0 +1,6 @@
+pub mod CountLaws
+pub mod EndLaws
+pub mod SoundLaws
+pub mod ScheduleLaws
+pub mod AnswerLaws
+pub mod ExplainLaws

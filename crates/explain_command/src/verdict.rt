@@ -1,0 +1,116 @@
+// What is said of the plan that is explained: too many classes, why its mixed walks aren't looked at, a run that breaks the duties of a
+// class, or that there is none.
+ghost use Rattle.std.specs.Prelude.{◌≤◌, IfOk};
+ghost use Rattle.flow_rules.specs.Tables.{rules_of_all};
+ghost use Rattle.path_walk.specs.UserConfigs.{IsUserConfig};
+ghost use Rattle.dest_classes.specs.Classes.{class_count};
+ghost use Rattle.certificates.specs.Valid.{IsValidPlan};
+ghost use Rattle.certificates.specs.Certified.{classes_for};
+ghost use Rattle.update_model.specs.Mixtures.{AreGoodRounds, AreClearRounds};
+ghost use Rattle.plan_checker.specs.Fits.{Fits};
+ghost use Rattle.plan_checker.specs.Checking.{EndsAreGood};
+ghost use Rattle.command_base.specs.Updates.{meaning_of, task_for};
+ghost use Rattle.command_base.specs.Replies.{answer_of};
+ghost use Rattle.explain_command.specs.Explained.{IsExplainAnswer};
+
+use crate::explaining::explanation;
+use crate::reasons::{end_reason, round_reason};
+use certificates::{Evidence, Plan};
+use check_command::{class_of, refused_reply};
+use command_base::{Reply, Status, UpdateFiles, too_many_reply};
+use net_base::Memory;
+use plan_checker::{CheckRoom, RoomFault};
+use std::alloc::Global;
+
+// What is said of a plan whose configurations and rounds are good.
+fn judge_walks(
+    alloc: Global,
+    files: &UpdateFiles,
+    plan: &Plan,
+    room: &CheckRoom,
+) -> Result<Reply, Memory>
+    requires old { IsUserConfig files.now.net (rules_of_all files.now.old) }
+    requires valid { IsValidPlan files.now.net plan.now }
+    requires fits { Fits (task_for (meaning_of files.now) plan.now) room.now }
+    requires few { class_count (classes_for (task_for (meaning_of files.now) plan.now)) ≤ 8192 }
+    requires ends { EndsAreGood (task_for (meaning_of files.now) plan.now) }
+    requires good { AreGoodRounds (task_for (meaning_of files.now) plan.now).update }
+    requires clear { AreClearRounds (task_for (meaning_of files.now) plan.now).update }
+    ensures { IfOk result (λ r. IsExplainAnswer (record { update = meaning_of files.now; plan = plan.now }) (answer_of r)) }
+{
+    match &plan.evidence {
+        Evidence::Ordered(_) => Ok(Reply {
+            status: Status::Done,
+            text: explanation(alloc, files, plan, room)?,
+        }),
+        Evidence::TwoPhase(_) => Ok(Reply {
+            status: Status::Refused,
+            text: b"no run: two-phase plan\n".to_vec(alloc)?,
+        }),
+    }
+}
+
+// What is said of a plan whose configurations are good.
+fn judge_rounds(
+    alloc: Global,
+    files: &UpdateFiles,
+    plan: &Plan,
+    room: &CheckRoom,
+) -> Result<Reply, Memory>
+    requires old { IsUserConfig files.now.net (rules_of_all files.now.old) }
+    requires valid { IsValidPlan files.now.net plan.now }
+    requires fits { Fits (task_for (meaning_of files.now) plan.now) room.now }
+    requires few { class_count (classes_for (task_for (meaning_of files.now) plan.now)) ≤ 8192 }
+    requires ends { EndsAreGood (task_for (meaning_of files.now) plan.now) }
+    ensures { IfOk result (λ r. IsExplainAnswer (record { update = meaning_of files.now; plan = plan.now }) (answer_of r)) }
+{
+    match round_reason(alloc, files, plan)? {
+        Some(reason) => refused_reply(alloc, &files.net, None, reason),
+        None => judge_walks(alloc, files, plan, room),
+    }
+}
+
+// What is said of the plan, in a room for its check.
+fn judge_plan(
+    alloc: Global,
+    files: &UpdateFiles,
+    plan: &Plan,
+    room: &CheckRoom,
+) -> Result<Reply, Memory>
+    requires old { IsUserConfig files.now.net (rules_of_all files.now.old) }
+    requires new { IsUserConfig files.now.net (rules_of_all files.now.new) }
+    requires valid { IsValidPlan files.now.net plan.now }
+    requires fits { Fits (task_for (meaning_of files.now) plan.now) room.now }
+    requires few { class_count (classes_for (task_for (meaning_of files.now) plan.now)) ≤ 8192 }
+    ensures { IfOk result (λ r. IsExplainAnswer (record { update = meaning_of files.now; plan = plan.now }) (answer_of r)) }
+{
+    match end_reason(alloc, files, plan, room)? {
+        Some(reason) => {
+            let class = class_of(room.classes(), reason);
+            refused_reply(alloc, &files.net, class, reason)
+        }
+        None => judge_rounds(alloc, files, plan, room),
+    }
+}
+
+/// What is said of the plan of an update that is explained: too many classes, why its mixed walks aren't looked at, a run that
+/// breaks the duties of a class, or that there is none.
+pub fn explain_verdict(alloc: Global, files: &UpdateFiles, plan: &Plan) -> Result<Reply, Memory>
+    requires old { IsUserConfig files.now.net (rules_of_all files.now.old) }
+    requires new { IsUserConfig files.now.net (rules_of_all files.now.new) }
+    requires valid { IsValidPlan files.now.net plan.now }
+    ensures { IfOk result (λ r. IsExplainAnswer (record { update = meaning_of files.now; plan = plan.now }) (answer_of r)) }
+{
+    match CheckRoom::make(
+        alloc,
+        &files.net,
+        &files.old,
+        &files.new,
+        &files.demands,
+        plan,
+    ) {
+        Ok(room) => judge_plan(alloc, files, plan, &room),
+        Err(RoomFault::TooManyClasses(classes)) => too_many_reply(alloc, classes),
+        Err(RoomFault::Memory) => Err(Memory),
+    }
+}
