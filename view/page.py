@@ -26,7 +26,7 @@ def words():
     for name, text in (("topology", "the network"), ("old", "the rules now"), ("new", "the rules wanted"), ("policy", "what packets must do"),
                        ("plan", "the plan, from any source")):
         parser.add_argument(name, metavar={"topology": "TOPO"}.get(name, name.upper()), help=text)
-    parser.add_argument("--schedule", metavar="FILE", help="a run of the plan, to be played: what `planner simulate` wrote, or a record")
+    parser.add_argument("--schedule", metavar="FILE", help="a run of the plan, to be played: what `planner simulate` or `planner explain` wrote, or a record")
     parser.add_argument("--planner", metavar="PATH", help="the program; else the variable PLANNER, else the script at the root of the repository")
     parser.add_argument("--layout", choices=("graphviz", "own"), default="graphviz", help="own: Graphviz isn't used, even where it is there")
     return parser.parse_args()

@@ -13,6 +13,7 @@ import tempfile
 import unittest
 import unittest.mock
 
+import explain
 import explore
 import failing_calls
 import memory_limits
@@ -164,6 +165,30 @@ class Exploring(WithFolder):
         self.assertEqual(model.outcomes(network, {1: rule}, "a", 2, 0, 0x0A000000), {("drop",)})
         self.assertEqual(model.outcomes(network, {1: rule, 2: other}, "a", 1, 0, 0x0A000000), {("drop",), ("leave", 2, 5)})
         self.assertEqual(model.outcomes(network, {}, "a", 1, 0, 0x0A000000), {("drop",)})
+
+
+
+class Explained(unittest.TestCase):
+    """The run of the square network whose changes are made at once, and runs that show nothing."""
+
+    RUN = ["start", "enter s1:1 untagged 10.0.0.0", "hop 0", "hop 0", "change 1", "hop 0"]
+
+    def setUp(self):
+        plan = json.loads((runs.ROOT / "examples" / "square" / "plan-at-once.json").read_text())
+        self.motion = model.Update(**explore.example("square"), plan=plan)
+        self.number = self.motion.classes().index((("s1", 1, model.UNTAGGED), model.bounds("10.0.0.0/24")[0]))
+
+    def test_a_run_that_breaks_by_its_last_event(self):
+        self.assertEqual((0, self.number), explain.first_break(self.motion))
+        self.assertEqual((0, self.number), explain.shown_by(self.motion, self.RUN))
+
+    def test_runs_that_show_nothing(self):
+        for events in (self.RUN[:-1], self.RUN + ["change 0"], ["start", *self.RUN], [*self.RUN[:4], "change 0", "hop 0"]):
+            self.assertIsNone(explain.shown_by(self.motion, events))
+
+    def test_a_plan_that_breaks_nothing(self):
+        plan = json.loads((runs.ROOT / "examples" / "square" / "plan.json").read_text())
+        self.assertIsNone(explain.first_break(model.Update(**explore.example("square"), plan=plan)))
 
 
 if __name__ == "__main__":

@@ -40,6 +40,22 @@ def ring(count):
     return Update(topology, rules(2), rules(3), {"demands": demands})
 
 
+def careless(update, seed):
+    """Returns a plan without evidence: all rules that differ are changed in one round or in two, by chance."""
+    def by_key(config):
+        return {(rule["switch"], rule["priority"], rule["dst"], rule.get("in_port"), rule.get("vlan")): rule for rule in config["rules"]}
+
+    chance = random.Random(seed)
+    old, new = by_key(update.old), by_key(update.new)
+    changes = [("delete", old[key]) for key in old if key not in new]
+    changes += [("replace" if key in old else "insert", new[key]) for key in new if old.get(key) != new[key]]
+    chance.shuffle(changes)
+    numbered = [[what, number] for number, (what, _) in enumerate(changes)]
+    cut = chance.choice([0, len(changes) // 2])
+    return {"format": 2, "kind": "ordered", "numberings": [], "befores": [], "uses": [], "picks": [], "rules": [rule for _, rule in changes],
+            "rounds": [round_ for round_ in (numbered[:cut], numbered[cut:]) if round_]}
+
+
 def some_crossing(seed):
     """Returns a random update that no order of single changes carries out: packets pass a waypoint in the middle of a chain in the other direction."""
     chance = random.Random(seed)

@@ -9,6 +9,8 @@ from test_examples import paths
 
 # Random updates, each by a maker and a seed.
 UPDATES = [(networks.some_update, seed) for seed in range(8)] + [(networks.some_crossing, seed) for seed in range(3)]
+# Updates that are carried out carelessly: those of the first kind let no packet go wrong even so, the others do.
+CARELESS = [(networks.some_update, seed) for seed in range(6)] + [(networks.some_crossing, seed) for seed in range(6)] + [(networks.ring, 5), (networks.ring, 8)]
 # How many packets enter for each round: so many that some do in each.
 PACKETS = 12
 
@@ -33,6 +35,14 @@ WATCH = """(() => {
     }
     return missing;
 })()"""
+
+# The first round, and in it the first class, for which the page finds a walk that breaks; null where there is none.
+FIRST_BAD = """(() => { const update = view.update, numbers = [...view.order].sort((one, other) => one - other);
+    for (let position = 0; position <= update.last; position++) for (const number of numbers) {
+        const it = update.classOf(number);
+        if (badWalk(update, position, it, walksOf(update, position, it), null)) return [position, number];
+    }
+    return null; })()"""
 
 
 def trace_of(line):
@@ -119,6 +129,25 @@ class Runs(PagesInBrowser):
                 self.assertEqual(set(range(len(plan["rounds"]) + 1)), set(map(int, re.findall(r" born (\d+):", text))))
                 self.check_run(files, networks.write(self.folder, "record", text))
         self.assertEqual({(kind, what) for kind in ("ordered", "two-phase") for what in ("insert", "delete", "replace")}, changes)
+
+    def test_what_explain_says_of_careless_plans(self):
+        shown = 0
+        for maker, seed in CARELESS:
+            with self.subTest(maker=maker.__name__, seed=seed):
+                update = maker(seed)
+                files = self.files(update)
+                files.append(networks.write(self.folder, "careless.json", networks.careless(update, seed)))
+                status, text = self.ask("explain", *files)
+                self.assertEqual(0, status, text)
+                if text == "no run: every mixed walk is good\n":
+                    self.open(*files)
+                    self.assertIsNone(self.tab.value(FIRST_BAD))
+                    continue
+                shown += 1
+                self.check_run(files, networks.write(self.folder, "run", text))
+                packet = self.tab.value("view.player.state.packets.map((it) => it.of)")
+                self.assertEqual([text.count("start\n"), *packet], self.tab.value(FIRST_BAD))
+        self.assertEqual(8, shown)
 
     def test_no_walk_is_forbidden_where_the_planner_accepts(self):
         for maker, seed in UPDATES:
