@@ -62,6 +62,9 @@ def example_commands():
     commands += [
         ["config", "detour/topology.json", "detour/new.json", "detour/policy-two-waypoints.json"],
         ["check", *update("square", "plan-at-once.json")],
+        ["explain", *update("square", "plan.json")],
+        ["explain", *update("square", "plan-at-once.json")],
+        ["explain", *update("detour", "plan.json")],
         ["replay", "square/topology.json", "square/old.json", "square/plan.json", "square/schedule"],
         ["import", "square/topology.json", "square/replies-s1"],
         ["drive", *update("square", "plan.json", "input")],
