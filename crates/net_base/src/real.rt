@@ -1,29 +1,34 @@
 // The files and the standard output of the system. They tell nothing of what they hold.
-ghost use Rattle.std.specs.Prelude.{◌≡◌, [], None, is_some, option_map, string_bytes, unwrap_or};
+ghost use Rattle.std.specs.Prelude.{◌≡◌, [], None, is_some, string_bytes};
 
 use crate::{Failed, Sink, Source};
 use std::io::{Read, Write};
 use std::rt::Files;
 use std::{fs, io};
 
-/// Files by their paths. It keeps the name of the current file: a select that lacks the memory for it fails, and is a fault.
+/// Files by their paths. It keeps the name of the current file, in memory that it has from the beginning.
 #[derive(Drop)]
 pub struct FileSource<R: Files + AllocGlobal> {
     files: R,
-    name: Option<String>,
+    name: String,
     current: Option<R::File>,
     taken: u64,
     faults: u64,
 }
 
 impl<R: Files + AllocGlobal> FileSource<R> {
-    /// No file is current, and nothing has failed.
-    pub fn make(files: R) -> Self
-        ensures { result ≡ record { files = files; name = None; current = None; taken = 0; faults = 0 } }
+    /// No file is current, and nothing has failed. The name of the current file is kept in the memory of this text; a
+    /// select by a name that is longer asks for more, and without it fails, which is a fault.
+    pub fn make(files: R, name: String) -> Self
+        ensures current { result.current ≡ None }
+        ensures name { string_bytes result.name ≡ [] }
+        ensures counts { (result.taken ≡ 0) × (result.faults ≡ 0) }
     {
+        let mut name = name;
+        name.clear();
         FileSource {
             files,
-            name: None,
+            name,
             current: None,
             taken: 0,
             faults: 0,
@@ -36,7 +41,7 @@ impl<R: Files + AllocGlobal> Source for FileSource<R> {
 
     ghost left = { λ _. None };
 
-    ghost selected = { λ s. unwrap_or (option_map string_bytes s.name) [] };
+    ghost selected = { λ s. string_bytes s.name };
 
     ghost is_current = { λ s. is_some s.current };
 
@@ -46,15 +51,14 @@ impl<R: Files + AllocGlobal> Source for FileSource<R> {
 
     fn select(&mut self, name: &str) -> Result<(), Failed> {
         self.taken = 0;
-        let kept = String::from_str(self.files.alloc(), name);
-        match (kept, fs::open(&self.files, name)) {
-            (Ok(kept), Ok(file)) => {
-                self.name = Some(kept);
+        self.name.clear();
+        match (self.name.push_str(name), fs::open(&self.files, name)) {
+            (Ok(()), Ok(file)) => {
                 self.current = Some(file);
                 Ok(())
             }
             _ => {
-                self.name = None;
+                self.name.clear();
                 self.current = None;
                 self.faults = self.faults.saturating_add(1);
                 Err(Failed)

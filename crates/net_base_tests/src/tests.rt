@@ -156,7 +156,7 @@ fn pours_all_or_a_front(rt: HostRuntime) -> Result<(), Fail> {
 fn the_real_outside_is_reached(rt: HostRuntime) -> Result<(), Fail> {
     let alloc = rt.alloc();
     fs::write(&rt, "a.txt", b"hello")?;
-    let mut source = FileSource::make(&rt);
+    let mut source = FileSource::make(&rt, String::new(alloc));
     let fetched = fetch(alloc, &mut source, "a.txt", 10);
     assert_eq!(rt;
         fetched
