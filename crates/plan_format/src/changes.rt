@@ -74,6 +74,14 @@ pub enum Spelling {
     Numbers(PlanRules),
 }
 
+/// A member of a plan that lists changes: the network that they are for, how they are spelled, and the member's name.
+#[derive(Clone, Copy)]
+pub(crate) struct ChangeList<'a> {
+    pub(crate) net: &'a Net,
+    pub(crate) spelling: &'a Spelling,
+    pub(crate) name: Field,
+}
+
 /// Rounds, and how many changes they have.
 #[derive(Drop)]
 pub(crate) struct CountedRounds {
@@ -203,61 +211,51 @@ fn read_numbered(
 }
 
 /// Reads a change, by the spelling of the format.
-fn read_spelled(
-    net: &Net,
-    spelling: &Spelling,
-    list: Field,
-    place: u32,
-    item: &Value,
-) -> Result<Change, PlanFault>
-    ensures { Gives Memory (λ c. c) result (plan.change_in net.now spelling.now list place (view item.now)) }
+fn read_spelled(list: ChangeList, place: u32, item: &Value) -> Result<Change, PlanFault>
+    ensures { Gives Memory (λ c. c) result (plan.change_in list.entry.net.now list.entry.spelling.now list.entry.name place (view item.now)) }
 {
-    match spelling {
-        Spelling::Objects => read_object(net, list, place, item),
-        Spelling::Numbers(rules) => read_numbered(rules, list, place, item),
+    match list.spelling {
+        Spelling::Objects => read_object(list.net, list.name, place, item),
+        Spelling::Numbers(rules) => read_numbered(rules, list.name, place, item),
     }
 }
 
 /// Reads one more change of a round.
 #[tactic(auto, unfolding(crate::specs::Changes::change_at))]
 fn read_change(
-    net: &Net,
-    spelling: &Spelling,
-    list: Field,
+    list: ChangeList,
     changes: &mut Vec<Change>,
     place: u32,
     item: &Value,
 ) -> Result<(), PlanFault>
     ensures value { MatchResult result
-        (λ _. plan.change_at net.now spelling.now list place changes.old.items (view item.now) ≡ Ok changes.new.items)
-        (λ e. Fails Memory e (plan.change_at net.now spelling.now list place changes.old.items (view item.now))) }
+        (λ _. plan.change_at list.entry.net.now list.entry.spelling.now list.entry.name place changes.old.items (view item.now) ≡ Ok changes.new.items)
+        (λ e. Fails Memory e (plan.change_at list.entry.net.now list.entry.spelling.now list.entry.name place changes.old.items (view item.now))) }
     ensures few { OnOk result (place < 2200000) }
     ensures one { OnOk result (length changes.new.items ≡ length changes.old.items + 1) }
 {
     if place >= MAX_CHANGES {
-        return Err(PlanFault::TooMany(list));
+        return Err(PlanFault::TooMany(list.name));
     }
-    changes.push(read_spelled(net, spelling, list, place, item)?)?;
+    changes.push(read_spelled(list, place, item)?)?;
     Ok(())
 }
 
 /// Reads the changes of a round, which are numbered from `first` on.
 fn read_changes(
     alloc: Global,
-    net: &Net,
-    spelling: &Spelling,
-    list: Field,
+    list: ChangeList,
     first: usize,
     items: &[Value],
 ) -> Result<Vec<Change>, PlanFault>
     ensures value { Gives Memory (λ v. v.items) result
-        (in_turn (plan.change_at net.now spelling.now list) first [] (map view items.now)) }
+        (in_turn (plan.change_at list.entry.net.now list.entry.spelling.now list.entry.name) first [] (map view items.now)) }
     ensures few { IfOk result (λ v. length v.items ≤ 2200000 - first) }
 {
     let mut changes = Vec::new(alloc);
     let mut number = first;
     for item in items {
-        read_change(net, spelling, list, &mut changes, place_of(number), item)?;
+        read_change(list, &mut changes, place_of(number), item)?;
         number += 1;
     }
     Ok(changes)
@@ -267,28 +265,24 @@ fn read_changes(
 #[tactic(auto, unfolding(crate::specs::Changes::round_in))]
 fn read_round(
     alloc: Global,
-    net: &Net,
-    spelling: &Spelling,
-    list: Field,
+    list: ChangeList,
     place: u32,
     number: usize,
     item: &Value,
 ) -> Result<Vec<Change>, PlanFault>
     ensures value { Gives Memory (λ v. v.items) result
-        (plan.round_in net.now spelling.now list place number (view item.now)) }
+        (plan.round_in list.entry.net.now list.entry.spelling.now list.entry.name place number (view item.now)) }
     ensures few { IfOk result (λ v. length v.items ≤ 2200000 - number) }
 {
-    let items = list_in(item).ok_or(PlanFault::Shape(list, place))?;
-    read_changes(alloc, net, spelling, list, number, items)
+    let items = list_in(item).ok_or(PlanFault::Shape(list.name, place))?;
+    read_changes(alloc, list, number, items)
 }
 
 /// Reads one more round.
 #[tactic(auto, unfolding(crate::specs::Changes::round_at))]
 fn read_next_round(
     alloc: Global,
-    net: &Net,
-    spelling: &Spelling,
-    list: Field,
+    list: ChangeList,
     first: usize,
     rounds: &mut CountedRounds,
     place: u32,
@@ -296,41 +290,30 @@ fn read_next_round(
 ) -> Result<(), PlanFault>
     requires { first ≤ 2200000 }
     ensures value { MatchResult result
-        (λ _. plan.round_at net.now spelling.now list first place rounds.old (view item.now) ≡ Ok rounds.new)
-        (λ e. Fails Memory e (plan.round_at net.now spelling.now list first place rounds.old (view item.now))) }
+        (λ _. plan.round_at list.entry.net.now list.entry.spelling.now list.entry.name first place rounds.old (view item.now) ≡ Ok rounds.new)
+        (λ e. Fails Memory e (plan.round_at list.entry.net.now list.entry.spelling.now list.entry.name first place rounds.old (view item.now))) }
     ensures one { OnOk result (length rounds.new ≡ length rounds.old + 1) }
 {
     let number = first + rounds.changes();
-    let round = read_round(alloc, net, spelling, list, place, number, item)?;
+    let round = read_round(alloc, list, place, number, item)?;
     rounds.push(round)?;
     Ok(())
 }
 
 fn read_each_round(
     alloc: Global,
-    net: &Net,
-    spelling: &Spelling,
-    list: Field,
+    list: ChangeList,
     first: usize,
     items: &[Value],
 ) -> Result<CountedRounds, PlanFault>
     requires { first ≤ 2200000 }
     ensures value { Gives Memory (λ r. r) result
-        (in_turn (plan.round_at net.now spelling.now list first) 0 [] (map view items.now)) }
+        (in_turn (plan.round_at list.entry.net.now list.entry.spelling.now list.entry.name first) 0 [] (map view items.now)) }
     ensures count { IfOk result (λ r. length r ≡ length items.now) }
 {
     let mut rounds = CountedRounds::make(alloc)?;
     for (i, item) in items.iter().enumerate() {
-        read_next_round(
-            alloc,
-            net,
-            spelling,
-            list,
-            first,
-            &mut rounds,
-            place_of(i),
-            item,
-        )?;
+        read_next_round(alloc, list, first, &mut rounds, place_of(i), item)?;
     }
     Ok(rounds)
 }
@@ -339,23 +322,21 @@ fn read_each_round(
 #[tactic(auto, unfolding(crate::specs::Changes::rounds_in))]
 pub(crate) fn read_rounds(
     alloc: Global,
-    net: &Net,
-    spelling: &Spelling,
-    list: Field,
+    list: ChangeList,
     most: usize,
     first: usize,
     top: &Value,
 ) -> Result<CountedRounds, PlanFault>
     requires { first ≤ 2200000 }
     ensures value { Gives Memory (λ r. r) result
-        (plan.rounds_in net.now spelling.now list most first (view top.now)) }
+        (plan.rounds_in list.entry.net.now list.entry.spelling.now list.entry.name most first (view top.now)) }
     ensures few { IfOk result (λ r. length r ≤ most) }
 {
-    let items = list_at(top, list.name()).ok_or(PlanFault::Shape(list, 0))?;
+    let items = list_at(top, list.name.name()).ok_or(PlanFault::Shape(list.name, 0))?;
     if items.len() > most {
-        return Err(PlanFault::TooMany(list));
+        return Err(PlanFault::TooMany(list.name));
     }
-    read_each_round(alloc, net, spelling, list, first, items)
+    read_each_round(alloc, list, first, items)
 }
 
 /// Reads one more rule.

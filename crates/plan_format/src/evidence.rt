@@ -6,7 +6,7 @@ ghost use Rattle.plan_format.specs.declared.fault.PlanFault.TheVariants.{Memory}
 ghost use Rattle.plan_format.specs.Evidence as plan;
 
 use crate::fault::PlanFault;
-use crate::lists::{are_below, ascends, is_index, read_numbers};
+use crate::lists::{Counts, are_below, ascends, is_index, read_numbers};
 use acyclic_numbering::Numbering;
 use certificates::{Befores, IndexList, Numberings, Shared};
 use net_base::{Field, SwitchId, list_at, list_in, place_of, whole};
@@ -170,18 +170,17 @@ pub(crate) fn read_shared(
     alloc: Global,
     field: Field,
     place: u32,
-    numberings: usize,
-    befores: usize,
+    counts: Counts,
     numbering: u64,
     item: &Value,
 ) -> Result<Shared, PlanFault>
-    ensures { Gives Memory (λ s. s) result (plan.shared_in field place numberings befores numbering (view item.now)) }
+    ensures { Gives Memory (λ s. s) result (plan.shared_in field place counts.numberings counts.befores numbering (view item.now)) }
 {
     let numbers = read_numbers(alloc, field, place, item)?;
-    if !is_index(numberings, numbering) {
+    if !is_index(counts.numberings, numbering) {
         return Err(PlanFault::BadIndex(place));
     }
-    if !are_below(&numbers, befores) {
+    if !are_below(&numbers, counts.befores) {
         return Err(PlanFault::BadIndex(place));
     }
     Ok(Shared {

@@ -10,7 +10,7 @@ ghost use Rattle.std.specs.List.{list_any};
 
 use crate::evidence::read_shared;
 use crate::fault::PlanFault;
-use crate::lists::three_numbers;
+use crate::lists::{Counts, three_numbers};
 use crate::picks::{PickTable, add_pick, is_round_and_class};
 use certificates::{IndexList, OrderedPick, OrderedPicks, Shared, Uses};
 use indexmap::IndexSet;
@@ -40,6 +40,7 @@ fn key_of(alloc: Global, shared: &Shared) -> Result<SharedKey, PlanFault>
 /// The evidence of picks, each once, in the order of first use.
 #[derive(Drop)]
 struct SharedKeys {
+    alloc: Global,
     keys: IndexSet<SharedKey>,
 }
 
@@ -60,37 +61,33 @@ impl SharedKeys {
         ensures { result ≡ [] }
     {
         SharedKeys {
+            alloc,
             keys: IndexSet::new(alloc),
         }
     }
 
     /// The number of the evidence, and whether it is new. It is added where it isn't there.
-    fn number(&mut self, alloc: Global, shared: &Shared) -> Result<(usize, bool), PlanFault>
+    fn number(&mut self, shared: &Shared) -> Result<(usize, bool), PlanFault>
         ensures number { IfOk result (λ n. n.0 ≡ plan.number_of_shared self.old shared.now) }
         ensures new { IfOk result (λ n. n.1 ≡ not (list_any (shared_eq shared.now) self.old)) }
         ensures keys { OnOk result (self.new ≡ plan.with_shared self.old shared.now) }
         ensures err { IfErr result (λ e. e ≡ Memory) }
     {
-        let key = key_of(alloc, shared)?;
+        let key = key_of(self.alloc, shared)?;
         let (number, new) = self.keys.insert_full(key)?;
         Ok((number, new))
     }
 }
 
 /// The number of the evidence, which is added where it isn't there. The keys are those of the evidence so far.
-fn add_shared(
-    alloc: Global,
-    keys: &mut SharedKeys,
-    uses: &mut Uses,
-    shared: Shared,
-) -> Result<usize, PlanFault>
+fn add_shared(keys: &mut SharedKeys, uses: &mut Uses, shared: Shared) -> Result<usize, PlanFault>
     requires { keys.old ≡ uses.old }
     ensures number { IfOk result (λ n. n ≡ plan.number_of_shared uses.old shared) }
     ensures uses { OnOk result (uses.new ≡ plan.with_shared uses.old shared) }
     ensures keys { OnOk result (keys.new ≡ uses.new) }
     ensures err { IfErr result (λ e. e ≡ Memory) }
 {
-    let (number, new) = keys.number(alloc, &shared)?;
+    let (number, new) = keys.number(&shared)?;
     if new {
         uses.add(shared)?;
     }
@@ -100,7 +97,6 @@ fn add_shared(
 /// Adds a pick, by its round, class and evidence.
 #[tactic(auto, unfolding(crate::specs::Evidence::full_picks_with))]
 fn add_full_pick(
-    alloc: Global,
     keys: &mut SharedKeys,
     table: &mut PickTable,
     place: u32,
@@ -118,7 +114,7 @@ fn add_full_pick(
     ensures keys { OnOk result (keys.new ≡ table.new.uses) }
     ensures few { OnOk result (HasFew table.new) }
 {
-    let number = add_shared(alloc, keys, &mut table.uses, shared)?;
+    let number = add_shared(keys, &mut table.uses, shared)?;
     let pick = OrderedPick {
         round,
         class,
@@ -141,72 +137,43 @@ fn numbers_and_list(items: &[Value]) -> Option<((u64, u64, u64), &Value)>
 #[tactic(auto, unfolding(crate::specs::Evidence::full_pick_at))]
 fn read_full_pick(
     alloc: Global,
-    rounds: usize,
-    numberings: usize,
-    befores: usize,
+    counts: Counts,
     keys: &mut SharedKeys,
     table: &mut PickTable,
     place: u32,
     item: &Value,
 ) -> Result<(), PlanFault>
-    requires rounds { rounds ≤ 4200 }
+    requires rounds { counts.rounds ≤ 4200 }
     requires keys { keys.old ≡ table.old.uses }
     requires few { HasFew table.old }
     ensures value { MatchResult result
-        (λ _. plan.full_pick_at rounds numberings befores place table.old (view item.now) ≡ Ok table.new)
-        (λ e. Fails Memory e (plan.full_pick_at rounds numberings befores place table.old (view item.now))) }
+        (λ _. plan.full_pick_at counts.rounds counts.numberings counts.befores place table.old (view item.now) ≡ Ok table.new)
+        (λ e. Fails Memory e (plan.full_pick_at counts.rounds counts.numberings counts.befores place table.old (view item.now))) }
     ensures keys { OnOk result (keys.new ≡ table.new.uses) }
     ensures few { OnOk result (HasFew table.new) }
 {
     let ((round, class, numbering), list) = list_in(item)
         .and_then(numbers_and_list)
         .ok_or(PlanFault::Shape(Field::Picks, place))?;
-    let shared = read_shared(
-        alloc,
-        Field::Picks,
-        place,
-        numberings,
-        befores,
-        numbering,
-        list,
-    )?;
-    if !is_round_and_class(rounds, round, class) {
+    let shared = read_shared(alloc, Field::Picks, place, counts, numbering, list)?;
+    if !is_round_and_class(counts.rounds, round, class) {
         return Err(PlanFault::BadIndex(place));
     }
-    add_full_pick(
-        alloc,
-        keys,
-        table,
-        place,
-        round as u32,
-        class as u32,
-        shared,
-    )
+    add_full_pick(keys, table, place, round as u32, class as u32, shared)
 }
 
 fn read_each_full_pick(
     alloc: Global,
-    rounds: usize,
-    numberings: usize,
-    befores: usize,
+    counts: Counts,
     items: &[Value],
 ) -> Result<PickTable, PlanFault>
-    requires { rounds ≤ 4200 }
-    ensures { Gives Memory (λ t. t) result (in_turn (plan.full_pick_at rounds numberings befores) 0 (record { uses = []; picks = [] }) (map view items.now)) }
+    requires { counts.rounds ≤ 4200 }
+    ensures { Gives Memory (λ t. t) result (in_turn (plan.full_pick_at counts.rounds counts.numberings counts.befores) 0 (record { uses = []; picks = [] }) (map view items.now)) }
 {
     let mut keys = SharedKeys::empty(alloc);
     let mut table = PickTable::empty(alloc)?;
     for (i, item) in items.iter().enumerate() {
-        read_full_pick(
-            alloc,
-            rounds,
-            numberings,
-            befores,
-            &mut keys,
-            &mut table,
-            place_of(i),
-            item,
-        )?;
+        read_full_pick(alloc, counts, &mut keys, &mut table, place_of(i), item)?;
     }
     Ok(table)
 }
@@ -215,14 +182,12 @@ fn read_each_full_pick(
 #[tactic(auto, unfolding(crate::specs::Evidence::full_picks_in))]
 pub(crate) fn read_full_picks(
     alloc: Global,
-    rounds: usize,
-    numberings: usize,
-    befores: usize,
+    counts: Counts,
     top: &Value,
 ) -> Result<PickTable, PlanFault>
-    requires { rounds ≤ 4200 }
-    ensures { Gives Memory (λ t. t) result (plan.full_picks_in rounds numberings befores (view top.now)) }
+    requires { counts.rounds ≤ 4200 }
+    ensures { Gives Memory (λ t. t) result (plan.full_picks_in counts.rounds counts.numberings counts.befores (view top.now)) }
 {
     let items = list_at(top, "picks").ok_or(PlanFault::Shape(Field::Picks, 0))?;
-    read_each_full_pick(alloc, rounds, numberings, befores, items)
+    read_each_full_pick(alloc, counts, items)
 }

@@ -11,6 +11,14 @@ use net_base::{Field, list_in, whole};
 use serde_json::Value;
 use std::alloc::Global;
 
+/// How many rounds, numberings and before sets a plan has.
+#[derive(Clone, Copy)]
+pub(crate) struct Counts {
+    pub(crate) rounds: usize,
+    pub(crate) numberings: usize,
+    pub(crate) befores: usize,
+}
+
 /// Reads one more number.
 #[tactic(auto, unfolding(crate::specs::Evidence::number_at))]
 fn read_number(

@@ -7,7 +7,7 @@ ghost use Rattle.plan_format.specs.Evidence as plan;
 
 use crate::evidence::read_shared;
 use crate::fault::PlanFault;
-use crate::lists::{is_index, is_round, three_numbers};
+use crate::lists::{Counts, is_index, is_round, three_numbers};
 use certificates::{OrderedPick, OrderedPicks, Uses};
 use net_base::{Field, list_at, list_in, place_of, whole};
 use serde_json::Value;
@@ -48,59 +48,40 @@ fn number_and_list(items: &[Value]) -> Option<(u64, &Value)>
 #[tactic(auto, unfolding(crate::specs::Evidence::use_at))]
 fn read_use(
     alloc: Global,
-    numberings: usize,
-    befores: usize,
+    counts: Counts,
     uses: &mut Uses,
     place: u32,
     item: &Value,
 ) -> Result<(), PlanFault>
     ensures { MatchResult result
-        (λ _. plan.use_at numberings befores place uses.old (view item.now) ≡ Ok uses.new)
-        (λ e. Fails Memory e (plan.use_at numberings befores place uses.old (view item.now))) }
+        (λ _. plan.use_at counts.numberings counts.befores place uses.old (view item.now) ≡ Ok uses.new)
+        (λ e. Fails Memory e (plan.use_at counts.numberings counts.befores place uses.old (view item.now))) }
 {
     let (numbering, list) = list_in(item)
         .and_then(number_and_list)
         .ok_or(PlanFault::Shape(Field::Uses, place))?;
-    let shared = read_shared(
-        alloc,
-        Field::Uses,
-        place,
-        numberings,
-        befores,
-        numbering,
-        list,
-    )?;
+    let shared = read_shared(alloc, Field::Uses, place, counts, numbering, list)?;
     uses.add(shared)?;
     Ok(())
 }
 
-fn read_each_use(
-    alloc: Global,
-    numberings: usize,
-    befores: usize,
-    items: &[Value],
-) -> Result<Uses, PlanFault>
-    ensures { Gives Memory (λ u. u) result (in_turn (plan.use_at numberings befores) 0 [] (map view items.now)) }
+fn read_each_use(alloc: Global, counts: Counts, items: &[Value]) -> Result<Uses, PlanFault>
+    ensures { Gives Memory (λ u. u) result (in_turn (plan.use_at counts.numberings counts.befores) 0 [] (map view items.now)) }
 {
     let mut uses = Uses::make(alloc)?;
     for (i, item) in items.iter().enumerate() {
-        read_use(alloc, numberings, befores, &mut uses, place_of(i), item)?;
+        read_use(alloc, counts, &mut uses, place_of(i), item)?;
     }
     Ok(uses)
 }
 
 /// Reads the member `uses`.
 #[tactic(auto, unfolding(crate::specs::Evidence::uses_in))]
-fn read_uses(
-    alloc: Global,
-    numberings: usize,
-    befores: usize,
-    top: &Value,
-) -> Result<Uses, PlanFault>
-    ensures { Gives Memory (λ u. u) result (plan.uses_in numberings befores (view top.now)) }
+fn read_uses(alloc: Global, counts: Counts, top: &Value) -> Result<Uses, PlanFault>
+    ensures { Gives Memory (λ u. u) result (plan.uses_in counts.numberings counts.befores (view top.now)) }
 {
     let items = list_at(top, "uses").ok_or(PlanFault::Shape(Field::Uses, 0))?;
-    read_each_use(alloc, numberings, befores, items)
+    read_each_use(alloc, counts, items)
 }
 
 /// Whether one pick comes before another, by round and then by class.
@@ -223,15 +204,13 @@ fn read_picks(
 #[tactic(auto, unfolding(crate::specs::Evidence::uses_and_picks_in))]
 pub(crate) fn read_uses_and_picks(
     alloc: Global,
-    rounds: usize,
-    numberings: usize,
-    befores: usize,
+    counts: Counts,
     top: &Value,
 ) -> Result<PickTable, PlanFault>
-    requires { rounds ≤ 4200 }
-    ensures { Gives Memory (λ t. t) result (plan.uses_and_picks_in rounds numberings befores (view top.now)) }
+    requires { counts.rounds ≤ 4200 }
+    ensures { Gives Memory (λ t. t) result (plan.uses_and_picks_in counts.rounds counts.numberings counts.befores (view top.now)) }
 {
-    let uses = read_uses(alloc, numberings, befores, top)?;
-    let picks = read_picks(alloc, rounds, uses.list().len(), top)?;
+    let uses = read_uses(alloc, counts, top)?;
+    let picks = read_picks(alloc, counts.rounds, uses.list().len(), top)?;
     Ok(PickTable { uses, picks })
 }

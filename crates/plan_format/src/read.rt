@@ -6,11 +6,12 @@ ghost use Rattle.plan_format.specs.declared.fault.PlanFault.TheVariants.{Memory}
 ghost use Rattle.plan_format.specs.Plans as plan;
 ghost use Rattle.certificates.specs.Valid.{IsValidPlan};
 
-use crate::changes::{CountedRounds, Spelling, read_rounds, read_rules};
+use crate::changes::{ChangeList, CountedRounds, Spelling, read_rounds, read_rules};
 use crate::evidence::{read_befores, read_numberings};
 use crate::fault::PlanFault;
 use crate::full_picks::read_full_picks;
 use crate::labels::{read_label_picks, read_labels};
+use crate::lists::Counts;
 use crate::picks::{PickTable, read_uses_and_picks};
 use certificates::{Evidence, OrderedEvidence, Plan, TwoPhaseEvidence};
 use net_base::{Field, is_object, parse_json, text_at, whole_at};
@@ -34,6 +35,13 @@ enum Format {
 enum PlanKind {
     Ordered,
     TwoPhase,
+}
+
+/// What a plan says of itself first.
+#[derive(Clone, Copy)]
+struct Head {
+    format: Format,
+    kind: PlanKind,
 }
 
 /// The format of this number.
@@ -83,17 +91,15 @@ fn read_spelling(
 fn read_pick_table(
     alloc: Global,
     format: Format,
-    rounds: usize,
-    numberings: usize,
-    befores: usize,
+    counts: Counts,
     top: &Value,
 ) -> Result<PickTable, PlanFault>
-    requires { rounds ≤ 4200 }
-    ensures { Gives Memory (λ t. t) result (plan.pick_table_in format rounds numberings befores (view top.now)) }
+    requires { counts.rounds ≤ 4200 }
+    ensures { Gives Memory (λ t. t) result (plan.pick_table_in format counts.rounds counts.numberings counts.befores (view top.now)) }
 {
     match format {
-        Format::One => read_full_picks(alloc, rounds, numberings, befores, top),
-        Format::Two => read_uses_and_picks(alloc, rounds, numberings, befores, top),
+        Format::One => read_full_picks(alloc, counts, top),
+        Format::Two => read_uses_and_picks(alloc, counts, top),
     }
 }
 
@@ -111,14 +117,12 @@ fn read_ordered(
 {
     let numberings = read_numberings(alloc, net, top)?;
     let befores = read_befores(alloc, net, top)?;
-    let table = read_pick_table(
-        alloc,
-        format,
+    let counts = Counts {
         rounds,
-        numberings.list().len(),
-        befores.list().len(),
-        top,
-    )?;
+        numberings: numberings.list().len(),
+        befores: befores.list().len(),
+    };
+    let table = read_pick_table(alloc, format, counts, top)?;
     Ok(OrderedEvidence {
         numberings,
         befores,
@@ -141,15 +145,12 @@ fn read_two_phase(
 {
     let labels = read_labels(alloc, top)?;
     let picks = read_label_picks(alloc, rounds.count(), labels.list().len(), top)?;
-    let tried = read_rounds(
-        alloc,
+    let list = ChangeList {
         net,
         spelling,
-        Field::Tried,
-        MAX_TRIED,
-        rounds.changes(),
-        top,
-    )?;
+        name: Field::Tried,
+    };
+    let tried = read_rounds(alloc, list, MAX_TRIED, rounds.changes(), top)?;
     Ok(TwoPhaseEvidence {
         labels,
         picks,
@@ -162,18 +163,17 @@ fn read_two_phase(
 fn read_evidence(
     alloc: Global,
     net: &Net,
-    format: Format,
-    kind: PlanKind,
+    head: Head,
     spelling: &Spelling,
     rounds: &CountedRounds,
     top: &Value,
 ) -> Result<Evidence, PlanFault>
     requires { length rounds.now ≤ 4200 }
-    ensures { Gives Memory (λ e. e) result (plan.evidence_in net.now format kind spelling.now rounds.now (view top.now)) }
+    ensures { Gives Memory (λ e. e) result (plan.evidence_in net.now head.format head.kind spelling.now rounds.now (view top.now)) }
 {
-    match kind {
+    match head.kind {
         PlanKind::Ordered => {
-            let evidence = read_ordered(alloc, net, format, rounds.count(), top)?;
+            let evidence = read_ordered(alloc, net, head.format, rounds.count(), top)?;
             Ok(Evidence::Ordered(evidence))
         }
         PlanKind::TwoPhase => {
@@ -197,8 +197,14 @@ fn read_top(alloc: Global, net: &Net, top: &Value) -> Result<Plan, PlanFault>
         .and_then(kind_of)
         .ok_or(PlanFault::Shape(Field::Kind, 0))?;
     let spelling = read_spelling(alloc, net, format, top)?;
-    let rounds = read_rounds(alloc, net, &spelling, Field::Rounds, MAX_ROUNDS, 0, top)?;
-    let evidence = read_evidence(alloc, net, format, kind, &spelling, &rounds, top)?;
+    let list = ChangeList {
+        net,
+        spelling: &spelling,
+        name: Field::Rounds,
+    };
+    let rounds = read_rounds(alloc, list, MAX_ROUNDS, 0, top)?;
+    let head = Head { format, kind };
+    let evidence = read_evidence(alloc, net, head, &spelling, &rounds, top)?;
     Ok(Plan {
         rounds: rounds.rounds(),
         evidence,

@@ -10,17 +10,17 @@ pub returns-in_err-read_change-clause-value : goal.returns-in_err-read_change-cl
 returns-in_err-read_change-clause-value c =
     let p = err_from_is_err_and c.from_residual.result c.from_residual.ensures.1 in
     rw (p.1, p.2)
-    (ends view (change_at c.args.net.now c.args.spelling.now c.args.list) c.args.items.now c.loop-item.item-index c.loop-item.number c.loop-item.changes.items c.item-item.result _ c.loop-item-test.true c.item-item.is Memory
+    (ends view (change_at c.args.list.net.now c.args.list.spelling.now c.args.list.name) c.args.items.now c.loop-item.item-index c.loop-item.number c.loop-item.changes.items c.item-item.result _ c.loop-item-test.true c.item-item.is Memory
     c.in_err-read_change.field-0.0 (rw (← c.place_of.ensures) c.in_err-read_change.ensures.value) c.loop-item.invariant.so_far)
 
 pub loop-item-preserved : goal.loop-item-preserved
 loop-item-preserved c = record {
   so_far =
-      goes_on view (change_at c.args.net.now c.args.spelling.now c.args.list) c.args.items.now c.loop-item.item-index c.loop-item.number c.loop-item.changes.items c.item-item.result _ c.loop-item-test.true c.item-item.is
+      goes_on view (change_at c.args.list.net.now c.args.list.spelling.now c.args.list.name) c.args.items.now c.loop-item.item-index c.loop-item.number c.loop-item.changes.items c.item-item.result _ c.loop-item-test.true c.item-item.is
       c.read_change.new.changes.items (rw (← c.place_of.ensures) c.in_ok-read_change.ensures.value) c.loop-item.invariant.so_far;
   counted = omega (arith, c.in_ok-read_change.ensures.one, c.loop-item.invariant.counted);
   few = omega (arith, c.in_ok-read_change.ensures.few, c.place_of.ensures);
 }
 
 pub returns-clause-value : goal.returns-clause-value
-returns-clause-value c = is_done view (change_at c.args.net.now c.args.spelling.now c.args.list) c.args.items.now c.loop-item.item-index c.loop-item.number c.loop-item.changes.items _ c.loop-item-test.false c.loop-item.invariant.so_far
+returns-clause-value c = is_done view (change_at c.args.list.net.now c.args.list.spelling.now c.args.list.name) c.args.items.now c.loop-item.item-index c.loop-item.number c.loop-item.changes.items _ c.loop-item-test.false c.loop-item.invariant.so_far

@@ -6,6 +6,6 @@ use Rattle.plan_format.proofs.changes.read_each_round.Given as goal
 
 abbrev pub invariant-loop-i : goal.invariant-loop-i
 invariant-loop-i l = record {
-  so_far : in_turn (round_at l.net l.spelling l.list l.first) l.i l.rounds (map view (drop l.i l.items)) ≡ in_turn (round_at l.net l.spelling l.list l.first) 0 [] (map view l.items);
+  so_far : in_turn (round_at l.list.net.now l.list.spelling.now l.list.name l.first) l.i l.rounds (map view (drop l.i l.items)) ≡ in_turn (round_at l.list.net.now l.list.spelling.now l.list.name l.first) 0 [] (map view l.items);
   counted : length l.rounds ≡ l.i;
 }

@@ -7,8 +7,8 @@ use Rattle.plan_format.proofs.full_picks.read_each_full_pick.Given as goal
 
 abbrev pub invariant-loop-i : goal.invariant-loop-i
 invariant-loop-i l = record {
-  so_far : in_turn (full_pick_at l.rounds l.numberings l.befores) l.i l.table (map view (drop l.i l.items))
-      ≡ in_turn (full_pick_at l.rounds l.numberings l.befores) 0 (record { uses = []; picks = [] }) (map view l.items);
+  so_far : in_turn (full_pick_at l.counts.rounds l.counts.numberings l.counts.befores) l.i l.table (map view (drop l.i l.items))
+      ≡ in_turn (full_pick_at l.counts.rounds l.counts.numberings l.counts.befores) 0 (record { uses = []; picks = [] }) (map view l.items);
   keys : l.keys ≡ l.table.uses;
   few : HasFew l.table;
 }

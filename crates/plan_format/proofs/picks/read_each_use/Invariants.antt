@@ -5,4 +5,4 @@ use Rattle.plan_format.specs.Evidence.{use_at}
 use Rattle.plan_format.proofs.picks.read_each_use.Given as goal
 
 abbrev pub invariant-loop-i : goal.invariant-loop-i
-invariant-loop-i l = in_turn (use_at l.numberings l.befores) l.i l.uses (map view (drop l.i l.items)) ≡ in_turn (use_at l.numberings l.befores) 0 [] (map view l.items)
+invariant-loop-i l = in_turn (use_at l.counts.numberings l.counts.befores) l.i l.uses (map view (drop l.i l.items)) ≡ in_turn (use_at l.counts.numberings l.counts.befores) 0 [] (map view l.items)
