@@ -80,7 +80,7 @@ module _ (u : Update) (good : AreGoodRounds u) (k : ℕ) (less : k < length u.ro
     held = record {
       made = changes_at p.switch (round_after k u.rounds);
       some = IsSubsequence_refl (changes_at p.switch (round_after k u.rounds));
-      same = subst (λ x. IsSameSet (rules_at (tables_before u (suc k)) p.switch) x) (next_tables u good k less p.switch) (λ r. (λ i. i, λ i. i));
+      same = subst (λ x. IsSameSet (rules_at (tables_before u (suc k)) p.switch) x) (next_tables u k less (good k less) p.switch) (λ r. (λ i. i, λ i. i));
     };
     is = refl;
   }

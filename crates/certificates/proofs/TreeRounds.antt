@@ -109,7 +109,7 @@ module _ (t : Task) (tree : IsTreeUpdate t) (old_once : (s : SwitchId) → IsTab
         let less : k < length t.update.rounds = omega arith in
         let (c, round, is) = singles k less in
         let single : round_after k t.update.rounds ≡ Replace is.switch is.next ∷ [] = round ∙ ap (λ x. x ∷ []) is.is in
-        subst (Fits (rules_at t.new s)) (sym (next_tables t.update good k less s ∙ ap (λ r. rules_after (changes_at s r) (rules_at (tables_before t.update k) s)) single))
+        subst (Fits (rules_at t.new s)) (sym (next_tables t.update k less (good k less) s ∙ ap (λ r. rules_after (changes_at s r) (rules_at (tables_before t.update k) s)) single))
         (one_fits s is.switch is.next (rules_at (tables_before t.update k) s) is.wanted (before_fit k (omega arith) s))
 
   module _ (tables : List (List Rule)) (fit : AllFit tables) (at : SwitchId) (next : Rule) (wanted : IsIn next (rules_at t.new at)) where

@@ -1,21 +1,22 @@
 -- Where a round changes no rule for an address, the possible outcomes are those of the tables before it.
-use Rattle.std.proofs.Common.{◌≡◌, ◌↔◌, ◌&&◌, ℕ, ◌<◌, true, false, List, [], length, map, ◌∙◌, subst, ap, inl, inr}
+use Rattle.std.proofs.Common.{◌≡◌, ◌↔◌, ◌&&◌, ℕ, true, false, List, [], map, ◌∙◌, subst, ap, inl, inr}
 use Rattle.std.specs.Prelude.{◌==◌}
 use Rattle.std.specs.List.{AllByRecursion}
 use Rattle.std.proofs.lemmas.Bool.{both_ways, and_parts}
 use Rattle.net_base.specs.Blocks.{in_block}
 use Rattle.net_base.specs.Members.{IsIn, IsSameSet, IsDistinct}
 use Rattle.net_base.proofs.MemberLaws.{in_filter, in_from_filter, in_from_map, in_from_subsequence, each_at}
+use Rattle.net_base.specs.declared.ids.SwitchId.{SwitchId}
 use Rattle.net_base.specs.declared.ids.Place.{Place}
 use Rattle.flow_rules.specs.Patterns.{covers, admits_port, admits_vlan}
-use Rattle.flow_rules.specs.Tables.{rules_at, covering}
+use Rattle.flow_rules.specs.Tables.{IsClear, rules_at, covering}
 use Rattle.flow_rules.specs.declared.rules.Rule.{Rule}
 use Rattle.flow_rules.proofs.LookupLaws.{lookup_by_set}
 use Rattle.path_walk.specs.Outcomes.{acted, header_at}
 use Rattle.path_walk.specs.Paths.{outcome_in}
 use Rattle.path_walk.specs.declared.Outcome.{Outcome}
-use Rattle.update_model.specs.Changes.{switch_of, rule_of, AppliesTo, changes_at, round_after}
-use Rattle.update_model.specs.Mixtures.{Update, tables_before, IsPossible, MayHold, AreGoodRounds, AreClearRounds}
+use Rattle.update_model.specs.Changes.{switch_of, rule_of, AppliesTo, IsGoodRound, changes_at, round_after}
+use Rattle.update_model.specs.Mixtures.{Update, tables_before, IsPossible, MayHold}
 use Rattle.update_model.specs.Matches.{Writes}
 use Rattle.update_model.specs.declared.Change.{Change}
 use Rattle.update_model.specs.declared.Change.TheVariants.{Insert, Delete, Replace}
@@ -27,7 +28,7 @@ writes_rule r (Insert s q) w = w
 writes_rule r (Delete s q) w = absurd w
 writes_rule r (Replace s q) w = w
 
-module _ (u : Update) (good : AreGoodRounds u) (clear : AreClearRounds u) (k dst : ℕ) (less : k < length u.rounds)
+module _ (u : Update) (k dst : ℕ) (good : IsGoodRound (tables_before u k) (round_after k u.rounds)) (clear : (s : SwitchId) (mixed : List Rule) → MayHold u k s mixed → IsClear mixed)
     (untouched : AllByRecursion (λ c. in_block (rule_of c).key.pattern.dst dst ≡ false) (round_after k u.rounds)) (place : Place) where
   -- the round at the place's switch, and the table there before it
   abbrev here : List Change
@@ -46,10 +47,10 @@ module _ (u : Update) (good : AreGoodRounds u) (clear : AreClearRounds u) (k dst
 
   module _ (mixed : List Rule) (held : MayHold u k place.switch mixed) where
     applies : AllByRecursion (AppliesTo before) held.made
-    applies = each_some (AppliesTo before) held.made here held.some (apply_there (tables_before u k) place.switch (round_after k u.rounds) (good k less).applies)
+    applies = each_some (AppliesTo before) held.made here held.some (apply_there (tables_before u k) place.switch (round_after k u.rounds) good.applies)
 
     distinct : IsDistinct (map key_named held.made)
-    distinct = distinct_some key_named held.made here held.some (keys_distinct place.switch (round_after k u.rounds) (good k less).distinct)
+    distinct = distinct_some key_named held.made here held.some (keys_distinct place.switch (round_after k u.rounds) good.distinct)
 
     same_covering : IsSameSet (covering (header_at place dst) mixed) (covering (header_at place dst) before)
     same_covering r = (
@@ -77,7 +78,7 @@ module _ (u : Update) (good : AreGoodRounds u) (clear : AreClearRounds u) (k dst
   pub unchanged : (found : Outcome) → IsPossible u k dst place found ↔ (found ≡ outcome_in u.net (tables_before u k) place dst)
   unchanged found = (
     λ possible. possible.is ∙ ap (acted u.net place)
-        (lookup_by_set (header_at place dst) possible.mixed before (clear k less place.switch possible.mixed possible.held) (clear k less place.switch before unchanged_held)
+        (lookup_by_set (header_at place dst) possible.mixed before (clear place.switch possible.mixed possible.held) (clear place.switch before unchanged_held)
         (same_covering possible.mixed possible.held)),
     λ e. record { mixed = before; held = unchanged_held; is = e },
   )

@@ -3,3 +3,4 @@ pub mod Reasons
 pub mod Cases
 pub mod Passed
 pub mod Loaded
+pub mod Touched

@@ -42,3 +42,7 @@ pub record ChangesPass (t : Task) (evidence : Evidence) (k : ℕ) : Type 0 where
 -- each class of round k has its certificate
 abbrev pub ClassesPass : Task → Evidence → ℕ → Type 0
 ClassesPass t evidence k = (n : ℕ) (class : Class) → IsClass (classes_for t) n class → HasCertificate t evidence k n class
+
+-- the first k rounds give no reason
+abbrev pub RoundsPass : Task → Evidence → ℕ → Type 0
+RoundsPass t evidence k = (j : ℕ) → j < k → ChangesPass t evidence j × ClassesPass t evidence j

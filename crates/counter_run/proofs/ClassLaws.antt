@@ -15,12 +15,13 @@ use Rattle.dest_classes.proofs.EntryLaws.{class_entry}
 use Rattle.demands.specs.Duties.{DemandView, duties_of}
 use Rattle.update_model.specs.Changes.{round_after}
 use Rattle.update_model.specs.Mixtures.{Update, AreGoodRounds, AreClearRounds}
+use Rattle.check_reasons.specs.Touched.{touches}
 use Rattle.breaking_walks.specs.Breaking.{IsBreakingWalk, HasBreakingWalk}
 use Rattle.breaking_walks.specs.declared.BreakingWalk.{BreakingWalk}
 use Rattle.round_outcomes.specs.Rounds.{RoundView, alone}
 use Rattle.counter_run.specs.Showing.{update_in}
 use Rattle.counter_run.specs.Explaining.{ClassBreaks, NoneBreaks}
-use Rattle.counter_run.specs.Stages.{touches, view_of}
+use Rattle.counter_run.specs.Stages.{view_of}
 use Rattle.counter_run.specs.Steps.{IsStage}
 use Rattle.counter_run.specs.declared.showing.Stage.{Stage}
 use Rattle.counter_run.proofs.TouchLaws.{has_before}

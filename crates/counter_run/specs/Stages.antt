@@ -1,22 +1,15 @@
 -- The rounds as they are gone through, one after the other.
-use Rattle.std.specs.Prelude.{ℕ, ◌<◌, Bool, List}
-use Rattle.std.specs.List.{list_any}
-use Rattle.net_base.specs.Blocks.{in_block}
+use Rattle.std.specs.Prelude.{ℕ, ◌<◌, List}
 use Rattle.flow_rules.specs.Tables.{rules_of_all}
 use Rattle.dest_classes.specs.Classes.{ClassList}
 use Rattle.dest_classes.specs.declared.Class.{Class}
 use Rattle.demands.specs.Duties.{DemandView}
-use Rattle.update_model.specs.Changes.{rule_of, round_after}
-use Rattle.update_model.specs.declared.Change.{Change}
+use Rattle.update_model.specs.Changes.{round_after}
 use Rattle.update_model.specs.declared.Event.{Event}
 use Rattle.round_outcomes.specs.Rounds.{RoundView}
 use Rattle.counter_run.specs.Showing.{IsBreakingRun, AreFewFor, update_in}
 use Rattle.counter_run.specs.Explaining.{ClassBreaks, NoneBreaks, IsFirstBreakingRun}
 use Rattle.counter_run.specs.declared.showing.Stage.{Stage}
-
--- whether a change of the round covers the address
-abbrev pub touches : List Change → ℕ → Bool
-touches round address = list_any (λ c. in_block (rule_of c).key.pattern.dst address) round
 
 -- the round by itself
 abbrev pub view_of : Stage → RoundView

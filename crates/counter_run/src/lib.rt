@@ -6,15 +6,17 @@ ghost use Rattle.topology.specs.Networks.{switch_count, IsEntry};
 ghost use Rattle.flow_rules.specs.Tables.{rules_of_all};
 ghost use Rattle.dest_classes.specs.Classes.{IsClass, class_count};
 ghost use Rattle.update_model.specs.Mixtures.{Update, AreGoodRounds, AreClearRounds};
+ghost use Rattle.check_reasons.specs.Touched.{touches};
 ghost use Rattle.counter_run.specs.Showing.{update_in};
 ghost use Rattle.counter_run.specs.Explaining.{ClassBreaks, NoneBreaks, IsExplained, HasFewEvents};
-ghost use Rattle.counter_run.specs.Stages.{touches, view_of, IsShownAt, IsFirstAt, NoneBefore};
+ghost use Rattle.counter_run.specs.Stages.{view_of, IsShownAt, IsFirstAt, NoneBefore};
 ghost use Rattle.counter_run.specs.Steps.{IsStage};
 
 mod showing;
 
 use crate::showing::{Stage, breaking_run};
 use breaking_walks::breaking_walk;
+use check_reasons::is_touched;
 use demands::Duties;
 use dest_classes::{Class, ClassMap};
 use flow_rules::Config;
@@ -32,15 +34,6 @@ pub enum Explained {
     Run(Events),
     /// No mixed walk breaks the duties of its class.
     Nothing,
-}
-
-/// Whether some change of a round covers the address.
-fn is_touched(round: &[Change], address: u32) -> bool
-    ensures { result ≡ touches round.now address }
-{
-    round
-        .iter()
-        .any(|change| change.rule().key.pattern.dst.has(address))
 }
 
 /// Whether the walks to an address are those at the end of the round before: no change of the round covers it.

@@ -4,3 +4,4 @@ pub mod WayLaws
 pub mod MeaningLaws
 pub mod JudgeLaws
 pub mod RoundLaws
+pub mod StandLaws

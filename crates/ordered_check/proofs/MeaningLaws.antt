@@ -14,7 +14,6 @@ use Rattle.certificates.specs.declared.OrderedEvidence.{OrderedEvidence}
 use Rattle.certificates.specs.declared.Shared.{Shared}
 use Rattle.check_reasons.specs.Reasons.{IsInForce}
 use Rattle.ordered_check.specs.Judged.{sets_of}
-use Rattle.ordered_check.specs.Picks.{IsUseInForce}
 use Rattle.ordered_check.proofs.PickLaws.{chain_rest}
 
 before_through : (p q r : OrderedPick) → IsPickBefore p q → IsPickBefore q r → IsPickBefore p r
@@ -78,15 +77,15 @@ zip_sets : (befores : List (List ℕ)) (indices : List ℕ) → AllByRecursion (
 zip_sets befores [] h = tt
 zip_sets befores (i ∷ indices) h = (slice_get-get_or befores i [] h.0, zip_sets befores indices h.1)
 
--- what the use in force means
-pub in_force_from_use : (e : OrderedEvidence) (k n use_ : ℕ) (shared : Shared) (numbers : List ℕ) → IsUseInForce e.picks (suc k) n (Some use_) → slice_get e.uses use_ ≡ Some shared
+-- what the pick in force means
+pub in_force_from_pick : (e : OrderedEvidence) (k n : ℕ) (pick : OrderedPick) (shared : Shared) (numbers : List ℕ) → IsPickInForce e.picks (suc k) n pick → slice_get e.uses pick.shared ≡ Some shared
     → slice_get e.numberings shared.numbering ≡ Some numbers → AllByRecursion (λ i. i < length e.befores) shared.befores → IsInForce e k n numbers (sets_of e.befores shared.befores)
-in_force_from_use e k n use_ shared numbers (pick, force, is) shared_is numbers_are within = record {
+in_force_from_pick e k n pick shared numbers force shared_is numbers_are within = record {
   pick = pick;
   in_force = force;
   meant = record {
     use_ = shared;
-    use_is = ap (slice_get e.uses) is ∙ shared_is;
+    use_is = shared_is;
     numbers_are = numbers_are;
     sets_are = zip_sets e.befores shared.befores within;
   };

@@ -10,7 +10,7 @@ use Rattle.net_base.proofs.MemberLaws.{each_at, each_weaker, each_append, in_app
 use Rattle.certificates.proofs.Chains.{all_at}
 use Rattle.certificates.specs.Valid.{IsChain, IsPickBefore}
 use Rattle.certificates.specs.declared.OrderedPick.{OrderedPick}
-use Rattle.ordered_check.specs.Picks.{PicksState, PicksStand, IsUseInForce}
+use Rattle.ordered_check.specs.Picks.{PicksState, PicksStand, IsKeptPick}
 
 -- ---- picks in order
 
@@ -43,21 +43,19 @@ back_later round (p ∷ picks) (suc i) d lt h late = back_later round picks i d 
 
 -- ---- the last pick of a class
 
-pub record IsLatest (picks : List OrderedPick) (n use_ : ℕ) : Type 0 where
-  pub pick : OrderedPick
+pub record IsLatest (picks : List OrderedPick) (n : ℕ) (pick : OrderedPick) : Type 0 where
   pub stands : IsIn pick picks
   pub of_class : pick.class ≡ n
-  pub is : pick.shared ≡ use_
   pub latest : (other : OrderedPick) → IsIn other picks → other.class ≡ n → other.round ≤ pick.round
 
--- the use of the pick of a class that has the greatest round; none where the class has no pick
-abbrev pub IsLatestUse : List OrderedPick → ℕ → Option ℕ → Type 0
-IsLatestUse picks n None = (pick : OrderedPick) → IsIn pick picks → ¬ (pick.class ≡ n)
-IsLatestUse picks n (Some use_) = IsLatest picks n use_
+-- the pick of a class that has the greatest round; none where the class has no pick
+abbrev pub IsLatestPick : List OrderedPick → ℕ → Option OrderedPick → Type 0
+IsLatestPick picks n None = (pick : OrderedPick) → IsIn pick picks → ¬ (pick.class ≡ n)
+IsLatestPick picks n (Some pick) = IsLatest picks n pick
 
 -- each class has its own
-abbrev pub AreKept : List OrderedPick → List (Option ℕ) → Type 0
-AreKept picks of_class = (n : ℕ) (kept : Option ℕ) → slice_get of_class n ≡ Some kept → IsLatestUse picks n kept
+abbrev pub AreKept : List OrderedPick → List (Option OrderedPick) → Type 0
+AreKept picks of_class = (n : ℕ) (kept : Option OrderedPick) → slice_get of_class n ≡ Some kept → IsLatestPick picks n kept
 
 get_set_same : {A : Type 0} (xs : List A) (i : ℕ) (x y : A) → slice_get (set xs i x) i ≡ Some y → x ≡ y
 get_set_same [] i x y e = absurd (none-some y e)
@@ -72,12 +70,10 @@ get_set_other (z ∷ xs) (suc i) zero x ne = refl
 get_set_other (z ∷ xs) (suc i) (suc j) x ne = get_set_other xs i j x (λ e. ne (ap suc e))
 
 module _ (front : List OrderedPick) (p : OrderedPick) where
-  here_latest : AllByRecursion (λ q. q.round ≤ p.round) front → IsLatest (front ++ p ∷ []) p.class p.shared
+  here_latest : AllByRecursion (λ q. q.round ≤ p.round) front → IsLatest (front ++ p ∷ []) p.class p
   here_latest begun = record {
-    pick = p;
     stands = in_append_right p front (p ∷ []) (inl refl);
     of_class = refl;
-    is = refl;
     latest = λ other i same.
         elim (in_append_cases other front (p ∷ []) i) [
           | inl j ↦ each_at (λ (q : OrderedPick). q.round ≤ p.round) front other begun j
@@ -97,23 +93,21 @@ module _ (front : List OrderedPick) (p : OrderedPick) where
         | inr j ↦ absurd (elim j [ inl e ↦ ne (sym of_class ∙ ap (λ (q : OrderedPick). q.class) e) | inr none ↦ none ])
       ]
 
-  still_latest : (n : ℕ) (kept : Option ℕ) → ¬ (n ≡ p.class) → IsLatestUse front n kept → IsLatestUse (front ++ p ∷ []) n kept
+  still_latest : (n : ℕ) (kept : Option OrderedPick) → ¬ (n ≡ p.class) → IsLatestPick front n kept → IsLatestPick (front ++ p ∷ []) n kept
   still_latest n None ne h = λ pick i of_class. h pick (other_class pick n ne of_class i) of_class
-  still_latest n (Some use_) ne h = record {
-    pick = h.pick;
-    stands = in_append_left h.pick front (p ∷ []) h.stands;
+  still_latest n (Some pick) ne h = record {
+    stands = in_append_left pick front (p ∷ []) h.stands;
     of_class = h.of_class;
-    is = h.is;
     latest = λ other i same. h.latest other (other_class other n ne same i) same;
   }
 
   -- one more pick, noted for its class
-  pub kept_more : (of_class : List (Option ℕ)) → AllByRecursion (λ q. q.round ≤ p.round) front → AreKept front of_class → AreKept (front ++ p ∷ []) (set of_class p.class (Some p.shared))
+  pub kept_more : (of_class : List (Option OrderedPick)) → AllByRecursion (λ q. q.round ≤ p.round) front → AreKept front of_class → AreKept (front ++ p ∷ []) (set of_class p.class (Some p))
   kept_more of_class begun h n kept is =
       elim (cases_eq n p.class) [
-        | inl same ↦ subst (λ (m : ℕ). IsLatestUse (front ++ p ∷ []) m kept) (sym same)
-            (subst (IsLatestUse (front ++ p ∷ []) p.class) (get_set_same of_class p.class (Some p.shared) kept (subst (λ (m : ℕ). slice_get (set of_class p.class (Some p.shared)) m ≡ Some kept) same is)) (here_latest begun))
-        | inr ne ↦ still_latest n kept ne (h n kept (sym (get_set_other of_class p.class n (Some p.shared) ne) ∙ is))
+        | inl same ↦ subst (λ (m : ℕ). IsLatestPick (front ++ p ∷ []) m kept) (sym same)
+            (subst (IsLatestPick (front ++ p ∷ []) p.class) (get_set_same of_class p.class (Some p) kept (subst (λ (m : ℕ). slice_get (set of_class p.class (Some p)) m ≡ Some kept) same is)) (here_latest begun))
+        | inr ne ↦ still_latest n kept ne (h n kept (sym (get_set_other of_class p.class n (Some p) ne) ∙ is))
       ]
 
 -- ---- the pick in force
@@ -129,53 +123,47 @@ module _ (round : ℕ) (front back : List OrderedPick) (begun : AllByRecursion (
   begun_at : (pick : OrderedPick) → IsIn pick front → pick.round ≤ round
   begun_at pick i = each_at (λ (p : OrderedPick). p.round ≤ round) front pick begun i
 
-  use_from_latest_in : (n : ℕ) (kept : Option ℕ) → IsLatestUse front n kept → IsUseInForce (front ++ back) round n kept
-  use_from_latest_in n None h = λ pick i of_class le. h pick (in_front pick le i) of_class
-  use_from_latest_in n (Some use_) h = (
-    h.pick,
-    record {
-      stands = in_append_left h.pick front back h.stands;
-      of_class = h.of_class;
-      begun = begun_at h.pick h.stands;
-      latest = λ other i same le. h.latest other (in_front other le i) same;
-    },
-    h.is,
-  )
+  kept_from_latest_in : (n : ℕ) (kept : Option OrderedPick) → IsLatestPick front n kept → IsKeptPick (front ++ back) round n kept
+  kept_from_latest_in n None h = λ pick i of_class le. h pick (in_front pick le i) of_class
+  kept_from_latest_in n (Some pick) h = record {
+    stands = in_append_left pick front back h.stands;
+    of_class = h.of_class;
+    begun = begun_at pick h.stands;
+    latest = λ other i same le. h.latest other (in_front other le i) same;
+  }
 
-  latest_from_use_in : (n : ℕ) (kept : Option ℕ) → IsUseInForce (front ++ back) round n kept → IsLatestUse front n kept
-  latest_from_use_in n None h = λ pick i of_class. h pick (in_append_left pick front back i) of_class (begun_at pick i)
-  latest_from_use_in n (Some use_) (pick, force, shared) = record {
-    pick = pick;
+  latest_from_kept_in : (n : ℕ) (kept : Option OrderedPick) → IsKeptPick (front ++ back) round n kept → IsLatestPick front n kept
+  latest_from_kept_in n None h = λ pick i of_class. h pick (in_append_left pick front back i) of_class (begun_at pick i)
+  latest_from_kept_in n (Some pick) force = record {
     stands = in_front pick force.begun force.stands;
     of_class = force.of_class;
-    is = shared;
     latest = λ other i same. force.latest other (in_append_left other front back i) same (begun_at other i);
   }
 
 module _ (picks : List OrderedPick) (round next : ℕ) (begun : AllByRecursion (λ p. p.round ≤ round) (take next picks)) (later : AllByRecursion (λ p. round < p.round) (drop next picks)) where
-  pub use_from_latest : (n : ℕ) (kept : Option ℕ) → IsLatestUse (take next picks) n kept → IsUseInForce picks round n kept
-  use_from_latest n kept h =
-      subst (λ (ps : List OrderedPick). IsUseInForce ps round n kept) (take-append-drop next picks) (use_from_latest_in round (take next picks) (drop next picks) begun later n kept h)
+  pub kept_from_latest : (n : ℕ) (kept : Option OrderedPick) → IsLatestPick (take next picks) n kept → IsKeptPick picks round n kept
+  kept_from_latest n kept h =
+      subst (λ (ps : List OrderedPick). IsKeptPick ps round n kept) (take-append-drop next picks) (kept_from_latest_in round (take next picks) (drop next picks) begun later n kept h)
 
-  pub latest_from_use : (n : ℕ) (kept : Option ℕ) → IsUseInForce picks round n kept → IsLatestUse (take next picks) n kept
-  latest_from_use n kept h =
-      latest_from_use_in round (take next picks) (drop next picks) begun later n kept (subst (λ (ps : List OrderedPick). IsUseInForce ps round n kept) (sym (take-append-drop next picks)) h)
+  pub latest_from_kept : (n : ℕ) (kept : Option OrderedPick) → IsKeptPick picks round n kept → IsLatestPick (take next picks) n kept
+  latest_from_kept n kept h =
+      latest_from_kept_in round (take next picks) (drop next picks) begun later n kept (subst (λ (ps : List OrderedPick). IsKeptPick ps round n kept) (sym (take-append-drop next picks)) h)
 
 -- the picks taken up, with one more
-pub record AreTaken (picks : List OrderedPick) (round next : ℕ) (of_class : List (Option ℕ)) : Type 0 where
+pub record AreTaken (picks : List OrderedPick) (round next : ℕ) (of_class : List (Option OrderedPick)) : Type 0 where
   pub within : next ≤ length picks
   pub begun : AllByRecursion (λ p. p.round ≤ round) (take next picks)
   pub kept : AreKept (take next picks) of_class
 
-pub taken_more : (picks : List OrderedPick) (round next : ℕ) (of_class : List (Option ℕ)) (p d : OrderedPick) → IsChain IsPickBefore picks → next < length picks → p ≡ get_or picks next d → p.round ≤ round
-    → AreTaken picks round next of_class → AreTaken picks round (next + 1) (set of_class p.class (Some p.shared))
+pub taken_more : (picks : List OrderedPick) (round next : ℕ) (of_class : List (Option OrderedPick)) (p d : OrderedPick) → IsChain IsPickBefore picks → next < length picks → p ≡ get_or picks next d → p.round ≤ round
+    → AreTaken picks round next of_class → AreTaken picks round (next + 1) (set of_class p.class (Some p))
 taken_more picks round next of_class p d chain lt is le taken =
     let more : take (next + 1) picks ≡ take next picks ++ p ∷ [] = take_more picks next d lt ∙ ap (λ (x : OrderedPick). take next picks ++ x ∷ []) (sym is) in
     let front = subst (λ (x : OrderedPick). AllByRecursion (λ (q : OrderedPick). q.round ≤ x.round) (take next picks)) (sym is) (front_begun picks next d lt chain) in
     record {
       within = omega arith;
       begun = subst (AllByRecursion (λ (q : OrderedPick). q.round ≤ round)) (sym more) (each_append (λ (q : OrderedPick). q.round ≤ round) (take next picks) (p ∷ []) taken.begun (le, tt));
-      kept = subst (λ (ps : List OrderedPick). AreKept ps (set of_class p.class (Some p.shared))) (sym more) (kept_more (take next picks) p of_class front taken.kept);
+      kept = subst (λ (ps : List OrderedPick). AreKept ps (set of_class p.class (Some p))) (sym more) (kept_more (take next picks) p of_class front taken.kept);
     }
 
 -- what a slice of a whole list writes back
@@ -197,6 +185,6 @@ none_begun picks state count positive next none = record {
   later = subst (λ (n : ℕ). AllByRecursion (λ p. 0 < p.round) (drop n picks)) (sym next)
       (each_weaker (λ (p : OrderedPick). 1 ≤ p.round) (λ (p : OrderedPick). 0 < p.round) (λ p h. omega arith) picks positive);
   each = λ n kept is.
-      subst (IsUseInForce picks 0 n) (get_replicate count n None kept (ap (λ (xs : List (Option ℕ)). slice_get xs n) (sym none) ∙ is))
+      subst (IsKeptPick picks 0 n) (get_replicate count n None kept (ap (λ (xs : List (Option OrderedPick)). slice_get xs n) (sym none) ∙ is))
       (λ pick i of_class. let some = each_at (λ (p : OrderedPick). 1 ≤ p.round) picks pick positive i in λ le. omega arith);
 }

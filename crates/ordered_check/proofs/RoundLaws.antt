@@ -13,7 +13,7 @@ use Rattle.check_reasons.specs.Ranks.{rank_of, number_of, class_of, least_class_
 use Rattle.check_reasons.specs.Reasons.{IsOrderedReason, class_duties, rewrites, no_numbering, not_lower, may_drop, no_before, bypass}
 use Rattle.check_reasons.specs.Passed.{IsFirstFrom}
 use Rattle.check_reasons.proofs.RankLaws.{ordered_in_rounds, by_number, first_of_classes}
-use Rattle.ordered_check.specs.Picks.{IsUseInForce}
+use Rattle.ordered_check.specs.Picks.{IsKeptPick}
 use Rattle.ordered_check.specs.Firsts.{first_of, IsOfClasses, IsFirstAmong, IsFirstOfClass, IsFoundBelow}
 use Rattle.check_reasons.specs.declared.reason.Reason.{Reason}
 use Rattle.check_reasons.specs.declared.reason.Reason.TheVariants.{NoNumbering}
@@ -49,7 +49,7 @@ module _ (t : Task) (e : OrderedEvidence) where
   -- ---- class by class
 
   -- where no pick is in force, that is the first reason of the class
-  pub no_numbering_first : (k n : ℕ) (class : Class) → IsClass (classes_for t) n class → k < length t.update.rounds → IsUseInForce e.picks (suc k) n None → IsFirstOfClass t e k n (NoNumbering (suc k) n)
+  pub no_numbering_first : (k n : ℕ) (class : Class) → IsClass (classes_for t) n class → k < length t.update.rounds → IsKeptPick e.picks (suc k) n None → IsFirstOfClass t e k n (NoNumbering (suc k) n)
   no_numbering_first k n class is few none = record {
     position = 0;
     holds = no_numbering k n class (record { within = few; is = is }) (λ pick force. none pick force.stands force.of_class force.begun);

@@ -4,19 +4,18 @@ ghost use Rattle.net_base.specs.Members.{IsIn};
 ghost use Rattle.topology.specs.Networks.{switch_count, IsNetwork};
 ghost use Rattle.dest_classes.specs.Classes.{class_count, IsClass};
 ghost use Rattle.demands.specs.Duties.{duties_of};
-ghost use Rattle.certificates.specs.Ordered.{OrderedCertificate};
+ghost use Rattle.certificates.specs.Ordered.{IsPickInForce, OrderedCertificate};
 ghost use Rattle.certificates.specs.Certified.{classes_for};
 ghost use Rattle.certificates.specs.Valid.{IsValidOrdered};
 ghost use Rattle.certificates.specs.declared.Evidence.TheVariants.{Ordered};
 ghost use Rattle.mixed_walks.specs.Walks.{IsWalked};
-ghost use Rattle.ordered_check.specs.Picks.{IsUseInForce};
 ghost use Rattle.ordered_check.specs.Judged.{IsLeastOf};
 ghost use Rattle.ordered_check.specs.Firsts.{IsFirstOfClass};
 
 use crate::least::{least_not_lower, least_of};
 use crate::ways::{first_way_round, has_positions};
 use acyclic_numbering::Numbering;
-use certificates::{OrderedEvidence, Shared};
+use certificates::{OrderedEvidence, OrderedPick, Shared};
 use check_reasons::{Case, Reason};
 use demands::Duties;
 use dest_classes::Class;
@@ -66,7 +65,7 @@ fn least_drop(duties: &Duties, number: u32, class: Class, dropping: &[SwitchId])
 }
 
 /// The first reason why a class has no certificate in a round, where its mixed walks are those that were walked last
-/// and its pick in force names this use.
+/// and this is its pick in force.
 pub(crate) fn first_of_class(
     case: &Case,
     evidence: &OrderedEvidence,
@@ -75,13 +74,13 @@ pub(crate) fn first_of_class(
     k: usize,
     number: u32,
     class: Class,
-    use_: u32,
+    pick: OrderedPick,
 ) -> Option<Reason>
     requires evidence { case.now.evidence ≡ Ordered evidence.now }
     requires duties { duties.now ≡ record { demands = case.now.task.demands; classes = classes_for case.now.task } }
     requires class { IsClass (classes_for case.now.task) number class }
     requires round { k < length case.now.task.update.rounds }
-    requires in_force { IsUseInForce evidence.now.picks (suc k) number (Some use_) }
+    requires in_force { IsPickInForce evidence.now.picks (suc k) number pick }
     requires walked { IsWalked case.now.task.update k class.first class.entry walk.now }
     requires entry { class.entry.switch.0 < switch_count case.now.task.update.net }
     ensures none { IfNone result (OrderedCertificate case.now.task.update evidence.now k number class.first class.entry
@@ -90,7 +89,7 @@ pub(crate) fn first_of_class(
 {
     keeps_valid(case, evidence);
     let round = (k + 1) as u32;
-    let shared = shared_at(evidence, use_);
+    let shared = shared_at(evidence, pick.shared);
     let numbering = numbering_of(evidence, shared);
     let steps = walk.steps();
     if let Some(switch) = least_not_lower(numbering, steps) {

@@ -1,5 +1,5 @@
 // The classes of the rounds of an ordered plan.
-ghost use Rattle.std.specs.Prelude.{◌≡◌, ℕ, ◌<◌, ◌≤◌, suc, length, IfOk, IfSome, IfNone};
+ghost use Rattle.std.specs.Prelude.{◌≡◌, ℕ, ◌<◌, ◌≤◌, suc, true, false, length, IfOk, IfSome, IfNone};
 ghost use Rattle.topology.specs.Networks.{switch_count};
 ghost use Rattle.dest_classes.specs.Classes.{class_count, IsClass};
 ghost use Rattle.demands.specs.Duties.{duties_of};
@@ -9,14 +9,15 @@ ghost use Rattle.certificates.specs.declared.Evidence.TheVariants.{Ordered};
 ghost use Rattle.check_reasons.specs.Loaded.{AreLoaded};
 ghost use Rattle.mixed_walks.specs.Walks.{KeepVlansUpTo};
 ghost use Rattle.check_reasons.specs.Ranks.{classes_start};
-ghost use Rattle.check_reasons.specs.Passed.{IsFirstFrom, ClassesPass};
-ghost use Rattle.ordered_check.specs.Picks.{IsUseInForce, PicksStand, HasPickRoom};
+ghost use Rattle.check_reasons.specs.Passed.{IsFirstFrom, ChangesPass, ClassesPass, RoundsPass};
+ghost use Rattle.check_reasons.specs.Touched.{touches};
+ghost use Rattle.ordered_check.specs.Picks.{IsKeptPick, PicksStand, HasPickRoom};
 ghost use Rattle.ordered_check.specs.Firsts.{first_of, IsFirstOfClass, IsFoundBelow};
 
 use crate::judging::{first_of_class, keeps_valid};
 use crate::picks::PicksInForce;
-use certificates::OrderedEvidence;
-use check_reasons::{Case, Reason};
+use certificates::{OrderedEvidence, OrderedPick};
+use check_reasons::{Case, Reason, is_touched};
 use demands::Duties;
 use dest_classes::{Class, ClassMap};
 use mixed_walks::WalkRoom;
@@ -24,6 +25,11 @@ use net_base::Memory;
 use round_mix::Mixed;
 use std::alloc::Global;
 use std::marker::Model;
+use update_model::Change;
+
+/// How many changes of a round are compared with the address of each class. Where there are more, walking each class anew
+/// costs no more than to compare them all.
+const MOST_COMPARED: usize = 64;
 
 /// Room for the classes of an ordered plan: the walks of one class, and the picks in force.
 #[derive(Drop)]
@@ -59,7 +65,16 @@ fn first_of(found: Option<Reason>, later: Option<Reason>) -> Option<Reason>
     }
 }
 
-/// The first reason why a class has no certificate in a round, where this is the use that its pick in force names.
+/// Whether a class has its certificate where each class had one in the round before: its pick was in force then, and no
+/// change of the round covers its address. Not told where the round has more than `MOST_COMPARED` changes.
+fn is_unchanged(round: &[Change], k: usize, class: Class, pick: OrderedPick) -> bool
+    ensures { result ≡ true → (pick.round ≤ k) × (touches round.now class.first ≡ false) }
+{
+    pick.round as usize <= k && round.len() <= MOST_COMPARED && !is_touched(round, class.first)
+}
+
+/// The first reason why a class has no certificate in a round, where this is its pick in force and the rounds before passed.
+/// Its mixed walks are walked only where they may be others than in the round before.
 fn judge_class(
     walk: &mut WalkRoom,
     case: &Case,
@@ -69,7 +84,7 @@ fn judge_class(
     k: usize,
     number: u32,
     class: Class,
-    in_force: Option<u32>,
+    in_force: Option<OrderedPick>,
 ) -> Option<Reason>
     requires evidence { case.now.evidence ≡ Ordered evidence.now }
     requires duties { duties.now ≡ record { demands = case.now.task.demands; classes = classes_for case.now.task } }
@@ -77,20 +92,25 @@ fn judge_class(
     requires round { k < length case.now.task.update.rounds }
     requires loaded { AreLoaded case.now.task.update k mixes.now }
     requires keeps { KeepVlansUpTo case.now.task.update k }
-    requires in_force { IsUseInForce evidence.now.picks (suc k) number in_force }
+    requires before { RoundsPass case.now.task case.now.evidence k }
+    requires pass { ChangesPass case.now.task case.now.evidence k }
+    requires in_force { IsKeptPick evidence.now.picks (suc k) number in_force }
     ensures none { IfNone result (OrderedCertificate case.now.task.update evidence.now k number class.first class.entry
         (duties_of case.now.task.demands class.entry class.first)) }
     ensures some { IfSome result (IsFirstOfClass case.now.task evidence.now k number) }
 {
     keeps_valid(case, evidence);
-    let Some(use_) = in_force else {
+    let Some(pick) = in_force else {
         return Some(Reason::NoNumbering {
             round: (k + 1) as u32,
             class: number,
         });
     };
+    if is_unchanged(case.plan.rounds.round(k), k, class, pick) {
+        return None;
+    }
     walk.walk(case.net, mixes, class);
-    first_of_class(case, evidence, duties, walk, k, number, class, use_)
+    first_of_class(case, evidence, duties, walk, k, number, class, pick)
 }
 
 /// The first reason why a class of a map has no certificate in a round.
@@ -110,6 +130,8 @@ fn judge_classes(
     requires round { k < length case.now.task.update.rounds }
     requires loaded { AreLoaded case.now.task.update k mixes.now }
     requires keeps { KeepVlansUpTo case.now.task.update k }
+    requires before { RoundsPass case.now.task case.now.evidence k }
+    requires pass { ChangesPass case.now.task case.now.evidence k }
     requires stands { PicksStand evidence.now.picks (suc k) picks.now }
     requires room { HasPickRoom classes.now picks.now }
     ensures { IsFoundBelow case.now.task evidence.now k (class_count classes.now) result }
@@ -149,7 +171,8 @@ impl OrderedRoom {
     }
 
     /// The first reason why a class has no certificate in a round: by the reason's number, then by the class.
-    /// The rounds are judged in their order, each once.
+    /// The rounds are judged in their order, each once. A class whose pick was in force in the round before is walked only
+    /// where a change of the round covers its address, or the round has more than 64 changes.
     pub fn judge_round(
         &mut self,
         case: &Case,
@@ -165,6 +188,8 @@ impl OrderedRoom {
         requires round { k < length case.now.task.update.rounds }
         requires loaded { AreLoaded case.now.task.update k mixes.now }
         requires keeps { KeepVlansUpTo case.now.task.update k }
+        requires before { RoundsPass case.now.task case.now.evidence k }
+        requires pass { ChangesPass case.now.task case.now.evidence k }
         requires stands { PicksStand evidence.now.picks k self.old }
         requires room { HasPickRoom classes.now self.old }
         ensures none { IfNone result (ClassesPass case.now.task (Ordered evidence.now) k) }

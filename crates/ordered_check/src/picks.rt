@@ -8,11 +8,11 @@ use net_base::Memory;
 use std::alloc::Global;
 use std::marker::Model;
 
-/// For each class the use that its pick in force names. Picks are taken up in order, each once, as the rounds go on.
+/// For each class the pick in force. Picks are taken up in order, each once, as the rounds go on.
 #[derive(Drop)]
 pub(crate) struct PicksInForce {
     next: usize,
-    of_class: Vec<Option<u32>>,
+    of_class: Vec<Option<OrderedPick>>,
 }
 
 impl Model for PicksInForce {
@@ -23,13 +23,13 @@ impl Model for PicksInForce {
     ghost view = { λ p. record { next = p.next; of_class = p.of_class.items } };
 }
 
-/// Notes the use of a pick for its class, where there is such a class.
-fn note(of_class: &mut [Option<u32>], pick: OrderedPick)
-    ensures { of_class.new ≡ slice_set of_class.old pick.class (Some pick.shared) }
+/// Notes a pick for its class, where there is such a class.
+fn note(of_class: &mut [Option<OrderedPick>], pick: OrderedPick)
+    ensures { of_class.new ≡ slice_set of_class.old pick.class (Some pick) }
 {
     let class = pick.class as usize;
     if class < of_class.len() {
-        of_class[class] = Some(pick.shared);
+        of_class[class] = Some(pick);
     }
 }
 
@@ -66,8 +66,8 @@ impl PicksInForce {
         }
     }
 
-    /// The use that the pick in force of a class names, if a pick of the class is in force.
-    pub(crate) fn of(&self, class: u32) -> Option<u32>
+    /// The pick in force for a class, if a pick of the class has begun.
+    pub(crate) fn of(&self, class: u32) -> Option<OrderedPick>
         requires { class < length self.now.of_class }
         ensures { slice_get self.now.of_class class ≡ Some result }
     {

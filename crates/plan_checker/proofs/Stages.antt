@@ -20,11 +20,11 @@ use Rattle.certificates.specs.declared.Evidence.TheVariants.{Ordered, TwoPhase}
 use Rattle.std.specs.Prelude.{sum_by}
 use Rattle.check_reasons.specs.Cases.{CaseView}
 use Rattle.check_reasons.specs.Cases.{IsChecked}
-use Rattle.plan_checker.specs.Checking.{EndsAreGood, EndsAtNew, RoundsPass}
+use Rattle.plan_checker.specs.Checking.{EndsAreGood, EndsAtNew}
 use Rattle.check_reasons.specs.Ranks.{Rank, IsBefore, rank_of, stage_of, round_of, number_of, least_class_number, round_start, classes_start, end_start}
 use Rattle.check_reasons.specs.Reasons.{IsReason, IsOwnReason, IsFirstReason, IsCommonReason, old_breaks, new_breaks, bad_change, ambiguous, over_capacity, wrong_end}
 use Rattle.check_reasons.specs.Reasons.{IsOrderedReason, rewrites, no_numbering, not_lower, may_drop, no_before, bypass, IsTwoPhaseReason, bad_labels, mixed_path}
-use Rattle.check_reasons.specs.Passed.{IsFirstFrom, NoneBefore, ChangesPass, ClassesPass, RoundKeepsVlans}
+use Rattle.check_reasons.specs.Passed.{IsFirstFrom, NoneBefore, ChangesPass, ClassesPass, RoundsPass, RoundKeepsVlans}
 use Rattle.check_reasons.specs.declared.reason.Reason.{Reason}
 use Rattle.check_reasons.specs.declared.reason.Reason.TheVariants.{EndBreaks, BadChange, Ambiguous, OverCapacity, Rewrites, NoNumbering, NotLower, MayDrop, NoBefore, Bypass, BadLabels, MixedPath, WrongEnd}
 use Rattle.plan_checker.proofs.Refuted.{break_refuted, within_rounds, bad_change_refuted, unclear_refuted, need_fits, rewrite_refuted, bad_step_refuted, no_pick_refuted, drop_refuted, count_refuted, bypass_refuted, no_table_refuted, mixed_entry_refuted, stray_refuted}

@@ -13,7 +13,6 @@ use Rattle.certificates.specs.declared.Evidence.{Evidence}
 use Rattle.certificates.specs.declared.Evidence.TheVariants.{Ordered, TwoPhase}
 use Rattle.check_reasons.specs.Cases.{CaseView}
 use Rattle.plan_checker.specs.Fits.{RoomView, Fits}
-use Rattle.check_reasons.specs.Passed.{ChangesPass, ClassesPass}
 use Rattle.ordered_check.specs.Picks.{PicksStand}
 use Rattle.round_tables.specs.Present.{StandsBefore}
 use Rattle.two_phase_check.specs.InForce.{LabelsStand}
@@ -34,10 +33,6 @@ pub record EndsAreGood (t : Task) : Type 0 where
 -- the tables after the last round are the new ones
 abbrev pub EndsAtNew : Task → Type 0
 EndsAtNew t = (s : SwitchId) → IsSameSet (rules_at (tables_before t.update (length t.update.rounds)) s) (rules_at t.new s)
-
--- the first k rounds give no reason
-abbrev pub RoundsPass : Task → Evidence → ℕ → Type 0
-RoundsPass t evidence k = (j : ℕ) → j < k → ChangesPass t evidence j × ClassesPass t evidence j
 
 -- what is kept of the picks stands before round k
 abbrev pub EvidenceStands : Network → Evidence → ℕ → RoomView → Type 0

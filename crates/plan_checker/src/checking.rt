@@ -9,11 +9,11 @@ ghost use Rattle.certificates.specs.Certified.{IsCertified, classes_for, is_two_
 ghost use Rattle.certificates.specs.Consistent.{IsConsistent};
 ghost use Rattle.certificates.specs.Laws.{task_of};
 ghost use Rattle.certificates.specs.Valid.{IsValidPlan};
-ghost use Rattle.plan_checker.specs.Checking.{EndsAreGood, RoundsPass, EvidenceStands, IsReady, IfRefused};
+ghost use Rattle.plan_checker.specs.Checking.{EndsAreGood, EvidenceStands, IsReady, IfRefused};
 ghost use Rattle.plan_checker.specs.Fits.{Fits};
 ghost use Rattle.check_reasons.specs.Loaded.{AreLoaded};
 ghost use Rattle.check_reasons.specs.Ranks.{classes_start};
-ghost use Rattle.check_reasons.specs.Passed.{ChangesPass, ClassesPass, IsFirstFrom};
+ghost use Rattle.check_reasons.specs.Passed.{ChangesPass, ClassesPass, RoundsPass, IsFirstFrom};
 ghost use Rattle.check_reasons.specs.Reasons.{IsFirstReason};
 
 use crate::CheckRoom;
@@ -57,6 +57,7 @@ pub fn end_reason(case: &Case, room: &mut CheckRoom) -> Option<Reason>
     requires { Fits case.now.task room.old }
     ensures none { IfNone result (EndsAreGood case.now.task) }
     ensures some { IfSome result (IsFirstReason case.now.task case.now.evidence) }
+    ensures fails { IfSome result (λ _. ¬ EndsAreGood case.now.task) }
     ensures fits { Fits case.now.task room.new }
 {
     case.keeps_rules();

@@ -17,7 +17,7 @@ use Rattle.flow_rules.specs.declared.rules.Rule.{Rule}
 use Rattle.path_walk.specs.Paths.{outcome_in}
 use Rattle.path_walk.specs.declared.Outcome.{Outcome}
 use Rattle.path_walk.specs.declared.Outcome.TheVariants.{Discard, Leave, Go}
-use Rattle.update_model.specs.Changes.{Applies, changes_at, rules_after, tables_after_change, round_after}
+use Rattle.update_model.specs.Changes.{Applies, IsGoodRound, changes_at, rules_after, tables_after_change, round_after}
 use Rattle.update_model.specs.Mixtures.{Update, tables_before, MayHold, IsPossible, MayGo, AreGoodRounds}
 use Rattle.update_model.specs.OneRound.{WalkedOneRound, EndWasPossible}
 use Rattle.update_model.specs.States.{State, first_state, IsUnderWay, settled_count, IsEnabled, entered, hopped, lost, with_packet, settled, state_after_event}
@@ -61,15 +61,15 @@ pub record Sound (u : Update) (st : State) : Type 0 where
   pub tables : TablesAre u st.phase st.tables st.pending
   pub packets : AllByRecursion (IsSound u st.phase) st.packets
 
-module _ (u : Update) (good : AreGoodRounds u) where
-  -- the tables after a round are what its changes leave
-  pub next_tables : (k : ℕ) → k < length u.rounds → (s : SwitchId)
-      → rules_at (tables_before u (suc k)) s ≡ rules_after (changes_at s (round_after k u.rounds)) (rules_at (tables_before u k) s)
-  next_tables k less s =
-      ap (λ t. rules_at t s) (settled_next u.rounds k u.old less)
-      ∙ rules_at-after (round_after k u.rounds) (tables_before u k) s
-      (each_weaker (Applies (tables_before u k)) (IsWithin (length (tables_before u k))) (λ c h. h.0) (round_after k u.rounds) (good k less).applies)
+-- the tables after a round are what its changes leave
+pub next_tables : (u : Update) (k : ℕ) → k < length u.rounds → IsGoodRound (tables_before u k) (round_after k u.rounds) → (s : SwitchId)
+    → rules_at (tables_before u (suc k)) s ≡ rules_after (changes_at s (round_after k u.rounds)) (rules_at (tables_before u k) s)
+next_tables u k less good s =
+    ap (λ t. rules_at t s) (settled_next u.rounds k u.old less)
+    ∙ rules_at-after (round_after k u.rounds) (tables_before u k) s
+    (each_weaker (Applies (tables_before u k)) (IsWithin (length (tables_before u k))) (λ c h. h.0) (round_after k u.rounds) good.applies)
 
+module _ (u : Update) (good : AreGoodRounds u) where
   -- a packet under way finds a mixture of its round at each switch
   held_now : (phase : Phase) (tables : List (List Rule)) (flags : List Bool) → TablesAre u phase tables flags → (p : Packet) → InTime phase p → IsUnderWay p
       → (s : SwitchId) → MayHold u p.born s (rules_at tables s)
@@ -84,7 +84,7 @@ module _ (u : Update) (good : AreGoodRounds u) where
             record {
               made = changes_at s (round_after p.born u.rounds);
               some = IsSubsequence_refl (changes_at s (round_after p.born u.rounds));
-              same = subst (λ t. IsSameSet (rules_at tables s) t) (ap (λ n. rules_at (tables_before u n) s) next ∙ next_tables p.born less s) (are.1 s);
+              same = subst (λ t. IsSameSet (rules_at tables s) t) (ap (λ n. rules_at (tables_before u n) s) next ∙ next_tables u p.born less (good p.born less) s) (are.1 s);
             })
       ]
   held_now (Running zero) tables flags are p time under s = absurd are
@@ -136,7 +136,7 @@ module _ (u : Update) (good : AreGoodRounds u) where
   settle_tables (Running (suc j)) tables flags k is off are = (
     are.0,
     λ s. subst (λ t. IsSameSet (rules_at tables s) t)
-        (ap (λ m. rules_after (changes_at s m) (rules_at (tables_before u j) s)) (made_every flags (round_after j u.rounds) are.1 off) ∙ sym (next_tables j are.0 s)) (are.2 s),
+        (ap (λ m. rules_after (changes_at s m) (rules_at (tables_before u j) s)) (made_every flags (round_after j u.rounds) are.1 off) ∙ sym (next_tables u j are.0 (good j are.0) s)) (are.2 s),
   )
 
   settle_packet : (phase : Phase) (k : ℕ) → phase ≡ Running k → (p : Packet) → IsSound u phase p → IsSound u (settled phase) p

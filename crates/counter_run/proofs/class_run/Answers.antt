@@ -2,12 +2,12 @@ use Rattle.std.proofs.Common.{◌≡◌, ◌<◌, false, List, sym, ◌∙◌, s
 use Rattle.std.specs.Prelude.{Option, IfSome, IfNone}
 use Rattle.topology.specs.Networks.{switch_count}
 use Rattle.demands.specs.Duties.{duties_of}
+use Rattle.check_reasons.specs.Touched.{touches}
 use Rattle.breaking_walks.specs.Breaking.{IsBreakingWalk, HasBreakingWalk}
 use Rattle.breaking_walks.specs.declared.BreakingWalk.{BreakingWalk}
 use Rattle.round_outcomes.specs.Rounds.{RoundView, alone}
 use Rattle.update_model.specs.declared.Change.{Change}
 use Rattle.counter_run.specs.Showing.{update_in}
-use Rattle.counter_run.specs.Stages.{touches}
 use Rattle.counter_run.proofs.ViewLaws.{has_walk}
 use Rattle.counter_run.proofs.ClassLaws.{class_unchanged, entry_within, walk_shown, none_shown}
 use Rattle.counter_run.proofs.class_run.Goals as goal

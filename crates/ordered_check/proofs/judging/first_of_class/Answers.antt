@@ -14,21 +14,21 @@ use Rattle.dest_classes.specs.Classes.{IsClass, class_count, ClassList}
 use Rattle.dest_classes.specs.declared.Class.{Class}
 use Rattle.dest_classes.proofs.MapLaws.{number_fits}
 use Rattle.demands.specs.Duties.{ClassDuties, DemandView, duties_of}
-use Rattle.certificates.specs.Ordered.{positions, OrderedCertificate}
+use Rattle.certificates.specs.Ordered.{positions, IsPickInForce, OrderedCertificate}
 use Rattle.certificates.specs.Certified.{Task, classes_for}
 use Rattle.certificates.specs.Valid.{IsValidOrdered, IsValidUse, IsValidPick, IsValidNumbering}
 use Rattle.certificates.specs.declared.OrderedEvidence.{OrderedEvidence}
+use Rattle.certificates.specs.declared.OrderedPick.{OrderedPick}
 use Rattle.certificates.specs.declared.Shared.{Shared}
 use Rattle.config_check.proofs.JudgeLaws.{none_holds}
 use Rattle.check_reasons.specs.Reasons.{class_duties}
 use Rattle.mixed_walks.specs.Walks.{WalkState, IsWalked}
-use Rattle.ordered_check.specs.Picks.{IsUseInForce}
 use Rattle.ordered_check.specs.Judged.{IsLeastOf, HasEdgeUp, IsWayRound, AreGuardedBelow, IsFirstWayRound, sets_of}
 use Rattle.ordered_check.specs.Firsts.{IsFirstOfClass}
 use Rattle.check_reasons.specs.declared.reason.Reason.TheVariants.{NotLower, MayDrop, NoBefore, Bypass}
 use Rattle.ordered_check.specs.declared.ways.WayRound.{WayRound}
 use Rattle.ordered_check.proofs.WayLaws.{together}
-use Rattle.ordered_check.proofs.MeaningLaws.{at_place, in_force_from_use}
+use Rattle.ordered_check.proofs.MeaningLaws.{at_place, in_force_from_pick}
 use Rattle.ordered_check.proofs.JudgeLaws.{IsJudging, not_lower_first, may_drop_first, no_before_first, bypass_first, certificate_of}
 use Rattle.ordered_check.proofs.judging.first_of_class.Goals as goal
 
@@ -41,21 +41,18 @@ module _ (net : Network) (rounds : ℕ) (e : OrderedEvidence) (valid : IsValidOr
   numbering_length : (i : ℕ) (numbers : List ℕ) → slice_get e.numberings i ≡ Some numbers → length numbers ≡ switch_count net
   numbering_length i numbers is = (at_place (IsValidNumbering net) e.numberings i numbers valid.numberings is).0
 
-  use_within : (round n use_ : ℕ) → IsUseInForce e.picks round n (Some use_) → use_ < length e.uses
-  use_within round n use_ (pick, force, is) =
-      let valid_pick = each_at (IsValidPick rounds (length e.uses)) e.picks pick valid.picks force.stands in
-      let less = valid_pick.3 in
-      omega arith
+  use_within : (round n : ℕ) (pick : OrderedPick) → IsPickInForce e.picks round n pick → pick.shared < length e.uses
+  use_within round n pick force = (each_at (IsValidPick rounds (length e.uses)) e.picks pick valid.picks force.stands).3
 
 -- ---- a class that is judged
 
-setting : (t : Task) (e : OrderedEvidence) (k n use_ : ℕ) (class : Class) (numbers : List ℕ) (shared : Shared) (noted : WalkState) → IsValidOrdered t.update.net (length t.update.rounds) e
-    → IsClass (classes_for t) n class → k < length t.update.rounds → IsUseInForce e.picks (suc k) n (Some use_) → IsWalked t.update k class.first class.entry noted → slice_get e.uses use_ ≡ Some shared
+setting : (t : Task) (e : OrderedEvidence) (k n : ℕ) (pick : OrderedPick) (class : Class) (numbers : List ℕ) (shared : Shared) (noted : WalkState) → IsValidOrdered t.update.net (length t.update.rounds) e
+    → IsClass (classes_for t) n class → k < length t.update.rounds → IsPickInForce e.picks (suc k) n pick → IsWalked t.update k class.first class.entry noted → slice_get e.uses pick.shared ≡ Some shared
     → slice_get e.numberings shared.numbering ≡ Some numbers → IsJudging t e k n class numbers (sets_of e.befores shared.befores) noted
-setting t e k n use_ class numbers shared noted valid is few force walked shared_is numbers_are = record {
+setting t e k n pick class numbers shared noted valid is few force walked shared_is numbers_are = record {
   in_order = valid.ascending;
   is = is;
-  force = in_force_from_use e k n use_ shared numbers force shared_is numbers_are (valid_use t.update.net (length t.update.rounds) e valid use_ shared shared_is).2;
+  force = in_force_from_pick e k n pick shared numbers force shared_is numbers_are (valid_use t.update.net (length t.update.rounds) e valid pick.shared shared shared_is).2;
   few = few;
   walked = walked;
 }
@@ -87,11 +84,11 @@ counted t befores class indices named demands is same =
     )
 
 pub shared_at-shared-requires : goal.shared_at-shared-requires
-shared_at-shared-requires c = use_within c.args.case.now.task.update.net (length c.args.case.now.task.update.rounds) c.args.evidence.now c.keeps_valid.ensures.valid (suc c.args.k) c.args.number c.args.use_ c.requires.in_force
+shared_at-shared-requires c = use_within c.args.case.now.task.update.net (length c.args.case.now.task.update.rounds) c.args.evidence.now c.keeps_valid.ensures.valid (suc c.args.k) c.args.number c.args.pick c.requires.in_force
 
 pub numbering_of-numbering-requires : goal.numbering_of-numbering-requires
 numbering_of-numbering-requires c =
-    (valid_use c.args.case.now.task.update.net (length c.args.case.now.task.update.rounds) c.args.evidence.now c.keeps_valid.ensures.valid c.args.use_ c.shared_at-shared.result.now c.shared_at-shared.ensures).0
+    (valid_use c.args.case.now.task.update.net (length c.args.case.now.task.update.rounds) c.args.evidence.now c.keeps_valid.ensures.valid c.args.pick.shared c.shared_at-shared.result.now c.shared_at-shared.ensures).0
 
 pub least_not_lower-requires : goal.least_not_lower-requires
 least_not_lower-requires c =
@@ -111,7 +108,7 @@ returns-in-Some-clause-some c =
     let numbers = c.numbering_of-numbering.result.now in
     let noted = c.args.walk.now in
     let n = c.args.number in
-    let j = setting t e c.args.k n c.args.use_ c.args.class numbers shared noted c.keeps_valid.ensures.valid c.requires.class c.requires.round c.requires.in_force c.requires.walked c.shared_at-shared.ensures
+    let j = setting t e c.args.k n c.args.pick c.args.class numbers shared noted c.keeps_valid.ensures.valid c.requires.class c.requires.round c.requires.in_force c.requires.walked c.shared_at-shared.ensures
     c.numbering_of-numbering.ensures in
     at_round (λ r. IsFirstOfClass t e c.args.k n (NotLower r n c.in-Some.switch)) c.args.k
     (not_lower_first t e c.args.k n c.args.class numbers (sets_of e.befores shared.befores) noted j c.in-Some.switch
@@ -136,7 +133,7 @@ returns-in-Some-least_drop-clause-some c =
     let n = c.args.number in
     let s = c.in-Some-least_drop.switch in
     let class = c.args.class in
-    let j = setting t e c.args.k n c.args.use_ class numbers shared noted c.keeps_valid.ensures.valid c.requires.class c.requires.round c.requires.in_force c.requires.walked c.shared_at-shared.ensures
+    let j = setting t e c.args.k n c.args.pick class numbers shared noted c.keeps_valid.ensures.valid c.requires.class c.requires.round c.requires.in_force c.requires.walked c.shared_at-shared.ensures
     c.numbering_of-numbering.ensures in
     let falls = subst (λ (es : List Edge). (x : SwitchId) → ¬ HasEdgeUp es numbers x) c.steps-steps.ensures c.in_default.ensures in
     let demands : c.args.duties.now.demands ≡ t.demands = ap (λ (d : ClassDuties). d.demands) c.requires.duties in
@@ -154,7 +151,7 @@ returns-then-not-has_positions-clause-some c =
     let noted = c.args.walk.now in
     let n = c.args.number in
     let class = c.args.class in
-    let j = setting t e c.args.k n c.args.use_ class numbers shared noted c.keeps_valid.ensures.valid c.requires.class c.requires.round c.requires.in_force c.requires.walked c.shared_at-shared.ensures
+    let j = setting t e c.args.k n c.args.pick class numbers shared noted c.keeps_valid.ensures.valid c.requires.class c.requires.round c.requires.in_force c.requires.walked c.shared_at-shared.ensures
     c.numbering_of-numbering.ensures in
     let falls = subst (λ (es : List Edge). (x : SwitchId) → ¬ HasEdgeUp es numbers x) c.steps-steps.ensures c.in_default.ensures in
     let demands : c.args.duties.now.demands ≡ t.demands = ap (λ (d : ClassDuties). d.demands) c.requires.duties in
@@ -168,7 +165,7 @@ returns-then-not-has_positions-clause-some c =
 pub first_way_round-requires-clause-indices : goal.first_way_round-requires-clause-indices
 first_way_round-requires-clause-indices c =
     let e = c.args.evidence.now in
-    let valid = valid_use c.args.case.now.task.update.net (length c.args.case.now.task.update.rounds) e c.keeps_valid.ensures.valid c.args.use_ c.shared_at-shared.result.now c.shared_at-shared.ensures in
+    let valid = valid_use c.args.case.now.task.update.net (length c.args.case.now.task.update.rounds) e c.keeps_valid.ensures.valid c.args.pick.shared c.shared_at-shared.result.now c.shared_at-shared.ensures in
     All-from_recursion (λ (i : ℕ). i < length c.list-befores.result.now) c.list-indices.result.now
     (subst (λ (bs : List (List ℕ)). AllByRecursion (λ (i : ℕ). i < length bs) c.list-indices.result.now) (sym c.list-befores.ensures)
     (subst (AllByRecursion (λ (i : ℕ). i < length e.befores)) (sym c.list-indices.ensures) valid.2))
@@ -203,7 +200,7 @@ returns-in_err-way-clause-none c =
     let noted = c.args.walk.now in
     let n = c.args.number in
     let class = c.args.class in
-    let j = setting t e c.args.k n c.args.use_ class numbers shared noted c.keeps_valid.ensures.valid c.requires.class c.requires.round c.requires.in_force c.requires.walked c.shared_at-shared.ensures
+    let j = setting t e c.args.k n c.args.pick class numbers shared noted c.keeps_valid.ensures.valid c.requires.class c.requires.round c.requires.in_force c.requires.walked c.shared_at-shared.ensures
     c.numbering_of-numbering.ensures in
     let falls = subst (λ (es : List Edge). (x : SwitchId) → ¬ HasEdgeUp es numbers x) c.steps-steps.ensures c.in_default.ensures in
     let demands : c.args.duties.now.demands ≡ t.demands = ap (λ (d : ClassDuties). d.demands) c.requires.duties in
@@ -225,7 +222,7 @@ returns-clause-some c =
     let n = c.args.number in
     let class = c.args.class in
     let way = c.in_ok-way.way in
-    let j = setting t e c.args.k n c.args.use_ class numbers shared noted c.keeps_valid.ensures.valid c.requires.class c.requires.round c.requires.in_force c.requires.walked c.shared_at-shared.ensures
+    let j = setting t e c.args.k n c.args.pick class numbers shared noted c.keeps_valid.ensures.valid c.requires.class c.requires.round c.requires.in_force c.requires.walked c.shared_at-shared.ensures
     c.numbering_of-numbering.ensures in
     let falls = subst (λ (es : List Edge). (x : SwitchId) → ¬ HasEdgeUp es numbers x) c.steps-steps.ensures c.in_default.ensures in
     let demands : c.args.duties.now.demands ≡ t.demands = ap (λ (d : ClassDuties). d.demands) c.requires.duties in

@@ -1,19 +1,25 @@
-use Rattle.std.proofs.Common.{◌≡◌, ℕ, suc, ◌<◌, List, refl, sym, ap, subst, add-one}
+use Rattle.std.proofs.Common.{◌≡◌, ℕ, suc, ◌<◌, false, List, refl, sym, ◌∙◌, ap, subst, add-one}
 use Rattle.topology.specs.Networks.{Network, switch_count}
 use Rattle.flow_rules.specs.Tables.{TableState, rules_of_all}
 use Rattle.path_walk.specs.UserConfigs.{IsUserConfig}
+use Rattle.update_model.specs.Changes.{round_after}
 use Rattle.update_model.specs.Mixtures.{Update}
+use Rattle.update_model.specs.declared.Change.{Change}
 use Rattle.round_mix.specs.Prepared.{MixedState}
 use Rattle.certificates.specs.Certified.{classes_for}
+use Rattle.certificates.specs.declared.Evidence.{Evidence}
 use Rattle.config_check.proofs.JudgeLaws.{class_within}
 use Rattle.check_reasons.specs.Cases.{CaseView}
 use Rattle.check_reasons.specs.Loaded.{AreLoaded}
+use Rattle.check_reasons.specs.Passed.{ChangesPass, RoundsPass}
+use Rattle.check_reasons.specs.Touched.{touches}
 use Rattle.mixed_walks.specs.Walks.{KeepVlansUpTo, TablesKeepVlans, IsRoundOf}
 use Rattle.mixed_walks.proofs.PlaceLaws.{tables_keep}
-use Rattle.ordered_check.specs.Picks.{IsUseInForce}
+use Rattle.ordered_check.specs.Picks.{IsKeptPick}
 use Rattle.ordered_check.specs.Firsts.{IsFirstOfClass}
 use Rattle.check_reasons.specs.declared.reason.Reason.TheVariants.{NoNumbering}
 use Rattle.ordered_check.proofs.RoundLaws.{no_numbering_first}
+use Rattle.ordered_check.proofs.StandLaws.{certificate_stands}
 use Rattle.ordered_check.proofs.ordered.judge_class.Goals as goal
 
 -- the switches are prepared for a round of an update from a user configuration
@@ -30,7 +36,17 @@ pub returns-in_default-clause-some : goal.returns-in_default-clause-some
 returns-in_default-clause-some c =
     subst (λ (r : ℕ). IsFirstOfClass c.args.case.now.task c.args.evidence.now c.args.k c.args.number (NoNumbering r c.args.number)) (sym (add-one c.args.k))
     (no_numbering_first c.args.case.now.task c.args.evidence.now c.args.k c.args.number c.args.class c.requires.class c.requires.round
-    (subst (IsUseInForce c.args.evidence.now.picks (suc c.args.k) c.args.number) c.in_default.is c.requires.in_force))
+    (subst (IsKeptPick c.args.evidence.now.picks (suc c.args.k) c.args.number) c.in_default.is c.requires.in_force))
+
+pub returns-then-is_unchanged-clause-none : goal.returns-then-is_unchanged-clause-none
+returns-then-is_unchanged-clause-none c =
+    let t = c.args.case.now.task in
+    let e = c.args.evidence.now in
+    let (begun, off) = c.is_unchanged.ensures c.if-is_unchanged.true in
+    certificate_stands t e c.args.k c.args.number c.args.class c.in-Some.pick c.keeps_valid.ensures.valid c.requires.round
+    (subst (λ (v : Evidence). RoundsPass t v c.args.k) c.requires.evidence c.requires.before) (subst (λ (v : Evidence). ChangesPass t v c.args.k) c.requires.evidence c.requires.pass) c.requires.class
+    (subst (IsKeptPick e.picks (suc c.args.k) c.args.number) c.in-Some.is c.requires.in_force) begun
+    (subst (λ (round : List Change). touches round c.args.class.first ≡ false) (c.round.ensures ∙ ap (λ (v : CaseView). round_after c.args.k v.task.update.rounds) c.case.view_is) off)
 
 pub walk-requires-clause-round : goal.walk-requires-clause-round
 walk-requires-clause-round c = (

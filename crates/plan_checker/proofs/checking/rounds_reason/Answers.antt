@@ -1,6 +1,7 @@
 use Rattle.std.proofs.Common.{◌≡◌, length, sym, subst, ap, ◌∙◌, add-one, arith}
 use Rattle.check_reasons.specs.Cases.{CaseView}
-use Rattle.plan_checker.specs.Checking.{RoundsPass, IsReady}
+use Rattle.check_reasons.specs.Passed.{RoundsPass}
+use Rattle.plan_checker.specs.Checking.{IsReady}
 use Rattle.plan_checker.proofs.checking.rounds_reason.Goals as goal
 
 pub loop-k-preserved : goal.loop-k-preserved

@@ -1,4 +1,5 @@
-use Rattle.plan_checker.specs.Checking.{RoundsPass, IsReady}
+use Rattle.check_reasons.specs.Passed.{RoundsPass}
+use Rattle.plan_checker.specs.Checking.{IsReady}
 use Rattle.plan_checker.proofs.checking.rounds_reason.Given as goal
 
 abbrev pub invariant-loop-k : goal.invariant-loop-k

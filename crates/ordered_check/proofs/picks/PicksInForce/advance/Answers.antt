@@ -4,7 +4,7 @@ use Rattle.std.proofs.lemmas.List.{drop_all, length-set}
 use Rattle.net_base.proofs.MemberLaws.{each_weaker}
 use Rattle.certificates.specs.declared.OrderedPick.{OrderedPick}
 use Rattle.ordered_check.specs.Picks.{PicksState, PicksStand}
-use Rattle.ordered_check.proofs.PickLaws.{AreTaken, taken_more, latest_from_use, use_from_latest, back_later, written_back}
+use Rattle.ordered_check.proofs.PickLaws.{AreTaken, taken_more, latest_from_kept, kept_from_latest, back_later, written_back}
 use Rattle.ordered_check.proofs.picks.PicksInForce.advance.Goals as goal
 
 pub taking-init : goal.taking-init
@@ -17,7 +17,7 @@ taking-init c =
       taken = record {
         within = stands.within;
         begun = each_weaker (λ (p : OrderedPick). p.round ≤ before) (λ (p : OrderedPick). p.round ≤ c.args.round) (λ p h. omega arith) (take next picks) stands.begun;
-        kept = λ n kept is. latest_from_use picks before next stands.begun stands.later n kept (stands.each n kept is);
+        kept = λ n kept is. latest_from_kept picks before next stands.begun stands.later n kept (stands.each n kept is);
       };
       classes = ap (λ (s : PicksState). length s.of_class) c.self.view_is;
     }
@@ -29,14 +29,14 @@ taking-preserved c =
     let inside = c.taking.self-inside in
     let none : OrderedPick = record { round = 0; class = 0; shared = 0 } in
     let pick = get_or picks inside.next none in
-    let noted : c.note.new.of_class ≡ set inside.of_class.items pick.class (Some pick.shared) =
-    c.note.ensures ∙ ap (λ (xs : List (Option ℕ)). set xs pick.class (Some pick.shared)) c.deref_mut.ensures.value in
-    let same : length c.note.new.of_class ≡ length inside.of_class.items = ap (λ (xs : List (Option ℕ)). length xs) noted ∙ length-set inside.of_class.items pick.class (Some pick.shared) in
+    let noted : c.note.new.of_class ≡ set inside.of_class.items pick.class (Some pick) =
+    c.note.ensures ∙ ap (λ (xs : List (Option OrderedPick)). set xs pick.class (Some pick)) c.deref_mut.ensures.value in
+    let same : length c.note.new.of_class ≡ length inside.of_class.items = ap (λ (xs : List (Option OrderedPick)). length xs) noted ∙ length-set inside.of_class.items pick.class (Some pick) in
     let back = written_back inside.of_class.len c.note.new.of_class inside.of_class.items same (sym inside.of_class.ok.0) in
     record {
-      taken = subst (λ (xs : List (Option ℕ)). AreTaken picks round (inside.next + 1) xs) (sym (back ∙ noted))
+      taken = subst (λ (xs : List (Option OrderedPick)). AreTaken picks round (inside.next + 1) xs) (sym (back ∙ noted))
           (taken_more picks round inside.next inside.of_class.items pick none c.requires.ascending c.taking-test.true refl c.if-picks-self.true c.taking.invariant.taken);
-      classes = ap (λ (xs : List (Option ℕ)). length xs) back ∙ same ∙ c.taking.invariant.classes;
+      classes = ap (λ (xs : List (Option OrderedPick)). length xs) back ∙ same ∙ c.taking.invariant.classes;
     }
 
 pub returns-else-picks-self-clause-stands : goal.returns-else-picks-self-clause-stands
@@ -49,7 +49,7 @@ returns-else-picks-self-clause-stands c =
       within = taken.within;
       begun = taken.begun;
       later = later;
-      each = λ n kept is. use_from_latest picks c.args.round next taken.begun later n kept (taken.kept n kept is);
+      each = λ n kept is. kept_from_latest picks c.args.round next taken.begun later n kept (taken.kept n kept is);
     }
 
 pub returns-after-taking-clause-stands : goal.returns-after-taking-clause-stands
@@ -64,5 +64,5 @@ returns-after-taking-clause-stands c =
       within = taken.within;
       begun = taken.begun;
       later = later;
-      each = λ n kept is. use_from_latest picks c.args.round next taken.begun later n kept (taken.kept n kept is);
+      each = λ n kept is. kept_from_latest picks c.args.round next taken.begun later n kept (taken.kept n kept is);
     }
