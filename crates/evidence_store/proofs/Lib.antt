@@ -4,3 +4,4 @@ pub mod ListLaws
 pub mod NumberLaws
 pub mod StoredLaws
 pub mod PickLaws
+pub mod CountLaws

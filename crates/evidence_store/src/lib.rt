@@ -64,8 +64,9 @@ fn no_uses(alloc: Global, classes: u32) -> Result<Vec<Option<u32>>, Memory>
 }
 
 impl EvidenceStore {
-    /// Evidence of no picks, of so many classes.
+    /// Evidence of no picks, of so many classes, at most 8192.
     pub fn make(alloc: Global, classes: u32) -> Result<EvidenceStore, Memory>
+        requires { classes ≤ 8192 }
         ensures { IfOk result (λ s. s ≡ record { evidence = no_evidence; classes = classes }) }
     {
         Ok(EvidenceStore {
@@ -101,6 +102,7 @@ impl EvidenceStore {
     }
 
     /// The store with one pick more, of a round and a class, behind all others, by what it means. A refusal loses the store.
+    /// Up to the last round of a plan there are too few picks for their numbers to pass 32 bits.
     pub fn add(
         self,
         round: u32,
@@ -109,6 +111,7 @@ impl EvidenceStore {
         befores: Befores,
     ) -> Result<EvidenceStore, Memory>
         requires class { class < self.classes }
+        requires few_rounds { round ≤ 4200 }
         requires behind { AllByRecursion (λ p. IsPickBefore p (record { round = round; class = class; shared = 0 })) self.evidence.picks }
         ensures pick { IfOk result (λ s. IsWithPick self.evidence round class numbering befores s.evidence) }
         ensures classes { IfOk result (λ s. s.classes ≡ self.classes) }

@@ -1,5 +1,5 @@
 // One use more of a numbering and before sets: what stands there is found, and what doesn't is added.
-ghost use Rattle.std.specs.Prelude.{◌≡◌, IfOk, OnOk};
+ghost use Rattle.std.specs.Prelude.{◌≡◌, ◌<◌, ◌^◌, length, IfOk, OnOk};
 ghost use Rattle.evidence_store.specs.Keys.{AreKeysOf};
 ghost use Rattle.evidence_store.specs.Numbers.{IsNumbered, AreNumbered, IsWithUse};
 
@@ -10,21 +10,15 @@ use net_base::{Memory, SwitchId};
 use std::alloc::Global;
 use waypoint_evidence::Before;
 
-/// The number in 32 bits.
-fn fitted(number: usize) -> Result<u32, Memory>
-    ensures { IfOk result (λ n. n ≡ number) }
-{
-    u32::try_from(number).ok().ok_or(Memory)
-}
-
-/// The number of a numbering. The keys are those of the numberings so far.
+/// The number of a numbering. The keys are those of the numberings so far, of which there are few enough for a number more.
 fn add_numbering(
     alloc: Global,
     keys: &mut NumberingKeys,
     numberings: &mut Numberings,
     numbering: Numbering,
 ) -> Result<u32, Memory>
-    requires { keys.old ≡ numberings.old }
+    requires keys { keys.old ≡ numberings.old }
+    requires few { length numberings.old < 2 ^ 32 }
     ensures number { IfOk result (λ n. IsNumbered numberings.old numbering n numberings.new) }
     ensures keys { OnOk result (keys.new ≡ numberings.new) }
 {
@@ -32,7 +26,7 @@ fn add_numbering(
     if is_new {
         numberings.add(numbering)?;
     }
-    fitted(number)
+    Ok(number as u32)
 }
 
 /// The same set once more.
@@ -86,14 +80,15 @@ fn add_befores(
     Ok(numbers)
 }
 
-/// The number of a use. The keys are those of the uses so far.
+/// The number of a use. The keys are those of the uses so far, of which there are few enough for a number more.
 fn add_shared(
     alloc: Global,
     keys: &mut UseKeys,
     uses: &mut Uses,
     shared: Shared,
 ) -> Result<u32, Memory>
-    requires { keys.old ≡ uses.old }
+    requires keys { keys.old ≡ uses.old }
+    requires few { length uses.old < 2 ^ 32 }
     ensures number { IfOk result (λ n. IsNumbered uses.old shared n uses.new) }
     ensures keys { OnOk result (keys.new ≡ uses.new) }
 {
@@ -101,7 +96,7 @@ fn add_shared(
     if is_new {
         uses.add(shared)?;
     }
-    fitted(number)
+    Ok(number as u32)
 }
 
 /// The number of the use of a numbering and before sets. The keys are those of the evidence so far.
@@ -112,7 +107,9 @@ pub(crate) fn add_use(
     numbering: Numbering,
     befores: &Befores,
 ) -> Result<u32, Memory>
-    requires { AreKeysOf keys.old evidence.old }
+    requires keys { AreKeysOf keys.old evidence.old }
+    requires few_numberings { length evidence.old.numberings < 2 ^ 32 }
+    requires few_uses { length evidence.old.uses < 2 ^ 32 }
     ensures number { IfOk result (λ n. IsWithUse evidence.old numbering befores.now n evidence.new) }
     ensures keys { OnOk result (AreKeysOf keys.new evidence.new) }
 {

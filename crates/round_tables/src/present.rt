@@ -1,5 +1,5 @@
 // The tables before a round, and each switch prepared for it.
-ghost use Rattle.std.specs.Prelude.{◌≡◌, ℕ, ◌+◌, ◌<◌, ◌≤◌, ◌^◌, ◌∷◌, [], true, length, vec_len, vec_capacity, slice_index_or, IfOk, OnOk};
+ghost use Rattle.std.specs.Prelude.{◌≡◌, ℕ, ◌+◌, ◌<◌, ◌≤◌, ◌^◌, ◌∷◌, [], true, length, vec_len, vec_capacity, slice_index_or, max, IfOk};
 ghost use Rattle.net_base.specs.declared.ids.SwitchId.{SwitchId as Switch};
 ghost use Rattle.topology.specs.Networks.{switch_count, capacity_of};
 ghost use Rattle.flow_rules.specs.Tables.{rules_at, rules_of_all};
@@ -34,46 +34,53 @@ impl Model for Present {
     ghost view = { λ p. record { tables = p.tables; mixes = p.mixes.items; touched = p.touched.items; room = vec_capacity p.changes } };
 }
 
-/// A count that is one greater.
-fn one_more(count: usize) -> Result<usize, Memory>
-    ensures { IfOk result (λ n. n ≡ count + 1) }
-{
-    count.checked_add(1).ok_or(Memory)
-}
-
 /// Counts a change of its switch.
-fn count_change(counts: &mut [usize], change: &Change) -> Result<(), Memory>
-    ensures { OnOk result ((s : Switch) → s.0 < length counts.old
-        → slice_index_or counts.old s.0 0 + length (changes_at s (change.now ∷ [])) ≤ slice_index_or counts.new s.0 0) }
+fn count_change(counts: &mut [usize], change: &Change)
+    requires { (s : Switch) → s.0 < length counts.old → slice_index_or counts.old s.0 0 < 2 ^ 63 }
+    ensures { (s : Switch) → s.0 < length counts.old
+        → slice_index_or counts.new s.0 0 ≡ slice_index_or counts.old s.0 0 + length (changes_at s (change.now ∷ [])) }
 {
     let i = change.switch().0 as usize;
     if i < counts.len() {
-        counts[i] = one_more(counts[i])?;
+        counts[i] += 1;
     }
-    Ok(())
 }
 
-/// Counts the changes of a round at each switch.
-fn count_round(counts: &mut [usize], round: &[Change]) -> Result<(), Memory>
-    ensures { OnOk result ((s : Switch) → s.0 < length counts.old
-        → slice_index_or counts.old s.0 0 + length (changes_at s round.now) ≤ slice_index_or counts.new s.0 0) }
+/// For each switch how many changes a round has there.
+fn count_round(counts: &mut [usize], round: &[Change])
+    ensures counted { (s : Switch) → s.0 < length counts.old → slice_index_or counts.new s.0 0 ≡ length (changes_at s round.now) }
+    ensures few { (s : Switch) → s.0 < length counts.old → slice_index_or counts.new s.0 0 < 2 ^ 63 }
 {
+    counts.fill(0);
     for change in round {
-        count_change(counts, change)?;
+        count_change(counts, change);
     }
-    Ok(())
 }
 
-/// For each switch as many as the rounds have changes there.
+/// Raises each number to the one beside it, where that is greater.
+fn raise(numbers: &mut [usize], others: &[usize])
+    requires { length numbers.old ≡ length others.now }
+    ensures { (i : ℕ) → i < length others.now
+        → slice_index_or numbers.new i 0 ≡ max (slice_index_or numbers.old i 0) (slice_index_or others.now i 0) }
+{
+    for (i, other) in others.iter().enumerate() {
+        numbers[i] = numbers[i].max(*other);
+    }
+}
+
+/// For each switch the most changes that a round has there.
 fn counts_of(alloc: Global, switches: u32, rounds: &Rounds) -> Result<Vec<usize>, Memory>
     ensures len { IfOk result (λ counts. length counts.items ≡ switches) }
     ensures counted { IfOk result (λ counts. AreCounted counts.items (length rounds.now) rounds.now) }
+    ensures few { IfOk result (λ counts. (s : Switch) → s.0 < switches → slice_index_or counts.items s.0 0 < 2 ^ 63) }
 {
+    let mut most = vec![in alloc; 0usize; switches as usize]?;
     let mut counts = vec![in alloc; 0usize; switches as usize]?;
     for k in 0..rounds.count() {
-        count_round(&mut counts, rounds.round(k))?;
+        count_round(&mut counts, rounds.round(k));
+        raise(&mut most, &counts);
     }
-    Ok(counts)
+    Ok(most)
 }
 
 /// As many as the longest round has changes.
@@ -104,15 +111,16 @@ fn roomy_tables(alloc: Global, net: &Net) -> Result<Config, Memory>
 
 /// Nothing prepared, with room for a table of the capacity and so many changes.
 fn roomy_mix(alloc: Global, capacity: u32, count: usize) -> Result<Mixed, Memory>
+    requires { count < 2 ^ 63 }
     ensures { IfOk result (λ m. m.room ≡ capacity + count) }
 {
-    let entries = count.checked_add(capacity as usize).ok_or(Memory)?;
-    Mixed::with_room(alloc, entries)
+    Mixed::with_room(alloc, capacity as usize + count)
 }
 
 /// Nothing prepared of each switch, with room for its capacity and its changes.
 fn roomy_mixes(alloc: Global, net: &Net, counts: &[usize]) -> Result<Vec<Mixed>, Memory>
-    requires { length counts.now ≡ switch_count net.now }
+    requires len { length counts.now ≡ switch_count net.now }
+    requires few { (s : Switch) → s.0 < switch_count net.now → slice_index_or counts.now s.0 0 < 2 ^ 63 }
     ensures len { IfOk result (λ mixes. length mixes.items ≡ switch_count net.now) }
     ensures room { IfOk result (λ mixes. (s : Switch) → s.0 < switch_count net.now
         → capacity_of net.now s + slice_index_or counts.now s.0 0 ≤ (mix_at mixes.items s).room) }

@@ -1,12 +1,31 @@
-use Rattle.std.proofs.Common.{◌≡◌, ◌∷◌, ◌++◌, [], List, refl, sym, ap, ◌∙◌, subst}
+use Rattle.std.proofs.Common.{◌≡◌, ◌<◌, ◌∷◌, ◌++◌, [], List, length, refl, sym, ap, ◌∙◌, subst, arith}
 use Rattle.std.specs.List.{AllByRecursion}
 use Rattle.certificates.specs.Valid.{IsPickBefore}
 use Rattle.certificates.specs.declared.OrderedPick.{OrderedPick}
 use Rattle.certificates.specs.declared.OrderedEvidence.{OrderedEvidence}
 use Rattle.evidence_store.specs.State.{StoreState}
 use Rattle.evidence_store.proofs.StoredLaws.{stored_more, with_pick}
+use Rattle.std.proofs.Math.ListN.{length-set}
+use Rattle.net_base.proofs.MemberLaws.{each_append}
 use Rattle.evidence_store.proofs.PickLaws.{in_force_more}
+use Rattle.evidence_store.proofs.CountLaws.{few_numberings, few_uses}
 use Rattle.evidence_store.proofs.EvidenceStore.add.Goals as goal
+
+pub add_use-requires-clause-few_numberings : goal.add_use-requires-clause-few_numberings
+add_use-requires-clause-few_numberings c =
+    let pick : OrderedPick = record { round = c.args.round; class = c.args.class; shared = 0 } in
+    let state = c.store.view_is in
+    let behind = subst (λ (s : StoreState). AllByRecursion (λ p. IsPickBefore p pick) s.evidence.picks) (sym state) c.requires.behind in
+    let within = subst (λ (s : StoreState). c.args.class < s.classes) (sym state) c.requires.class in
+    few_numberings c.store.inside.evidence c.store.invariant.stored (length c.store.inside.in_force.items) pick c.store.invariant.few_classes c.store.invariant.classes behind within c.requires.few_rounds
+
+pub add_use-requires-clause-few_uses : goal.add_use-requires-clause-few_uses
+add_use-requires-clause-few_uses c =
+    let pick : OrderedPick = record { round = c.args.round; class = c.args.class; shared = 0 } in
+    let state = c.store.view_is in
+    let behind = subst (λ (s : StoreState). AllByRecursion (λ p. IsPickBefore p pick) s.evidence.picks) (sym state) c.requires.behind in
+    let within = subst (λ (s : StoreState). c.args.class < s.classes) (sym state) c.requires.class in
+    few_uses c.store.inside.evidence c.store.invariant.stored (length c.store.inside.in_force.items) pick c.store.invariant.few_classes c.store.invariant.classes behind within c.requires.few_rounds
 
 pub invariant_of-store : goal.invariant_of-store
 invariant_of-store c =
@@ -14,6 +33,8 @@ invariant_of-store c =
     let used = c.in_ok-shared.ensures.number in
     let same : c.args.self.evidence ≡ c.store.inside.evidence = sym (ap (λ (s : StoreState). s.evidence) c.store.view_is) in
     let behind = subst (λ (e : OrderedEvidence). AllByRecursion (λ p. IsPickBefore p pick) e.picks) same c.requires.behind in
+    let count : length c.store.inside.in_force.items ≡ c.args.self.classes = ap (λ (s : StoreState). s.classes) c.store.view_is in
+    let within : pick.class < length c.store.inside.in_force.items = let class = c.requires.class in omega arith in
     let more = c.in_ok-add.ensures.ok ∙ ap (λ (l : List OrderedPick). l ++ pick ∷ []) used.picks in
     record {
       stored = stored_more c.store.inside.evidence c.add_use.new.evidence c.args.numbering c.args.befores c.in_ok-shared.shared c.store.invariant.stored used pick c.add.new.self refl c.in_ok-add.ensures.ok behind;
@@ -22,6 +43,8 @@ invariant_of-store c =
         befores = c.in_ok-shared.ensures.keys.befores;
         uses = c.in_ok-shared.ensures.keys.uses;
       };
+      few_classes = rw length-set c.store.invariant.few_classes;
+      classes = rw (more, length-set) (each_append (λ p. p.class < length c.store.inside.in_force.items) c.store.inside.evidence.picks (pick ∷ []) c.store.invariant.classes (within, tt));
       in_force = in_force_more c.store.inside.evidence.picks c.add.new.self pick c.store.inside.in_force.items more behind c.store.invariant.in_force;
     }
 

@@ -1,4 +1,6 @@
-use Rattle.std.proofs.Common.{[], sym, ap, ◌∙◌, subst}
+use Rattle.std.proofs.Common.{◌<◌, [], length, sym, ap, ◌∙◌, subst}
+use Rattle.std.specs.List.{AllByRecursion}
+use Rattle.std.proofs.lemmas.List.{length-replicate}
 use Rattle.certificates.specs.declared.OrderedEvidence.{OrderedEvidence}
 use Rattle.evidence_store.specs.Stored.{IsStored}
 use Rattle.evidence_store.specs.State.{AreInForce}
@@ -18,4 +20,6 @@ invariant_of-result c =
         uses = keys.uses ∙ sym (ap (λ (e : OrderedEvidence). e.uses) is);
       };
       in_force = subst (λ (e : OrderedEvidence). AreInForce e.picks c.in_ok-no_uses.field-0.items) (sym is) (subst (AreInForce []) (sym c.in_ok-no_uses.ensures) (none_in_force c.args.classes));
+      few_classes = rw (c.in_ok-no_uses.ensures, length-replicate) c.requires;
+      classes = subst (λ (e : OrderedEvidence). AllByRecursion (λ p. p.class < length c.in_ok-no_uses.field-0.items) e.picks) (sym is) tt;
     }
