@@ -199,7 +199,7 @@ module _ (aim : Aim) (old : List (List Rule)) (net : IsNetwork aim.net) (old_use
         stands = first.qualifies.stands;
       }
 
-  good : AreGoodRounds u
+  pub good : AreGoodRounds u
   good k less =
       let r = round_of k less in
       subst (IsGoodRound (tables_before u k)) (sym r.round_is) (record { applies = (r.applies, tt); distinct = (λ i. i, tt) })

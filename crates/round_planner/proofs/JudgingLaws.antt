@@ -1,27 +1,33 @@
 -- What is found for the classes, class by class, and what the pick in force says of a class.
-use Rattle.std.proofs.Common.{◌≡◌, ◌≢◌, ◌⊎◌, ◌↔◌, ℕ, suc, ◌+◌, ◌<◌, ◌≤◌, List, [], ◌∷◌, ◌++◌, length, get_or, Some, refl, sym, ◌∙◌, subst, ap, inl, inr, arith}
-use Rattle.std.specs.Prelude.{slice_get}
+use Rattle.std.proofs.Common.{◌≡◌, ◌≢◌, ◌⊎◌, ◌↔◌, ℕ, zero, suc, ◌+◌, ◌<◌, ◌≤◌, Bool, false, List, [], ◌∷◌, ◌++◌, length, get_or, Some, refl, sym, ◌∙◌, subst, ap, inl, inr, arith}
+use Rattle.std.specs.Prelude.{slice_get, ◌||◌}
 use Rattle.std.specs.List.{AllByRecursion, AllZip}
 use Rattle.std.proofs.lemmas.Option.{same_Some, slice_get-get_or}
 use Rattle.std.proofs.lemmas.Bool.{cases_lt}
+use Rattle.net_base.specs.Blocks.{in_block}
 use Rattle.net_base.specs.Members.{IsIn}
 use Rattle.net_base.proofs.MemberLaws.{each_at, each_weaker, each_append, in_append_left, in_append_right}
 use Rattle.dest_classes.specs.Classes.{IsClass, class_count}
 use Rattle.dest_classes.specs.declared.Class.{Class}
 use Rattle.dest_classes.proofs.MapLaws.{class_exists}
+use Rattle.update_model.specs.Changes.{rule_of, round_after}
 use Rattle.update_model.specs.Mixtures.{Update}
+use Rattle.update_model.specs.declared.Change.{Change}
 use Rattle.certificates.specs.Ordered.{IsSafe, IsPickInForce, IsMeant}
 use Rattle.certificates.specs.Valid.{IsChain, IsPickBefore, IsValidUse}
 use Rattle.certificates.specs.declared.Shared.{Shared}
 use Rattle.certificates.specs.declared.OrderedPick.{OrderedPick}
 use Rattle.certificates.specs.declared.OrderedEvidence.{OrderedEvidence}
+use Rattle.check_reasons.specs.Touched.{touches}
+use Rattle.check_reasons.proofs.TouchLaws.{possible_before}
 use Rattle.class_evidence.specs.Found.{IsSafeEvidence}
 use Rattle.evidence_store.specs.Stored.{IsStored}
 use Rattle.evidence_store.proofs.ListLaws.{chain_push}
 use Rattle.ordered_check.proofs.MeaningLaws.{one_in_force, one_meaning, at_place}
+use Rattle.ordered_check.proofs.StandLaws.{still_safe}
 use Rattle.round_planner.specs.declared.judging.Found.{Found}
 use Rattle.round_planner.specs.Search.{Aim, duties_in}
-use Rattle.round_planner.specs.Standing.{IsCertifiedClass, HasFound, HasNotFound, AreSafeBelow, HasUnsafe}
+use Rattle.round_planner.specs.Standing.{IsCertifiedClass, IsNextRound, HasPickOf, HasFound, HasNotFound, AreSafeBelow, HasUnsafe}
 
 -- ---- the pick in force
 
@@ -51,6 +57,39 @@ module _ (aim : Aim) (u : Update) (e : OrderedEvidence) (k n : ℕ) (class : Cla
         subst (λ (xs : List (List ℕ)). IsSafe u k class.first class.entry (duties_in aim class) numbers xs) same_sets
         (subst (λ (xs : List ℕ). IsSafe u k class.first class.entry (duties_in aim class) xs h.sets) same_numbers h.safe),
   )
+
+-- ---- a class that the change of a round doesn't cover
+
+module _ (aim : Aim) (u : Update) (e : OrderedEvidence) (k : ℕ) (c : Change) (next : IsNextRound aim u e k c) where
+  pub picks_up_to : AllByRecursion (λ p. p.round ≤ suc k) e.picks
+  picks_up_to = each_weaker (λ (p : OrderedPick). (0 < p.round) × (p.round ≤ k)) (λ (p : OrderedPick). p.round ≤ suc k) (λ p h. let le = h.1 in omega arith) e.picks next.picks
+
+  -- its certificate of the round before stands
+  pub stays_certified : (n : ℕ) (class : Class) → IsClass aim.classes n class → HasPickOf e n → in_block (rule_of c).key.pattern.dst class.first ≡ false → IsCertifiedClass aim u e k n class
+  stays_certified n class is (pick, stands, of_class) misses =
+      elim k as (λ j. IsNextRound aim u e j c → IsCertifiedClass aim u e j n class) [
+        | zero ↦ λ h. (let within = each_at (λ (p : OrderedPick). (0 < p.round) × (p.round ≤ 0)) e.picks pick h.picks stands in let low = within.0 in let high = within.1 in absurd (omega arith))
+        | suc j ↦ λ h.
+            let cert = h.certificates j n class (omega arith) is in
+            let off : touches (round_after (suc j) u.rounds) class.first ≡ false = ap (λ r. touches r class.first) h.round ∙ ap (λ (b : Bool). b || false) misses in
+            record {
+              pick = cert.pick;
+              numbers = cert.numbers;
+              sets = cert.sets;
+              in_force = record {
+                stands = cert.in_force.stands;
+                of_class = cert.in_force.of_class;
+                begun = (let le = cert.in_force.begun in omega arith);
+                latest = λ other i same le.
+                    cert.in_force.latest other i same (each_at (λ (p : OrderedPick). (0 < p.round) × (p.round ≤ suc j)) e.picks other h.picks i).1;
+              };
+              meant = cert.meant;
+              safe = still_safe u j class.first class.entry (possible_before u j class.first h.within (h.good j (omega arith)) (h.good (suc j) (omega arith)) h.clear off)
+                  (duties_in aim class) cert.numbers cert.sets cert.safe;
+            }
+      ] next
+
+-- ---- what picks mean
 
 -- numbers of before sets that there are have before sets
 sets_at : (befores : List (List ℕ)) (indices : List ℕ) → AllByRecursion (λ i. i < length befores) indices → (sets : List (List ℕ)) × AllZip (λ i set. slice_get befores i ≡ Some set) indices sets

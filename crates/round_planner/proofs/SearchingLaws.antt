@@ -3,15 +3,15 @@ use Rattle.std.proofs.Common.{◌≡◌, ℕ, zero, suc, ◌+◌, ◌<◌, ◌�
 use Rattle.std.specs.Prelude.{Some, slice_get}
 use Rattle.std.specs.List.{AllByRecursion}
 use Rattle.net_base.specs.Members.{IsIn}
-use Rattle.net_base.proofs.MemberLaws.{each_weaker, each_append}
+use Rattle.net_base.proofs.MemberLaws.{each_weaker, each_append, each_from_in}
 use Rattle.net_base.specs.declared.ids.SwitchId.{SwitchId}
-use Rattle.topology.specs.Networks.{switch_count}
+use Rattle.topology.specs.Networks.{IsNetwork, switch_count}
 use Rattle.flow_rules.specs.Tables.{rules_at, rules_of_all}
 use Rattle.flow_rules.specs.declared.rules.Rule.{Rule}
 use Rattle.path_walk.specs.UserConfigs.{IsUserConfig}
-use Rattle.dest_classes.specs.Classes.{class_count}
+use Rattle.dest_classes.specs.Classes.{IsClass, class_count}
 use Rattle.dest_classes.specs.declared.Class.{Class}
-use Rattle.update_model.specs.Changes.{switch_of, rule_of, Applies, tables_after, tables_after_change, changes_at, round_after, with_change}
+use Rattle.update_model.specs.Changes.{switch_of, rule_of, Applies, IsGoodRound, tables_after, tables_after_change, changes_at, round_after, with_change}
 use Rattle.update_model.specs.Mixtures.{Update, tables_before}
 use Rattle.update_model.specs.Remaining.{remaining}
 use Rattle.update_model.specs.declared.Change.{Change}
@@ -29,10 +29,12 @@ use Rattle.evidence_store.specs.Stored.{IsStored, no_evidence}
 use Rattle.trial_tables.specs.Trials.{TrialState, single, HasRoomAlone, IsSettled, IsTrying}
 use Rattle.round_planner.specs.declared.judging.Found.{Found}
 use Rattle.round_planner.specs.Search.{Aim, duties_in, update_by, single_rounds, CanBeSafe, Qualifies, IsFirstQualifying}
-use Rattle.round_planner.specs.Standing.{Stands, AreSafeBelow, HasUnsafe, AreWithPicks}
+use Rattle.round_planner.specs.Standing.{Stands, IsCertifiedClass, IsNextRound, AreSafeBelow, HasUnsafe, AreWithPicks}
 use Rattle.round_planner.specs.Searching.{SearchState, IsAt, IsTryingAt, IsTried, IsMoved}
-use Rattle.round_planner.proofs.SameRound.{IsSameRound, same_back, same_alone, safe_same}
+use Rattle.round_planner.proofs.SameRound.{IsSameRound, same_back, same_alone, same_prefix, tables_at, held_same, safe_same}
 use Rattle.table_difference.proofs.LengthLaws.{few_remain}
+use Rattle.std.proofs.lemmas.Bool.{cases_lt}
+use Rattle.round_planner.proofs.EndLaws.{good}
 use Rattle.round_planner.proofs.SearchLaws.{first_remains}
 use Rattle.round_planner.proofs.StandingLaws.{begun, length_rounds, stands_none, stands_more}
 use Rattle.round_planner.proofs.UserTables.{AreUserTables, IsUserChange, keeps_user, user_start, user_along, changes_along, remaining_user, remaining_applies, remaining_count}
@@ -116,6 +118,54 @@ module _ (aim : Aim) (old : List (List Rule)) (old_user : IsUserConfig aim.net o
       keeps_change : (d : Change) → IsUserChange aim old d → KeepsVlan (rule_of d).action
       keeps_change d is = keeps_user aim.net (switch_of d) (rule_of d).action is.rule.action
 
+  -- it is the next round of the search
+  pub next_round : IsNetwork aim.net → HasRoomAlone aim.net (tables_after changes old) c → IsNextRound aim next e (length changes) c
+  next_round net room = record {
+    within = (let count = length_rounds (changes ++ c ∷ []) in let sum = length-append changes (c ∷ []) in omega arith);
+    round = round_is;
+    good = good_up_to;
+    clear = λ s mixed held. room.clear s mixed (held_same next (length changes) (single aim.net (tables_after changes old) c) 0 back s mixed held);
+    picks = each_from_in _ e.picks (λ (p : OrderedPick) i.
+        let least = stands.evidence.picked p i in
+        let number = least.round_is in
+        let within = least.within in
+        let count = length_rounds changes in
+        (omega arith, omega arith));
+    certificates = certificate_before;
+  }
+    where
+      back : IsSameRound next (length changes) (single aim.net (tables_after changes old) c) 0
+      back = same_back (single aim.net (tables_after changes old) c) 0 next (length changes) same
+
+      round_is : round_after (length changes) next.rounds ≡ c ∷ []
+      round_is = back.round
+
+      good_here : IsGoodRound (tables_before next (length changes)) (round_after (length changes) next.rounds)
+      good_here = subst (IsGoodRound (tables_before next (length changes))) (sym round_is)
+          (record { applies = (subst (λ ts. Applies ts c) (sym (tables_at aim old changes (c ∷ []))) applies_here, tt); distinct = (λ i. i, tt) })
+
+      good_up_to : (j : ℕ) → j ≤ length changes → IsGoodRound (tables_before next j) (round_after j next.rounds)
+      good_up_to j le = elim (cases_lt j (length changes)) [
+        | inl less ↦
+            let before = same_prefix aim old changes (c ∷ []) j less in
+            subst (λ ts. IsGoodRound ts (round_after j next.rounds)) before.tables
+            (subst (IsGoodRound (tables_before (update_by aim old changes) j)) before.round
+            (good aim old net old_user new_user changes stands.found j (let count = length_rounds changes in omega arith)))
+        | inr last ↦ (let e : length changes ≡ j = omega arith in subst (λ i. IsGoodRound (tables_before next i) (round_after i next.rounds)) e good_here)
+      ]
+
+      certificate_before : (j n : ℕ) (class : Class) → j < length changes → IsClass aim.classes n class → IsCertifiedClass aim next e j n class
+      certificate_before j n class less is =
+          let h = stands.certificates j n class less is in
+          record {
+            pick = h.pick;
+            numbers = h.numbers;
+            sets = h.sets;
+            in_force = h.in_force;
+            meant = h.meant;
+            safe = safe_same (update_by aim old changes) j next j (same_prefix aim old changes (c ∷ []) j less) class.first class.entry (duties_in aim class) h.numbers h.sets h.safe;
+          }
+
   -- where a search goes on with it
   pub taken : (more : OrderedEvidence) (found : List Found) → IsStored e → AreSafeBelow aim next e (length changes) (class_count aim.classes) found
       → AreWithPicks e (suc (length changes)) found more → IsStored more → IsFirstQualifying aim (tables_after changes old) (remaining (tables_after changes old) aim.new) c → Stands aim old (changes ++ c ∷ []) more
@@ -192,12 +242,12 @@ module _ (aim : Aim) (old : List (List Rule)) (old_user : IsUserConfig aim.net o
   pub tried_at : IsTryingAt aim old changes c (record { trial = trial; rounds = s.rounds; store = s.store })
   tried_at = record { rounds = at.rounds; tables = rules ∙ at.tables; trying = trying; stands = at.stands; classes = at.classes }
 
-  pub picks_begun : AllByRecursion (λ p. p.round ≤ suc (length changes)) s.store.evidence.picks
-  picks_begun = each_weaker (λ (p : OrderedPick). p.round < suc (length changes)) (λ (p : OrderedPick). p.round ≤ suc (length changes)) (λ p less. omega arith) s.store.evidence.picks
-      (begun aim old changes s.store.evidence at.stands)
-
   room_alone : HasRoomAlone aim.net (tables_after changes old) c
   room_alone = subst (λ ts. HasRoomAlone aim.net ts c) (rules ∙ at.tables) trying.stands
+
+  -- it is the next round of the search
+  pub tried_next : IsNetwork aim.net → IsNextRound aim (update_by aim old (changes ++ c ∷ [])) s.store.evidence (length changes) c
+  tried_next net = next_round aim old old_user new_user changes c s.store.evidence at.stands remains net room_alone
 
   pub tried_qualifies : (found : List Found) → AreSafeBelow aim (update_by aim old (changes ++ c ∷ [])) s.store.evidence (length changes) (class_count aim.classes) found → Qualifies aim (tables_after changes old) c
   tried_qualifies found safe = qualifies aim old old_user new_user changes c s.store.evidence at.stands remains room_alone found safe

@@ -1,14 +1,18 @@
 -- Where a search stands, and what is found while a change is tried.
-use Rattle.std.specs.Prelude.{◌≡◌, ◌⊎◌, ℕ, ◌<◌, List, [], ◌∷◌, length, Option, Some, None}
+use Rattle.std.specs.Prelude.{◌≡◌, ◌⊎◌, ℕ, ◌<◌, ◌≤◌, List, [], ◌∷◌, length, Option, Some, None}
 use Rattle.std.specs.List.{AllByRecursion}
 use Rattle.net_base.specs.Members.{IsIn}
+use Rattle.net_base.specs.declared.ids.SwitchId.{SwitchId}
+use Rattle.flow_rules.specs.Tables.{IsClear}
 use Rattle.flow_rules.specs.declared.rules.Rule.{Rule}
 use Rattle.dest_classes.specs.Classes.{IsClass, class_count}
 use Rattle.dest_classes.specs.declared.Class.{Class}
-use Rattle.update_model.specs.Mixtures.{Update}
+use Rattle.update_model.specs.Changes.{IsGoodRound, round_after}
+use Rattle.update_model.specs.Mixtures.{Update, MayHold, tables_before}
 use Rattle.update_model.specs.declared.Change.{Change}
 use Rattle.certificates.specs.Ordered.{IsSafe, OrderedCertificate}
 use Rattle.certificates.specs.Valid.{IsChain, IsValidNumbering, IsValidBefore}
+use Rattle.certificates.specs.declared.OrderedPick.{OrderedPick}
 use Rattle.certificates.specs.declared.OrderedEvidence.{OrderedEvidence}
 use Rattle.class_evidence.specs.Found.{IsSafeEvidence}
 use Rattle.evidence_store.specs.Stored.{IsWithPick}
@@ -29,6 +33,20 @@ pub record Stands (aim : Aim) (old : List (List Rule)) (changes : List Change) (
   pub certificates : (k n : ℕ) (class : Class) → k < length changes → IsClass aim.classes n class → IsCertifiedClass aim (update_by aim old changes) e k n class
   pub numberings : AllByRecursion (IsValidNumbering aim.net) e.numberings
   pub befores : AllByRecursion (IsValidBefore aim.net) e.befores
+
+-- the change by itself is round k, which may be carried out; the picks so far are of the rounds before it, in which each class
+-- has its certificate
+pub record IsNextRound (aim : Aim) (u : Update) (e : OrderedEvidence) (k : ℕ) (c : Change) : Type 0 where
+  pub within : k < length u.rounds
+  pub round : round_after k u.rounds ≡ c ∷ []
+  pub good : (j : ℕ) → j ≤ k → IsGoodRound (tables_before u j) (round_after j u.rounds)
+  pub clear : (s : SwitchId) (mixed : List Rule) → MayHold u k s mixed → IsClear mixed
+  pub picks : AllByRecursion (λ p. (0 < p.round) × (p.round ≤ k)) e.picks
+  pub certificates : (j n : ℕ) (class : Class) → j < k → IsClass aim.classes n class → IsCertifiedClass aim u e j n class
+
+-- there is a pick of class n
+abbrev pub HasPickOf : OrderedEvidence → ℕ → Type 0
+HasPickOf e n = (pick : OrderedPick) × IsIn pick e.picks × (pick.class ≡ n)
 
 -- what is found for a class in round k: the pick in force keeps it safe, or it fails and new evidence does, or nothing does
 abbrev pub IsJudged : Aim → Update → OrderedEvidence → ℕ → ℕ → Class → Judged → Type 0

@@ -1,16 +1,18 @@
 // What is found for the classes while a change is tried.
-ghost use Rattle.std.specs.Prelude.{◌≡◌, ◌↔◌, ℕ, ◌+◌, ◌<◌, ◌≤◌, suc, List, length, IsTrue, IfOk, option_map, slice_get, Some};
+ghost use Rattle.std.specs.Prelude.{◌≡◌, ◌↔◌, ℕ, ◌+◌, ◌<◌, ◌≤◌, suc, true, false, List, length, IsTrue, IfOk, option_map, slice_get, Some};
 ghost use Rattle.std.specs.List.{AllByRecursion};
+ghost use Rattle.net_base.specs.Blocks.{in_block};
 ghost use Rattle.topology.specs.Networks.{switch_count};
 ghost use Rattle.dest_classes.specs.Classes.{class_count, IsClass};
 ghost use Rattle.dest_classes.specs.declared.Class.{Class};
+ghost use Rattle.update_model.specs.Changes.{rule_of};
 ghost use Rattle.update_model.specs.Mixtures.{Update};
 ghost use Rattle.certificates.specs.Ordered.{IsMeant, IsSafe};
 ghost use Rattle.certificates.specs.Valid.{IsValidNumbering, IsValidUse};
 ghost use Rattle.certificates.specs.declared.OrderedPick.{OrderedPick};
 ghost use Rattle.mixed_walks.specs.Walks.{IsRoundOf, IsWalked};
 ghost use Rattle.round_planner.specs.Search.{duties_in};
-ghost use Rattle.round_planner.specs.Standing.{IsCertifiedClass, IsJudged, AreSafeBelow, AreJudged};
+ghost use Rattle.round_planner.specs.Standing.{HasPickOf, IsNextRound, IsCertifiedClass, IsJudged, AreSafeBelow, AreJudged};
 
 use crate::goal::Goal;
 use acyclic_numbering::Numbering;
@@ -22,6 +24,7 @@ use mixed_walks::WalkRoom;
 use net_base::Memory;
 use round_mix::Mixed;
 use std::alloc::Global;
+use update_model::Change;
 
 /// What is found for a class in a round: the pick in force keeps it safe, new evidence does, or nothing does.
 #[derive(Drop)]
@@ -29,6 +32,13 @@ pub(crate) enum Judged {
     Kept,
     New(ClassEvidence),
     Unsafe,
+}
+
+/// A change that is tried as the next round, and the switches as they are prepared for that round.
+#[derive(Clone, Copy)]
+pub(crate) struct Tried<'a> {
+    pub(crate) change: &'a Change,
+    pub(crate) mixes: &'a [Mixed],
 }
 
 /// New evidence for a class.
@@ -106,25 +116,41 @@ fn is_kept(goal: &Goal, walk: &WalkRoom, store: &EvidenceStore, number: u32, cla
     }
 }
 
-/// What is found for a class while the round is carried out for which the switches are prepared.
+/// Whether the class has a pick, and the change doesn't cover its address. Then its certificate of the round before stands.
+fn stays(store: &EvidenceStore, change: &Change, number: u32, class: Class) -> bool
+    requires { number < store.now.classes }
+    ensures has { result ≡ true → HasPickOf store.now.evidence number }
+    ensures misses { result ≡ true → in_block (rule_of change.now).key.pattern.dst class.first ≡ false }
+{
+    match store.in_force(number) {
+        Some(_) => !change.rule().key.pattern.dst.has(class.first),
+        None => false,
+    }
+}
+
+/// What is found for a class while the round of a change is carried out. Its mixed walks are walked only where the change
+/// covers its address, or it has no pick yet.
 fn judge_class(
     alloc: Global,
     goal: &Goal,
     walk: &mut WalkRoom,
-    mixes: &[Mixed],
+    tried: Tried,
     store: &EvidenceStore,
     number: u32,
 ) -> Result<Judged, Memory>
     requires number { number < class_count goal.now.classes }
-    requires round { (u : Update) × (k : ℕ) × IsRoundOf goal.now.net mixes.now u k }
+    requires round { (u : Update) × (k : ℕ) × IsRoundOf goal.now.net tried.mixes.now u k }
     requires numberings { AllByRecursion (IsValidNumbering goal.now.net) store.now.evidence.numberings }
     requires classes { store.now.classes ≡ class_count goal.now.classes }
-    ensures { IfOk result (λ judged. (u : Update) (k : ℕ) (class : Class) → IsRoundOf goal.now.net mixes.now u k → IsClass goal.now.classes number class
-        → AllByRecursion (λ p. p.round ≤ suc k) store.now.evidence.picks → IsJudged goal.now u store.now.evidence k number class judged) }
+    ensures { IfOk result (λ judged. (u : Update) (k : ℕ) (class : Class) → IsRoundOf goal.now.net tried.entry.mixes.now u k → IsClass goal.now.classes number class
+        → IsNextRound goal.now u store.now.evidence k tried.entry.change.now → IsJudged goal.now u store.now.evidence k number class judged) }
 {
     goal.net.keeps_rules();
     let class = goal.classes.class(number);
-    walk.walk(goal.net, mixes, class);
+    if stays(store, tried.change, number, class) {
+        return Ok(Judged::Kept);
+    }
+    walk.walk(goal.net, tried.mixes, class);
     if is_kept(goal, walk, store, number, class) {
         return Ok(Judged::Kept);
     }
@@ -134,25 +160,25 @@ fn judge_class(
     }
 }
 
-/// What is found for all classes while the round is carried out for which the switches are prepared: new evidence for those
+/// What is found for all classes while the round of a change is carried out: new evidence for those
 /// that the pick in force doesn't keep safe, or none where some class is not safe by any evidence.
 pub(crate) fn judge_all(
     alloc: Global,
     goal: &Goal,
     walk: &mut WalkRoom,
-    mixes: &[Mixed],
+    tried: Tried,
     store: &EvidenceStore,
 ) -> Result<Option<Vec<Found>>, Memory>
-    requires round { (u : Update) × (k : ℕ) × IsRoundOf goal.now.net mixes.now u k }
+    requires round { (u : Update) × (k : ℕ) × IsRoundOf goal.now.net tried.mixes.now u k }
     requires numberings { AllByRecursion (IsValidNumbering goal.now.net) store.now.evidence.numberings }
     requires classes { store.now.classes ≡ class_count goal.now.classes }
-    ensures { IfOk result (λ found. (u : Update) (k : ℕ) → IsRoundOf goal.now.net mixes.now u k
-        → AllByRecursion (λ p. p.round ≤ suc k) store.now.evidence.picks
+    ensures { IfOk result (λ found. (u : Update) (k : ℕ) → IsRoundOf goal.now.net tried.entry.mixes.now u k
+        → IsNextRound goal.now u store.now.evidence k tried.entry.change.now
         → AreJudged goal.now u store.now.evidence k (option_map (λ v. v.items) found)) }
 {
     let mut found = Vec::new(alloc);
     for number in 0..goal.classes.count() {
-        match judge_class(alloc, goal, walk, mixes, store, number)? {
+        match judge_class(alloc, goal, walk, tried, store, number)? {
             Judged::Kept => {}
             Judged::New(evidence) => found.push(Found {
                 class: number,

@@ -42,7 +42,9 @@ pub enum Ordered {
 /// is clear in every mixture, within capacity, and keeps every class safe by some evidence. It ends ordered where no change
 /// remains, and stuck where none of them qualifies. After Mahajan and Wattenhofer (2013).
 ///
-/// Takes one walk for each change that is tried and each class, up to the first class that it doesn't keep safe.
+/// Takes one walk for each change that is tried and each class whose address the change covers, up to the first class that it
+/// doesn't keep safe; for the first change that is made, one for each class. A walk is that of a packet through the mixtures
+/// of the round.
 pub fn order(
     alloc: Global,
     net: &Net,

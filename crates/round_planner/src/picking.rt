@@ -1,5 +1,5 @@
 // The picks of a round.
-ghost use Rattle.std.specs.Prelude.{◌≡◌, ◌<◌, IfOk};
+ghost use Rattle.std.specs.Prelude.{◌≡◌, ◌<◌, ◌≤◌, IfOk};
 ghost use Rattle.std.specs.List.{AllByRecursion};
 ghost use Rattle.certificates.specs.Valid.{IsChain};
 ghost use Rattle.round_planner.specs.declared.judging.Found.{Found as FoundView};
@@ -16,6 +16,7 @@ pub(crate) fn add_picks(
     round: u32,
     found: Vec<Found>,
 ) -> Result<EvidenceStore, Memory>
+    requires few_rounds { round ≤ 4200 }
     requires behind { AllByRecursion (λ p. p.round < round) store.evidence.picks }
     requires classes { AllByRecursion (λ (f : FoundView). f.class < store.classes) found.items }
     requires ascending { IsChain (λ (f g : FoundView). f.class < g.class) found.items }

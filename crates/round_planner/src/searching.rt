@@ -17,7 +17,7 @@ ghost use Rattle.round_planner.specs.Searching.{IsAt, IsTried, IsMoved, IsTrying
 
 use crate::Ordered;
 use crate::goal::Goal;
-use crate::judging::{Found, judge_all};
+use crate::judging::{Found, Tried, judge_all};
 use crate::picking::add_picks;
 use certificates::{Evidence, Plan};
 use evidence_store::EvidenceStore;
@@ -102,10 +102,15 @@ impl Search {
         ensures { IfOk result (λ taken. (old : List (List Rule)) (changes : List ChangeOf) → IsUserConfig goal.now.net old → IsAt goal.now old changes self.old
             → IsIn change.now (remaining (tables_after changes old) goal.now.new) → IsTried goal.now old changes change.now self.new taken) }
     {
+        goal.net.keeps_rules();
         if !self.trial.begin(goal.net, change) {
             return Ok(false);
         }
-        match judge_all(alloc, goal, &mut self.walk, self.trial.mixes(), &self.store)? {
+        let tried = Tried {
+            change,
+            mixes: self.trial.mixes(),
+        };
+        match judge_all(alloc, goal, &mut self.walk, tried, &self.store)? {
             Some(found) => {
                 self.take(alloc, goal, change, found)?;
                 Ok(true)

@@ -1,10 +1,12 @@
-use Rattle.std.proofs.Common.{◌≡◌, ℕ, List, Option, Some, None, sym, ap, ◌∙◌, subst}
+use Rattle.std.proofs.Common.{◌≡◌, ℕ, false, List, Option, Some, None, sym, ap, ◌∙◌, subst}
 use Rattle.std.proofs.lemmas.Bool.{false≢true}
+use Rattle.net_base.specs.Blocks.{in_block}
 use Rattle.topology.specs.Networks.{Network}
 use Rattle.dest_classes.specs.Classes.{ClassList, IsClass}
 use Rattle.dest_classes.specs.declared.Class.{Class}
 use Rattle.demands.specs.Duties.{DemandView, duties_of}
 use Rattle.config_check.proofs.JudgeLaws.{class_within}
+use Rattle.update_model.specs.Changes.{rule_of}
 use Rattle.update_model.specs.Mixtures.{Update}
 use Rattle.round_mix.specs.Prepared.{MixedState}
 use Rattle.class_evidence.specs.Found.{IsFound}
@@ -12,6 +14,7 @@ use Rattle.class_evidence.specs.declared.ClassEvidence.{ClassEvidence}
 use Rattle.mixed_walks.specs.Walks.{IsRoundOf}
 use Rattle.round_planner.specs.Search.{Aim, duties_in}
 use Rattle.round_planner.specs.Standing.{IsCertifiedClass}
+use Rattle.round_planner.proofs.JudgingLaws.{picks_up_to, stays_certified}
 use Rattle.round_planner.proofs.judging.judge_class.Goals as goal
 
 -- the switches are prepared for a round in the same network
@@ -21,12 +24,12 @@ round_here net other is mixes u k round = subst (λ (n : Network). IsRoundOf n m
 pub is_kept-requires-clause-walked : goal.is_kept-requires-clause-walked
 is_kept-requires-clause-walked c =
     let (u, k, round) = c.requires.round in
-    (u, k, round.net_is, c.walk.ensures u k (round_here c.args.goal.now.net c.goal.inside.net.now (ap (λ (a : Aim). a.net) c.goal.view_is) c.args.mixes.now u k round))
+    (u, k, round.net_is, c.walk.ensures u k (round_here c.args.goal.now.net c.goal.inside.net.now (ap (λ (a : Aim). a.net) c.goal.view_is) c.args.tried.mixes.now u k round))
 
 pub evidence_of-requires-clause-walked : goal.evidence_of-requires-clause-walked
 evidence_of-requires-clause-walked c =
     let (u, k, round) = c.requires.round in
-    let here = round_here c.args.goal.now.net c.goal.inside.net.now (ap (λ (a : Aim). a.net) c.goal.view_is) c.args.mixes.now u k round in
+    let here = round_here c.args.goal.now.net c.goal.inside.net.now (ap (λ (a : Aim). a.net) c.goal.view_is) c.args.tried.mixes.now u k round in
     (u, k, here.net_is, c.walk.ensures u k here)
 
 pub evidence_of-requires-clause-entry : goal.evidence_of-requires-clause-entry
@@ -37,11 +40,19 @@ evidence_of-requires-clause-entry c =
 this_class : (there here : ClassList) → here ≡ there → (n : ℕ) (found : Class) → ((class : Class) → IsClass here n class → class ≡ found) → (class : Class) → IsClass there n class → found ≡ class
 this_class there here same n found only class is = sym (only class (subst (λ (cs : ClassList). IsClass cs n class) (sym same) is))
 
-pub returns-then-is_kept : goal.returns-then-is_kept
-returns-then-is_kept c u k class round is begun =
+pub returns-then-stays : goal.returns-then-stays
+returns-then-stays c u k class round is next =
     let aim = c.args.goal.now in
     let same = this_class aim.classes c.goal.inside.classes.now (ap (λ (a : Aim). a.classes) c.goal.view_is) c.args.number c.class-class.result c.class-class.ensures.only class is in
-    let walked = c.walk.ensures u k (round_here aim.net c.goal.inside.net.now (ap (λ (a : Aim). a.net) c.goal.view_is) c.args.mixes.now u k round) in
+    stays_certified aim u c.args.store.now.evidence k c.args.tried.change.now next c.args.number class is (c.stays.ensures.has c.if-stays.true)
+    (subst (λ (x : Class). in_block (rule_of c.args.tried.change.now).key.pattern.dst x.first ≡ false) same (c.stays.ensures.misses c.if-stays.true))
+
+pub returns-then-is_kept : goal.returns-then-is_kept
+returns-then-is_kept c u k class round is next =
+    let begun = picks_up_to c.args.goal.now u c.args.store.now.evidence k c.args.tried.change.now next in
+    let aim = c.args.goal.now in
+    let same = this_class aim.classes c.goal.inside.classes.now (ap (λ (a : Aim). a.classes) c.goal.view_is) c.args.number c.class-class.result c.class-class.ensures.only class is in
+    let walked = c.walk.ensures u k (round_here aim.net c.goal.inside.net.now (ap (λ (a : Aim). a.net) c.goal.view_is) c.args.tried.mixes.now u k round) in
     subst (IsCertifiedClass aim u c.args.store.now.evidence k c.args.number) same ((c.is_kept.ensures u k round.net_is walked begun).0 c.if-is_kept.true)
 
 -- what was found is for the duties of the search and for each class with the number
@@ -52,9 +63,10 @@ found_for aim demands same u k here class is found other are h =
     (subst (λ (ds : List DemandView). IsFound u k here (duties_of ds here.entry here.first) other) same (subst (IsFound u k here (duties_of demands here.entry here.first)) are h))
 
 pub returns-in-Some : goal.returns-in-Some
-returns-in-Some c u k class round is begun =
+returns-in-Some c u k class round is next =
+    let begun = picks_up_to c.args.goal.now u c.args.store.now.evidence k c.args.tried.change.now next in
     let aim = c.args.goal.now in
-    let here = round_here aim.net c.goal.inside.net.now (ap (λ (a : Aim). a.net) c.goal.view_is) c.args.mixes.now u k round in
+    let here = round_here aim.net c.goal.inside.net.now (ap (λ (a : Aim). a.net) c.goal.view_is) c.args.tried.mixes.now u k round in
     let same = this_class aim.classes c.goal.inside.classes.now (ap (λ (a : Aim). a.classes) c.goal.view_is) c.args.number c.class-class.result c.class-class.ensures.only class is in
     let walked = c.walk.ensures u k here in (
       λ certified.
@@ -65,9 +77,9 @@ returns-in-Some c u k class round is begun =
     )
 
 pub returns-in-None : goal.returns-in-None
-returns-in-None c u k class round is begun =
+returns-in-None c u k class round is next =
     let aim = c.args.goal.now in
-    let here = round_here aim.net c.goal.inside.net.now (ap (λ (a : Aim). a.net) c.goal.view_is) c.args.mixes.now u k round in
+    let here = round_here aim.net c.goal.inside.net.now (ap (λ (a : Aim). a.net) c.goal.view_is) c.args.tried.mixes.now u k round in
     let same = this_class aim.classes c.goal.inside.classes.now (ap (λ (a : Aim). a.classes) c.goal.view_is) c.args.number c.class-class.result c.class-class.ensures.only class is in
     found_for aim c.goal.inside.duties.now.demands (ap (λ (a : Aim). a.demands) c.goal.view_is) u k c.class-class.result class same c.in_ok-evidence.field-0 None c.in-None.is
     (c.in_ok-evidence.ensures u k here.net_is (c.walk.ensures u k here))

@@ -24,6 +24,16 @@ overflow_cast-round c =
     let number = c.count-round.ensures ∙ ap length put ∙ round_number c.self.inside.rounds changes c.args.change.now here.rounds in
     omega arith
 
+pub add_picks-requires-clause-few_rounds : goal.add_picks-requires-clause-few_rounds
+add_picks-requires-clause-few_rounds c =
+    let (old, changes, user, at, safe) = c.requires in
+    let new_user = subst (λ (a : Aim). IsUserConfig a.net a.new) c.goal.view_is c.goal.invariant.user in
+    let here = subst (IsTryingAt c.args.goal.now old changes c.args.change.now) (sym c.self.view_is) at in
+    let few = made_few c.args.goal.now old user new_user changes c.self.inside.store.evidence here.stands in
+    let put = c.in_ok-add_change.ensures.ok ∙ ap (with_change c.args.change.now) c.in_ok-add_round.ensures.ok in
+    let number = c.count-round.ensures ∙ ap length put ∙ round_number c.self.inside.rounds changes c.args.change.now here.rounds in
+    omega arith
+
 pub add_picks-requires-clause-behind : goal.add_picks-requires-clause-behind
 add_picks-requires-clause-behind c =
     let (old, changes, user, at, safe) = c.requires in

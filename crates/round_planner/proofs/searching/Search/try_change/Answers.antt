@@ -1,6 +1,6 @@
 use Rattle.std.proofs.Common.{◌++◌, ◌∷◌, [], List, Option, Vec, Global, length, sym, ◌∙◌, subst, ap}
 use Rattle.std.specs.Prelude.{option_map}
-use Rattle.topology.specs.Networks.{Network}
+use Rattle.topology.specs.Networks.{Network, IsNetwork}
 use Rattle.flow_rules.specs.declared.rules.Rule.{Rule}
 use Rattle.path_walk.specs.UserConfigs.{IsUserConfig}
 use Rattle.update_model.specs.Changes.{Applies}
@@ -11,7 +11,7 @@ use Rattle.round_planner.specs.declared.judging.Found.{Found}
 use Rattle.round_planner.specs.Search.{Aim, update_by}
 use Rattle.round_planner.specs.Standing.{AreJudged}
 use Rattle.round_planner.specs.Searching.{IsAt}
-use Rattle.round_planner.proofs.SearchingLaws.{applies_here, tried_round, tried_at, picks_begun, tried_qualifies, tried_fails, given_up}
+use Rattle.round_planner.proofs.SearchingLaws.{applies_here, tried_round, tried_at, tried_next, tried_qualifies, tried_fails, given_up}
 use Rattle.round_planner.proofs.searching.Search.try_change.Goals as goal
 
 pub begin-requires-clause-applies : goal.begin-requires-clause-applies
@@ -45,13 +45,14 @@ take-requires c =
     let round = tried_round aim old user new_user changes c.args.change.now _ c.begin.new.self here i c.begin.ensures.rules trying in
     let next = update_by aim old (changes ++ c.args.change.now ∷ []) in
     let prepared = subst (λ (ms : List MixedState). IsRoundOf aim.net ms next (length changes)) (sym c.mixes.ensures) round in
-    let begun = picks_begun aim old user new_user changes c.args.change.now _ c.begin.new.self here i c.begin.ensures.rules trying in (
+    let net = subst (λ (n : Network). IsNetwork n) (ap (λ (a : Aim). a.net) c.goal.view_is) c.keeps_rules.ensures in
+    let following = tried_next aim old user new_user changes c.args.change.now _ c.begin.new.self here i c.begin.ensures.rules trying net in (
       old,
       changes,
       user,
       tried_at aim old user new_user changes c.args.change.now _ c.begin.new.self here i c.begin.ensures.rules trying,
       subst (λ (o : Option (Vec Found Global)). AreJudged aim next c.self.inside.store.evidence (length changes) (option_map (λ v. v.items) o)) c.in-Some.is
-          (c.in_ok-found.ensures next (length changes) prepared begun),
+          (c.in_ok-found.ensures next (length changes) prepared following),
     )
 
 pub returns-in_ok-take-in-Some : goal.returns-in_ok-take-in-Some
@@ -63,9 +64,10 @@ returns-in_ok-take-in-Some c old changes user at i =
     let round = tried_round aim old user new_user changes c.args.change.now _ c.begin.new.self here i c.begin.ensures.rules trying in
     let next = update_by aim old (changes ++ c.args.change.now ∷ []) in
     let prepared = subst (λ (ms : List MixedState). IsRoundOf aim.net ms next (length changes)) (sym c.mixes.ensures) round in
-    let begun = picks_begun aim old user new_user changes c.args.change.now _ c.begin.new.self here i c.begin.ensures.rules trying in
+    let net = subst (λ (n : Network). IsNetwork n) (ap (λ (a : Aim). a.net) c.goal.view_is) c.keeps_rules.ensures in
+    let following = tried_next aim old user new_user changes c.args.change.now _ c.begin.new.self here i c.begin.ensures.rules trying net in
     let safe = subst (λ (o : Option (Vec Found Global)). AreJudged aim next c.self.inside.store.evidence (length changes) (option_map (λ v. v.items) o)) c.in-Some.is
-    (c.in_ok-found.ensures next (length changes) prepared begun) in (
+    (c.in_ok-found.ensures next (length changes) prepared following) in (
       tried_qualifies aim old user new_user changes c.args.change.now _ c.begin.new.self here i c.begin.ensures.rules trying c.in-Some.found.items safe,
       λ first.
           c.in_ok-take-in-Some.ensures old changes user (tried_at aim old user new_user changes c.args.change.now _ c.begin.new.self here i c.begin.ensures.rules trying) safe first,
@@ -80,9 +82,10 @@ returns-in-None c old changes user at i =
     let round = tried_round aim old user new_user changes c.args.change.now _ c.begin.new.self here i c.begin.ensures.rules trying in
     let next = update_by aim old (changes ++ c.args.change.now ∷ []) in
     let prepared = subst (λ (ms : List MixedState). IsRoundOf aim.net ms next (length changes)) (sym c.mixes.ensures) round in
-    let begun = picks_begun aim old user new_user changes c.args.change.now _ c.begin.new.self here i c.begin.ensures.rules trying in
+    let net = subst (λ (n : Network). IsNetwork n) (ap (λ (a : Aim). a.net) c.goal.view_is) c.keeps_rules.ensures in
+    let following = tried_next aim old user new_user changes c.args.change.now _ c.begin.new.self here i c.begin.ensures.rules trying net in
     let unsafe = subst (λ (o : Option (Vec Found Global)). AreJudged aim next c.self.inside.store.evidence (length changes) (option_map (λ v. v.items) o)) c.in-None.is
-    (c.in_ok-found.ensures next (length changes) prepared begun) in (
+    (c.in_ok-found.ensures next (length changes) prepared following) in (
       tried_fails aim old user new_user changes c.args.change.now _ c.begin.new.self here i c.begin.ensures.rules trying unsafe,
       given_up aim old changes _ c.give_up.new.self here (c.give_up.ensures.rules ∙ c.begin.ensures.rules)
           (subst (λ (n : Network). IsSettled n c.give_up.new.self) (ap (λ (a : Aim). a.net) c.goal.view_is) c.give_up.ensures.settled),
