@@ -1,5 +1,5 @@
 -- Mixed walks that break the duties of a class.
-use Rattle.std.specs.Prelude.{◌≡◌, ◌⊎◌, ℕ, IsTrue, List, [], ◌∷◌, Option, Some, None}
+use Rattle.std.specs.Prelude.{◌⊎◌, ℕ, IsTrue, List, [], ◌∷◌, Option, Some, None}
 use Rattle.net_base.specs.Members.{IsIn, IsDistinct, IsSubsequence}
 use Rattle.net_base.specs.Walks.{end_of}
 use Rattle.net_base.specs.declared.ids.SwitchId.{SwitchId}

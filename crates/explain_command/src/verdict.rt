@@ -14,12 +14,13 @@ ghost use Rattle.command_base.specs.Replies.{answer_of};
 ghost use Rattle.explain_command.specs.Explained.{IsExplainAnswer};
 
 use crate::explaining::explanation;
-use crate::reasons::{end_reason, round_reason};
+use crate::reasons::round_reason;
 use certificates::{Evidence, Plan};
 use check_command::{class_of, refused_reply};
+use check_reasons::Case;
 use command_base::{Reply, Status, UpdateFiles, too_many_reply};
 use net_base::Memory;
-use plan_checker::{CheckRoom, RoomFault};
+use plan_checker::{CheckRoom, RoomFault, end_reason};
 use std::alloc::Global;
 
 // What is said of a plan whose configurations and rounds are good.
@@ -75,16 +76,23 @@ fn judge_plan(
     alloc: Global,
     files: &UpdateFiles,
     plan: &Plan,
-    room: &CheckRoom,
+    room: &mut CheckRoom,
 ) -> Result<Reply, Memory>
     requires old { IsUserConfig files.now.net (rules_of_all files.now.old) }
     requires new { IsUserConfig files.now.net (rules_of_all files.now.new) }
     requires valid { IsValidPlan files.now.net plan.now }
-    requires fits { Fits (task_for (meaning_of files.now) plan.now) room.now }
+    requires fits { Fits (task_for (meaning_of files.now) plan.now) room.old }
     requires few { class_count (classes_for (task_for (meaning_of files.now) plan.now)) ≤ 8192 }
     ensures { IfOk result (λ r. IsExplainAnswer (record { update = meaning_of files.now; plan = plan.now }) (answer_of r)) }
 {
-    match end_reason(alloc, files, plan, room)? {
+    let case = Case {
+        net: &files.net,
+        old: &files.old,
+        new: &files.new,
+        demands: &files.demands,
+        plan,
+    };
+    match end_reason(&case, room) {
         Some(reason) => {
             let class = class_of(room.classes(), reason);
             refused_reply(alloc, &files.net, class, reason)
@@ -109,7 +117,7 @@ pub fn explain_verdict(alloc: Global, files: &UpdateFiles, plan: &Plan) -> Resul
         &files.demands,
         plan,
     ) {
-        Ok(room) => judge_plan(alloc, files, plan, &room),
+        Ok(mut room) => judge_plan(alloc, files, plan, &mut room),
         Err(RoomFault::TooManyClasses(classes)) => too_many_reply(alloc, classes),
         Err(RoomFault::Memory) => Err(Memory),
     }
