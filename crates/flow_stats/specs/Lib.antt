@@ -5,5 +5,6 @@ pub mod Messages
 pub mod Lines
 pub mod Profile
 pub mod Tables
+pub mod Index
 pub mod Replies
 pub mod ConfigText

@@ -9,6 +9,7 @@ use Rattle.flow_rules.specs.declared.rules.Rule.{Rule}
 use Rattle.flow_stats.specs.Lines.{Sent, lines_of, is_comment, sent_in}
 use Rattle.flow_stats.specs.Messages.{Reply, reply_in}
 use Rattle.flow_stats.specs.Tables.{entry_at}
+use Rattle.flow_stats.specs.Index.{AreIndexed}
 use Rattle.flow_stats.specs.declared.fault.StatsFault.{StatsFault}
 use Rattle.flow_stats.specs.declared.fault.StatsFault.TheVariants.{BadMessage, Incomplete, OverCapacity}
 use Rattle.flow_stats.specs.declared.messages.Progress.{Progress}
@@ -25,9 +26,10 @@ pub record Told : Type 0 where
 abbrev pub told_seen : code.Told → Told
 told_seen t = record { tables = rules_of_all t.config; progress = t.progress.items; entries = t.entries }
 
--- it has a table and a progress for each switch, and at most 2048 entries
+-- it has a table and a progress for each switch, the marks of the rules, and at most 2048 entries
 pub record AreFor (net : Network) (t : code.Told) : Type 0 where
   pub tables : length t.config ≡ switch_count net
+  pub index : AreIndexed (rules_of_all t.config) t.index
   pub progress : length t.progress.items ≡ switch_count net
   pub entries : t.entries ≤ 2048
 

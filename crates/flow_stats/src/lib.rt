@@ -5,6 +5,7 @@ mod adding;
 mod entries;
 mod fault;
 mod fields;
+mod index;
 pub mod laws;
 mod lines;
 mod messages;

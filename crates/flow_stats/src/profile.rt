@@ -99,7 +99,7 @@ fn has_no_timeouts(fields: &FlowStatsFields) -> bool
 }
 
 /// The prefix that an address without so many low bits begins.
-fn prefix_without(address: u32, ignored: u32) -> Prefix
+pub fn prefix_without(address: u32, ignored: u32) -> Prefix
     requires { ignored ≤ 32 }
     ensures { result ≡ record { base = address / 2 ^ ignored * 2 ^ ignored; len = 32 - ignored } }
 {

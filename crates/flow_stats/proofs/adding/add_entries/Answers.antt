@@ -17,6 +17,7 @@ pub loop-i-preserved : goal.loop-i-preserved
 loop-i-preserved c = record {
   read = goes_on (entry_at c.args.net.now c.args.switch) c.args.entries.now c.loop-i.i (c.args.first + c.loop-i.i) (rules_of_all c.loop-i.config) _ _ _ c.loop-i-test.true refl c.place_of.result (c.args.first + (c.loop-i.i + 1)) (rules_of_all c.add_entry.new.config)
       c.place_of.ensures (omega arith) c.in_ok-add_entry.ensures.read c.loop-i.invariant.read;
+  index = c.in_ok-add_entry.ensures.index;
   few = search rules;
   count = search rules;
 }
