@@ -2,7 +2,8 @@
 use config_files::{ConfigFault, read_config};
 use flow_rules::{Action, Config, Key, Pattern, Rewrite, Rule, VlanTest};
 use net_base::{Field, Port, SwitchId, read_prefix};
-use std::test::Fail;
+use std::alloc::Global;
+use std::process::Abort;
 use topology::{Net, read_net};
 
 const NETWORK: &str =
@@ -19,73 +20,84 @@ const OTHER: &str = "{\"switch\":\"b\",\"priority\":100,\"dst\":\"10.0.0.0/24\",
 const DROP: &str =
     "{\"switch\":\"a\",\"priority\":200,\"in_port\":1,\"vlan\":3001,\"dst\":\"10.0.0.0/8\",\"out\":\"drop\"}";
 
-fn network(rt: &HostRuntime) -> Result<Net, Fail> {
-    match read_net(rt.alloc(), NETWORK.as_bytes()) {
-        Ok(net) => Ok(net),
-        Err(_) => Err(Fail::from("the network is refused")),
-    }
+fn network(rt: &impl Abort, alloc: Global) -> Net {
+    read_net(alloc, NETWORK.as_bytes()).expect(rt, "a network")
+}
+
+fn add(rt: &impl Abort, text: &mut String, part: &str) {
+    text.push_str(part).expect(rt, "room");
 }
 
 /// A file of these rules.
-fn file_of(rt: &HostRuntime, rules: &[&str]) -> Result<String, Fail> {
-    let mut text = String::new(rt.alloc());
+fn file_of(rt: &impl Abort, alloc: Global, rules: &[&str]) -> String {
+    let mut text = String::new(alloc);
     let mut before = "{\"rules\":[";
     for rule in rules {
-        text.push_str(before)?;
-        text.push_str(*rule)?;
+        add(rt, &mut text, before);
+        add(rt, &mut text, *rule);
         before = ",";
     }
-    text.push_str("]}")?;
-    Ok(text)
+    add(rt, &mut text, "]}");
+    text
 }
 
-fn fault_of(rt: &HostRuntime, rules: &[&str]) -> Result<Option<ConfigFault>, Fail> {
-    let text = file_of(rt, rules)?;
-    Ok(read_config(rt.alloc(), &network(rt)?, text.as_bytes()).err())
+fn has_fault(rt: &impl Abort, alloc: Global, text: &str, want: Option<ConfigFault>) {
+    let net = network(rt, alloc);
+    let fault = read_config(alloc, &net, text.as_bytes()).err();
+    assert_eq!(rt; fault, want, "at {text}");
 }
 
-fn config_of(rt: &HostRuntime, rules: &[&str]) -> Result<Config, Fail> {
-    let text = file_of(rt, rules)?;
-    match read_config(rt.alloc(), &network(rt)?, text.as_bytes()) {
-        Ok(config) => Ok(config),
-        Err(_) => Err(Fail::from("the configuration is refused")),
-    }
+fn rules_have_fault(rt: &impl Abort, alloc: Global, rules: &[&str], want: Option<ConfigFault>) {
+    let text = file_of(rt, alloc, rules);
+    has_fault(rt, alloc, text.as_str(), want);
 }
 
-#[test]
-fn keeps_the_order_of_the_file(rt: HostRuntime) -> Result<(), Fail> {
-    let config = config_of(&rt, &[FIRST, OTHER, DROP])?;
-    assert!(rt; config.count() == 2);
-    let first = Rule {
+fn config_of(rt: &impl Abort, alloc: Global, rules: &[&str]) -> Config {
+    let text = file_of(rt, alloc, rules);
+    let net = network(rt, alloc);
+    read_config(alloc, &net, text.as_bytes()).expect(rt, "a configuration")
+}
+
+fn first(rt: &impl Abort) -> Rule {
+    Rule {
         key: Key {
             priority: 100,
             pattern: Pattern {
                 in_port: None,
                 vlan: VlanTest::Any,
-                dst: read_prefix("10.0.0.0/24")?,
+                dst: read_prefix("10.0.0.0/24").expect(rt, "a prefix"),
             },
         },
         action: Action::Out(Port(2), Rewrite::Keep),
-    };
-    let drop = Rule {
+    }
+}
+
+fn drop(rt: &impl Abort) -> Rule {
+    Rule {
         key: Key {
             priority: 200,
             pattern: Pattern {
                 in_port: Some(Port(1)),
                 vlan: VlanTest::Id(3001),
-                dst: read_prefix("10.0.0.0/8")?,
+                dst: read_prefix("10.0.0.0/8").expect(rt, "a prefix"),
             },
         },
         action: Action::Discard,
-    };
-    assert_eq!(rt; config.table(SwitchId(0)).rules(), [first, drop].as_slice());
-    assert_eq!(rt; config.table(SwitchId(1)).rules().len(), 1);
-    Ok(())
+    }
 }
 
 #[test]
-fn names_the_first_fault_of_a_rule(rt: HostRuntime) -> Result<(), Fail> {
-    let rows = [
+fn keeps_the_order_of_the_file(rt: HostRuntime) {
+    let config = config_of(&rt, rt.alloc(), &[FIRST, OTHER, DROP]);
+    assert!(rt; config.count() == 2);
+    let want = [first(&rt), drop(&rt)];
+    assert!(rt; config.table(SwitchId(0)).rules() == want.as_slice());
+    assert!(rt; config.table(SwitchId(1)).rules().len() == 1);
+}
+
+#[test]
+fn names_the_first_fault_of_a_rule(rt: HostRuntime) {
+    for (rule, want) in [
         ("5", ConfigFault::Shape(Field::Rules, 1)),
         ("{\"priority\":1}", ConfigFault::Shape(Field::Switch, 1)),
         ("{\"switch\":\"c\"}", ConfigFault::UnknownSwitch(1)),
@@ -154,81 +166,60 @@ fn names_the_first_fault_of_a_rule(rt: HostRuntime) -> Result<(), Fail> {
             "{\"switch\":\"a\",\"priority\":100,\"in_port\":1,\"vlan\":\"untagged\",\"dst\":\"10.0.0.0/8\",\"out\":\"drop\"}",
             ConfigFault::Overlap(1),
         ),
-    ];
-    for (rule, want) in rows {
-        assert_eq!(rt; fault_of(&rt, &[FIRST, rule])?, Some(want), "at {rule}");
+    ] {
+        rules_have_fault(&rt, rt.alloc(), &[FIRST, rule], Some(want));
     }
-    Ok(())
 }
 
 #[test]
-fn names_the_first_fault_of_a_file(rt: HostRuntime) -> Result<(), Fail> {
-    let net = network(&rt)?;
-    let rows = [
+fn names_the_first_fault_of_a_file(rt: HostRuntime) {
+    for (text, want) in [
         ("", ConfigFault::NotJson),
         ("[]", ConfigFault::Shape(Field::Top, 0)),
         ("{\"rules\":{}}", ConfigFault::Shape(Field::Rules, 0)),
-    ];
-    for (text, want) in rows {
-        let fault = read_config(rt.alloc(), &net, text.as_bytes()).err();
-        assert_eq!(rt; fault, Some(want), "at {text}");
+    ] {
+        has_fault(&rt, rt.alloc(), text, Some(want));
     }
-    assert_eq!(rt; fault_of(&rt, &[DROP, OTHER, FIRST])?, None);
+}
+
+#[test]
+fn names_the_switch_with_too_many_rules(rt: HostRuntime) {
+    rules_have_fault(&rt, rt.alloc(), &[DROP, OTHER, FIRST], None);
     let second = "{\"switch\":\"b\",\"priority\":101,\"dst\":\"10.0.0.0/24\",\"out\":1}";
-    assert_eq!(rt;
-        fault_of(&rt, &[OTHER, second])?,
-        Some(ConfigFault::OverCapacity(SwitchId(1)))
+    let full = ConfigFault::OverCapacity(SwitchId(1));
+    rules_have_fault(&rt, rt.alloc(), &[OTHER, second], Some(full));
+}
+
+/// A rule of this priority at a, as it stands in a file.
+fn add_rule(rt: &impl Abort, alloc: Global, text: &mut String, priority: u32) {
+    let rule = format!(in alloc;
+        "{{\"switch\":\"a\",\"priority\":{priority},\"dst\":\"10.0.0.0/24\",\"out\":2}}"
     );
-    Ok(())
+    add(rt, text, rule.expect(rt, "a rule").as_str());
 }
 
-#[test]
-fn says_number_and_place(rt: HostRuntime) -> Result<(), Fail> {
-    let rows = [
-        (ConfigFault::NotJson, 1, 0),
-        (ConfigFault::Shape(Field::Dst, 7), 2, 7),
-        (ConfigFault::UnknownSwitch(7), 3, 7),
-        (ConfigFault::BadPriority(7), 4, 7),
-        (ConfigFault::BadPort(7), 5, 7),
-        (ConfigFault::BadVlan(7), 6, 7),
-        (ConfigFault::ReservedVlan(7), 7, 7),
-        (ConfigFault::BadPrefix(7), 8, 7),
-        (ConfigFault::KeyTwice(7), 9, 7),
-        (ConfigFault::Overlap(7), 10, 7),
-        (ConfigFault::OverCapacity(SwitchId(7)), 11, 7),
-        (ConfigFault::TooMany(2048), 12, 2048),
-    ];
-    for (fault, number, place) in rows {
-        assert_eq!(rt; (fault.number(), fault.place()), (number, place));
+/// A file of so many rules.
+fn file_of_many(rt: &impl Abort, alloc: Global, count: u32) -> String {
+    let mut text = String::new(alloc);
+    add(rt, &mut text, "{\"rules\":[");
+    for priority in 1..count {
+        add_rule(rt, alloc, &mut text, priority);
+        add(rt, &mut text, ",");
     }
-    assert_eq!(rt; ConfigFault::Shape(Field::Dst, 7).field(), Some(Field::Dst));
-    Ok(())
+    add_rule(rt, alloc, &mut text, 9999);
+    add(rt, &mut text, "]}");
+    text
 }
 
 #[test]
-fn prints_the_word(rt: HostRuntime) -> Result<(), Fail> {
-    let shape = format!(in rt.alloc(); "{}", ConfigFault::Shape(Field::Dst, 7))?;
-    assert!(rt; shape.as_str() == "Shape");
-    let over = format!(in rt.alloc(); "{}", ConfigFault::OverCapacity(SwitchId(7)))?;
-    assert!(rt; over.as_str() == "OverCapacity");
-    Ok(())
-}
-
-#[test]
-fn reads_2048_rules_and_no_more(rt: HostRuntime) -> Result<(), Fail> {
-    let net = network(&rt)?;
-    for (last, want) in [(2048, None), (2049, Some(ConfigFault::TooMany(2048)))] {
-        let mut text = String::new(rt.alloc());
-        text.push_str("{\"rules\":[")?;
-        for priority in 1..last {
-            let rule = format!(in rt.alloc();
-                "{{\"switch\":\"a\",\"priority\":{priority},\"dst\":\"10.0.0.0/24\",\"out\":2}},"
-            )?;
-            text.push_str(rule.as_str())?;
-        }
-        text.push_str("{\"switch\":\"a\",\"priority\":9999,\"dst\":\"10.0.0.0/24\",\"out\":2}]}")?;
-        let fault = read_config(rt.alloc(), &net, text.as_bytes()).err();
-        assert_eq!(rt; fault, want, "at {last}");
-    }
-    Ok(())
+fn reads_2048_rules_and_no_more(rt: HostRuntime) {
+    let text = file_of_many(&rt, rt.alloc(), 2048);
+    has_fault(&rt, rt.alloc(), text.as_str(), None);
+    let text = file_of_many(&rt, rt.alloc(), 2049);
+    has_fault(
+        &rt,
+        rt.alloc(),
+        text.as_str(),
+        Some(ConfigFault::TooMany(2048)),
+    );
 }

@@ -1,23 +1,28 @@
 // The reader, refusal by refusal, and the duties of a small network's classes.
-use demands::{DemandFault, Duties, no_demands, read_demands};
+use demands::{DemandFault, Demands, Duties, no_demands, read_demands};
 use dest_classes::class_map;
 use net_base::Field;
 use std::alloc::Global;
-use std::test::Fail;
+use std::process::Abort;
 use topology::{Net, read_net};
 
 const NET: &str =
     r#"{"switches":[{"name":"a","capacity":10},{"name":"b","capacity":10},{"name":"c","capacity":10}],"links":[["a:2","b:2"],["b:3","c:2"]],"hosts":["a:1","c:1"],"vlans":["untagged",10],"tags":[]}"#;
 
-fn net_of(alloc: Global) -> Result<Net, Fail> {
-    Ok(read_net(alloc, NET.as_bytes())?)
+fn net_of(rt: &impl Abort, alloc: Global) -> Net {
+    read_net(alloc, NET.as_bytes()).expect(rt, "a network")
+}
+
+fn refuses(rt: &impl Abort, alloc: Global, text: &str, want: DemandFault) {
+    let net = net_of(rt, alloc);
+    let fault = read_demands(alloc, &net, text.as_bytes()).err();
+    assert_eq!(rt; fault, Some(want), "in {text}");
 }
 
 /// Each member damaged in turn; the first check in the order of the members refuses.
 #[test]
-fn refuses_the_first_damaged_member(rt: HostRuntime) -> Result<(), Fail> {
-    let net = net_of(rt.alloc())?;
-    let cases = [
+fn refuses_the_first_damaged_member(rt: HostRuntime) {
+    for (text, want) in [
         ("[", DemandFault::NotJson),
         ("[]", DemandFault::Shape(Field::Top, 0)),
         ("{}", DemandFault::Shape(Field::Demands, 0)),
@@ -91,64 +96,40 @@ fn refuses_the_first_damaged_member(rt: HostRuntime) -> Result<(), Fail> {
             r#"{"demands":[{"dst":"10.0.0.0/8"},{"dst":"10.0.0.0/8","deliver":1}]}"#,
             DemandFault::Shape(Field::Deliver, 1),
         ),
-    ];
-    for (text, want) in cases {
-        let got = read_demands(rt.alloc(), &net, text.as_bytes()).err();
-        assert_eq!(rt; got, Some(want), "in {text}");
+    ] {
+        refuses(&rt, rt.alloc(), text, want);
     }
-    Ok(())
-}
-
-/// The printed word of each refusal.
-#[test]
-fn prints_the_name_of_a_fault(rt: HostRuntime) -> Result<(), Fail> {
-    let faults = [
-        (DemandFault::NotJson, 1, "NotJson"),
-        (DemandFault::Shape(Field::Dst, 3), 2, "Shape"),
-        (DemandFault::UnknownSwitch(3), 3, "UnknownSwitch"),
-        (DemandFault::NotHost(3), 4, "NotHost"),
-        (DemandFault::BadVlan(3), 5, "BadVlan"),
-        (DemandFault::BadPrefix(3), 6, "BadPrefix"),
-        (DemandFault::TooMany(Field::Through, 3), 7, "TooMany"),
-    ];
-    for (fault, number, name) in faults {
-        assert_eq!(rt; fault.number(), number);
-        assert_eq!(rt; fault.name(), name);
-        let text = format!(in rt.alloc(); "{fault}")?;
-        assert_eq!(rt; text.as_str(), name);
-    }
-    Ok(())
 }
 
 const POLICY: &str =
     r#"{"demands":[{"dst":"10.0.0.0/8","through":["b","a","b"]},{"from":"a:1","vlan":"untagged","dst":"10.0.0.0/8","through":["b"],"deliver":true},{"from":"any","vlan":"any","dst":"0.0.0.0/0","through":["b","a"]},{"from":"c:1","dst":"10.0.0.0/8","through":[]}]}"#;
 
+fn policy(rt: &impl Abort, alloc: Global, net: &Net) -> Demands {
+    read_demands(alloc, net, POLICY.as_bytes()).expect(rt, "demands")
+}
+
 /// A repeated name counts once, equal chains stand once, empty ones are left out, and a chain comes before one that goes
 /// on from it.
 #[test]
-fn classes_have_the_duties_of_the_demands_that_cover_them(rt: HostRuntime) -> Result<(), Fail> {
-    let net = net_of(rt.alloc())?;
-    let demands = read_demands(rt.alloc(), &net, POLICY.as_bytes())?;
-    assert_eq!(rt; demands.count(), 4);
-    let prefixes = demands.prefixes()?;
-    let classes = match class_map(rt.alloc(), &net, &prefixes) {
-        Ok(classes) => classes,
-        Err(_) => return Err(Fail::from("too many classes")),
-    };
-    let duties = Duties::make(rt.alloc(), &net, &demands, &classes)?;
-    assert_eq!(rt; classes.count(), 12);
+fn classes_have_the_duties_of_the_demands_that_cover_them(rt: HostRuntime) {
+    let net = net_of(&rt, rt.alloc());
+    let demands = policy(&rt, rt.alloc(), &net);
+    assert!(rt; demands.count() == 4);
+    let prefixes = demands.prefixes().expect(&rt, "prefixes");
+    let classes = class_map(rt.alloc(), &net, &prefixes).expect(&rt, "classes");
+    assert!(rt; classes.count() == 12);
+    let duties = Duties::make(rt.alloc(), &net, &demands, &classes).expect(&rt, "duties");
     for (class, chains, arrive) in [(0, 1, false), (1, 2, true), (4, 1, false), (7, 1, false)] {
         assert!(rt; class < classes.count());
-        assert_eq!(rt; duties.chains(class), chains, "at {class}");
-        assert_eq!(rt; duties.must_arrive(class), arrive, "at {class}");
+        assert!(rt; duties.chains(class) == chains, "at {class}");
+        assert!(rt; duties.must_arrive(class) == arrive, "at {class}");
     }
-    Ok(())
 }
 
 #[test]
-fn no_demands_ask_nothing(rt: HostRuntime) -> Result<(), Fail> {
-    let demands = no_demands(rt.alloc())?;
-    assert_eq!(rt; demands.count(), 0);
-    assert_eq!(rt; demands.copy()?.count(), 0);
-    Ok(())
+fn no_demands_ask_nothing(rt: HostRuntime) {
+    let demands = no_demands(rt.alloc()).expect(&rt, "demands");
+    assert!(rt; demands.count() == 0);
+    let copy = demands.copy().expect(&rt, "a copy");
+    assert!(rt; copy.count() == 0);
 }

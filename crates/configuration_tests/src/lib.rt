@@ -7,4 +7,6 @@ mod config_files_tests;
 #[cfg(test)]
 mod demands_tests;
 #[cfg(test)]
+mod messages;
+#[cfg(test)]
 mod path_walk_tests;

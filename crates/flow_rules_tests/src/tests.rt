@@ -1,58 +1,76 @@
 // Tables at work on worked values.
 use flow_rules::{Action, Config, Key, Pattern, Rewrite, Rule, Table, VlanTest};
-use net_base::{Memory, Port, SwitchId, Vlan, read_prefix};
+use net_base::{Port, SwitchId, Vlan, read_prefix};
 use std::alloc::Global;
-use std::test::Fail;
+use std::process::Abort;
 
 /// A rule for a prefix, of any ingress port where that is 0.
-fn rule(priority: u16, port: u16, vlan: VlanTest, dst: &str, action: Action) -> Result<Rule, Fail> {
+fn rule(
+    rt: &impl Abort,
+    priority: u16,
+    port: u16,
+    vlan: VlanTest,
+    dst: &str,
+    action: Action,
+) -> Rule {
     let in_port = if port == 0 { None } else { Some(Port(port)) };
-    let dst = read_prefix(dst)?;
+    let dst = read_prefix(dst).expect(rt, "a prefix");
     let pattern = Pattern { in_port, vlan, dst };
-    Ok(Rule {
+    Rule {
         key: Key { priority, pattern },
         action,
-    })
+    }
 }
 
 fn out(port: u16) -> Action {
     Action::Out(Port(port), Rewrite::Keep)
 }
 
-fn add(table: &mut Table, rule: Rule) -> Result<(), Memory> {
-    table.reserve(1)?;
-    if !table.has_key(&rule.key) {
-        table.insert(rule);
-    }
-    Ok(())
+fn add(rt: &impl Abort, table: &mut Table, rule: Rule) {
+    table.reserve(1).expect(rt, "room");
+    assert!(rt; !table.has_key(&rule.key));
+    table.insert(rule);
+}
+
+fn delete(rt: &impl Abort, table: &mut Table, rule: &Rule) {
+    assert!(rt; table.has_key(&rule.key));
+    table.delete(&rule.key);
+}
+
+fn set_action(rt: &impl Abort, table: &mut Table, rule: &Rule) {
+    assert!(rt; table.has_key(&rule.key));
+    table.set_action(&rule.key, rule.action);
+}
+
+fn low(rt: &impl Abort, action: Action) -> Rule {
+    rule(rt, 50, 0, VlanTest::Any, "10.0.0.0/8", action)
+}
+
+fn first(rt: &impl Abort) -> Rule {
+    rule(rt, 100, 2, VlanTest::Any, "10.0.0.0/24", out(3))
+}
+
+fn second(rt: &impl Abort) -> Rule {
+    rule(rt, 100, 0, VlanTest::Id(7), "10.0.0.0/24", out(4))
+}
+
+fn third(rt: &impl Abort) -> Rule {
+    rule(rt, 200, 0, VlanTest::Untagged, "10.0.0.128/25", out(5))
 }
 
 /// 50 10.0.0.0/8 -> drop, 100 port 2 10.0.0.0/24 -> 3, 100 VLAN 7 10.0.0.0/24 -> 4, 200 untagged 10.0.0.128/25 -> 5.
-fn sample(alloc: Global) -> Result<Table, Fail> {
-    let mut table = Table::make(alloc)?;
-    add(
-        &mut table,
-        rule(50, 0, VlanTest::Any, "10.0.0.0/8", Action::Discard)?,
-    )?;
-    add(
-        &mut table,
-        rule(100, 2, VlanTest::Any, "10.0.0.0/24", out(3))?,
-    )?;
-    add(
-        &mut table,
-        rule(100, 0, VlanTest::Id(7), "10.0.0.0/24", out(4))?,
-    )?;
-    add(
-        &mut table,
-        rule(200, 0, VlanTest::Untagged, "10.0.0.128/25", out(5))?,
-    )?;
-    Ok(table)
+fn sample(rt: &impl Abort, alloc: Global) -> Table {
+    let mut table = Table::make(alloc).expect(rt, "a table");
+    for rule in [low(rt, Action::Discard), first(rt), second(rt), third(rt)] {
+        add(rt, &mut table, rule);
+    }
+    table
 }
 
 #[test]
-fn the_first_of_greatest_priority_decides(rt: HostRuntime) -> Result<(), Fail> {
-    let table = sample(rt.alloc())?;
-    let rows = [
+fn the_first_of_greatest_priority_decides(rt: HostRuntime) {
+    let table = sample(&rt, rt.alloc());
+    for (port, vlan, dst, want) in [
         (1, Vlan::Untagged, 0x0a00_0001, Action::Discard),
         (2, Vlan::Untagged, 0x0a00_0001, out(3)),
         (2, Vlan::Untagged, 0x0a00_0080, out(5)),
@@ -61,76 +79,60 @@ fn the_first_of_greatest_priority_decides(rt: HostRuntime) -> Result<(), Fail> {
         (1, Vlan::Id(8), 0x0a00_0080, Action::Discard),
         (2, Vlan::Untagged, 0x0a00_0100, Action::Discard),
         (2, Vlan::Untagged, 0x0b00_0000, Action::Discard),
-    ];
-    for (port, vlan, dst, want) in rows {
-        assert_eq!(rt;
-            table.lookup(Port(port), vlan, dst),
-            want,
-            "at {port} {vlan:?} {dst}"
-        );
+    ] {
+        let found = table.lookup(Port(port), vlan, dst);
+        assert!(rt; found == want, "at {port} {vlan:?} {dst}");
     }
-    Ok(())
+}
+
+fn has_rules(rt: &impl Abort, table: &Table, rules: &[Rule]) {
+    assert!(rt; table.rules() == rules);
 }
 
 #[test]
-fn the_order_stays_under_changes(rt: HostRuntime) -> Result<(), Fail> {
-    let mut table = sample(rt.alloc())?;
-    let low = rule(50, 0, VlanTest::Any, "10.0.0.0/8", out(1))?;
-    let first = rule(100, 2, VlanTest::Any, "10.0.0.0/24", out(3))?;
-    let second = rule(100, 0, VlanTest::Id(7), "10.0.0.0/24", out(4))?;
-    let third = rule(200, 0, VlanTest::Untagged, "10.0.0.128/25", out(5))?;
-    assert!(rt; table.has_key(&low.key));
-    table.set_action(&low.key, out(1));
-    assert!(rt; table.has_key(&first.key));
-    table.delete(&first.key);
-    assert_eq!(rt; table.rules(), [low, second, third].as_slice());
-    assert_eq!(rt; table.get(&first.key), None);
-    add(&mut table, first)?;
-    assert_eq!(rt;
-        table.copy()?.rules(),
-        [low, second, third, first].as_slice()
-    );
-    assert_eq!(rt; table.get(&low.key), Some(out(1)));
-    Ok(())
+fn the_order_stays_under_changes(rt: HostRuntime) {
+    let mut table = sample(&rt, rt.alloc());
+    let changed = low(&rt, out(1));
+    set_action(&rt, &mut table, &changed);
+    let gone = first(&rt);
+    delete(&rt, &mut table, &gone);
+    has_rules(&rt, &table, &[changed, second(&rt), third(&rt)]);
+    assert!(rt; table.get(&gone.key).is_none());
+    add(&rt, &mut table, gone);
+    let copy = table.copy().expect(&rt, "a copy");
+    has_rules(&rt, &copy, &[changed, second(&rt), third(&rt), gone]);
+    assert!(rt; table.get(&changed.key) == Some(out(1)));
 }
 
 #[test]
-fn the_least_pair_that_overlaps(rt: HostRuntime) -> Result<(), Fail> {
-    let mut table = sample(rt.alloc())?;
-    assert_eq!(rt; table.overlap(), Some((1, 2)));
-    let first = rule(100, 2, VlanTest::Any, "10.0.0.0/24", out(3))?;
-    assert!(rt; table.has_key(&first.key));
-    table.delete(&first.key);
-    assert_eq!(rt; table.overlap(), None);
-    add(
-        &mut table,
-        rule(100, 0, VlanTest::Untagged, "10.0.0.0/8", out(1))?,
-    )?;
-    assert_eq!(rt; table.overlap(), None);
-    add(
-        &mut table,
-        rule(50, 9, VlanTest::Any, "10.9.0.0/16", out(1))?,
-    )?;
-    assert_eq!(rt; table.overlap(), Some((0, 4)));
-    Ok(())
+fn the_least_pair_that_overlaps(rt: HostRuntime) {
+    let mut table = sample(&rt, rt.alloc());
+    assert!(rt; table.overlap() == Some((1, 2)));
+    delete(&rt, &mut table, &first(&rt));
+    assert!(rt; table.overlap().is_none());
+    let untagged = rule(&rt, 100, 0, VlanTest::Untagged, "10.0.0.0/8", out(1));
+    add(&rt, &mut table, untagged);
+    assert!(rt; table.overlap().is_none());
+    let within = rule(&rt, 50, 9, VlanTest::Any, "10.9.0.0/16", out(1));
+    add(&rt, &mut table, within);
+    assert!(rt; table.overlap() == Some((0, 4)));
 }
 
-#[test]
-fn a_copy_of_all_tables_has_their_rules(rt: HostRuntime) -> Result<(), Fail> {
-    let mut config = Config::make(rt.alloc(), 3)?;
+/// Tables without rules for three switches, but for a rule at the second.
+fn one_rule(rt: &impl Abort, alloc: Global) -> Config {
+    let mut config = Config::make(alloc, 3).expect(rt, "tables");
     assert!(rt; config.count() == 3);
-    add(
-        config.table_mut(SwitchId(1)),
-        rule(9, 0, VlanTest::Any, "0.0.0.0/0", out(1))?,
-    )?;
-    let copy = config.copy()?;
+    let rule = rule(rt, 9, 0, VlanTest::Any, "0.0.0.0/0", out(1));
+    add(rt, config.table_mut(SwitchId(1)), rule);
+    config
+}
+
+#[test]
+fn a_copy_of_all_tables_has_their_rules(rt: HostRuntime) {
+    let copy = one_rule(&rt, rt.alloc()).copy().expect(&rt, "a copy");
     assert!(rt; copy.count() == 3);
     for (switch, want) in [(0, 0), (1, 1), (2, 0)] {
-        assert_eq!(rt;
-            copy.table(SwitchId(switch)).rules().len(),
-            want,
-            "at {switch}"
-        );
+        let count = copy.table(SwitchId(switch)).rules().len();
+        assert!(rt; count == want, "at {switch}");
     }
-    Ok(())
 }

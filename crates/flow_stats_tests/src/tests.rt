@@ -2,11 +2,11 @@
 ghost use Rattle.std.specs.Prelude.{◌≤◌};
 
 use config_files::read_config;
-use flow_stats::StatsField::{Actions, DlType, InPort, Priority, Timeouts, Vlan, Wildcards};
+use flow_stats::StatsField::Actions;
 use flow_stats::{StatsFault, config_text, read_replies};
 use net_base::SwitchId;
 use std::alloc::Global;
-use std::test::Fail;
+use std::process::Abort;
 use topology::{Net, read_net};
 
 /// Ports 1 and 2 of `a` are host ports, as port 1 of `b`; the ports 3 of both are linked. Ids from 3000 to 3009 are tags.
@@ -15,21 +15,21 @@ const NETWORK: &[u8] =
 
 /// The hexadecimal digits of an entry's fields, as they stand in ofp_flow_stats.
 #[derive(Clone, Copy)]
-struct EntryText<'a> {
-    len: &'a str,
-    wildcards: &'a str,
-    in_port: &'a str,
-    dl_vlan: &'a str,
-    dl_type: &'a str,
-    nw_src: &'a str,
-    nw_dst: &'a str,
-    priority: &'a str,
-    timeouts: &'a str,
-    actions: &'a str,
+pub(crate) struct EntryText<'a> {
+    pub(crate) len: &'a str,
+    pub(crate) wildcards: &'a str,
+    pub(crate) in_port: &'a str,
+    pub(crate) dl_vlan: &'a str,
+    pub(crate) dl_type: &'a str,
+    pub(crate) nw_src: &'a str,
+    pub(crate) nw_dst: &'a str,
+    pub(crate) priority: &'a str,
+    pub(crate) timeouts: &'a str,
+    pub(crate) actions: &'a str,
 }
 
 /// Any port, any VLAN, 10.0.0.0/24, priority 100; output to port 2.
-const ENTRY: EntryText<'static> = EntryText {
+pub(crate) const ENTRY: EntryText<'static> = EntryText {
     len: "0060",
     wildcards: "003220ef",
     in_port: "0000",
@@ -52,7 +52,19 @@ const DROP: EntryText<'static> = EntryText {
     ..ENTRY
 };
 
-fn entry_digits(alloc: Global, entry: &EntryText<'_>) -> Result<String, Fail> {
+/// A message of a switch: its length and its flags as they stand in it, and its entries.
+#[derive(Clone, Copy)]
+struct Message<'a> {
+    switch: &'a str,
+    len: &'a str,
+    flags: &'a str,
+    entries: &'a [EntryText<'a>],
+}
+
+/// What messages are refused with.
+type Refused<'a> = (&'a [Message<'a>], StatsFault);
+
+fn entry_digits(rt: &impl Abort, alloc: Global, entry: &EntryText<'_>) -> String {
     let EntryText {
         len,
         wildcards,
@@ -67,596 +79,579 @@ fn entry_digits(alloc: Global, entry: &EntryText<'_>) -> Result<String, Fail> {
     } = *entry;
     let addresses = "000000000000000000000000";
     let counts = "000000000000000000000000000000000000000000000000";
-    Ok(format!(in alloc;
+    let digits = format!(in alloc;
         "{len}0000{wildcards}{in_port}{addresses}{dl_vlan}0000{dl_type}00000000{nw_src}{nw_dst}000000000000000000000000{priority}{timeouts}000000000000{counts}{actions}"
-    )?)
+    );
+    digits.expect(rt, "memory")
 }
 
-/// A line of a message with these entries, which is so many bytes long.
-fn line(
-    alloc: Global,
-    switch: &str,
-    len: &str,
-    flags: &str,
-    entries: &[EntryText<'_>],
-) -> Result<String, Fail> {
-    let mut text = format!(in alloc; "{switch} 0111{len}000000000001{flags}")?;
-    for entry in entries {
-        text.push_str(&entry_digits(alloc, entry)?)?;
-    }
-    text.push('\n')?;
-    Ok(text)
+fn push(rt: &impl Abort, text: &mut String, part: &str) {
+    text.push_str(part).expect(rt, "memory");
 }
 
-fn network(alloc: Global) -> Result<Net, Fail> {
-    match read_net(alloc, NETWORK) {
-        Ok(net) => Ok(net),
-        Err(_) => Err(Fail::from("no network")),
+/// Adds the line of a message.
+fn push_message(rt: &impl Abort, alloc: Global, text: &mut String, message: &Message<'_>) {
+    let Message {
+        switch,
+        len,
+        flags,
+        ..
+    } = *message;
+    let head = format!(in alloc; "{switch} 0111{len}000000000001{flags}");
+    push(rt, text, &head.expect(rt, "memory"));
+    for entry in message.entries {
+        push(rt, text, &entry_digits(rt, alloc, entry));
     }
+    push(rt, text, "\n");
 }
 
-/// The text of the configuration that the lines tell, or the refusal.
-fn told(alloc: Global, net: &Net, lines: &[u8]) -> Result<Result<Vec<u8>, StatsFault>, Fail> {
-    match read_replies(alloc, net, lines) {
-        Ok(config) => Ok(Ok(config_text(alloc, net, &config)?)),
-        Err(fault) => Ok(Err(fault)),
+/// The lines of messages.
+fn lines_of(rt: &impl Abort, alloc: Global, messages: &[Message<'_>]) -> String {
+    let mut text = String::new(alloc);
+    for message in messages {
+        push_message(rt, alloc, &mut text, message);
     }
+    text
+}
+
+/// The line of a message of `a` with one entry, which has 108 bytes.
+pub(crate) fn alone(rt: &impl Abort, alloc: Global, entry: &EntryText<'_>) -> String {
+    let message = Message {
+        switch: "a",
+        len: "006c",
+        flags: "0000",
+        entries: &[*entry],
+    };
+    lines_of(rt, alloc, &[message])
+}
+
+fn network(rt: &impl Abort, alloc: Global) -> Net {
+    read_net(alloc, NETWORK).expect(rt, "a network")
 }
 
 /// Whether the lines tell the configuration of this text, which is read again.
-fn tells(alloc: Global, lines: &str, text: &str) -> Result<bool, Fail> {
-    let net = network(alloc)?;
-    match told(alloc, &net, lines.as_bytes())? {
-        Ok(written) => Ok(
-            written.as_slice() == text.as_bytes() && read_config(alloc, &net, &written).is_ok(),
-        ),
-        Err(_) => Ok(false),
-    }
+fn tells(rt: &impl Abort, alloc: Global, lines: &str, text: &str) -> bool {
+    let net = network(rt, alloc);
+    let config = read_replies(alloc, &net, lines.as_bytes()).expect(rt, "a configuration");
+    let written = config_text(alloc, &net, &config).expect(rt, "memory");
+    written.as_slice() == text.as_bytes() && read_config(alloc, &net, &written).is_ok()
+}
+
+/// Whether an entry of `a` becomes this rule, and nothing else.
+fn becomes(rt: &impl Abort, alloc: Global, entry: &EntryText<'_>, rule: &str) -> bool {
+    let text = format!(in alloc; "{{\"rules\":[{rule}]}}\n").expect(rt, "memory");
+    tells(rt, alloc, &alone(rt, alloc, entry), &text)
 }
 
 /// Why the lines tell no configuration.
-fn refusal(alloc: Global, lines: &str) -> Result<Option<StatsFault>, Fail> {
-    let net = network(alloc)?;
-    Ok(told(alloc, &net, lines.as_bytes())?.err())
+pub(crate) fn refusal(rt: &impl Abort, alloc: Global, lines: &[u8]) -> Option<StatsFault> {
+    read_replies(alloc, &network(rt, alloc), lines).err()
 }
 
-/// The refusal of one entry of `a` of 108 bytes in a message.
-fn refused_alone(alloc: Global, entry: EntryText<'_>) -> Result<Option<StatsFault>, Fail> {
-    refusal(alloc, &line(alloc, "a", "006c", "0000", &[entry])?)
-}
-
-#[test]
-fn an_entry_becomes_a_rule(rt: HostRuntime) -> Result<(), Fail> {
-    let alloc = rt.alloc();
-    let rows = [
-        (
-            ENTRY,
-            r#"{"dst":"10.0.0.0/24","out":2,"priority":100,"switch":"a"}"#,
-        ),
-        // Port 1, no tag; the greatest priority, the link's end.
-        (
-            EntryText {
-                wildcards: "003220ec",
-                in_port: "0001",
-                dl_vlan: "ffff",
-                priority: "3fff",
-                actions: "0000000800030000",
-                ..ENTRY
-            },
-            r#"{"dst":"10.0.0.0/24","in_port":1,"out":3,"priority":16383,"switch":"a","vlan":"untagged"}"#,
-        ),
-        // Id 10; the least priority; a controller would get 128 bytes, which are passed over.
-        (
-            EntryText {
-                wildcards: "003220ed",
-                dl_vlan: "000a",
-                priority: "0001",
-                actions: "0000000800020080",
-                ..ENTRY
-            },
-            r#"{"dst":"10.0.0.0/24","out":2,"priority":1,"switch":"a","vlan":10}"#,
-        ),
-        // All bits of the destination count.
-        (
-            EntryText {
-                wildcards: "003020ef",
-                nw_dst: "0a000401",
-                ..ENTRY
-            },
-            r#"{"dst":"10.0.4.1/32","out":2,"priority":100,"switch":"a"}"#,
-        ),
-        // 8 bits are ignored, which aren't 0.
-        (
-            EntryText {
-                nw_dst: "0a0000ff",
-                ..ENTRY
-            },
-            r#"{"dst":"10.0.0.0/24","out":2,"priority":100,"switch":"a"}"#,
-        ),
-        // 32, 33 and 63 ignored bits are all; so are 33 bits of the source.
-        (
-            EntryText {
-                wildcards: "003820ef",
-                ..ENTRY
-            },
-            r#"{"dst":"0.0.0.0/0","out":2,"priority":100,"switch":"a"}"#,
-        ),
-        (
-            EntryText {
-                wildcards: "003861ef",
-                ..ENTRY
-            },
-            r#"{"dst":"0.0.0.0/0","out":2,"priority":100,"switch":"a"}"#,
-        ),
-        (
-            EntryText {
-                wildcards: "003ff0ef",
-                ..ENTRY
-            },
-            r#"{"dst":"0.0.0.0/0","out":2,"priority":100,"switch":"a"}"#,
-        ),
-        // Values of wildcards and the bits above 21 are passed over.
-        (
-            EntryText {
-                wildcards: "fff220ef",
-                in_port: "fffd",
-                dl_vlan: "0fff",
-                nw_src: "01020304",
-                ..ENTRY
-            },
-            r#"{"dst":"10.0.0.0/24","out":2,"priority":100,"switch":"a"}"#,
-        ),
-        // Digits of upper case.
-        (
-            EntryText {
-                wildcards: "003220EF",
-                nw_dst: "0A000000",
-                ..ENTRY
-            },
-            r#"{"dst":"10.0.0.0/24","out":2,"priority":100,"switch":"a"}"#,
-        ),
-    ];
-    for (entry, rule) in rows {
-        let lines = line(alloc, "a", "006c", "0000", &[entry])?;
-        let text = format!(in alloc; "{{\"rules\":[{rule}]}}\n")?;
-        assert!(rt; tells(alloc, &lines, &text)?, "{rule}");
+fn all_refused(rt: &impl Abort, alloc: Global, rows: &[Refused<'_>]) {
+    for (messages, fault) in rows {
+        let lines = lines_of(rt, alloc, messages);
+        assert_eq!(rt;
+            refusal(rt, alloc, lines.as_bytes()),
+            Some(*fault),
+            "{lines}"
+        );
     }
-    Ok(())
+}
+
+/// Entries of `a`, and their rules.
+const RULES: &[(EntryText<'static>, &str)] = &[
+    (
+        ENTRY,
+        r#"{"dst":"10.0.0.0/24","out":2,"priority":100,"switch":"a"}"#,
+    ),
+    // Port 1, no tag; the greatest priority, the link's end.
+    (
+        EntryText {
+            wildcards: "003220ec",
+            in_port: "0001",
+            dl_vlan: "ffff",
+            priority: "3fff",
+            actions: "0000000800030000",
+            ..ENTRY
+        },
+        r#"{"dst":"10.0.0.0/24","in_port":1,"out":3,"priority":16383,"switch":"a","vlan":"untagged"}"#,
+    ),
+    // Id 10; the least priority; a controller would get 128 bytes, which are passed over.
+    (
+        EntryText {
+            wildcards: "003220ed",
+            dl_vlan: "000a",
+            priority: "0001",
+            actions: "0000000800020080",
+            ..ENTRY
+        },
+        r#"{"dst":"10.0.0.0/24","out":2,"priority":1,"switch":"a","vlan":10}"#,
+    ),
+    // All bits of the destination count.
+    (
+        EntryText {
+            wildcards: "003020ef",
+            nw_dst: "0a000401",
+            ..ENTRY
+        },
+        r#"{"dst":"10.0.4.1/32","out":2,"priority":100,"switch":"a"}"#,
+    ),
+    // 8 bits are ignored, which aren't 0.
+    (
+        EntryText {
+            nw_dst: "0a0000ff",
+            ..ENTRY
+        },
+        r#"{"dst":"10.0.0.0/24","out":2,"priority":100,"switch":"a"}"#,
+    ),
+    // 32, 33 and 63 ignored bits are all; so are 33 bits of the source.
+    (
+        EntryText {
+            wildcards: "003820ef",
+            ..ENTRY
+        },
+        r#"{"dst":"0.0.0.0/0","out":2,"priority":100,"switch":"a"}"#,
+    ),
+    (
+        EntryText {
+            wildcards: "003861ef",
+            ..ENTRY
+        },
+        r#"{"dst":"0.0.0.0/0","out":2,"priority":100,"switch":"a"}"#,
+    ),
+    (
+        EntryText {
+            wildcards: "003ff0ef",
+            ..ENTRY
+        },
+        r#"{"dst":"0.0.0.0/0","out":2,"priority":100,"switch":"a"}"#,
+    ),
+    // Values of wildcards and the bits above 21 are passed over.
+    (
+        EntryText {
+            wildcards: "fff220ef",
+            in_port: "fffd",
+            dl_vlan: "0fff",
+            nw_src: "01020304",
+            ..ENTRY
+        },
+        r#"{"dst":"10.0.0.0/24","out":2,"priority":100,"switch":"a"}"#,
+    ),
+    // Digits of upper case.
+    (
+        EntryText {
+            wildcards: "003220EF",
+            nw_dst: "0A000000",
+            ..ENTRY
+        },
+        r#"{"dst":"10.0.0.0/24","out":2,"priority":100,"switch":"a"}"#,
+    ),
+];
+
+#[test]
+fn an_entry_becomes_a_rule(rt: HostRuntime) {
+    for (entry, rule) in RULES {
+        assert!(rt; becomes(&rt, rt.alloc(), entry, rule), "{rule}");
+    }
 }
 
 #[test]
-fn an_entry_without_actions_discards(rt: HostRuntime) -> Result<(), Fail> {
+fn an_entry_without_actions_discards(rt: HostRuntime) {
     let alloc = rt.alloc();
-    let lines = line(alloc, "b", "0064", "0000", &[DROP])?;
+    let message = Message {
+        switch: "b",
+        len: "0064",
+        flags: "0000",
+        entries: &[DROP],
+    };
     let text =
         "{\"rules\":[{\"dst\":\"192.168.0.0/16\",\"out\":\"drop\",\"priority\":90,\"switch\":\"b\"}]}\n";
-    assert!(rt; tells(alloc, &lines, text)?);
-    Ok(())
+    assert!(rt; tells(&rt, alloc, &lines_of(&rt, alloc, &[message]), text));
 }
 
-// Entries of two messages of one switch, with a comment and the other switch between them; the last line has no end.
-#[test]
-fn a_reply_goes_on_where_more_follows(rt: HostRuntime) -> Result<(), Fail> {
-    let alloc = rt.alloc();
-    let mut lines = line(alloc, "a", "006c", "0001", &[ENTRY])?;
-    lines.push_str("# the other switch\n\n")?;
-    lines.push_str(&line(alloc, "b", "0064", "fffe", &[DROP])?)?;
-    lines.push_str(&line(alloc, "a", "000c", "0003", &[])?)?;
-    lines.push_str(line(
-        alloc,
-        "a",
-        "00c4",
-        "0000",
-        &[
+/// The first message of `a`.
+const FIRST: Message<'static> = Message {
+    switch: "a",
+    len: "006c",
+    flags: "0001",
+    entries: &[ENTRY],
+};
+
+/// A message of the other switch, and the rest of `a`.
+const REST: &[Message<'static>] = &[
+    Message {
+        switch: "b",
+        len: "0064",
+        flags: "fffe",
+        entries: &[DROP],
+    },
+    Message {
+        switch: "a",
+        len: "000c",
+        flags: "0003",
+        entries: &[],
+    },
+    Message {
+        switch: "a",
+        len: "00c4",
+        flags: "0000",
+        entries: &[
             EntryText {
                 priority: "0001",
                 ..ENTRY
             },
             DROP,
         ],
-    )?
-    .trim_end())?;
+    },
+];
+
+// Entries of two messages of one switch, with a comment and the other switch between them; the last line has no end.
+#[test]
+fn a_reply_goes_on_where_more_follows(rt: HostRuntime) {
+    let alloc = rt.alloc();
+    let mut lines = lines_of(&rt, alloc, &[FIRST]);
+    push(&rt, &mut lines, "# the other switch\n\n");
+    push(&rt, &mut lines, lines_of(&rt, alloc, REST).trim_end());
     let text =
         "{\"rules\":[{\"dst\":\"10.0.0.0/24\",\"out\":2,\"priority\":100,\"switch\":\"a\"},{\"dst\":\"10.0.0.0/24\",\"out\":2,\"priority\":1,\"switch\":\"a\"},{\"dst\":\"192.168.0.0/16\",\"out\":\"drop\",\"priority\":90,\"switch\":\"a\"},{\"dst\":\"192.168.0.0/16\",\"out\":\"drop\",\"priority\":90,\"switch\":\"b\"}]}\n";
-    assert!(rt; tells(alloc, &lines, text)?);
-    Ok(())
+    assert!(rt; tells(&rt, alloc, &lines, text));
 }
 
 #[test]
-fn a_file_without_messages_tells_empty_tables(rt: HostRuntime) -> Result<(), Fail> {
-    let alloc = rt.alloc();
-    assert!(rt; tells(alloc, "", "{\"rules\":[]}\n")?);
-    assert!(rt; tells(alloc, "# no switch answered\n", "{\"rules\":[]}\n")?);
-    Ok(())
-}
-
-#[test]
-fn the_first_field_outside_the_profile_is_named(rt: HostRuntime) -> Result<(), Fail> {
-    let alloc = rt.alloc();
-    let with = |wildcards| EntryText { wildcards, ..ENTRY };
-    let rows = [
-        // The frame type is a wildcard; a field is exact, each in turn; 31 bits of the source are ignored.
-        (with("003220ff"), Wildcards),
-        (with("003220eb"), Wildcards),
-        (with("003220e7"), Wildcards),
-        (with("002220ef"), Wildcards),
-        (with("001220ef"), Wildcards),
-        (with("003220cf"), Wildcards),
-        (with("003220af"), Wildcards),
-        (with("0032206f"), Wildcards),
-        (with("00321fef"), Wildcards),
-        // An untagged packet with an exact VLAN priority, as Open vSwitch reports it.
-        (
-            EntryText {
-                wildcards: "002220ec",
-                in_port: "0001",
-                dl_vlan: "ffff",
-                ..ENTRY
-            },
-            Wildcards,
-        ),
-        (
-            EntryText {
-                wildcards: "003220ee",
-                in_port: "0000",
-                ..ENTRY
-            },
-            InPort,
-        ),
-        (
-            EntryText {
-                wildcards: "003220ee",
-                in_port: "ff00",
-                ..ENTRY
-            },
-            InPort,
-        ),
-        (
-            EntryText {
-                wildcards: "003220ed",
-                dl_vlan: "0000",
-                ..ENTRY
-            },
-            Vlan,
-        ),
-        (
-            EntryText {
-                wildcards: "003220ed",
-                dl_vlan: "0fff",
-                ..ENTRY
-            },
-            Vlan,
-        ),
-        (
-            EntryText {
-                wildcards: "003220ed",
-                dl_vlan: "fffe",
-                ..ENTRY
-            },
-            Vlan,
-        ),
-        (
-            EntryText {
-                dl_type: "0806",
-                ..ENTRY
-            },
-            DlType,
-        ),
-        (
-            EntryText {
-                priority: "0000",
-                ..ENTRY
-            },
-            Priority,
-        ),
-        (
-            EntryText {
-                priority: "4000",
-                ..ENTRY
-            },
-            Priority,
-        ),
-        (
-            EntryText {
-                timeouts: "00010000",
-                ..ENTRY
-            },
-            Timeouts,
-        ),
-        (
-            EntryText {
-                timeouts: "00000001",
-                ..ENTRY
-            },
-            Timeouts,
-        ),
-        (
-            EntryText {
-                actions: "0001000800020000",
-                ..ENTRY
-            },
-            Actions,
-        ),
-        (
-            EntryText {
-                actions: "0000001000020000",
-                ..ENTRY
-            },
-            Actions,
-        ),
-        (
-            EntryText {
-                actions: "0000000800000000",
-                ..ENTRY
-            },
-            Actions,
-        ),
-        (
-            EntryText {
-                actions: "00000008fffd0000",
-                ..ENTRY
-            },
-            Actions,
-        ),
-        // Two fields are outside: the first is named.
-        (
-            EntryText {
-                dl_type: "0806",
-                priority: "0000",
-                timeouts: "00010000",
-                ..ENTRY
-            },
-            DlType,
-        ),
-    ];
-    for (entry, field) in rows {
-        assert_eq!(rt;
-            refused_alone(alloc, entry)?,
-            Some(StatsFault::Profile(0, field))
+fn a_file_without_messages_tells_empty_tables(rt: HostRuntime) {
+    for lines in ["", "# no switch answered\n"] {
+        assert!(rt;
+            tells(&rt, rt.alloc(), lines, "{\"rules\":[]}\n"),
+            "{lines}"
         );
     }
-    Ok(())
 }
 
 // An output behind another one; 4 bytes of actions.
-#[test]
-fn other_actions_are_outside_the_profile(rt: HostRuntime) -> Result<(), Fail> {
-    let alloc = rt.alloc();
-    let two = EntryText {
-        len: "0068",
-        actions: "00000008000200000000000800030000",
-        ..ENTRY
-    };
-    let half = EntryText {
-        len: "005c",
-        actions: "00000004",
-        ..ENTRY
-    };
-    let outside = Some(StatsFault::Profile(0, Actions));
-    assert_eq!(rt;
-        refusal(alloc, &line(alloc, "a", "0074", "0000", &[two])?)?,
-        outside
-    );
-    assert_eq!(rt;
-        refusal(alloc, &line(alloc, "a", "0068", "0000", &[half])?)?,
-        outside
-    );
-    Ok(())
-}
+const OTHER_ACTIONS: &[Refused<'static>] = &[
+    (
+        &[Message {
+            switch: "a",
+            len: "0074",
+            flags: "0000",
+            entries: &[EntryText {
+                len: "0068",
+                actions: "00000008000200000000000800030000",
+                ..ENTRY
+            }],
+        }],
+        StatsFault::Profile(0, Actions),
+    ),
+    (
+        &[Message {
+            switch: "a",
+            len: "0068",
+            flags: "0000",
+            entries: &[EntryText {
+                len: "005c",
+                actions: "00000004",
+                ..ENTRY
+            }],
+        }],
+        StatsFault::Profile(0, Actions),
+    ),
+];
 
 #[test]
-fn what_no_switch_could_have_answered_is_a_bad_line(rt: HostRuntime) -> Result<(), Fail> {
+fn other_actions_are_outside_the_profile(rt: HostRuntime) {
+    all_refused(&rt, rt.alloc(), OTHER_ACTIONS);
+}
+
+/// Lines, and the number of the first that is none.
+const BAD_LINES: &[(&[u8], u32)] = &[
+    (b"c 00", 1),
+    (b"a", 1),
+    (b"a ", 1),
+    (b" 00", 1),
+    (b"a  00", 1),
+    (b"a 0", 1),
+    (b"a 0g", 1),
+    (b"a 00 ", 1),
+    (b"#\n\na 00\r", 3),
+    (b"\xc3\xa4 00", 1),
+    (b"a 00\xff", 1),
+];
+
+#[test]
+fn what_no_switch_could_have_answered_is_a_bad_line(rt: HostRuntime) {
+    for (lines, number) in BAD_LINES {
+        let fault = StatsFault::BadLine(*number);
+        assert_eq!(rt; refusal(&rt, rt.alloc(), lines), Some(fault), "{lines:?}");
+    }
+}
+
+/// Lines of messages that are no flow statistics replies.
+const BAD_MESSAGES: &[&str] = &[
+    // 11 bytes; version 4; an echo reply; another length; statistics of tables.
+    "a 0111000b00000000000100",
+    "a 0411000c0000000000010000",
+    "a 0103000c0000000000010000",
+    "a 0111000d0000000000010000",
+    "a 0111000c0000000000030000",
+    // An entry of 2 bytes; one of 87 bytes.
+    "a 0111000e00000000000100000058",
+    "a 0111006300000000000100000057000000000000000000000000000000000000000000000000000000000000000000000000000000000000000000000000000000000000000000000000000000000000000000000000000000000000000000000000000000",
+];
+
+/// An entry that says one byte more than there is, and one less.
+const BAD_LENGTHS: &[&str] = &["0061", "005f"];
+
+#[test]
+fn what_is_no_flow_statistics_reply_is_a_bad_message(rt: HostRuntime) {
     let alloc = rt.alloc();
-    let rows = [
-        ("c 00", 1),
-        ("a", 1),
-        ("a ", 1),
-        (" 00", 1),
-        ("a  00", 1),
-        ("a 0", 1),
-        ("a 0g", 1),
-        ("a 00 ", 1),
-        ("#\n\na 00\r", 3),
-        ("\u{e4} 00", 1),
-    ];
-    for (lines, number) in rows {
+    let fault = StatsFault::BadMessage(1);
+    for lines in BAD_MESSAGES {
         assert_eq!(rt;
-            refusal(alloc, lines)?,
-            Some(StatsFault::BadLine(number)),
+            refusal(&rt, alloc, lines.as_bytes()),
+            Some(fault),
             "{lines}"
         );
     }
-    let net = network(alloc)?;
-    assert!(rt;
-        matches!(
-            read_replies(alloc, &net, b"a 00\xff"),
-            Err(StatsFault::BadLine(1))
-        )
-    );
-    Ok(())
-}
-
-#[test]
-fn what_is_no_flow_statistics_reply_is_a_bad_message(rt: HostRuntime) -> Result<(), Fail> {
-    let alloc = rt.alloc();
-    let rows = [
-        // 11 bytes; version 4; an echo reply; another length; statistics of tables.
-        "a 0111000b00000000000100",
-        "a 0411000c0000000000010000",
-        "a 0103000c0000000000010000",
-        "a 0111000d0000000000010000",
-        "a 0111000c0000000000030000",
-        // An entry of 2 bytes; one of 87 bytes.
-        "a 0111000e00000000000100000058",
-        "a 0111006300000000000100000057000000000000000000000000000000000000000000000000000000000000000000000000000000000000000000000000000000000000000000000000000000000000000000000000000000000000000000000000000000",
-    ];
-    for lines in rows {
-        assert_eq!(rt;
-            refusal(alloc, lines)?,
-            Some(StatsFault::BadMessage(1)),
-            "{lines}"
-        );
+    for len in BAD_LENGTHS {
+        let lines = alone(&rt, alloc, &EntryText { len, ..ENTRY });
+        assert_eq!(rt; refusal(&rt, alloc, lines.as_bytes()), Some(fault), "{len}");
     }
-    // The entry says one byte more than there is, and one less.
-    let longer = EntryText {
-        len: "0061",
-        ..ENTRY
-    };
-    let shorter = EntryText {
-        len: "005f",
-        ..ENTRY
-    };
-    assert_eq!(rt;
-        refused_alone(alloc, longer)?,
-        Some(StatsFault::BadMessage(1))
-    );
-    assert_eq!(rt;
-        refused_alone(alloc, shorter)?,
-        Some(StatsFault::BadMessage(1))
-    );
-    Ok(())
 }
 
-#[test]
-fn a_reply_ends_once(rt: HostRuntime) -> Result<(), Fail> {
-    let alloc = rt.alloc();
-    let mut twice = line(alloc, "a", "006c", "0000", &[ENTRY])?;
-    twice.push_str(&line(alloc, "a", "006c", "0000", &[ENTRY])?)?;
-    assert_eq!(rt; refusal(alloc, &twice)?, Some(StatsFault::BadMessage(2)));
-    let mut open = line(alloc, "b", "0064", "0001", &[DROP])?;
-    open.push_str(&line(alloc, "a", "006c", "0001", &[ENTRY])?)?;
-    assert_eq!(rt;
-        refusal(alloc, &open)?,
-        Some(StatsFault::Incomplete(SwitchId(0)))
-    );
-    Ok(())
-}
-
-#[test]
-fn entries_of_a_switch_are_rules_of_its_table(rt: HostRuntime) -> Result<(), Fail> {
-    let alloc = rt.alloc();
-    let rows = [
-        // The same key with another action; the same priority and a common packet.
-        (
-            EntryText {
-                actions: "0000000800030000",
-                ..ENTRY
-            },
-            StatsFault::KeyTwice(1),
-        ),
-        (
-            EntryText {
-                wildcards: "003020ee",
-                in_port: "0001",
-                nw_dst: "0a000001",
-                ..ENTRY
-            },
-            StatsFault::Overlap(1),
-        ),
-        // A port that isn't used, behind `in_port` and as the output; a tag.
-        (
-            EntryText {
-                wildcards: "003220ee",
-                in_port: "0004",
-                ..ENTRY
-            },
-            StatsFault::BadPort(1),
-        ),
-        (
-            EntryText {
-                actions: "0000000800040000",
-                ..ENTRY
-            },
-            StatsFault::BadPort(1),
-        ),
-        (
-            EntryText {
-                wildcards: "003220ed",
-                dl_vlan: "0bb8",
-                ..ENTRY
-            },
-            StatsFault::ReservedVlan(1),
-        ),
-    ];
-    for (entry, fault) in rows {
-        let lines = line(alloc, "a", "00cc", "0000", &[ENTRY, entry])?;
-        assert_eq!(rt; refusal(alloc, &lines)?, Some(fault));
-    }
-    Ok(())
-}
-
-// Entries are numbered over all lines; the switch `b` has room for two, which is a matter of the end.
-#[test]
-fn entries_are_numbered_over_the_file(rt: HostRuntime) -> Result<(), Fail> {
-    let alloc = rt.alloc();
-    let mut lines = line(
-        alloc,
-        "a",
-        "00cc",
-        "0000",
+// A whole reply and a second one; two replies that go on.
+const UNENDED: &[Refused<'static>] = &[
+    (
         &[
-            ENTRY,
-            EntryText {
-                priority: "0001",
-                ..ENTRY
+            Message {
+                switch: "a",
+                len: "006c",
+                flags: "0000",
+                entries: &[ENTRY],
+            },
+            Message {
+                switch: "a",
+                len: "006c",
+                flags: "0000",
+                entries: &[ENTRY],
             },
         ],
-    )?;
-    let low = EntryText {
-        priority: "0002",
-        ..DROP
-    };
-    let lower = EntryText {
-        priority: "0001",
-        ..DROP
-    };
-    let mut full = lines.clone()?;
-    full.push_str(&line(alloc, "b", "0114", "0000", &[DROP, low, lower])?)?;
-    assert_eq!(rt;
-        refusal(alloc, &full)?,
-        Some(StatsFault::OverCapacity(SwitchId(1)))
-    );
-    let mut open = lines.clone()?;
-    open.push_str(&line(alloc, "b", "0114", "0001", &[DROP, low, lower])?)?;
-    assert_eq!(rt;
-        refusal(alloc, &open)?,
-        Some(StatsFault::Incomplete(SwitchId(1)))
-    );
-    lines.push_str(&line(alloc, "b", "00bc", "0000", &[DROP, DROP])?)?;
-    assert_eq!(rt; refusal(alloc, &lines)?, Some(StatsFault::KeyTwice(3)));
-    Ok(())
+        StatsFault::BadMessage(2),
+    ),
+    (
+        &[
+            Message {
+                switch: "b",
+                len: "0064",
+                flags: "0001",
+                entries: &[DROP],
+            },
+            Message {
+                switch: "a",
+                len: "006c",
+                flags: "0001",
+                entries: &[ENTRY],
+            },
+        ],
+        StatsFault::Incomplete(SwitchId(0)),
+    ),
+];
+
+#[test]
+fn a_reply_ends_once(rt: HostRuntime) {
+    all_refused(&rt, rt.alloc(), UNENDED);
 }
 
-/// Lines of `a` with entries of 88 bytes, 256 in each, for so many of the addresses 10.0.0.0/32 and on; more follows each.
-fn many(alloc: Global, messages: u32) -> Result<String, Fail>
+/// Entries that can't follow another one of `a`, and why.
+const SECOND: &[(EntryText<'static>, StatsFault)] = &[
+    // The same key with another action; the same priority and a common packet.
+    (
+        EntryText {
+            actions: "0000000800030000",
+            ..ENTRY
+        },
+        StatsFault::KeyTwice(1),
+    ),
+    (
+        EntryText {
+            wildcards: "003020ee",
+            in_port: "0001",
+            nw_dst: "0a000001",
+            ..ENTRY
+        },
+        StatsFault::Overlap(1),
+    ),
+    // A port that isn't used, behind `in_port` and as the output; a tag.
+    (
+        EntryText {
+            wildcards: "003220ee",
+            in_port: "0004",
+            ..ENTRY
+        },
+        StatsFault::BadPort(1),
+    ),
+    (
+        EntryText {
+            actions: "0000000800040000",
+            ..ENTRY
+        },
+        StatsFault::BadPort(1),
+    ),
+    (
+        EntryText {
+            wildcards: "003220ed",
+            dl_vlan: "0bb8",
+            ..ENTRY
+        },
+        StatsFault::ReservedVlan(1),
+    ),
+];
+
+#[test]
+fn entries_of_a_switch_are_rules_of_its_table(rt: HostRuntime) {
+    for (entry, fault) in SECOND {
+        let message = Message {
+            switch: "a",
+            len: "00cc",
+            flags: "0000",
+            entries: &[ENTRY, *entry],
+        };
+        all_refused(&rt, rt.alloc(), &[(&[message], *fault)]);
+    }
+}
+
+const TWO_OF_A: Message<'static> = Message {
+    switch: "a",
+    len: "00cc",
+    flags: "0000",
+    entries: &[
+        ENTRY,
+        EntryText {
+            priority: "0001",
+            ..ENTRY
+        },
+    ],
+};
+
+// Entries are numbered over all lines; the switch `b` has room for two, which is a matter of the end.
+const NUMBERED: &[Refused<'static>] = &[
+    (
+        &[
+            TWO_OF_A,
+            Message {
+                switch: "b",
+                len: "0114",
+                flags: "0000",
+                entries: &[
+                    DROP,
+                    EntryText {
+                        priority: "0002",
+                        ..DROP
+                    },
+                    EntryText {
+                        priority: "0001",
+                        ..DROP
+                    },
+                ],
+            },
+        ],
+        StatsFault::OverCapacity(SwitchId(1)),
+    ),
+    (
+        &[
+            TWO_OF_A,
+            Message {
+                switch: "b",
+                len: "0114",
+                flags: "0001",
+                entries: &[
+                    DROP,
+                    EntryText {
+                        priority: "0002",
+                        ..DROP
+                    },
+                    EntryText {
+                        priority: "0001",
+                        ..DROP
+                    },
+                ],
+            },
+        ],
+        StatsFault::Incomplete(SwitchId(1)),
+    ),
+    (
+        &[
+            TWO_OF_A,
+            Message {
+                switch: "b",
+                len: "00bc",
+                flags: "0000",
+                entries: &[DROP, DROP],
+            },
+        ],
+        StatsFault::KeyTwice(3),
+    ),
+];
+
+#[test]
+fn entries_are_numbered_over_the_file(rt: HostRuntime) {
+    all_refused(&rt, rt.alloc(), NUMBERED);
+}
+
+/// Adds an entry of 88 bytes for this address alone.
+fn push_address(rt: &impl Abort, alloc: Global, lines: &mut String, address: u32) {
+    let nw_dst = format!(in alloc; "{address:08x}").expect(rt, "memory");
+    let entry = EntryText {
+        wildcards: "003020ef",
+        nw_dst: &nw_dst,
+        ..DROP
+    };
+    push(rt, lines, &entry_digits(rt, alloc, &entry));
+}
+
+/// Lines of `a` with 256 entries each, for so many of the addresses 10.0.0.0/32 and on; more follows each.
+fn many(rt: &impl Abort, alloc: Global, messages: u32) -> String
     requires { messages ≤ 100 }
 {
     let mut lines = String::new(alloc);
     for m in 0..messages {
-        lines.push_str("a 0111580c0000000000010001")?;
+        push(rt, &mut lines, "a 0111580c0000000000010001");
         for n in 0..256 {
-            let address = 167772160 + m * 256 + n;
-            let nw_dst = format!(in alloc; "{address:08x}")?;
-            let entry = EntryText {
-                wildcards: "003020ef",
-                nw_dst: nw_dst.as_str(),
-                ..DROP
-            };
-            lines.push_str(&entry_digits(alloc, &entry)?)?;
+            push_address(rt, alloc, &mut lines, 167772160 + m * 256 + n);
         }
-        lines.push('\n')?;
+        push(rt, &mut lines, "\n");
     }
-    Ok(lines)
+    lines
 }
 
+/// The end of `a` without entries, and a message of `b` with one.
+const ENDS: &[(Message<'static>, Option<StatsFault>)] = &[
+    (
+        Message {
+            switch: "a",
+            len: "000c",
+            flags: "0000",
+            entries: &[],
+        },
+        None,
+    ),
+    (
+        Message {
+            switch: "b",
+            len: "0064",
+            flags: "0000",
+            entries: &[DROP],
+        },
+        Some(StatsFault::TooMany),
+    ),
+];
+
 #[test]
-fn at_most_2048_entries_are_read(rt: HostRuntime) -> Result<(), Fail> {
+fn at_most_2048_entries_are_read(rt: HostRuntime) {
     let alloc = rt.alloc();
-    let mut lines = many(alloc, 8)?;
-    let mut more = lines.clone()?;
-    lines.push_str(&line(alloc, "a", "000c", "0000", &[])?)?;
-    assert_eq!(rt; refusal(alloc, &lines)?, None);
-    more.push_str(&line(alloc, "b", "0064", "0000", &[DROP])?)?;
-    assert_eq!(rt; refusal(alloc, &more)?, Some(StatsFault::TooMany));
-    Ok(())
+    for (message, fault) in ENDS {
+        let mut lines = many(&rt, alloc, 8);
+        push_message(&rt, alloc, &mut lines, message);
+        assert_eq!(rt; refusal(&rt, alloc, lines.as_bytes()), *fault);
+    }
 }

@@ -9,8 +9,7 @@ use openflow10::WireField::{
     Priority, Timeouts, Transport, Vlan, VlanPriority, Wildcards,
 };
 use openflow10::{FlowMod, Message, Verb, WireFault, decode, encode_barrier, encode_change};
-use std::alloc::Global;
-use std::test::Fail;
+use std::process::Abort;
 use update_model::Change;
 
 /// MODIFY_STRICT, xid 1: any port, any VLAN, 10.0.0.0/24, priority 100; output to port 4.
@@ -84,12 +83,8 @@ fn delete() -> Change
     )
 }
 
-fn bytes_of(alloc: Global, text: &str) -> Result<Vec<u8>, Fail> {
-    Ok(
-        hex::decode(alloc, text.as_bytes())
-            .ok()
-            .ok_or("hex digits")?,
-    )
+fn bytes_of(rt: &(impl Abort + AllocGlobal), text: &str) -> Vec<u8> {
+    hex::decode(rt.alloc(), text.as_bytes()).expect(rt, "hex digits")
 }
 
 /// The flow message that is expected for a change.
@@ -106,60 +101,78 @@ fn message_for(change: &Change, xid: u32) -> Message {
     })
 }
 
-/// Whether the bytes are those of the text, and with more behind them are read as the message.
-fn is_both_ways(alloc: Global, bytes: &[u8], text: &str, message: Message) -> Result<bool, Fail> {
-    let mut wanted = bytes_of(alloc, text)?;
+/// The bytes are those of the text, and with more behind them are read as the message.
+fn is_both_ways(rt: &(impl Abort + AllocGlobal), bytes: &[u8], text: &str, message: Message) {
+    let mut wanted = bytes_of(rt, text);
     let count = wanted.len();
-    let is_written = bytes == wanted.as_slice();
-    wanted.push(0x01)?;
-    Ok(is_written && decode(&wanted) == Ok((message, count)))
+    assert!(rt; bytes == wanted.as_slice(), "{text}");
+    wanted.push(0x01).expect(rt, "room");
+    assert!(rt; decode(&wanted) == Ok((message, count)), "{text}");
+}
+
+fn encoded(rt: &(impl Abort + AllocGlobal), change: &Change, xid: u32) -> Vec<u8>
+    requires { IsMessage (message_of change.now xid) }
+{
+    encode_change(rt.alloc(), change, xid).expect(rt, "a message")
 }
 
 #[test]
-fn changes_are_written_and_read_back(rt: HostRuntime) -> Result<(), Fail> {
-    let alloc = rt.alloc();
+fn changes_are_written_and_read_back(rt: HostRuntime) {
     let (first, second, third) = (replace(), insert(), delete());
-    let bytes = encode_change(alloc, &first, 1)?;
-    assert!(rt; is_both_ways(alloc, &bytes, REPLACE, message_for(&first, 1))?);
-    let bytes = encode_change(alloc, &second, 2)?;
-    assert!(rt; is_both_ways(alloc, &bytes, INSERT, message_for(&second, 2))?);
-    let bytes = encode_change(alloc, &third, 3)?;
-    assert!(rt; is_both_ways(alloc, &bytes, DELETE, message_for(&third, 3))?);
-    Ok(())
+    is_both_ways(
+        &rt,
+        &encoded(&rt, &first, 1),
+        REPLACE,
+        message_for(&first, 1),
+    );
+    is_both_ways(
+        &rt,
+        &encoded(&rt, &second, 2),
+        INSERT,
+        message_for(&second, 2),
+    );
+    is_both_ways(
+        &rt,
+        &encoded(&rt, &third, 3),
+        DELETE,
+        message_for(&third, 3),
+    );
 }
 
 #[test]
-fn barriers_are_written_and_read_back(rt: HostRuntime) -> Result<(), Fail> {
-    let alloc = rt.alloc();
+fn barriers_are_written_and_read_back(rt: HostRuntime) {
     let request = Message::BarrierRequest(2);
-    assert!(rt; is_both_ways(alloc, &encode_barrier(2), "0112000800000002", request)?);
-    let reply = bytes_of(alloc, "0113000800000002")?;
-    assert_eq!(rt; decode(&reply), Ok((Message::BarrierReply(2), 8)));
-    Ok(())
+    is_both_ways(&rt, &encode_barrier(2), "0112000800000002", request);
+    let reply = bytes_of(&rt, "0113000800000002");
+    assert!(rt; decode(&reply) == Ok((Message::BarrierReply(2), 8)));
 }
 
 #[test]
-fn a_message_that_is_cut_is_short(rt: HostRuntime) -> Result<(), Fail> {
-    let bytes = bytes_of(rt.alloc(), REPLACE)?;
+fn a_message_that_is_cut_is_short(rt: HostRuntime) {
+    let bytes = bytes_of(&rt, REPLACE);
     for count in 0..80 {
-        let front = bytes.get(..count).ok_or("80 bytes")?;
-        assert_eq!(rt; decode(front), Err(Short), "at {count}");
+        let front = bytes.get(..count).expect(&rt, "80 bytes");
+        assert!(rt; decode(front) == Err(Short), "at {count}");
     }
     assert!(rt; decode(&bytes).is_ok());
-    Ok(())
 }
 
 /// What is said of the text's bytes with another byte at an offset.
-fn refusal(alloc: Global, text: &str, offset: usize, byte: u8) -> Result<Option<WireFault>, Fail> {
-    let mut bytes = bytes_of(alloc, text)?;
-    if offset < bytes.len() {
-        bytes[offset] = byte;
-    }
-    Ok(decode(&bytes).err())
+fn is_refused(
+    rt: &(impl Abort + AllocGlobal),
+    text: &str,
+    offset: usize,
+    byte: u8,
+    want: WireFault,
+) {
+    let mut bytes = bytes_of(rt, text);
+    assert!(rt; offset < bytes.len());
+    bytes[offset] = byte;
+    assert_eq!(rt; decode(&bytes).err(), Some(want), "{offset} {byte}");
 }
 
 #[test]
-fn a_damaged_header_is_refused(rt: HostRuntime) -> Result<(), Fail> {
+fn a_damaged_header_is_refused(rt: HostRuntime) {
     let barrier = "0112000800000002";
     let table = [
         (REPLACE, 0, 0x04, Version),
@@ -173,17 +186,12 @@ fn a_damaged_header_is_refused(rt: HostRuntime) -> Result<(), Fail> {
         (barrier, 1, 0x0e, Length),
     ];
     for (text, offset, byte, fault) in table {
-        assert_eq!(rt;
-            refusal(rt.alloc(), text, offset, byte)?,
-            Some(fault),
-            "{offset} {byte}"
-        );
+        is_refused(&rt, text, offset, byte, fault);
     }
-    Ok(())
 }
 
 #[test]
-fn a_damaged_match_is_refused(rt: HostRuntime) -> Result<(), Fail> {
+fn a_damaged_match_is_refused(rt: HostRuntime) {
     let table = [
         // A bit above those of the fields, the frame type open, and a destination of which 40 bits are ignored.
         (INSERT, 9, 0x72, Wildcards),
@@ -210,14 +218,12 @@ fn a_damaged_match_is_refused(rt: HostRuntime) -> Result<(), Fail> {
         (INSERT, 47, 0x01, Transport),
     ];
     for (text, offset, byte, field) in table {
-        let refusal = refusal(rt.alloc(), text, offset, byte)?;
-        assert_eq!(rt; refusal, Some(Profile(field)), "{offset} {byte}");
+        is_refused(&rt, text, offset, byte, Profile(field));
     }
-    Ok(())
 }
 
 #[test]
-fn a_damaged_command_is_refused(rt: HostRuntime) -> Result<(), Fail> {
+fn a_damaged_command_is_refused(rt: HostRuntime) {
     let table = [
         (INSERT, 48, 0x01, Cookie),
         (INSERT, 55, 0x01, Cookie),
@@ -247,8 +253,6 @@ fn a_damaged_command_is_refused(rt: HostRuntime) -> Result<(), Fail> {
         (REPLACE, 73, 0x03, Actions),
     ];
     for (text, offset, byte, field) in table {
-        let refusal = refusal(rt.alloc(), text, offset, byte)?;
-        assert_eq!(rt; refusal, Some(Profile(field)), "{offset} {byte}");
+        is_refused(&rt, text, offset, byte, Profile(field));
     }
-    Ok(())
 }

@@ -1,37 +1,44 @@
 // The reader, refusal by refusal, and the evidence that the picks of format 1 share.
-use certificates::Evidence;
+use certificates::{Evidence, OrderedEvidence};
 use net_base::Field;
 use plan_format::{PlanFault, read_plan};
-use std::alloc::Global;
-use std::test::Fail;
+use std::process::Abort;
 use topology::{Net, read_net};
 
 const NET: &str =
     r#"{"switches":[{"name":"a","capacity":10},{"name":"b","capacity":10}],"links":[["a:2","b:2"]],"hosts":["a:1","b:1"],"vlans":["untagged"],"tags":[3000,3000]}"#;
 
-fn net_of(alloc: Global) -> Result<Net, Fail> {
-    Ok(read_net(alloc, NET.as_bytes())?)
+fn network(rt: &(impl Abort + AllocGlobal)) -> Net {
+    read_net(rt.alloc(), NET.as_bytes()).expect(rt, "a network")
 }
 
-/// The first text that isn't refused as it should be, each put between a head and a tail.
-fn wrong(
-    alloc: Global,
+/// A text between a head and a tail is refused.
+fn is_refused(
+    rt: &(impl Abort + AllocGlobal),
+    head: &str,
+    text: &str,
+    tail: &str,
+    want: PlanFault,
+) {
+    let text = format!(in rt.alloc(); "{head}{text}{tail}").expect(rt, "a text");
+    let fault = read_plan(rt.alloc(), &network(rt), text.as_bytes()).err();
+    assert_eq!(rt; fault, Some(want), "{text}");
+}
+
+/// Each text is refused, put between a head and a tail.
+fn are_refused(
+    rt: &(impl Abort + AllocGlobal),
     head: &str,
     cases: &[(&str, PlanFault)],
     tail: &str,
-) -> Result<Option<String>, Fail> {
-    let net = net_of(alloc)?;
+) {
     for (text, want) in cases {
-        let text = format!(in alloc; "{head}{text}{tail}")?;
-        if read_plan(alloc, &net, text.as_bytes()).err() != Some(*want) {
-            return Ok(Some(text));
-        }
+        is_refused(rt, head, *text, tail, *want);
     }
-    Ok(None)
 }
 
 #[test]
-fn refuses_a_damaged_head(rt: HostRuntime) -> Result<(), Fail> {
+fn refuses_a_damaged_head(rt: HostRuntime) {
     let cases = [
         ("[", PlanFault::NotJson),
         ("[]", PlanFault::Shape(Field::Top, 0)),
@@ -51,13 +58,12 @@ fn refuses_a_damaged_head(rt: HostRuntime) -> Result<(), Fail> {
             PlanFault::Shape(Field::Rules, 0),
         ),
     ];
-    assert_eq!(rt; wrong(rt.alloc(), "", &cases, "")?, None);
-    Ok(())
+    are_refused(&rt, "", &cases, "");
 }
 
 /// The second change of the third round, the first being good.
 #[test]
-fn refuses_a_damaged_change(rt: HostRuntime) -> Result<(), Fail> {
+fn refuses_a_damaged_change(rt: HostRuntime) {
     let head =
         r#"{"format":1,"kind":"ordered","numberings":[],"befores":[],"picks":[],"rounds":[[],[{"do":"insert","switch":"a","priority":1,"dst":"0.0.0.0/0","out":1}],[{"do":"delete","switch":"b","priority":65535,"in_port":65279,"vlan":4094,"dst":"10.0.0.0/8","out":2,"set":4094},"#;
     let cases = [
@@ -128,12 +134,11 @@ fn refuses_a_damaged_change(rt: HostRuntime) -> Result<(), Fail> {
             PlanFault::BadRule(2),
         ),
     ];
-    assert_eq!(rt; wrong(rt.alloc(), head, &cases, "]]}")?, None);
-    Ok(())
+    are_refused(&rt, head, &cases, "]]}");
 }
 
 #[test]
-fn refuses_a_damaged_member_of_format_1(rt: HostRuntime) -> Result<(), Fail> {
+fn refuses_a_damaged_member_of_format_1(rt: HostRuntime) {
     let cases = [
         (
             r#""ordered","rounds":[[],1]"#,
@@ -212,15 +217,11 @@ fn refuses_a_damaged_member_of_format_1(rt: HostRuntime) -> Result<(), Fail> {
             PlanFault::Shape(Field::Tried, 0),
         ),
     ];
-    assert_eq!(rt;
-        wrong(rt.alloc(), r#"{"format":1,"kind":"#, &cases, "}")?,
-        None
-    );
-    Ok(())
+    are_refused(&rt, r#"{"format":1,"kind":"#, &cases, "}");
 }
 
 #[test]
-fn refuses_a_damaged_member_of_format_2(rt: HostRuntime) -> Result<(), Fail> {
+fn refuses_a_damaged_member_of_format_2(rt: HostRuntime) {
     let head = r#"{"format":2,"rules":[{"switch":"a","priority":1,"dst":"0.0.0.0/0","out":1}"#;
     let cases = [
         (
@@ -260,47 +261,61 @@ fn refuses_a_damaged_member_of_format_2(rt: HostRuntime) -> Result<(), Fail> {
             PlanFault::BadIndex(1),
         ),
     ];
-    assert_eq!(rt; wrong(rt.alloc(), head, &cases, "")?, None);
-    Ok(())
+    are_refused(&rt, head, &cases, "");
 }
+
+const TWICE: &str =
+    r#"{"format":1,"kind":"ordered","rounds":[[]],"numberings":[[0,0],[1,0]],"befores":[[],[0]],"picks":[[1,0,1,[0]],[1,1,0,[]],[1,2,1,[0]],[1,3,1,[1]]]}"#;
 
 /// Equal evidence of picks of format 1 is kept once, in the order of first use.
-#[test]
-fn picks_of_format_1_share_their_evidence(rt: HostRuntime) -> Result<(), Fail> {
-    let net = net_of(rt.alloc())?;
-    let text =
-        r#"{"format":1,"kind":"ordered","rounds":[[]],"numberings":[[0,0],[1,0]],"befores":[[],[0]],"picks":[[1,0,1,[0]],[1,1,0,[]],[1,2,1,[0]],[1,3,1,[1]]]}"#;
-    let plan = read_plan(rt.alloc(), &net, text.as_bytes())?;
-    match &plan.evidence {
-        Evidence::Ordered(evidence) => {
-            let uses = evidence.uses.list();
-            assert_eq!(rt; uses.len(), 3);
-            for (pick, want) in evidence.picks.list().iter().zip([0, 1, 0, 2]) {
-                assert_eq!(rt; pick.shared, want, "in class {}", pick.class);
-            }
-        }
-        Evidence::TwoPhase(_) => return Err(Fail::from("two-phase")),
+fn shares(rt: &impl Abort, evidence: &OrderedEvidence) {
+    assert!(rt; evidence.uses.list().len() == 3);
+    assert!(rt; evidence.picks.list().len() == 4);
+    for (pick, want) in evidence.picks.list().iter().zip([0, 1, 0, 2]) {
+        assert!(rt; pick.shared == want, "in class {}", pick.class);
     }
-    Ok(())
 }
 
-/// The printed word of each refusal.
 #[test]
-fn prints_the_name_of_a_fault(rt: HostRuntime) -> Result<(), Fail> {
-    let faults = [
-        (PlanFault::NotJson, 1, "NotJson"),
-        (PlanFault::Shape(Field::Uses, 3), 2, "Shape"),
-        (PlanFault::BadFormat, 3, "BadFormat"),
-        (PlanFault::UnknownSwitch(3), 4, "UnknownSwitch"),
-        (PlanFault::BadRule(3), 5, "BadRule"),
-        (PlanFault::BadIndex(3), 6, "BadIndex"),
-        (PlanFault::TooMany(Field::Tried), 7, "TooMany"),
-    ];
-    for (fault, number, name) in faults {
-        assert_eq!(rt; fault.number(), number);
-        assert_eq!(rt; fault.name(), name);
-        let text = format!(in rt.alloc(); "{fault}")?;
-        assert_eq!(rt; text.as_str(), name);
+fn picks_of_format_1_share_their_evidence(rt: HostRuntime) {
+    let plan = read_plan(rt.alloc(), &network(&rt), TWICE.as_bytes()).expect(&rt, "a plan");
+    match &plan.evidence {
+        Evidence::Ordered(evidence) => shares(&rt, evidence),
+        Evidence::TwoPhase(_) => assert!(rt; false, "two-phase"),
     }
-    Ok(())
+}
+
+/// A refusal as it stands in a line on a bad file, by the message of its error type.
+fn line_of(rt: &(impl Abort + AllocGlobal), fault: PlanFault) -> String {
+    let (number, place) = (fault.number(), fault.place());
+    let text = match fault.field() {
+        Some(field) => {
+            let member = field.name();
+            format!(in rt.alloc(); "{number} {fault} {member} at {place}")
+        }
+        None => format!(in rt.alloc(); "{number} {fault} at {place}"),
+    };
+    text.expect(rt, "a text")
+}
+
+fn has_words(rt: &(impl Abort + AllocGlobal), fault: PlanFault, line: &str) {
+    let text = line_of(rt, fault);
+    assert!(rt; text.as_str() == line, "{line}");
+    assert!(rt; line.contains(fault.name()), "{line}");
+}
+
+#[test]
+fn each_refusal_has_its_words(rt: HostRuntime) {
+    for (fault, line) in [
+        (PlanFault::NotJson, "1 NotJson at 0"),
+        (PlanFault::Shape(Field::Uses, 3), "2 Shape uses at 3"),
+        (PlanFault::BadFormat, "3 BadFormat at 0"),
+        (PlanFault::UnknownSwitch(3), "4 UnknownSwitch at 3"),
+        (PlanFault::BadRule(3), "5 BadRule at 3"),
+        (PlanFault::BadIndex(3), "6 BadIndex at 3"),
+        (PlanFault::TooMany(Field::Tried), "7 TooMany tried at 0"),
+        (PlanFault::Memory, "0 Memory at 0"),
+    ] {
+        has_words(&rt, fault, line);
+    }
 }

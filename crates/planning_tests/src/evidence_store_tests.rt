@@ -1,33 +1,13 @@
 // Equal numberings, before sets and uses of picks, by their numbers.
-ghost use Rattle.std.specs.Prelude.{◌≡◌, ◌<◌, ◌↔◌, IfOk, IsTrue};
+ghost use Rattle.std.specs.Prelude.{◌≡◌, ◌<◌, ◌≤◌, ◌↔◌, IfOk, IsTrue};
 ghost use Rattle.std.specs.List.{AllByRecursion};
 ghost use Rattle.certificates.specs.Valid.{IsPickBefore};
 
-use acyclic_numbering::Numbering;
+use crate::parts::{numbering_of, set_of};
 use certificates::{Befores, OrderedPick};
 use evidence_store::EvidenceStore;
-use net_base::SwitchId;
 use std::alloc::Global;
 use std::test::Fail;
-use waypoint_evidence::Before;
-
-fn numbering_of(alloc: Global, numbers: &[u16]) -> Result<Numbering, Fail> {
-    let mut numbering = Numbering::make(alloc)?;
-    for number in numbers {
-        numbering.add(*number)?;
-    }
-    Ok(numbering)
-}
-
-fn set_of(members: &[u8]) -> Before {
-    let mut set = Before::none();
-    for member in members {
-        if *member < 128 {
-            set.put(SwitchId(u32::from(*member)));
-        }
-    }
-    set
-}
 
 fn sets_of(alloc: Global, sets: &[&[u8]]) -> Result<Befores, Fail> {
     let mut befores = Befores::make(alloc)?;
@@ -57,7 +37,8 @@ fn with_pick(
     numbers: &[u16],
     sets: &[&[u8]],
 ) -> Result<EvidenceStore, Fail>
-    requires { class < store.classes }
+    requires class { class < store.classes }
+    requires few_rounds { round ≤ 4200 }
     ensures { IfOk result (λ s. s.classes ≡ store.classes) }
 {
     if !are_earlier(store.evidence().picks.list(), round, class) {

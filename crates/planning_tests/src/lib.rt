@@ -1,10 +1,16 @@
-//! Tests of the parts of the planner, each module through the public calls of the crate in its name.
+//! Tests of plans and of the parts of the planner, each module through the public calls of the crate in its name.
 #![tactic(auto)]
 
+#[cfg(test)]
+mod acyclic_numbering_tests;
+#[cfg(test)]
+mod certificates_tests;
 #[cfg(test)]
 mod empty_tables;
 #[cfg(test)]
 mod evidence_store_tests;
+#[cfg(test)]
+mod parts;
 #[cfg(test)]
 mod table_difference_tests;
 #[cfg(test)]
@@ -13,3 +19,5 @@ mod tag_allocator_tests;
 mod trial_tables_tests;
 #[cfg(test)]
 mod two_phase_tests;
+#[cfg(test)]
+mod waypoint_evidence_tests;

@@ -1,11 +1,10 @@
 //! A test of changes that are tried on the tables of two switches.
-ghost use Rattle.std.specs.Prelude.{OnOk};
 ghost use Rattle.trial_tables.specs.Trials.{IsSettled};
 
 use crate::empty_tables::no_rules;
-use flow_rules::{Action, Key, Pattern, Rewrite, Rule, VlanTest};
-use net_base::{Memory, Port, Prefix, SwitchId};
-use std::test::Fail;
+use flow_rules::{Action, Config, Key, Pattern, Rewrite, Rule, VlanTest};
+use net_base::{Port, Prefix, SwitchId};
+use std::process::Abort;
 use topology::{Net, read_net};
 use trial_tables::TrialTables;
 use update_model::{Change, applies};
@@ -60,35 +59,42 @@ fn turned() -> Rule {
 }
 
 /// Whether a change may be made. Then it is made, or given up.
-fn tries(trial: &mut TrialTables, net: &Net, change: &Change, is_kept: bool) -> Result<bool, Memory>
+fn tries(
+    rt: &impl Abort,
+    trial: &mut TrialTables,
+    net: &Net,
+    change: &Change,
+    is_kept: bool,
+) -> bool
     requires { IsSettled net.now trial.old }
-    ensures { OnOk result (IsSettled net.now trial.new) }
+    ensures { IsSettled net.now trial.new }
 {
     if !applies(trial.tables(), change) || !trial.begin(net, change) {
-        return Ok(false);
+        return false;
     }
-    if !is_kept {
+    if is_kept {
+        trial.keep(net, change).expect(rt, "room");
+    } else {
         trial.give_up(net, change);
-        return Ok(true);
     }
-    trial.keep(net, change)?;
-    Ok(true)
+    true
 }
 
 /// The position of the first change of which it is wrong whether it may be made. All before it are made, or given up.
 fn first_wrong(
+    rt: &impl Abort,
     trial: &mut TrialTables,
     net: &Net,
     steps: &[(Change, bool, bool)],
-) -> Result<Option<usize>, Memory>
+) -> Option<usize>
     requires { IsSettled net.now trial.old }
 {
     for (i, (change, is_kept, want)) in steps.iter().enumerate() {
-        if tries(trial, net, change, *is_kept)? != *want {
-            return Ok(Some(i));
+        if tries(rt, trial, net, change, *is_kept) != *want {
+            return Some(i);
         }
     }
-    Ok(None)
+    None
 }
 
 /// Changes, whether each is kept where it may be made, and whether it may.
@@ -106,16 +112,19 @@ fn steps() -> [(Change, bool, bool); 9] {
     ]
 }
 
-#[test]
-fn a_change_is_made_only_where_it_is_clear_and_has_room(rt: HostRuntime) -> Result<(), Fail> {
-    let net = read_net(rt.alloc(), PAIR).ok().ok_or("a network")?;
-    let config = no_rules(rt.alloc(), &net)?;
-    let mut trial = TrialTables::make(rt.alloc(), &net, &config)?;
-    assert_eq!(rt; first_wrong(&mut trial, &net, &steps())?, None);
-    assert_eq!(rt; trial.mixes().len(), 2);
-    let tables = trial.tables();
+/// The rules that the steps leave.
+fn has_rules(rt: &impl Abort, tables: &Config) {
     assert!(rt; tables.count() == 2);
-    assert_eq!(rt; tables.table(FIRST).rules(), [turned(), low()].as_slice());
-    assert_eq!(rt; tables.table(SECOND).rules(), [clash()].as_slice());
-    Ok(())
+    assert!(rt; tables.table(FIRST).rules() == [turned(), low()].as_slice());
+    assert!(rt; tables.table(SECOND).rules() == [clash()].as_slice());
+}
+
+#[test]
+fn a_change_is_made_only_where_it_is_clear_and_has_room(rt: HostRuntime) {
+    let net = read_net(rt.alloc(), PAIR).expect(&rt, "a network");
+    let config = no_rules(rt.alloc(), &net).expect(&rt, "tables");
+    let mut trial = TrialTables::make(rt.alloc(), &net, &config).expect(&rt, "trial tables");
+    assert_eq!(rt; first_wrong(&rt, &mut trial, &net, &steps()), None);
+    assert!(rt; trial.mixes().len() == 2);
+    has_rules(&rt, trial.tables());
 }

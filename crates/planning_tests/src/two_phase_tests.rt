@@ -3,7 +3,6 @@ use crate::empty_tables::no_rules;
 use certificates::{Evidence, Plan, TwoPhaseEvidence};
 use net_base::SwitchId;
 use std::process::Abort;
-use std::test::Fail;
 use topology::{Net, read_net};
 use two_phase::{TwoFault, need, two_phase};
 use update_model::Rounds;
@@ -15,58 +14,55 @@ const SMALL: &str =
     "[{\"name\":\"a\",\"capacity\":4},{\"name\":\"b\",\"capacity\":1},{\"name\":\"c\",\"capacity\":2}]";
 
 /// Three switches, with two host ports, none and one, and two declared VLANs.
-fn net_with(rt: &HostRuntime, switches: &str, tags: &str) -> Result<Net, Fail> {
-    let mut text = String::new(rt.alloc());
-    text.push_str(
-        "{\"links\":[],\"hosts\":[\"a:1\",\"a:2\",\"c:1\"],\"vlans\":[\"untagged\",10],\"switches\":",
-    )?;
-    text.push_str(switches)?;
-    text.push_str(",\"tags\":")?;
-    text.push_str(tags)?;
-    text.push_str("}")?;
-    match read_net(rt.alloc(), text.as_bytes()) {
-        Ok(net) => Ok(net),
-        Err(_) => Err(Fail::from("refused")),
-    }
+fn net_with(rt: &(impl Abort + AllocGlobal), switches: &str, tags: &str) -> Net {
+    let before =
+        "{\"links\":[],\"hosts\":[\"a:1\",\"a:2\",\"c:1\"],\"vlans\":[\"untagged\",10],\"switches\":";
+    let text = format!(in rt.alloc(); "{before}{switches},\"tags\":{tags}}}").expect(rt, "a text");
+    read_net(rt.alloc(), text.as_bytes()).expect(rt, "a network")
 }
 
 /// The plan from no rules to no rules.
-fn plan_for(rt: &HostRuntime, net: &Net) -> Result<Result<Plan, TwoFault>, Fail> {
-    let old = no_rules(rt.alloc(), net)?;
-    let new = no_rules(rt.alloc(), net)?;
-    let tried = Rounds::make(rt.alloc())?;
-    Ok(two_phase(rt.alloc(), net, &old, &new, &tried))
+fn plan_for(rt: &(impl Abort + AllocGlobal), net: &Net) -> Result<Plan, TwoFault> {
+    let old = no_rules(rt.alloc(), net).expect(rt, "tables");
+    let new = no_rules(rt.alloc(), net).expect(rt, "tables");
+    let tried = Rounds::make(rt.alloc()).expect(rt, "rounds");
+    two_phase(rt.alloc(), net, &old, &new, &tried)
+}
+
+/// How many entries a switch needs from no rules to no rules.
+fn need_at(rt: &(impl Abort + AllocGlobal), net: &Net, switch: u32) -> u64 {
+    let old = no_rules(rt.alloc(), net).expect(rt, "tables");
+    let new = no_rules(rt.alloc(), net).expect(rt, "tables");
+    assert!(rt; switch < net.switches());
+    need(net, &old, &new, SwitchId(switch))
 }
 
 /// One entry for each tag, and one for each host port.
 #[test]
-fn needs_the_defaults(rt: HostRuntime) -> Result<(), Fail> {
-    let net = net_with(&rt, ROOMY, "[3000,3009]")?;
-    let old = no_rules(rt.alloc(), &net)?;
-    let new = no_rules(rt.alloc(), &net)?;
-    assert_eq!(rt; net.switches(), 3);
-    assert_eq!(rt; need(&net, &old, &new, SwitchId(0)), 4);
-    assert_eq!(rt; need(&net, &old, &new, SwitchId(1)), 2);
-    assert_eq!(rt; need(&net, &old, &new, SwitchId(2)), 3);
-    Ok(())
+fn needs_the_defaults(rt: HostRuntime) {
+    let net = net_with(&rt, ROOMY, "[3000,3009]");
+    assert!(rt; net.switches() == 3);
+    for (switch, want) in [(0, 4), (1, 2), (2, 3)] {
+        assert!(rt; need_at(&rt, &net, switch) == want, "{switch}");
+    }
 }
 
 /// Two label tables of four labels each, the second from round 3 on.
 fn has_two_tables(rt: &impl Abort, evidence: &TwoPhaseEvidence) {
     let tables = evidence.labels.list();
-    assert_eq!(rt; tables.len(), 2);
-    assert_eq!(rt; tables[1].list().len(), 4);
+    assert!(rt; tables.len() == 2);
+    assert!(rt; tables[1].list().len() == 4);
     let picks = evidence.picks.list();
-    assert_eq!(rt; picks.len(), 2);
-    assert_eq!(rt; picks[1].round, 3);
+    assert!(rt; picks.len() == 2);
+    assert!(rt; picks[1].round == 3);
 }
 
 /// Six rounds: the defaults of tags come first and go last, those of host ports within them.
 fn has_six_rounds(rt: &impl Abort, rounds: &Rounds) {
-    assert_eq!(rt; rounds.count(), 6);
-    assert_eq!(rt; rounds.round(0).len(), 6);
-    assert_eq!(rt; rounds.round(1).len(), 3);
-    assert_eq!(rt; rounds.round(5).len(), 6);
+    assert!(rt; rounds.count() == 6);
+    assert!(rt; rounds.round(0).len() == 6);
+    assert!(rt; rounds.round(1).len() == 3);
+    assert!(rt; rounds.round(5).len() == 6);
 }
 
 fn has_counts(rt: &impl Abort, plan: &Plan) {
@@ -78,29 +74,26 @@ fn has_counts(rt: &impl Abort, plan: &Plan) {
 }
 
 #[test]
-fn lays_the_defaults_and_takes_them_out_again(rt: HostRuntime) -> Result<(), Fail> {
-    let net = net_with(&rt, ROOMY, "[3000,3009]")?;
-    let plan = plan_for(&rt, &net)?.map_err(|_| "no plan")?;
+fn lays_the_defaults_and_takes_them_out_again(rt: HostRuntime) {
+    let net = net_with(&rt, ROOMY, "[3000,3009]");
+    let plan = plan_for(&rt, &net).expect(&rt, "a plan");
     has_counts(&rt, &plan);
-    Ok(())
+}
+
+fn has_no_plan(rt: &(impl Abort + AllocGlobal), tags: &str, want: TwoFault) {
+    let net = net_with(rt, SMALL, tags);
+    let fault = plan_for(rt, &net).err();
+    assert!(rt; fault == Some(want), "{tags}");
 }
 
 /// Too few tags are told before switches that are too small, of which the first is named.
 #[test]
-fn tells_why_there_is_no_plan(rt: HostRuntime) -> Result<(), Fail> {
-    let few = net_with(&rt, SMALL, "[3000,3000]")?;
-    let fault = plan_for(&rt, &few)?.err();
-    assert_eq!(rt; fault, Some(TwoFault::TooFewTags { need: 2, has: 1 }));
-    let small = net_with(&rt, SMALL, "[3000,3009]")?;
-    let fault = plan_for(&rt, &small)?.err();
-    let switch = SwitchId(1);
-    assert_eq!(rt;
-        fault,
-        Some(TwoFault::TooSmall {
-            switch,
-            need: 2,
-            capacity: 1
-        })
-    );
-    Ok(())
+fn tells_why_there_is_no_plan(rt: HostRuntime) {
+    has_no_plan(&rt, "[3000,3000]", TwoFault::TooFewTags { need: 2, has: 1 });
+    let small = TwoFault::TooSmall {
+        switch: SwitchId(1),
+        need: 2,
+        capacity: 1,
+    };
+    has_no_plan(&rt, "[3000,3009]", small);
 }

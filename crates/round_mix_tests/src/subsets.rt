@@ -3,12 +3,11 @@ ghost use Rattle.std.specs.Prelude.{◌≤◌, IsTrue};
 ghost use Rattle.update_model.specs.Mixtures.{entries_needed};
 
 use flow_rules::{Action, Key, Pattern, Rewrite, Rule, Table, VlanTest};
-use net_base::{Memory, Place, Port, Prefix, SwitchId, Vlan};
+use net_base::{Place, Port, Prefix, SwitchId, Vlan};
 use path_walk::Outcome;
 use path_walk::following::outcome;
 use round_mix::{Mixed, Outcomes};
-use std::alloc::Global;
-use std::test::Fail;
+use std::process::Abort;
 use topology::{Net, read_net};
 use update_model::Change;
 
@@ -70,51 +69,52 @@ fn replace(rule: Rule) -> Change {
 }
 
 /// Makes a change where it applies.
-fn make(table: &mut Table, change: &Change) -> Result<(), Memory> {
-    table.reserve(1)?;
+fn make(rt: &impl Abort, table: &mut Table, change: &Change) {
+    table.reserve(1).expect(rt, "room");
     if change.applies_to(table) {
         change.apply_to(table);
     }
-    Ok(())
 }
 
 /// A table of these rules.
-fn table_of(alloc: Global, rules: &[Rule]) -> Result<Table, Memory> {
-    let mut table = Table::make(alloc)?;
+fn table_of(rt: &(impl Abort + AllocGlobal), rules: &[Rule]) -> Table {
+    let mut table = Table::make(rt.alloc()).expect(rt, "a table");
     for rule in rules {
-        make(&mut table, &insert(*rule))?;
+        make(rt, &mut table, &insert(*rule));
     }
-    Ok(table)
+    table
 }
 
 /// The table after those of the changes whose bit is set, the lowest bit for the first.
-fn mixture(table: &Table, changes: &[Change], bits: u32) -> Result<Table, Memory> {
-    let mut mixed = table.copy()?;
+fn mixture(rt: &impl Abort, table: &Table, changes: &[Change], bits: u32) -> Table {
+    let mut mixed = table.copy().expect(rt, "a copy");
     let mut left = bits;
     for change in changes {
         if left % 2 == 1 {
-            make(&mut mixed, change)?;
+            make(rt, &mut mixed, change);
         }
         left /= 2;
     }
-    Ok(mixed)
+    mixed
 }
 
 /// The plain program: the outcome in the mixture of each subset, of four changes at most.
 fn outcomes_by_subsets(
-    alloc: Global,
+    rt: &(impl Abort + AllocGlobal),
     net: &Net,
     table: &Table,
     changes: &[Change],
     place: Place,
     dst: u32,
-) -> Result<Vec<Outcome>, Memory> {
-    let mut found = Vec::new(alloc);
+) -> Vec<Outcome> {
+    let mut found = Vec::new(rt.alloc());
     for bits in 0..16 {
-        let mixed = mixture(table, changes, bits)?;
-        found.push(outcome(net, &mixed, place, dst))?;
+        let mixed = mixture(rt, table, changes, bits);
+        found
+            .push(outcome(net, &mixed, place, dst))
+            .expect(rt, "room");
     }
-    Ok(found)
+    found
 }
 
 /// Whether each outcome of the one list stands in the other.
@@ -130,31 +130,40 @@ fn is_small(table: &Table, changes: &[Change]) -> bool
     table.rules().len() <= 8 && changes.len() <= 8
 }
 
-/// Whether the possible outcomes at a place are those of the plain program.
-fn agrees_at(
-    alloc: Global,
+/// The possible outcomes at a place.
+fn possible(
+    rt: &(impl Abort + AllocGlobal),
     net: &Net,
     table: &Table,
     changes: &[Change],
     place: Place,
     dst: u32,
-) -> Result<bool, Fail> {
-    if !is_small(table, changes) {
-        return Ok(false);
-    }
-    let mut mixed = Mixed::with_room(alloc, 16)?;
-    if mixed.load(table, changes).is_err() {
-        return Ok(false);
-    }
-    let mut possible = Outcomes::with_room(alloc, 17)?;
-    mixed.possible(net, place, dst, &mut possible);
-    let plain = outcomes_by_subsets(alloc, net, table, changes, place, dst)?;
-    Ok(is_within(possible.list(), &plain) && is_within(&plain, possible.list()))
+) -> Outcomes {
+    assert!(rt; is_small(table, changes));
+    let mut mixed = Mixed::with_room(rt.alloc(), 16).expect(rt, "room");
+    assert!(rt; mixed.load(table, changes).is_ok());
+    let mut found = Outcomes::with_room(rt.alloc(), 17).expect(rt, "room");
+    mixed.possible(net, place, dst, &mut found);
+    found
+}
+
+/// Whether the possible outcomes at a place are those of the plain program.
+fn agrees_at(
+    rt: &(impl Abort + AllocGlobal),
+    net: &Net,
+    table: &Table,
+    changes: &[Change],
+    place: Place,
+    dst: u32,
+) -> bool {
+    let possible = possible(rt, net, table, changes, place, dst);
+    let plain = outcomes_by_subsets(rt, net, table, changes, place, dst);
+    is_within(possible.list(), &plain) && is_within(&plain, possible.list())
 }
 
 /// Whether they are, at each of some places and addresses.
-fn agrees(alloc: Global, net: &Net, rules: &[Rule], changes: &[Change]) -> Result<bool, Fail> {
-    let table = table_of(alloc, rules)?;
+fn agrees(rt: &(impl Abort + AllocGlobal), net: &Net, rules: &[Rule], changes: &[Change]) -> bool {
+    let table = table_of(rt, rules);
     for (port, vlan, dst) in [
         (1, Vlan::Untagged, 0x0a00_0000),
         (2, Vlan::Untagged, 0x0a00_0001),
@@ -168,11 +177,11 @@ fn agrees(alloc: Global, net: &Net, rules: &[Rule], changes: &[Change]) -> Resul
             port: Port(port),
             vlan,
         };
-        if !agrees_at(alloc, net, &table, changes, place, dst)? {
-            return Ok(false);
+        if !agrees_at(rt, net, &table, changes, place, dst) {
+            return false;
         }
     }
-    Ok(true)
+    true
 }
 
 /// The rule that sends to the second host.
@@ -185,42 +194,55 @@ fn drop_wide() -> Rule {
     rule(50, VlanTest::Any, WIDE, Action::Discard)
 }
 
-/// Rounds over the two rules: with none, two, three and four changes, at equal and at different priorities.
-fn round(alloc: Global, number: u32) -> Result<Vec<Change>, Memory> {
-    let any = VlanTest::Any;
-    match number {
-        0 => Ok(Vec::new(alloc)),
-        1 => Ok(vec![in alloc; delete(to_second()), insert(rule(110, any, TEN, out(2)))]?),
-        2 => Ok(vec![in alloc;
-            replace(rule(100, any, TEN, out(3))),
-            insert(rule(120, any, HALF, out(4))),
-        ]?),
-        3 => Ok(vec![in alloc;
-            delete(drop_wide()),
-            delete(to_second()),
-            insert(rule(40, any, WIDE, out(4))),
-        ]?),
-        _ => Ok(vec![in alloc;
-            replace(rule(50, any, WIDE, out(1))),
-            insert(rule(120, VlanTest::Id(10), TEN, out(4))),
-            insert(rule(120, VlanTest::Untagged, HALF, out(3))),
-            delete(to_second()),
-        ]?),
-    }
+/// Two changes: a rule that sends to the second host, and another in its place.
+fn swap() -> [Change; 2] {
+    [
+        delete(to_second()),
+        insert(rule(110, VlanTest::Any, TEN, out(2))),
+    ]
 }
 
+/// Two changes: the second host's packets go to the third, and some to the fourth.
+fn split() -> [Change; 2] {
+    [
+        replace(rule(100, VlanTest::Any, TEN, out(3))),
+        insert(rule(120, VlanTest::Any, HALF, out(4))),
+    ]
+}
+
+/// Three changes: both rules give way to one of a lower priority.
+fn lower() -> [Change; 3] {
+    [
+        delete(drop_wide()),
+        delete(to_second()),
+        insert(rule(40, VlanTest::Any, WIDE, out(4))),
+    ]
+}
+
+/// Four changes, two of them at one priority.
+fn spread() -> [Change; 4] {
+    [
+        replace(rule(50, VlanTest::Any, WIDE, out(1))),
+        insert(rule(120, VlanTest::Id(10), TEN, out(4))),
+        insert(rule(120, VlanTest::Untagged, HALF, out(3))),
+        delete(to_second()),
+    ]
+}
+
+fn network(rt: &(impl Abort + AllocGlobal)) -> Net {
+    read_net(rt.alloc(), ALONE).expect(rt, "a network")
+}
+
+/// Rounds over the two rules: with none, two, three and four changes, at equal and at different priorities.
 #[test]
-fn possible_outcomes_are_those_of_all_subsets(rt: HostRuntime) -> Result<(), Fail> {
-    let net = read_net(rt.alloc(), ALONE).ok().ok_or("a network")?;
+fn possible_outcomes_are_those_of_all_subsets(rt: HostRuntime) {
+    let net = network(&rt);
     let rules = [drop_wide(), to_second()];
-    for number in 0..5 {
-        let changes = round(rt.alloc(), number)?;
-        assert!(rt;
-            agrees(rt.alloc(), &net, &rules, &changes)?,
-            "round {number}"
-        );
-    }
-    Ok(())
+    assert!(rt; agrees(&rt, &net, &rules, &[]));
+    assert!(rt; agrees(&rt, &net, &rules, &swap()));
+    assert!(rt; agrees(&rt, &net, &rules, &split()));
+    assert!(rt; agrees(&rt, &net, &rules, &lower()));
+    assert!(rt; agrees(&rt, &net, &rules, &spread()));
 }
 
 /// A packet from the first host to the first address.
@@ -230,38 +252,43 @@ const FROM_FIRST: Place = Place {
     vlan: Vlan::Untagged,
 };
 
+/// The possible outcomes of that packet.
+fn possible_of_first(
+    rt: &(impl Abort + AllocGlobal),
+    rules: &[Rule],
+    changes: &[Change],
+) -> Outcomes {
+    let net = network(rt);
+    let table = table_of(rt, rules);
+    possible(rt, &net, &table, changes, FROM_FIRST, 0x0a00_0000)
+}
+
 /// The inserted rule may stand and decide, then the deleted one may, and the rule below them stands in each mixture.
 #[test]
-fn a_delete_and_an_insert_stand_in_descending_priority(rt: HostRuntime) -> Result<(), Fail> {
-    let net = read_net(rt.alloc(), ALONE).ok().ok_or("a network")?;
+fn a_delete_and_an_insert_stand_in_descending_priority(rt: HostRuntime) {
     let rules = [rule(50, VlanTest::Any, WIDE, out(3)), to_second()];
-    let table = table_of(rt.alloc(), &rules)?;
     let changes = [
         delete(to_second()),
         insert(rule(110, VlanTest::Any, TEN, out(4))),
     ];
-    assert!(rt; is_small(&table, &changes));
-    let mut mixed = Mixed::with_room(rt.alloc(), 16)?;
-    assert!(rt; mixed.load(&table, &changes).is_ok());
-    let mut possible = Outcomes::with_room(rt.alloc(), 17)?;
-    mixed.possible(&net, FROM_FIRST, 0x0a00_0000, &mut possible);
-    assert_eq!(rt; possible.list(), [leave(4), leave(2), leave(3)].as_slice());
-    Ok(())
+    let found = possible_of_first(&rt, &rules, &changes);
+    assert!(rt; found.list() == [leave(4), leave(2), leave(3)].as_slice());
 }
 
 #[test]
-fn a_delete_beside_an_insert_may_drop(rt: HostRuntime) -> Result<(), Fail> {
-    let net = read_net(rt.alloc(), ALONE).ok().ok_or("a network")?;
-    let table = table_of(rt.alloc(), &[drop_wide(), to_second()])?;
-    let changes = round(rt.alloc(), 1)?;
-    assert!(rt; is_small(&table, &changes));
-    let mut mixed = Mixed::with_room(rt.alloc(), 16)?;
-    assert!(rt; mixed.load(&table, &changes).is_ok());
-    assert_eq!(rt; mixed.most_entries(), 3);
-    let mut possible = Outcomes::with_room(rt.alloc(), 17)?;
-    mixed.possible(&net, FROM_FIRST, 0x0a00_0000, &mut possible);
+fn a_delete_beside_an_insert_may_drop(rt: HostRuntime) {
+    let found = possible_of_first(&rt, &[drop_wide(), to_second()], &swap());
     let both = [leave(2), Outcome::Discard];
-    assert!(rt; is_within(possible.list(), &both));
-    assert!(rt; is_within(&both, possible.list()));
-    Ok(())
+    assert!(rt; is_within(found.list(), &both));
+    assert!(rt; is_within(&both, found.list()));
+}
+
+#[test]
+fn a_round_needs_the_entries_before_it_and_its_inserts(rt: HostRuntime) {
+    let table = table_of(&rt, &[drop_wide(), to_second()]);
+    let changes = swap();
+    assert!(rt; is_small(&table, &changes));
+    let mut mixed = Mixed::with_room(rt.alloc(), 16).expect(&rt, "room");
+    assert!(rt; mixed.load(&table, &changes).is_ok());
+    assert!(rt; mixed.most_entries() == 3);
 }

@@ -2,8 +2,7 @@
 use flow_rules::{Action, Key, Pattern, Rewrite, Rule, Table, VlanTest};
 use net_base::{Port, Prefix, SwitchId};
 use round_mix::{MixFault, Mixed};
-use std::alloc::Global;
-use std::test::Fail;
+use std::process::Abort;
 use update_model::Change;
 
 const AT: SwitchId = SwitchId(0);
@@ -26,56 +25,43 @@ fn rule(priority: u16, vlan: VlanTest, dst: Prefix, port: u16) -> Rule {
     }
 }
 
-/// Makes a change where it applies.
-fn change(table: &mut Table, change: &Change) -> Result<bool, Fail> {
-    table.reserve(1)?;
-    if !change.applies_to(table) {
-        return Ok(false);
-    }
-    change.apply_to(table);
-    Ok(true)
-}
-
-/// A table of these rules.
-fn table_of(alloc: Global, rules: &[Rule]) -> Result<Table, Fail> {
-    let mut table = Table::make(alloc)?;
-    for rule in rules {
-        let _ = change(&mut table, &Change::Insert(AT, *rule))?;
-    }
-    Ok(table)
-}
-
 /// The rule that the tests begin with.
 fn old() -> Rule {
     rule(100, VlanTest::Any, TEN, 2)
 }
 
+/// A table of that rule.
+fn old_table(rt: &(impl Abort + AllocGlobal)) -> Table {
+    let mut table = Table::make(rt.alloc()).expect(rt, "a table");
+    table.reserve(1).expect(rt, "room");
+    let insert = Change::Insert(AT, old());
+    assert!(rt; insert.applies_to(&table));
+    insert.apply_to(&mut table);
+    table
+}
+
 #[test]
-fn rules_of_one_priority_for_a_common_packet_are_ambiguous(rt: HostRuntime) -> Result<(), Fail> {
+fn rules_of_one_priority_for_a_common_packet_are_ambiguous(rt: HostRuntime) {
     let round = [
         Change::Delete(AT, old()),
         Change::Insert(AT, rule(100, VlanTest::Untagged, TEN, 2)),
     ];
-    let rules = [old()];
-    let table = table_of(rt.alloc(), &rules)?;
+    let table = old_table(&rt);
     assert!(rt; table.rules().len() == 1);
-    let mut mixed = Mixed::with_room(rt.alloc(), 2)?;
-    assert_eq!(rt; mixed.load(&table, &round), Err(MixFault::Ambiguous(0, 1)));
-    Ok(())
+    let mut mixed = Mixed::with_room(rt.alloc(), 2).expect(&rt, "room");
+    assert!(rt; mixed.load(&table, &round) == Err(MixFault::Ambiguous(0, 1)));
 }
 
 #[test]
-fn the_first_change_that_does_not_apply_is_bad(rt: HostRuntime) -> Result<(), Fail> {
+fn the_first_change_that_does_not_apply_is_bad(rt: HostRuntime) {
     let twice = [
         Change::Replace(AT, rule(100, VlanTest::Any, TEN, 3)),
         Change::Delete(AT, old()),
     ];
     let other = [Change::Delete(AT, rule(100, VlanTest::Any, TEN, 4))];
-    let rules = [old()];
-    let table = table_of(rt.alloc(), &rules)?;
+    let table = old_table(&rt);
     assert!(rt; table.rules().len() == 1);
-    let mut mixed = Mixed::with_room(rt.alloc(), 1)?;
-    assert_eq!(rt; mixed.load(&table, &twice), Err(MixFault::BadChange(1)));
-    assert_eq!(rt; mixed.load(&table, &other), Err(MixFault::BadChange(0)));
-    Ok(())
+    let mut mixed = Mixed::with_room(rt.alloc(), 1).expect(&rt, "room");
+    assert!(rt; mixed.load(&table, &twice) == Err(MixFault::BadChange(1)));
+    assert!(rt; mixed.load(&table, &other) == Err(MixFault::BadChange(0)));
 }

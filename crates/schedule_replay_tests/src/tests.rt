@@ -4,23 +4,23 @@ ghost use Rattle.std.specs.List.{AllByRecursion};
 ghost use Rattle.topology.specs.Networks.{switch_count, IsPortNumber, IsVlan};
 ghost use Rattle.schedule_replay.specs.EventTexts.{HasLine};
 
-use flow_rules::{Action, Config, Key, Pattern, Rewrite, Rule, Table, VlanTest};
-use net_base::{Memory, Place, Port, Prefix, SwitchId, Vlan};
+use flow_rules::{Action, Config, Key, Pattern, Rewrite, Rule, VlanTest};
+use net_base::{Place, Port, Prefix, SwitchId, Vlan};
 use schedule_replay::{
     ReplayFault, Schedule, ScheduleFault, ScheduleLine, read_schedule, record_text, replay,
     schedule_text, traces_text,
 };
 use std::alloc::Global;
-use std::test::Fail;
+use std::process::Abort;
 use topology::{Net, read_net};
-use update_model::{Change, Event, Events, Phase, Rounds, World};
+use update_model::{Change, Event, Events, Phase, Rounds, World, applies, change_tables};
 
 /// Four switches in a line, and links from the first to the third and to the fourth. Each has a host.
 const SQUARE: &[u8] =
     b"{\"switches\":[{\"name\":\"s1\",\"capacity\":8},{\"name\":\"s2\",\"capacity\":8},{\"name\":\"s3\",\"capacity\":8},{\"name\":\"s4\",\"capacity\":8}],\"links\":[[\"s1:2\",\"s2:1\"],[\"s2:2\",\"s3:1\"],[\"s3:2\",\"s4:1\"],[\"s1:3\",\"s3:3\"],[\"s1:4\",\"s4:2\"]],\"hosts\":[\"s1:1\",\"s2:3\",\"s3:4\",\"s4:3\"],\"vlans\":[\"untagged\"],\"tags\":[3000,3009]}";
 
-fn network(alloc: Global) -> Result<Net, Fail> {
-    Ok(read_net(alloc, SQUARE).ok().ok_or("a network")?)
+fn network(rt: &impl Abort, alloc: Global) -> Net {
+    read_net(alloc, SQUARE).expect(rt, "a network")
 }
 
 fn rule(port: u16) -> Rule {
@@ -41,91 +41,107 @@ fn rule(port: u16) -> Rule {
     }
 }
 
-/// Adds the rule, where its key is new.
-fn add_rule(table: &mut Table, rule: Rule) -> Result<(), Memory> {
-    table.reserve(1)?;
-    let change = Change::Insert(SwitchId(0), rule);
-    if change.applies_to(table) {
-        change.apply_to(table);
-    }
-    Ok(())
+/// Adds a rule that sends out of the port.
+fn add_rule(rt: &impl Abort, config: &mut Config, switch: u32, port: u16) {
+    let change = Change::Insert(SwitchId(switch), rule(port));
+    assert!(rt; applies(config, &change));
+    change_tables(config, &change).expect(rt, "room");
 }
 
 /// Each switch sends along the line, and the last to its host.
-fn line(alloc: Global) -> Result<Config, Memory> {
-    let mut config = Config::make(alloc, 4)?;
+fn line(rt: &impl Abort, alloc: Global) -> Config {
+    let mut config = Config::make(alloc, 4).expect(rt, "tables");
     for (switch, port) in [(0, 2), (1, 2), (2, 2), (3, 3)] {
-        if (switch as usize) < config.count() {
-            add_rule(config.table_mut(SwitchId(switch)), rule(port))?;
-        }
+        add_rule(rt, &mut config, switch, port);
     }
-    Ok(config)
+    config
+}
+
+/// Adds a round of one change: the switch sends out of the port.
+fn add_round(rt: &impl Abort, rounds: &mut Rounds, switch: u32, port: u16) {
+    rounds.add_round().expect(rt, "a round");
+    assert!(rt; rounds.count() > 0);
+    let change = Change::Replace(SwitchId(switch), rule(port));
+    rounds.add_change(change).expect(rt, "a change");
 }
 
 /// The first switch sends over its link to the fourth, and then the third to the first.
-fn two_rounds(alloc: Global) -> Result<Rounds, Memory> {
-    let mut rounds = Rounds::make(alloc)?;
-    for change in [
-        Change::Replace(SwitchId(0), rule(4)),
-        Change::Replace(SwitchId(2), rule(3)),
-    ] {
-        rounds.add_round()?;
-        if rounds.count() > 0 {
-            rounds.add_change(change)?;
-        }
-    }
-    Ok(rounds)
+fn two_rounds(rt: &impl Abort, alloc: Global) -> Rounds {
+    let mut rounds = Rounds::make(alloc).expect(rt, "rounds");
+    add_round(rt, &mut rounds, 0, 4);
+    add_round(rt, &mut rounds, 2, 3);
+    rounds
+}
+
+/// The world in the beginning.
+fn begun<'a>(rt: &impl Abort, alloc: Global, net: &'a Net, rounds: &'a Rounds) -> World<'a> {
+    let old = line(rt, alloc);
+    assert!(rt; old.count() == net.switches() as usize);
+    assert!(rt; rounds.count() == 2);
+    World::begin(alloc, net, &old, rounds).expect(rt, "a world")
+}
+
+fn read(rt: &impl Abort, alloc: Global, net: &Net, schedule: &[u8]) -> Schedule {
+    read_schedule(alloc, net, schedule).expect(rt, "a schedule")
+}
+
+fn traces(rt: &impl Abort, alloc: Global, net: &Net, world: &World) -> Vec<u8> {
+    traces_text(alloc, net, world).expect(rt, "a text")
 }
 
 /// What is said of a schedule that isn't read.
-fn refusal(alloc: Global, fault: ScheduleFault) -> Result<String, Fail> {
+fn refusal(rt: &impl Abort, alloc: Global, fault: ScheduleFault) -> Vec<u8> {
     let (number, name, place) = (fault.number(), fault.name(), fault.place());
-    Ok(format!(in alloc; "{number} {name} at {place}")?)
+    let text = format!(in alloc; "{number} {name} at {place}").expect(rt, "a text");
+    text.into_bytes()
 }
 
 /// What is said of a schedule that stops.
-fn stop(alloc: Global, fault: ReplayFault) -> Result<String, Fail> {
+fn stop(rt: &impl Abort, alloc: Global, fault: ReplayFault) -> Vec<u8> {
     match fault {
-        ReplayFault::NotEnabled(line) => Ok(format!(in alloc; "line {line}")?),
-        ReplayFault::Memory => Ok(String::from_str(alloc, "memory")?),
+        ReplayFault::NotEnabled(line) => {
+            let text = format!(in alloc; "line {line}").expect(rt, "a text");
+            text.into_bytes()
+        }
+        ReplayFault::Memory => panic!(rt; "memory"),
     }
 }
 
-/// Carries a schedule out from the line on: the traces, or where it stops.
-fn carried_out(alloc: Global, net: &Net, schedule: &Schedule) -> Result<Vec<u8>, Fail> {
-    let old = line(alloc)?;
-    let rounds = two_rounds(alloc)?;
-    if old.count() != net.switches() as usize || rounds.count() != 2 {
-        return Err(Fail::from("tables of four switches and two rounds"));
-    }
-    let mut world = World::begin(alloc, net, &old, &rounds)?;
+/// Carries a schedule out: the traces, or where it stops.
+fn carried_out(rt: &impl Abort, alloc: Global, net: &Net, schedule: &Schedule) -> Vec<u8> {
+    let rounds = two_rounds(rt, alloc);
+    let mut world = begun(rt, alloc, net, &rounds);
     match replay(&mut world, schedule) {
-        Ok(()) => Ok(traces_text(alloc, net, &world)?),
-        Err(fault) => Ok(stop(alloc, fault)?.into_bytes()),
+        Ok(()) => traces(rt, alloc, net, &world),
+        Err(fault) => stop(rt, alloc, fault),
     }
 }
 
 /// What a schedule comes to: its refusal, where it stops, or the traces.
-fn answer(alloc: Global, schedule: &[u8]) -> Result<Vec<u8>, Fail> {
-    let net = network(alloc)?;
+fn answer(rt: &impl Abort, alloc: Global, schedule: &[u8]) -> Vec<u8> {
+    let net = network(rt, alloc);
     match read_schedule(alloc, &net, schedule) {
-        Ok(schedule) => carried_out(alloc, &net, &schedule),
-        Err(fault) => Ok(refusal(alloc, fault)?.into_bytes()),
+        Ok(schedule) => carried_out(rt, alloc, &net, &schedule),
+        Err(fault) => refusal(rt, alloc, fault),
     }
 }
 
 /// The first of the schedules that doesn't come to this.
-fn first_other(alloc: Global, rows: &[(&[u8], &[u8])]) -> Result<Option<usize>, Fail> {
+fn first_other(rt: &impl Abort, alloc: Global, rows: &[(&[u8], &[u8])]) -> Option<usize> {
     for (i, (schedule, want)) in rows.iter().enumerate() {
-        if answer(alloc, *schedule)?.as_slice() != *want {
-            return Ok(Some(i));
+        if answer(rt, alloc, *schedule).as_slice() != *want {
+            return Some(i);
         }
     }
-    Ok(None)
+    None
+}
+
+fn all_come_to(rt: &impl Abort, alloc: Global, rows: &[(&[u8], &[u8])]) {
+    assert_eq!(rt; first_other(rt, alloc, rows), None);
 }
 
 #[test]
-fn a_schedule_ends_in_traces_or_stops_at_a_line(rt: HostRuntime) -> Result<(), Fail> {
+fn a_schedule_ends_in_traces_or_stops_at_a_line(rt: HostRuntime) {
     let rows: [(&[u8], &[u8]); 9] = [
         // A packet that entered before the round is settled is still under way at the next start.
         (
@@ -148,8 +164,7 @@ fn a_schedule_ends_in_traces_or_stops_at_a_line(rt: HostRuntime) -> Result<(), F
         ),
         (b"", b"settled 0 of 2\n"),
     ];
-    assert_eq!(rt; first_other(rt.alloc(), &rows)?, None);
-    Ok(())
+    all_come_to(&rt, rt.alloc(), &rows);
 }
 
 /// A run of both rounds with two packets, and its record.
@@ -188,10 +203,9 @@ settled 2 of 2
 ";
 
 #[test]
-fn a_record_is_a_schedule_with_the_same_traces(rt: HostRuntime) -> Result<(), Fail> {
+fn a_record_is_a_schedule_with_the_same_traces(rt: HostRuntime) {
     let rows: [(&[u8], &[u8]); 2] = [(EVENTS, TRACES), (RECORD, TRACES)];
-    assert_eq!(rt; first_other(rt.alloc(), &rows)?, None);
-    Ok(())
+    all_come_to(&rt, rt.alloc(), &rows);
 }
 
 /// Whether a place is one that a line has room for.
@@ -219,56 +233,52 @@ fn has_line(net: &Net, event: Event) -> bool
 }
 
 /// The events of a schedule, where a line has room for each.
-fn events_of(alloc: Global, net: &Net, schedule: &Schedule) -> Result<Events, Fail>
-    ensures lines { IfOk result (λ e. AllByRecursion (HasLine net.now) e) }
-    ensures few { IfOk result (λ e. length e ≤ length schedule.now) }
+fn events_of(rt: &impl Abort, alloc: Global, net: &Net, schedule: &Schedule) -> Events
+    ensures lines { AllByRecursion (HasLine net.now) result }
+    ensures few { length result ≤ length schedule.now }
 {
-    let mut events = Events::make(alloc)?;
+    let mut events = Events::make(alloc).expect(rt, "events");
     for line in schedule.lines() {
-        if !has_line(net, line.event) {
-            return Err(Fail::from("no line has room for the event"));
-        }
-        events.add(line.event)?;
+        assert!(rt; has_line(net, line.event));
+        events.add(line.event).expect(rt, "an event");
     }
-    Ok(events)
+    events
 }
 
 /// The events of a schedule as a schedule.
-fn written(alloc: Global, net: &Net, schedule: &Schedule) -> Result<Vec<u8>, Fail> {
-    let events = events_of(alloc, net, schedule)?;
-    if schedule.lines().len() > 4_000_000 {
-        return Err(Fail::from("at most 4,000,000 events"));
-    }
-    Ok(schedule_text(alloc, net, &events)?)
+fn written(rt: &impl Abort, alloc: Global, net: &Net, schedule: &Schedule) -> Vec<u8> {
+    assert!(rt; schedule.lines().len() <= 4_000_000);
+    let events = events_of(rt, alloc, net, schedule);
+    schedule_text(alloc, net, &events).expect(rt, "a text")
+}
+
+/// The record of the events in a world.
+fn record_of(
+    rt: &impl Abort,
+    alloc: Global,
+    net: &Net,
+    schedule: &Schedule,
+    world: &World,
+) -> Vec<u8> {
+    assert!(rt; schedule.lines().len() <= 4_000_000);
+    let events = events_of(rt, alloc, net, schedule);
+    record_text(alloc, net, &events, world).expect(rt, "a text")
 }
 
 /// The record of a schedule that is carried out whole.
-fn recorded(alloc: Global, net: &Net, schedule: &Schedule) -> Result<Vec<u8>, Fail> {
-    let old = line(alloc)?;
-    let rounds = two_rounds(alloc)?;
-    if old.count() != net.switches() as usize || rounds.count() != 2 {
-        return Err(Fail::from("tables of four switches and two rounds"));
-    }
-    let mut world = World::begin(alloc, net, &old, &rounds)?;
-    if replay(&mut world, schedule).is_err() {
-        return Err(Fail::from("an event isn't enabled"));
-    }
-    let events = events_of(alloc, net, schedule)?;
-    if schedule.lines().len() > 4_000_000 {
-        return Err(Fail::from("at most 4,000,000 events"));
-    }
-    Ok(record_text(alloc, net, &events, &world)?)
+fn recorded(rt: &impl Abort, alloc: Global, net: &Net, schedule: &Schedule) -> Vec<u8> {
+    let rounds = two_rounds(rt, alloc);
+    let mut world = begun(rt, alloc, net, &rounds);
+    assert!(rt; replay(&mut world, schedule).is_ok());
+    record_of(rt, alloc, net, schedule, &world)
 }
 
 #[test]
-fn the_record_of_a_run_has_its_events_and_its_traces(rt: HostRuntime) -> Result<(), Fail> {
-    let net = network(rt.alloc())?;
-    let schedule = read_schedule(rt.alloc(), &net, EVENTS)
-        .ok()
-        .ok_or("a schedule")?;
-    assert_eq!(rt; written(rt.alloc(), &net, &schedule)?.as_slice(), EVENTS);
-    assert_eq!(rt; recorded(rt.alloc(), &net, &schedule)?.as_slice(), RECORD);
-    Ok(())
+fn the_record_of_a_run_has_its_events_and_its_traces(rt: HostRuntime) {
+    let net = network(&rt, rt.alloc());
+    let schedule = read(&rt, rt.alloc(), &net, EVENTS);
+    assert!(rt; written(&rt, rt.alloc(), &net, &schedule).as_slice() == EVENTS);
+    assert!(rt; recorded(&rt, rt.alloc(), &net, &schedule).as_slice() == RECORD);
 }
 
 /// An entry at a port of the first switch.
@@ -281,26 +291,26 @@ fn enter(port: u16, vlan: Vlan, dst: u32) -> Event {
     Event::Enter(place, dst)
 }
 
+/// Whether a line is read as its event, and is written as it stands.
+fn is_line_of(rt: &impl Abort, net: &Net, alloc: Global, line: &[u8], event: Event) -> bool {
+    let schedule = read(rt, alloc, net, line);
+    let want = ScheduleLine { line: 1, event };
+    schedule.lines() == [want].as_slice() && written(rt, alloc, net, &schedule).as_slice() == line
+}
+
 /// The first of the lines that isn't read as its event, or isn't written as it stands.
-fn first_other_line(alloc: Global, rows: &[(&[u8], Event)]) -> Result<Option<usize>, Fail> {
-    let net = network(alloc)?;
+fn first_other_line(rt: &impl Abort, alloc: Global, rows: &[(&[u8], Event)]) -> Option<usize> {
+    let net = network(rt, alloc);
     for (i, (line, event)) in rows.iter().enumerate() {
-        let schedule = read_schedule(alloc, &net, *line).ok().ok_or("a schedule")?;
-        let want = ScheduleLine {
-            line: 1,
-            event: *event,
-        };
-        if schedule.lines() != [want].as_slice()
-            || written(alloc, &net, &schedule)?.as_slice() != *line
-        {
-            return Ok(Some(i));
+        if !is_line_of(rt, &net, alloc, *line, *event) {
+            return Some(i);
         }
     }
-    Ok(None)
+    None
 }
 
 #[test]
-fn each_event_has_its_line(rt: HostRuntime) -> Result<(), Fail> {
+fn each_event_has_its_line(rt: HostRuntime) {
     let rows: [(&[u8], Event); 10] = [
         (b"start\n", Event::Start),
         (b"settle\n", Event::Settle),
@@ -322,12 +332,11 @@ fn each_event_has_its_line(rt: HostRuntime) -> Result<(), Fail> {
             enter(10, Vlan::Id(30), 0x0114_0003),
         ),
     ];
-    assert_eq!(rt; first_other_line(rt.alloc(), &rows)?, None);
-    Ok(())
+    assert_eq!(rt; first_other_line(&rt, rt.alloc(), &rows), None);
 }
 
 #[test]
-fn a_line_that_is_no_event_is_named(rt: HostRuntime) -> Result<(), Fail> {
+fn a_line_that_is_no_event_is_named(rt: HostRuntime) {
     let rows: [(&[u8], &[u8]); 33] = [
         (b"hop x\nchange 0\nsettle\n", b"1 BadLine at 1"),
         (b"change 4294967296", b"1 BadLine at 1"),
@@ -365,17 +374,14 @@ fn a_line_that_is_no_event_is_named(rt: HostRuntime) -> Result<(), Fail> {
         (b"hop \xff", b"1 BadLine at 1"),
         (b"start\nsettle\0\n", b"1 BadLine at 2"),
     ];
-    assert_eq!(rt; first_other(rt.alloc(), &rows)?, None);
-    Ok(())
+    all_come_to(&rt, rt.alloc(), &rows);
 }
 
 #[test]
-fn comments_count_as_lines_and_the_last_line_may_lack_its_end(rt: HostRuntime) -> Result<(), Fail> {
-    let net = network(rt.alloc())?;
+fn comments_count_as_lines_and_the_last_line_may_lack_its_end(rt: HostRuntime) {
+    let net = network(&rt, rt.alloc());
     let bytes = b"# \xff any bytes\r\n\nstart\n#settle\n\nhop 3";
-    let schedule = read_schedule(rt.alloc(), &net, bytes)
-        .ok()
-        .ok_or("a schedule")?;
+    let schedule = read(&rt, rt.alloc(), &net, bytes);
     let want = [
         ScheduleLine {
             line: 3,
@@ -386,69 +392,79 @@ fn comments_count_as_lines_and_the_last_line_may_lack_its_end(rt: HostRuntime) -
             event: Event::Hop(3),
         },
     ];
-    assert_eq!(rt; schedule.lines(), want.as_slice());
-    Ok(())
+    assert!(rt; schedule.lines() == want.as_slice());
+}
+
+fn add(rt: &impl Abort, text: &mut Vec<u8>, bytes: &[u8]) {
+    text.extend_from_slice(bytes).expect(rt, "room");
 }
 
 #[test]
-fn a_schedule_has_at_most_4000000_events(rt: HostRuntime) -> Result<(), Fail> {
-    let net = network(rt.alloc())?;
-    let mut text = Vec::with_capacity(rt.alloc(), 20_000_100)?;
+fn a_schedule_has_at_most_4000000_events(rt: HostRuntime) {
+    let net = network(&rt, rt.alloc());
+    let mut text = Vec::with_capacity(rt.alloc(), 24_000_100).expect(&rt, "room");
     for _ in 0..4_000_000 {
-        text.extend_from_slice(b"hop 1")?;
-        text.push(b'\n')?;
+        add(&rt, &mut text, b"hop 1\n");
     }
-    let schedule = read_schedule(rt.alloc(), &net, &text)
-        .ok()
-        .ok_or("a schedule")?;
-    assert_eq!(rt; schedule.lines().len(), 4_000_000);
-    text.extend_from_slice(b"# no event\nhop 2\nhop x\n")?;
+    let schedule = read(&rt, rt.alloc(), &net, &text);
+    assert!(rt; schedule.lines().len() == 4_000_000);
+    add(&rt, &mut text, b"# no event\nhop 2\nhop x\n");
     let fault = read_schedule(rt.alloc(), &net, &text).err();
-    assert_eq!(rt; fault, Some(ScheduleFault::TooMany));
-    Ok(())
+    assert!(rt; fault == Some(ScheduleFault::TooMany));
+}
+
+/// Carries out what follows.
+fn goes_on(
+    rt: &impl Abort,
+    alloc: Global,
+    net: &Net,
+    world: &mut World,
+    schedule: &[u8],
+) -> Result<(), ReplayFault> {
+    let schedule = read(rt, alloc, net, schedule);
+    replay(world, &schedule)
 }
 
 #[test]
-fn a_replay_goes_on_from_where_it_stopped(rt: HostRuntime) -> Result<(), Fail> {
-    let net = network(rt.alloc())?;
-    let old = line(rt.alloc())?;
-    let rounds = two_rounds(rt.alloc())?;
-    assert!(rt; old.count() == net.switches() as usize && rounds.count() == 2);
-    let mut world = World::begin(rt.alloc(), &net, &old, &rounds)?;
+fn a_replay_goes_on_from_where_it_stopped(rt: HostRuntime) {
+    let net = network(&rt, rt.alloc());
+    let rounds = two_rounds(&rt, rt.alloc());
+    let mut world = begun(&rt, rt.alloc(), &net, &rounds);
     let first = b"start\nenter s1:1 untagged 10.0.0.1\nsettle\nchange 0\n";
-    let first = read_schedule(rt.alloc(), &net, first)
-        .ok()
-        .ok_or("a schedule")?;
-    assert_eq!(rt; replay(&mut world, &first), Err(ReplayFault::NotEnabled(3)));
-    assert_eq!(rt; world.phase(), Phase::Running(1));
+    let stopped = goes_on(&rt, rt.alloc(), &net, &mut world, first);
+    assert!(rt; stopped == Err(ReplayFault::NotEnabled(3)));
+    assert!(rt; world.phase() == Phase::Running(1));
     let rest = b"change 0\nsettle\nhop 0\nhop 0\n";
-    let rest = read_schedule(rt.alloc(), &net, rest)
-        .ok()
-        .ok_or("a schedule")?;
-    assert_eq!(rt; replay(&mut world, &rest), Ok(()));
+    assert!(rt; goes_on(&rt, rt.alloc(), &net, &mut world, rest).is_ok());
     let want =
         b"packet 0 s1:1 untagged 10.0.0.1 born 0: s1:1 s4:2 left s4:3 untagged\nsettled 1 of 2\n";
-    assert_eq!(rt;
-        traces_text(rt.alloc(), &net, &world)?.as_slice(),
-        want.as_slice()
-    );
-    Ok(())
+    assert!(rt; traces(&rt, rt.alloc(), &net, &world).as_slice() == want.as_slice());
+}
+
+/// A fault's number, name, place and message.
+fn is_told(
+    rt: &impl Abort,
+    alloc: Global,
+    fault: ScheduleFault,
+    number: u32,
+    name: &str,
+    place: u32,
+) {
+    let message = format!(in alloc; "{fault}").expect(rt, "a text");
+    assert!(rt; message.as_str() == name);
+    assert!(rt; fault.number() == number);
+    assert!(rt; fault.name() == name);
+    assert!(rt; fault.place() == place);
+    assert!(rt; fault.field().is_none());
 }
 
 #[test]
-fn faults_have_numbers_names_and_messages(rt: HostRuntime) -> Result<(), Fail> {
+fn faults_have_numbers_names_and_messages(rt: HostRuntime) {
     for (fault, number, name, place) in [
         (ScheduleFault::BadLine(7), 1, "BadLine", 7),
         (ScheduleFault::TooMany, 2, "TooMany", 0),
         (ScheduleFault::Memory, 0, "Memory", 0),
     ] {
-        let message = format!(in rt.alloc(); "{fault}")?;
-        assert_eq!(rt; message.as_str(), name);
-        assert_eq!(rt;
-            (fault.number(), fault.name(), fault.place()),
-            (number, name, place)
-        );
-        assert_eq!(rt; fault.field(), None);
+        is_told(&rt, rt.alloc(), fault, number, name, place);
     }
-    Ok(())
 }

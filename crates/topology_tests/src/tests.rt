@@ -1,6 +1,7 @@
 // Topologies that are read, and each refusal.
 use net_base::{Field, Place, Port, Stop, SwitchId, Vlan};
-use std::test::Fail;
+use std::alloc::Global;
+use std::process::Abort;
 use topology::{End, Net, NetFault, read_net, reference_parts};
 
 // The square: four switches in a ring with one chord, and a host at each.
@@ -18,17 +19,22 @@ const VLANS: &str = "\"vlans\":[\"untagged\",3001],";
 
 const TAGS: &str = "\"tags\":[3000,3009]}";
 
-fn joined(rt: &HostRuntime, parts: &[&str]) -> Result<String, Fail> {
-    let mut text = String::new(rt.alloc());
+fn joined(rt: &impl Abort, alloc: Global, parts: &[&str]) -> String {
+    let mut text = String::new(alloc);
     for part in parts {
-        text.push_str(*part)?;
+        text.push_str(*part).expect(rt, "room");
     }
-    Ok(text)
+    text
 }
 
-fn fault_of(rt: &HostRuntime, parts: &[&str]) -> Result<Option<NetFault>, Fail> {
-    let text = joined(rt, parts)?;
-    Ok(read_net(rt.alloc(), text.as_bytes()).err())
+fn refuses(rt: &impl Abort, alloc: Global, text: &str, fault: NetFault) {
+    let found = read_net(alloc, text.as_bytes()).err();
+    assert_eq!(rt; found, Some(fault), "{text}");
+}
+
+fn refuses_parts(rt: &impl Abort, alloc: Global, parts: &[&str], fault: NetFault) {
+    let text = joined(rt, alloc, parts);
+    refuses(rt, alloc, text.as_str(), fault);
 }
 
 fn stop(switch: u32, port: u16) -> Stop {
@@ -38,49 +44,45 @@ fn stop(switch: u32, port: u16) -> Stop {
     }
 }
 
-fn square(rt: &HostRuntime) -> Result<Net, Fail> {
-    let text = joined(rt, &[SWITCHES, LINKS, HOSTS, VLANS, TAGS])?;
-    match read_net(rt.alloc(), text.as_bytes()) {
-        Ok(net) => Ok(net),
-        Err(_) => Err(Fail::from("refused")),
-    }
+fn square(rt: &impl Abort, alloc: Global) -> Net {
+    let text = joined(rt, alloc, &[SWITCHES, LINKS, HOSTS, VLANS, TAGS]);
+    read_net(alloc, text.as_bytes()).expect(rt, "a network")
 }
 
 #[test]
-fn tells_switches_by_name(rt: HostRuntime) -> Result<(), Fail> {
-    let net = square(&rt)?;
-    assert_eq!(rt; net.switches(), 4);
-    assert_eq!(rt; net.find("s5"), None);
-    if let Some(s) = net.find("s3") {
-        assert_eq!(rt; s, SwitchId(2));
-        assert_eq!(rt; net.name(s), "s3");
-        assert_eq!(rt; net.capacity(s), 8);
-    }
-    Ok(())
+fn tells_switches_by_name(rt: HostRuntime) {
+    let net = square(&rt, rt.alloc());
+    assert!(rt; net.switches() == 4);
+    assert!(rt; net.find("s5").is_none());
+    let found = net.find("s3").expect(&rt, "s3");
+    assert!(rt; found == SwitchId(2));
+    assert!(rt; net.name(found) == "s3");
+    assert!(rt; net.capacity(found) == 8);
+}
+
+fn has_end(rt: &impl Abort, net: &Net, at: Stop, end: End) {
+    assert_eq!(rt; net.end(at.switch, at.port), end);
+    assert!(rt; net.is_used(at.switch, at.port) == (end != End::Nothing));
+    assert!(rt; net.is_host(at) == (end == End::Host));
 }
 
 #[test]
-fn tells_what_is_at_a_port(rt: HostRuntime) -> Result<(), Fail> {
-    let net = square(&rt)?;
-    for (s, p, end) in [
-        (0, 1, End::Host),
-        (2, 4, End::Host),
-        (0, 4, End::Link(SwitchId(3), Port(2))),
-        (3, 2, End::Link(SwitchId(0), Port(4))),
-        (3, 4, End::Nothing),
+fn tells_what_is_at_a_port(rt: HostRuntime) {
+    let net = square(&rt, rt.alloc());
+    for (at, end) in [
+        (stop(0, 1), End::Host),
+        (stop(2, 4), End::Host),
+        (stop(0, 4), End::Link(SwitchId(3), Port(2))),
+        (stop(3, 2), End::Link(SwitchId(0), Port(4))),
+        (stop(3, 4), End::Nothing),
     ] {
-        assert_eq!(rt; net.end(SwitchId(s), Port(p)), end);
-        assert_eq!(rt; net.is_used(SwitchId(s), Port(p)), end != End::Nothing);
-        assert_eq!(rt; net.is_host(stop(s, p)), end == End::Host);
+        has_end(&rt, &net, at, end);
     }
-    Ok(())
 }
 
 #[test]
-fn tells_entries_and_tags(rt: HostRuntime) -> Result<(), Fail> {
-    let net = square(&rt)?;
-    assert_eq!(rt; net.hosts().len(), 4);
-    assert_eq!(rt; net.vlans(), [Vlan::Untagged, Vlan::Id(3001)].as_slice());
+fn tells_tags(rt: HostRuntime) {
+    let net = square(&rt, rt.alloc());
     for (id, tag) in [
         (2999, false),
         (3000, true),
@@ -88,36 +90,38 @@ fn tells_entries_and_tags(rt: HostRuntime) -> Result<(), Fail> {
         (3009, true),
         (3010, false),
     ] {
-        assert_eq!(rt; net.is_tag(id), tag, "{id}");
+        assert!(rt; net.is_tag(id) == tag, "{id}");
     }
-    for (s, p, vlan, entry) in [
-        (0, 1, Vlan::Id(3001), true),
-        (0, 1, Vlan::Id(3000), false),
-        (0, 2, Vlan::Untagged, false),
-    ] {
-        let place = Place {
-            switch: SwitchId(s),
-            port: Port(p),
-            vlan,
-        };
-        assert_eq!(rt; net.is_entry(place), entry);
-    }
-    Ok(())
+}
+
+fn is_entry(net: &Net, at: Stop, vlan: Vlan) -> bool {
+    net.is_entry(Place {
+        switch: at.switch,
+        port: at.port,
+        vlan,
+    })
 }
 
 #[test]
-fn reads_the_empty_network(rt: HostRuntime) -> Result<(), Fail> {
+fn tells_entries(rt: HostRuntime) {
+    let net = square(&rt, rt.alloc());
+    assert!(rt; net.hosts().len() == 4);
+    assert!(rt; net.vlans() == [Vlan::Untagged, Vlan::Id(3001)].as_slice());
+    assert!(rt; is_entry(&net, stop(0, 1), Vlan::Id(3001)));
+    assert!(rt; !is_entry(&net, stop(0, 1), Vlan::Id(3000)));
+    assert!(rt; !is_entry(&net, stop(0, 2), Vlan::Untagged));
+}
+
+#[test]
+fn reads_the_empty_network(rt: HostRuntime) {
     let text = "{\"switches\":[],\"links\":[],\"hosts\":[],\"vlans\":[],\"tags\":[]}";
-    match read_net(rt.alloc(), text.as_bytes()) {
-        Ok(net) => assert_eq!(rt; net.switches(), 0),
-        Err(_) => return Err(Fail::from("refused")),
-    }
-    Ok(())
+    let net = read_net(rt.alloc(), text.as_bytes()).expect(&rt, "a network");
+    assert!(rt; net.switches() == 0);
 }
 
 #[test]
-fn refuses_switches(rt: HostRuntime) -> Result<(), Fail> {
-    let table = [
+fn refuses_switches(rt: HostRuntime) {
+    for (text, fault) in [
         ("[", NetFault::NotJson),
         ("[]", NetFault::Shape(Field::Top, 0)),
         ("{}", NetFault::Shape(Field::Switches, 0)),
@@ -153,16 +157,14 @@ fn refuses_switches(rt: HostRuntime) -> Result<(), Fail> {
             "{\"switches\":[{\"name\":\"a\",\"capacity\":8192}]}",
             NetFault::Shape(Field::Links, 0),
         ),
-    ];
-    for (text, fault) in table {
-        assert_eq!(rt; fault_of(&rt, &[text])?, Some(fault), "{text}");
+    ] {
+        refuses(&rt, rt.alloc(), text, fault);
     }
-    Ok(())
 }
 
 #[test]
-fn refuses_ports(rt: HostRuntime) -> Result<(), Fail> {
-    let table = [
+fn refuses_ports(rt: HostRuntime) {
+    for (rest, fault) in [
         ("\"links\":3}", NetFault::Shape(Field::Links, 0)),
         ("\"links\":[[\"s1:2\"]]}", NetFault::Shape(Field::Links, 0)),
         (
@@ -208,16 +210,14 @@ fn refuses_ports(rt: HostRuntime) -> Result<(), Fail> {
             "\"links\":[],\"hosts\":[]}",
             NetFault::Shape(Field::Vlans, 0),
         ),
-    ];
-    for (rest, fault) in table {
-        assert_eq!(rt; fault_of(&rt, &[SWITCHES, rest])?, Some(fault), "{rest}");
+    ] {
+        refuses_parts(&rt, rt.alloc(), &[SWITCHES, rest], fault);
     }
-    Ok(())
 }
 
 #[test]
-fn refuses_vlans_and_tags(rt: HostRuntime) -> Result<(), Fail> {
-    let table = [
+fn refuses_vlans_and_tags(rt: HostRuntime) {
+    for (rest, fault) in [
         ("\"vlans\":[\"any\"]}", NetFault::Shape(Field::Vlans, 0)),
         ("\"vlans\":[1,-1]}", NetFault::Shape(Field::Vlans, 1)),
         ("\"vlans\":[4094,4095]}", NetFault::BadVlan(1)),
@@ -239,72 +239,55 @@ fn refuses_vlans_and_tags(rt: HostRuntime) -> Result<(), Fail> {
         ("\"vlans\":[],\"tags\":[0,1]}", NetFault::BadTags),
         ("\"vlans\":[],\"tags\":[1,4095]}", NetFault::BadTags),
         ("\"vlans\":[],\"tags\":[10,9]}", NetFault::BadTags),
-    ];
-    for (rest, fault) in table {
-        assert_eq!(rt;
-            fault_of(&rt, &[SWITCHES, LINKS, HOSTS, rest])?,
-            Some(fault),
-            "{rest}"
-        );
+    ] {
+        refuses_parts(&rt, rt.alloc(), &[SWITCHES, LINKS, HOSTS, rest], fault);
     }
-    Ok(())
 }
 
-// So many switches, named by their numbers.
-fn switches_text(rt: &HostRuntime, count: u32) -> Result<String, Fail> {
-    let mut text = String::from_str(rt.alloc(), "{\"switches\":[")?;
-    for i in 0..count {
-        if i > 0 {
-            text.push_str(",")?;
-        }
-        text.push_str(format!(in rt.alloc(); "{{\"name\":\"{i}\",\"capacity\":1}}")?.as_str())?;
-    }
-    text.push_str("],")?;
-    Ok(text)
+fn add(rt: &impl Abort, text: &mut String, part: &str) {
+    text.push_str(part).expect(rt, "room");
 }
 
 // So many numbers from one on, each between these.
-fn list_text(rt: &HostRuntime, open: &str, count: u32, close: &str) -> Result<String, Fail> {
-    let mut text = String::from_str(rt.alloc(), "[")?;
+fn add_list(
+    rt: &impl Abort,
+    alloc: Global,
+    text: &mut String,
+    open: &str,
+    count: u32,
+    close: &str,
+) {
+    let mut before = "[";
     for i in 1..=count {
-        if i > 1 {
-            text.push_str(",")?;
-        }
-        text.push_str(format!(in rt.alloc(); "{open}{i}{close}")?.as_str())?;
+        let item = format!(in alloc; "{before}{open}{i}{close}").expect(rt, "a text");
+        add(rt, text, item.as_str());
+        before = ",";
     }
-    text.push_str("]")?;
-    Ok(text)
-}
-
-// Why a text that ends so isn't read.
-fn fault_of_end(rt: &HostRuntime, mut text: String, end: &str) -> Result<Option<NetFault>, Fail> {
-    text.push_str(end)?;
-    Ok(read_net(rt.alloc(), text.as_bytes()).err())
-}
-
-// Why a topology with so many host ports of its first switch isn't read.
-fn fault_of_hosts(rt: &HostRuntime, links: &str, count: u32) -> Result<Option<NetFault>, Fail> {
-    let mut text = joined(rt, &[SWITCHES, links, "\"hosts\":"])?;
-    text.push_str(list_text(rt, "\"s1:", count, "\"")?.as_str())?;
-    fault_of_end(rt, text, "}")
-}
-
-// Why a topology with so many VLANs isn't read.
-fn fault_of_vlans(rt: &HostRuntime, count: u32) -> Result<Option<NetFault>, Fail> {
-    let mut text = joined(rt, &[SWITCHES, LINKS, HOSTS, "\"vlans\":"])?;
-    text.push_str(list_text(rt, "", count, "")?.as_str())?;
-    fault_of_end(rt, text, ",\"tags\":0}")
+    add(rt, text, "]");
 }
 
 #[test]
-fn refuses_too_many(rt: HostRuntime) -> Result<(), Fail> {
+fn refuses_too_many_switches(rt: HostRuntime) {
     for (count, fault) in [
         (128, NetFault::Shape(Field::Links, 0)),
         (129, NetFault::TooMany(Field::Switches, 128)),
     ] {
-        let text = switches_text(&rt, count)?;
-        assert_eq!(rt; fault_of_end(&rt, text, "\"links\":0}")?, Some(fault));
+        let mut text = joined(&rt, rt.alloc(), &["{\"switches\":"]);
+        add_list(
+            &rt,
+            rt.alloc(),
+            &mut text,
+            "{\"name\":\"",
+            count,
+            "\",\"capacity\":1}",
+        );
+        add(&rt, &mut text, ",\"links\":0}");
+        refuses(&rt, rt.alloc(), text.as_str(), fault);
     }
+}
+
+#[test]
+fn refuses_too_many_hosts(rt: HostRuntime) {
     for (links, count, fault) in [
         ("\"links\":[],", 64, NetFault::Shape(Field::Vlans, 0)),
         ("\"links\":[],", 65, NetFault::TooMany(Field::Hosts, 64)),
@@ -314,20 +297,37 @@ fn refuses_too_many(rt: HostRuntime) -> Result<(), Fail> {
             NetFault::TooMany(Field::Hosts, 63),
         ),
     ] {
-        assert_eq!(rt; fault_of_hosts(&rt, links, count)?, Some(fault));
+        let mut text = joined(&rt, rt.alloc(), &[SWITCHES, links, "\"hosts\":"]);
+        add_list(&rt, rt.alloc(), &mut text, "\"s1:", count, "\"");
+        add(&rt, &mut text, "}");
+        refuses(&rt, rt.alloc(), text.as_str(), fault);
     }
+}
+
+#[test]
+fn refuses_too_many_vlans(rt: HostRuntime) {
     for (count, fault) in [
         (64, NetFault::Shape(Field::Tags, 0)),
         (65, NetFault::TooMany(Field::Vlans, 64)),
     ] {
-        assert_eq!(rt; fault_of_vlans(&rt, count)?, Some(fault));
+        let mut text = joined(&rt, rt.alloc(), &[SWITCHES, LINKS, HOSTS, "\"vlans\":"]);
+        add_list(&rt, rt.alloc(), &mut text, "", count, "");
+        add(&rt, &mut text, ",\"tags\":0}");
+        refuses(&rt, rt.alloc(), text.as_str(), fault);
     }
-    Ok(())
+}
+
+fn is_told(rt: &impl Abort, alloc: Global, fault: NetFault, name: &str, number: u32, place: u32) {
+    let text = format!(in alloc; "{fault}").expect(rt, "a text");
+    assert!(rt; text.as_str() == name, "{name}");
+    assert!(rt; fault.name() == name, "{name}");
+    assert!(rt; fault.number() == number, "{name}");
+    assert!(rt; fault.place() == place, "{name}");
 }
 
 #[test]
-fn prints_each_fault(rt: HostRuntime) -> Result<(), Fail> {
-    let table = [
+fn prints_each_fault(rt: HostRuntime) {
+    for (fault, name, number, place) in [
         (NetFault::NotJson, "NotJson", 1, 0),
         (NetFault::Shape(Field::Name, 5), "Shape", 2, 5),
         (NetFault::BadName(5), "BadName", 3, 5),
@@ -341,28 +341,27 @@ fn prints_each_fault(rt: HostRuntime) -> Result<(), Fail> {
         (NetFault::BadCapacity(5), "BadCapacity", 11, 5),
         (NetFault::TooMany(Field::Hosts, 5), "TooMany", 12, 5),
         (NetFault::Memory, "Memory", 0, 0),
-    ];
-    for (fault, name, number, place) in table {
-        let text = format!(in rt.alloc(); "{fault}")?;
-        assert_eq!(rt; text.as_str(), name);
-        assert_eq!(rt; fault.name(), name);
-        assert_eq!(rt; fault.number(), number);
-        assert_eq!(rt; fault.place(), place);
+    ] {
+        is_told(&rt, rt.alloc(), fault, name, number, place);
     }
-    assert_eq!(rt;
-        NetFault::TooMany(Field::Hosts, 5).field(),
-        Some(Field::Hosts)
-    );
-    assert_eq!(rt; NetFault::BadPort(5).field(), None);
-    Ok(())
+}
+
+#[test]
+fn some_faults_name_a_member(rt: HostRuntime) {
+    assert!(rt; NetFault::TooMany(Field::Hosts, 5).field() == Some(Field::Hosts));
+    assert!(rt; NetFault::BadPort(5).field().is_none());
+}
+
+fn has_parts(rt: &impl Abort, text: &str, parts: Option<(&str, u64)>) {
+    assert_eq!(rt; reference_parts(text), parts, "{text}");
 }
 
 #[test]
 fn parts_a_reference_round_its_last_colon(rt: HostRuntime) {
-    assert_eq!(rt; reference_parts("a:b:7"), Some(("a:b", 7)));
-    assert_eq!(rt; reference_parts("a:0"), Some(("a", 0)));
-    assert_eq!(rt; reference_parts("a:99999"), Some(("a", 99999)));
+    has_parts(&rt, "a:b:7", Some(("a:b", 7)));
+    has_parts(&rt, "a:0", Some(("a", 0)));
+    has_parts(&rt, "a:99999", Some(("a", 99999)));
     for text in ["a", "a:", "a:07", "a:100000", "a:+7", "a: 7"] {
-        assert_eq!(rt; reference_parts(text), None, "{text}");
+        has_parts(&rt, text, None);
     }
 }

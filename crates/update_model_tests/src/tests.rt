@@ -1,8 +1,9 @@
 //! Tests of rounds and of single changes.
 use flow_rules::{Action, Config, Key, Pattern, Rewrite, Rule, Table, VlanTest};
 use net_base::{Port, Prefix, SwitchId};
-use std::test::Fail;
-use update_model::{Change, Event, Events, Rounds, applies};
+use std::alloc::Global;
+use std::process::Abort;
+use update_model::{Change, Event, Events, Rounds, applies, change_tables};
 
 /// A rule for the addresses from 10.0.0.0 to 10.0.0.255.
 fn rule(priority: u16, port: u16) -> Rule {
@@ -28,51 +29,68 @@ fn second() -> Change {
     Change::Replace(SwitchId(1), rule(100, 3))
 }
 
-#[test]
-fn a_change_goes_to_the_last_round(rt: HostRuntime) -> Result<(), Fail> {
-    let mut rounds = Rounds::make(rt.alloc())?;
-    rounds.add_round()?;
-    assert!(rt; rounds.count() == 1);
-    rounds.add_change(first())?;
-    rounds.add_round()?;
-    rounds.add_round()?;
-    assert!(rt; rounds.count() == 3);
-    rounds.add_change(second())?;
-    assert!(rt; rounds.count() == 3);
-    rounds.add_change(first())?;
-    assert!(rt; rounds.count() == 3);
-    assert_eq!(rt; rounds.round(0), [first()].as_slice());
-    assert_eq!(rt; rounds.round(1).len(), 0);
-    assert_eq!(rt; rounds.round(2), [second(), first()].as_slice());
-    Ok(())
+fn add_round(rt: &impl Abort, rounds: &mut Rounds) {
+    rounds.add_round().expect(rt, "a round");
+}
+
+fn add_change(rt: &impl Abort, rounds: &mut Rounds, change: Change) {
+    assert!(rt; rounds.count() > 0);
+    rounds.add_change(change).expect(rt, "a change");
+}
+
+fn has_round(rt: &impl Abort, rounds: &Rounds, round: usize, changes: &[Change]) {
+    assert!(rt; round < rounds.count());
+    assert!(rt; rounds.round(round) == changes);
 }
 
 #[test]
-fn events_keep_their_order(rt: HostRuntime) -> Result<(), Fail> {
-    let mut events = Events::make(rt.alloc())?;
-    events.add(Event::Start)?;
-    events.add(Event::Change(0))?;
-    assert_eq!(rt; events.list(), [Event::Start, Event::Change(0)].as_slice());
-    Ok(())
+fn a_change_goes_to_the_last_round(rt: HostRuntime) {
+    let mut rounds = Rounds::make(rt.alloc()).expect(&rt, "rounds");
+    add_round(&rt, &mut rounds);
+    add_change(&rt, &mut rounds, first());
+    add_round(&rt, &mut rounds);
+    add_round(&rt, &mut rounds);
+    add_change(&rt, &mut rounds, second());
+    add_change(&rt, &mut rounds, first());
+    assert!(rt; rounds.count() == 3);
+    has_round(&rt, &rounds, 0, &[first()]);
+    has_round(&rt, &rounds, 1, &[]);
+    has_round(&rt, &rounds, 2, &[second(), first()]);
+}
+
+#[test]
+fn events_keep_their_order(rt: HostRuntime) {
+    let want = [Event::Start, Event::Change(0)];
+    let mut events = Events::make(rt.alloc()).expect(&rt, "events");
+    for event in want {
+        events.add(event).expect(&rt, "an event");
+    }
+    assert!(rt; events.list() == want.as_slice());
 }
 
 /// Makes a change where it applies.
-fn change(table: &mut Table, change: Change) -> Result<bool, Fail> {
-    table.reserve(1)?;
-    if !change.applies_to(table) {
-        return Ok(false);
+fn change(rt: &impl Abort, table: &mut Table, change: &Change) -> bool {
+    table.reserve(1).expect(rt, "room");
+    let applies = change.applies_to(table);
+    if applies {
+        change.apply_to(table);
     }
-    change.apply_to(table);
-    Ok(true)
+    applies
+}
+
+/// One table, with the rule of priority 100 out of port 2.
+fn one_rule(rt: &impl Abort, alloc: Global) -> Config {
+    let mut config = Config::make(alloc, 1).expect(rt, "tables");
+    let insert = Change::Insert(SwitchId(0), rule(100, 2));
+    assert!(rt; applies(&config, &insert));
+    change_tables(&mut config, &insert).expect(rt, "room");
+    config
 }
 
 #[test]
-fn a_change_applies_by_its_key_and_a_delete_by_its_action_too(rt: HostRuntime) -> Result<(), Fail> {
+fn a_change_applies_by_its_key_and_a_delete_by_its_action_too(rt: HostRuntime) {
     let at = SwitchId(0);
-    let mut config = Config::make(rt.alloc(), 1)?;
-    assert!(rt; config.count() == 1);
-    let made = change(config.table_mut(at), Change::Insert(at, rule(100, 2)))?;
-    assert!(rt; made);
+    let config = one_rule(&rt, rt.alloc());
     for (case, want) in [
         (Change::Insert(at, rule(100, 3)), false),
         (Change::Insert(at, rule(101, 2)), true),
@@ -83,15 +101,14 @@ fn a_change_applies_by_its_key_and_a_delete_by_its_action_too(rt: HostRuntime) -
         (Change::Replace(at, rule(100, 3)), true),
         (Change::Replace(at, rule(101, 2)), false),
     ] {
-        assert_eq!(rt; applies(&config, &case), want, "{case:?}");
+        assert!(rt; applies(&config, &case) == want, "{case:?}");
     }
-    Ok(())
 }
 
 #[test]
-fn a_table_holds_what_its_changes_leave(rt: HostRuntime) -> Result<(), Fail> {
+fn a_table_holds_what_its_changes_leave(rt: HostRuntime) {
     let at = SwitchId(0);
-    let mut table = Table::make(rt.alloc())?;
+    let mut table = Table::make(rt.alloc()).expect(&rt, "a table");
     for (case, want) in [
         (Change::Insert(at, rule(100, 2)), true),
         (Change::Insert(at, rule(200, 3)), true),
@@ -100,8 +117,7 @@ fn a_table_holds_what_its_changes_leave(rt: HostRuntime) -> Result<(), Fail> {
         (Change::Insert(at, rule(50, 1)), true),
         (Change::Delete(at, rule(200, 3)), true),
     ] {
-        assert_eq!(rt; change(&mut table, case)?, want, "{case:?}");
+        assert!(rt; change(&rt, &mut table, &case) == want, "{case:?}");
     }
-    assert_eq!(rt; table.rules(), [rule(100, 4), rule(50, 1)].as_slice());
-    Ok(())
+    assert!(rt; table.rules() == [rule(100, 4), rule(50, 1)].as_slice());
 }

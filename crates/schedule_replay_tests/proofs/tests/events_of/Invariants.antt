@@ -4,4 +4,4 @@ use Rattle.schedule_replay.specs.EventTexts.{HasLine}
 use Rattle.schedule_replay_tests.proofs.tests.events_of.Given as goal
 
 abbrev pub invariant-loop-line : goal.invariant-loop-line
-invariant-loop-line l = record { lines : AllByRecursion (HasLine l.net) l.events; few : length l.events ≤ l.line-index }
+invariant-loop-line g l = record { lines : AllByRecursion (HasLine l.net) l.events; few : length l.events ≤ l.line-index }
