@@ -1,4 +1,4 @@
-//! Tests of damaged files and failing sources, through the commands.
+//! Tests of damaged and overlong files, a plan of the old format and failing sources, through the commands.
 #![tactic(auto)]
 
 #[cfg(test)]
@@ -7,3 +7,7 @@ mod failing;
 mod plans;
 #[cfg(test)]
 mod schedules;
+#[cfg(test)]
+mod sizes;
+#[cfg(test)]
+mod upgraded;

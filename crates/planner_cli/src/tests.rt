@@ -109,19 +109,30 @@ fn each_command_runs(rt: HostRuntime) -> Result<(), Fail> {
     Ok(())
 }
 
-// The schedule is held in the place of the policy.
-#[test]
-fn replay_runs(rt: HostRuntime) -> Result<(), Fail> {
-    let alloc = rt.alloc();
+// A replay over the square into a sink that takes pieces, where the put of the given number fails. The schedule is held in
+// the place of the policy.
+fn replayed(
+    alloc: Global,
+    schedule: &[u8],
+    piece: usize,
+    failing: u64,
+) -> Result<(Status, Vec<u8>), Fail>
+    requires { 1 ≤ piece }
+{
     let texts = UpdateTexts {
         topology: square::topology(),
         old: square::old(),
         new: square::new(),
-        policy: b"start\nstart\n",
+        policy: schedule,
     };
     let mut source = update_source(alloc, &texts, square::plan(), 4096, 0)?;
     let words = ["replay", "topology", "old", "plan", "policy"];
-    let (status, written) = ran(alloc, &words, &mut source, 4000, 0)?;
+    ran(alloc, &words, &mut source, piece, failing)
+}
+
+#[test]
+fn replay_runs(rt: HostRuntime) -> Result<(), Fail> {
+    let (status, written) = replayed(rt.alloc(), b"start\nstart\n", 4000, 0)?;
     assert_eq!(rt; status, Status::NotARun);
     assert_eq!(rt; written.as_slice(), b"not a run: line 2\n".as_slice());
     Ok(())
@@ -148,14 +159,15 @@ fn import_runs(rt: HostRuntime) -> Result<(), Fail> {
     Ok(())
 }
 
-// Whether the run ends by the fault of that put, with what came before it written.
+// Whether a run ended by the fault of that put, with what came before it written.
+fn left_front(status: Status, written: &[u8], failing: u64, text: &[u8]) -> bool {
+    status == Status::WriteFault && written.len() as u64 + 1 == failing && text.starts_with(written)
+}
+
+// Whether a run over the update of the square ends so.
 fn writes_front(alloc: Global, texts: &[&str], failing: u64, text: &[u8]) -> Result<bool, Fail> {
     let (status, written) = ran_over_update(alloc, texts, failing)?;
-    Ok(
-        status == Status::WriteFault
-            && written.len() as u64 + 1 == failing
-            && text.starts_with(&written),
-    )
+    Ok(left_front(status, &written, failing, text))
 }
 
 #[test]
@@ -198,6 +210,21 @@ fn messages_and_records_that_fail_to_write_leave_a_front(rt: HostRuntime) -> Res
             assert!(rt; front, "at {failing} of {texts:?}");
         }
     }
+    Ok(())
+}
+
+#[test]
+fn traces_that_fail_to_write_leave_a_front(rt: HostRuntime) -> Result<(), Fail> {
+    let schedule = b"enter s1:1 untagged 10.0.0.1\nlose 0\nstart\n";
+    let text = b"packet 0 s1:1 untagged 10.0.0.1 born 0: s1:1 lost\nrunning 1 of 2\n".as_slice();
+    for failing in 1..=text.len() as u64 {
+        let (status, written) = replayed(rt.alloc(), schedule, 1, failing)?;
+        let front = left_front(status, &written, failing, text);
+        assert!(rt; front, "at {failing}");
+    }
+    let (status, written) = replayed(rt.alloc(), schedule, 1, text.len() as u64 + 1)?;
+    assert_eq!(rt; status, Status::Done);
+    assert_eq!(rt; written.as_slice(), text);
     Ok(())
 }
 

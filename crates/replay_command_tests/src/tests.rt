@@ -107,7 +107,7 @@ fn a_bad_line_is_named(rt: HostRuntime) -> Result<(), Fail> {
 fn each_call_of_the_source_may_fail(rt: HostRuntime) -> Result<(), Fail> {
     for failing in 1..=12u64 {
         let answer = answered(rt.alloc(), b"start\n", failing)?;
-        assert_eq!(rt; answer.status, Status::ReadFault, "at {failing}");
+        assert!(rt; answer.is(Status::ReadFault, b""), "at {failing}");
     }
     let answer = answered(rt.alloc(), b"start\n", 13)?;
     assert_eq!(rt; answer.status, Status::Done);
