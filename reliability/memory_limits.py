@@ -1,8 +1,8 @@
 #!/usr/bin/env python3
 """Runs the commands over large and wasteful files under limits of the system on memory (RLIMIT_AS): 32 MB, 64 MB, and so on, until a run
-answers. A run has to end with status 9 and nothing written, or with the answer of a run without a limit, and never by a signal. Where memory for
-the copy of a file's name is refused the status may be 6, with nothing written. Prints for each file the greatest memory for a byte of it; the
-exit status is 1 where a run ended otherwise. As memory of a run the system counts at least that of this script, which is about 35 MB.
+answers. A run has to end with status 9 and nothing written, or with the answer of a run without a limit, and never by a signal. Prints for each
+file the greatest memory for a byte of it; the exit status is 1 where a run ended otherwise. As memory of a run the system counts at least that of
+this script, which is about 35 MB.
 
     PLANNER=.. reliability/memory_limits.py [--mebibytes N] [--worst N]
 
@@ -152,7 +152,7 @@ def limited(program, attack, folder):
             found["answered"] += 1
             return found, memory, limit
         bare = out.stat().st_size == 0
-        kind = {runs.MEMORY_WANTING: "wanting", runs.READING_FAILED: "unread"}.get(ended, "changed") if bare else "changed"
+        kind = "wanting" if bare and ended == runs.MEMORY_WANTING else "changed"
         found[kind] += 1
         found["signals"] += ended < 0
         found["bytes"] += out.stat().st_size
@@ -179,7 +179,7 @@ def attack_all(program, folder, chosen, size):
 
 
 def line(title, total, most):
-    return (f"{title}: {total['runs']} runs, {total['wanting']} status 9 and nothing written, {total['unread']} status 6 and nothing written, "
+    return (f"{title}: {total['runs']} runs, {total['wanting']} status 9 and nothing written, "
             f"{total['answered']} with the answer; answers changed {total['changed']}, bytes written too many {total['bytes']}, "
             f"ended by a signal {total['signals']}; at most {most:.1f} bytes of memory for a byte of a file")
 

@@ -1,8 +1,7 @@
 #!/usr/bin/env python3
 """Runs each command over the example files with one allocation refused: the first, the second, and so on until a run meets none; each time
 once with that allocation alone refused, and once with all later ones refused too. A run has to end with status 9 and nothing written, or with
-the answer of a run in which nothing is refused. One allocation for each file, that of the copy of its name, may end a run with status 6 and
-nothing written. Prints what it found; the exit status is 1 where a run ended otherwise.
+the answer of a run in which nothing is refused. Prints what it found; the exit status is 1 where a run ended otherwise.
 
     PLANNER=.. reliability/refused_memory.py [--every N] [--workers N]
 
@@ -18,7 +17,6 @@ import runs
 
 MORE = [["sample", "16"], ["check", *runs.update("leaf-spine", "plan.json")], ["plan", *runs.update("leaf-spine")]]
 WANTING = runs.Answer(runs.MEMORY_WANTING, b"")
-UNREAD = runs.Answer(runs.READING_FAILED, b"")
 
 
 def places(every):
@@ -33,9 +31,7 @@ def kind_of(ample, answer):
     """What a run in which an allocation was refused shows."""
     if answer == ample:
         return "answered"
-    if answer == WANTING:
-        return "wanting"
-    return "unread" if answer == UNREAD else "changed"
+    return "wanting" if answer == WANTING else "changed"
 
 
 def refuse_each(program, words, folder, library, every):
@@ -57,14 +53,9 @@ def refuse_each(program, words, folder, library, every):
                 print(f"  {runs.title(words)}, allocation {at}: status {answer.status}, {len(answer.text)} bytes")
 
 
-def too_many_unread(words, found):
-    """How many runs more than two for each file ended as though a file couldn't be read."""
-    return max(0, found["unread"] - 2 * len(runs.files(words)))
-
-
 def line(title, found):
-    return (f"{title}: {found['runs']} runs, {found['wanting']} status 9 and nothing written, {found['unread']} status 6 and nothing written, "
-            f"{found['answered']} with the answer; answers changed {found['changed']}, bytes written too many {found['bytes']}")
+    return (f"{title}: {found['runs']} runs, {found['wanting']} status 9 and nothing written, {found['answered']} with the answer; "
+            f"answers changed {found['changed']}, bytes written too many {found['bytes']}")
 
 
 def attack(program, commands, folder, every, workers):
@@ -75,7 +66,6 @@ def attack(program, commands, folder, every, workers):
         tasks = [pool.submit(refuse_each, program, words, folder, library, every) for words in commands]
         for words, task in zip(commands, tasks):
             found = task.result()
-            found["changed"] += too_many_unread(words, found)
             reach = "" if found["last"] <= every else f", from {every} on in growing steps"
             print(line(f"{runs.title(words)} (to allocation {found['last']}{reach})", found), flush=True)
             total += found

@@ -73,11 +73,6 @@ def example_commands():
     return commands
 
 
-def files(words):
-    """The files among the words of a command."""
-    return [word for word in words if "/" in word]
-
-
 def title(words):
     """A short name of a command: its word and the file that tells it from the others."""
     folder = words[1].split("/")[0]
