@@ -50,11 +50,11 @@ fn said(rt: &impl Abort, alloc: Global, kind: FileKind) -> Answer {
     answer_of(alloc, Err(fetched.err().expect(rt, "a refusal")))
 }
 
-// A plan of 512 MiB isn't fetched here: it would take more memory than a test should.
+// The longest plan takes more than 1 GB here.
 #[test]
 fn a_file_is_fetched_up_to_its_limit(rt: HostRuntime) {
     let alloc = rt.alloc();
-    let rows: [(FileKind, &str); 8] = [
+    let rows: [(FileKind, &str); 9] = [
         (FileKind::Topology, "bad topology: 0 TooLong at 0\n"),
         (FileKind::Config, "bad config: 0 TooLong at 0\n"),
         (FileKind::Old, "bad old: 0 TooLong at 0\n"),
@@ -63,6 +63,7 @@ fn a_file_is_fetched_up_to_its_limit(rt: HostRuntime) {
         (FileKind::Replies, "bad replies: 0 TooLong at 0\n"),
         (FileKind::Schedule, "bad schedule: 0 TooLong at 0\n"),
         (FileKind::Input, "bad input: 0 TooLong at 0\n"),
+        (FileKind::Plan, "bad plan: 0 TooLong at 0\n"),
     ];
     for (kind, line) in rows {
         assert_eq!(rt; fetched(&rt, alloc, kind), Some(kind.limit()), "{line}");
