@@ -23,16 +23,14 @@ use Rattle.flow_rules.specs.Frees.{IsFree}
 use Rattle.round_mix.specs.Marks.{rules_of}
 use Rattle.flow_rules.specs.Overlaps.{IsClashAt, IsLeastClash}
 use Rattle.round_mix.specs.Faults.{IsAmbiguous}
-use Rattle.round_mix.specs.Order.{AreInOrder}
-use Rattle.round_mix.specs.Prepared.{AreGood, AreClear, IsPrepared}
+use Rattle.round_mix.specs.Prepared.{AreGood, AreClear, IsFalling, IsPrepared}
 use Rattle.round_mix.specs.declared.MarkedRule.{MarkedRule}
-use Rattle.round_mix.proofs.OrderLaws.{falling_from_order}
 use Rattle.round_mix.proofs.MarkLaws.{in_permutation, IsInsertOf, in_from_inserted, insert_writes, rules_by-key, all_mixed, available_from}
 use Rattle.net_base.proofs.ItemLaws.{in_from_get}
 
 module _ {A B : Type 0} (f : A → B) where
   -- members that f tells apart are told apart by it
-  one_by : (xs : List A) (x y : A) → IsDistinct (map f xs) → IsIn x xs → IsIn y xs → f x ≡ f y → x ≡ y
+  pub one_by : (xs : List A) (x y : A) → IsDistinct (map f xs) → IsIn x xs → IsIn y xs → f x ≡ f y → x ≡ y
   one_by [] x y distinct i j e = absurd i
   one_by (z ∷ zs) x y distinct (inl p) (inl q) e = p ∙ sym q
   one_by (z ∷ zs) x y distinct (inl p) (inr j) e = absurd (distinct.0 (subst (λ w. IsIn w (map f zs)) (sym e ∙ ap f p) (in_map f y zs j)))
@@ -175,12 +173,12 @@ ambiguous_from_clash table changes rules i j is_table good same least =
 -- and where no two positions clash, the sorted marked rules are prepared
 pub prepared_from_free : (table : List Rule) (changes : List Change) (marks sorted : List MarkedRule) → IsTable table → AreGood table changes
     → marks ≡ marked_rules table changes → ClashesAlone marks
-    → IsPermutation marks sorted → AreInOrder sorted → IsPrepared table changes sorted
-prepared_from_free table changes marks sorted is_table good same free moved order = record {
+    → IsPermutation marks sorted → IsFalling sorted → IsPrepared table changes sorted
+prepared_from_free table changes marks sorted is_table good same free moved falling = record {
   good = good;
   clear = clear_from_free table changes is_table good (subst ClashesAlone same free);
   rules = subst (λ (ms : List MarkedRule). IsPermutation ms sorted) same moved;
-  falling = falling_from_order sorted order;
+  falling = falling;
 }
 
 -- a sorted list clashes as the list before

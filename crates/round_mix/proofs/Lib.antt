@@ -5,3 +5,8 @@ pub mod OrderLaws
 pub mod ClearLaws
 pub mod ClashLaws
 pub mod NeedLaws
+pub mod NamedLaws
+pub mod KeyedLaws
+pub mod KeyOrderLaws
+pub mod ApartLaws
+pub mod KindLaws

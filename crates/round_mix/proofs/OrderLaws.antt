@@ -24,10 +24,10 @@ rank_order =
     let o : IsTotalOrder rank_cmp = then_total (back_total (on_total priority_of nat_cmp_total)) (on_total base_of nat_cmp_total) in
     ranks_by o (λ (x : MarkedRule). x)
 
-nat_less : (a b : ℕ) → a < b → nat_cmp a b ≡ Less
+pub nat_less : (a b : ℕ) → a < b → nat_cmp a b ≡ Less
 nat_less a b h = cond-true (nat_lt a b) Less (cond (a == b) Equal Greater) (lt-ltb a b h)
 
-nat_equal : (a b : ℕ) → a ≡ b → nat_cmp a b ≡ Equal
+pub nat_equal : (a b : ℕ) → a ≡ b → nat_cmp a b ≡ Equal
 nat_equal a b e =
     cond-false (nat_lt a b) Less (cond (a == b) Equal Greater) (le-ltb a b (omega arith)) ∙ cond-true (a == b) Equal Greater (eq-eqb a b e)
 

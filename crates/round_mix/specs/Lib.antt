@@ -4,3 +4,5 @@ pub mod Faults
 pub mod Found
 pub mod Scan
 pub mod Order
+pub mod Named
+pub mod Apart

@@ -12,15 +12,19 @@ ghost use Rattle.round_mix.specs.Found.{AreAllOutcomes};
 ghost use Rattle.round_mix.specs.Prepared.{IsPrepared};
 ghost use Rattle.round_mix.specs.Scan.{actions_by, is_kept, scan};
 
+mod apart;
 mod changes;
 mod clashes;
 mod marking;
+mod named;
 mod sorting;
 
+use apart::sort_apart;
 use changes::first_bad;
-use clashes::{is_free, least_clash};
+use clashes::least_clash;
 use flow_rules::{Action, Rule, Table};
 use marking::fill;
+use named::mix_by_key;
 use net_base::{Memory, Place};
 use path_walk::Outcome;
 use path_walk::following::act;
@@ -167,17 +171,32 @@ fn mix(table: &Table, changes: &[Change], marks: &mut Vec<MarkedRule>) -> Result
         return Err(MixFault::BadChange(i));
     }
     let rules = table.rules();
-    fill(changes, rules, marks);
-    sort(marks);
-    if is_free(marks) {
+    fill(changes, changes, rules, marks);
+    if sort_apart(marks) {
         return Ok(());
     }
-    fill(changes, rules, marks);
+    fill(changes, changes, rules, marks);
     if let Some((i, j)) = least_clash(marks) {
         return Err(MixFault::Ambiguous(i, j));
     }
     sort(marks);
     Ok(())
+}
+
+/// From so many changes on their keys are looked up. Fewer are compared with each rule, which is faster.
+const MANY_CHANGES: usize = 16;
+
+/// Marks and sorts the rules of a table and the inserted ones, or says why not: many changes by their keys.
+fn prepare(table: &Table, changes: &[Change], marks: &mut Vec<MarkedRule>) -> Result<(), MixFault>
+    requires { length (all_rules table.now.rules changes.now) ≤ vec_capacity marks.old }
+    ensures ok { OnOk result (IsPrepared table.now.rules changes.now marks.new.items) }
+    ensures err { IfErr result (λ fault. IsFault table.now.rules changes.now fault) }
+    ensures room { vec_capacity marks.old ≤ vec_capacity marks.new }
+{
+    if changes.len() >= MANY_CHANGES && mix_by_key(table, changes, marks) {
+        return Ok(());
+    }
+    mix(table, changes, marks)
 }
 
 impl Mixed {
@@ -193,8 +212,9 @@ impl Mixed {
 
     /// Prepares one switch: a table and the changes of a round there. After a refusal nothing is prepared.
     ///
-    /// Without changes it sorts the rules, and then compares each with those behind it of the same priority whose first
-    /// address lies in its prefix. Each change is looked up among the rules and the changes.
+    /// It sorts the rules, and then compares each with those behind it of the same priority whose first address lies in
+    /// its prefix. Many changes are looked up among the sorted rules. A few, and those of a round that it refuses, are each
+    /// compared with all rules and all changes.
     pub fn load(&mut self, table: &Table, changes: &[Change]) -> Result<(), MixFault>
         requires { entries_needed table.now.rules changes.now ≤ self.old.room }
         ensures ok { OnOk result (IsSomeAnd self.new.prepared (IsPrepared table.now.rules changes.now)) }
@@ -204,7 +224,7 @@ impl Mixed {
         ensures room { self.old.room ≤ self.new.room }
     {
         self.is_prepared = false;
-        mix(table, changes, &mut self.rules)?;
+        prepare(table, changes, &mut self.rules)?;
         self.is_prepared = true;
         Ok(())
     }

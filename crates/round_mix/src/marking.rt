@@ -1,14 +1,14 @@
 //! The rules of a switch, marked by the changes of a round.
 ghost use Rattle.std.specs.Prelude.{◌≡◌, ◌+◌, ◌≤◌, ◌++◌, length, map, vec_len, vec_capacity};
 ghost use Rattle.std.specs.Option.{option_map_or};
-ghost use Rattle.round_mix.specs.Marks.{mark_by, change_of, marked, inserted, marked_rules, all_rules};
+ghost use Rattle.round_mix.specs.Marks.{mark_by, change_of, marked, inserted, all_rules};
 
 use crate::{Mark, MarkedRule, put};
 use flow_rules::Rule;
 use update_model::Change;
 
 /// The mark of the rule that a change names.
-fn mark_by(change: &Change) -> Mark
+pub fn mark_by(change: &Change) -> Mark
     ensures { result ≡ mark_by change.now }
 {
     match *change {
@@ -58,26 +58,26 @@ fn put_table(changes: &[Change], rules: &[Rule], marks: &mut Vec<MarkedRule>)
     }
 }
 
-/// Puts the rules that the changes insert, marked.
-fn put_inserted(changes: &[Change], marks: &mut Vec<MarkedRule>)
+/// Puts the rules that changes insert, marked by the others.
+fn put_inserted(naming: &[Change], changes: &[Change], marks: &mut Vec<MarkedRule>)
     requires { vec_len marks.old + length (inserted changes.now) ≤ vec_capacity marks.old }
-    ensures items { marks.new.items ≡ marks.old.items ++ map (marked changes.now) (inserted changes.now) }
+    ensures items { marks.new.items ≡ marks.old.items ++ map (marked naming.now) (inserted changes.now) }
     ensures room { vec_capacity marks.old ≤ vec_capacity marks.new }
 {
     for change in changes {
         if let Change::Insert(_, rule) = change {
-            put(marks, mark(changes, rule));
+            put(marks, mark(naming, rule));
         }
     }
 }
 
-/// Replaces the list by the rules of the table and the inserted ones, marked.
-pub fn fill(changes: &[Change], rules: &[Rule], marks: &mut Vec<MarkedRule>)
+/// Replaces the list by the rules of the table and those that the changes insert, marked by the first changes.
+pub fn fill(naming: &[Change], changes: &[Change], rules: &[Rule], marks: &mut Vec<MarkedRule>)
     requires { length (all_rules rules.now changes.now) ≤ vec_capacity marks.old }
-    ensures items { marks.new.items ≡ marked_rules rules.now changes.now }
+    ensures items { marks.new.items ≡ map (marked naming.now) (all_rules rules.now changes.now) }
     ensures room { vec_capacity marks.old ≤ vec_capacity marks.new }
 {
     marks.clear();
-    put_table(changes, rules, marks);
-    put_inserted(changes, marks);
+    put_table(naming, rules, marks);
+    put_inserted(naming, changes, marks);
 }

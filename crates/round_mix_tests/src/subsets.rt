@@ -35,6 +35,12 @@ const WIDE: Prefix = Prefix {
     len: 8,
 };
 
+/// The addresses from 192.0.0.0 to 192.0.0.255.
+const FAR: Prefix = Prefix {
+    base: 0xc000_0000,
+    len: 24,
+};
+
 fn rule(priority: u16, vlan: VlanTest, dst: Prefix, action: Action) -> Rule {
     let pattern = Pattern {
         in_port: None,
@@ -124,10 +130,20 @@ fn is_within(some: &[Outcome], all: &[Outcome]) -> bool {
 
 /// Whether a round at the table needs so few entries that there is room for them.
 #[tactic(auto, using(round_mix::proofs::NeedLaws::few_inserts))]
-fn is_small(table: &Table, changes: &[Change]) -> bool
-    ensures { IsTrue result → entries_needed table.now.rules changes.now ≤ 16 }
+pub fn is_small(table: &Table, changes: &[Change]) -> bool
+    ensures { IsTrue result → entries_needed table.now.rules changes.now ≤ 64 }
 {
-    table.rules().len() <= 8 && changes.len() <= 8
+    table.rules().len() <= 16 && changes.len() <= 48
+}
+
+/// The changes, and behind them so many that insert rules for other addresses that all changes are looked up by their keys.
+pub fn among_many(rt: &(impl Abort + AllocGlobal), changes: &[Change]) -> Vec<Change> {
+    let mut many = Vec::from_slice(rt.alloc(), changes).expect(rt, "room");
+    for i in 0..32 {
+        let far = rule(1000 + i / 2, VlanTest::Id(1 + i % 2), FAR, out(1));
+        many.push(insert(far)).expect(rt, "room");
+    }
+    many
 }
 
 /// The possible outcomes at a place.
@@ -140,14 +156,14 @@ fn possible(
     dst: u32,
 ) -> Outcomes {
     assert!(rt; is_small(table, changes));
-    let mut mixed = Mixed::with_room(rt.alloc(), 16).expect(rt, "room");
+    let mut mixed = Mixed::with_room(rt.alloc(), 64).expect(rt, "room");
     assert!(rt; mixed.load(table, changes).is_ok());
-    let mut found = Outcomes::with_room(rt.alloc(), 17).expect(rt, "room");
+    let mut found = Outcomes::with_room(rt.alloc(), 65).expect(rt, "room");
     mixed.possible(net, place, dst, &mut found);
     found
 }
 
-/// Whether the possible outcomes at a place are those of the plain program.
+/// Whether the possible outcomes at a place are those of the plain program, also where the changes are among many.
 fn agrees_at(
     rt: &(impl Abort + AllocGlobal),
     net: &Net,
@@ -156,9 +172,11 @@ fn agrees_at(
     place: Place,
     dst: u32,
 ) -> bool {
-    let possible = possible(rt, net, table, changes, place, dst);
+    let few = possible(rt, net, table, changes, place, dst);
     let plain = outcomes_by_subsets(rt, net, table, changes, place, dst);
-    is_within(possible.list(), &plain) && is_within(&plain, possible.list())
+    let many = among_many(rt, changes);
+    let by_keys = possible(rt, net, table, &many, place, dst);
+    is_within(few.list(), &plain) && is_within(&plain, few.list()) && by_keys.list() == few.list()
 }
 
 /// Whether they are, at each of some places and addresses.
@@ -288,7 +306,7 @@ fn a_round_needs_the_entries_before_it_and_its_inserts(rt: HostRuntime) {
     let table = table_of(&rt, &[drop_wide(), to_second()]);
     let changes = swap();
     assert!(rt; is_small(&table, &changes));
-    let mut mixed = Mixed::with_room(rt.alloc(), 16).expect(&rt, "room");
+    let mut mixed = Mixed::with_room(rt.alloc(), 64).expect(&rt, "room");
     assert!(rt; mixed.load(&table, &changes).is_ok());
     assert!(rt; mixed.most_entries() == 3);
 }

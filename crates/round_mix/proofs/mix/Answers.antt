@@ -2,28 +2,28 @@ use Rattle.std.proofs.Common.{◌≡◌, List, ◌∙◌, ap, subst}
 use Rattle.flow_rules.specs.declared.rules.Rule.{Rule}
 use Rattle.round_mix.specs.Marks.{all_rules, marked_rules, rules_of}
 use Rattle.round_mix.proofs.ClearLaws.{ClashesAlone, rules_of-marked, ambiguous_from_clash, prepared_from_free, members_from_free, alone_from_sorted}
+use Rattle.round_mix.proofs.OrderLaws.{falling_from_order}
 use Rattle.round_mix.proofs.mix.Goals as goal
 
-pub returns-then-is_free-clause-ok : goal.returns-then-is_free-clause-ok
-returns-then-is_free-clause-ok c =
-    let alone = subst ClashesAlone c.deref.ensures.value (members_from_free c.deref.result.now (c.is_free.ensures.0 c.if-is_free.true)) in
-    prepared_from_free c.args.table.now.rules c.args.changes.now c.fill.new.marks.items c.sort.new.marks.items c.rules-rules.ensures.distinct c.in_default.ensures
+pub returns-then-sort_apart-clause-ok : goal.returns-then-sort_apart-clause-ok
+returns-then-sort_apart-clause-ok c =
+    prepared_from_free c.args.table.now.rules c.args.changes.now c.fill.new.marks.items c.sort_apart.new.marks.items c.rules-rules.ensures.distinct c.in_default.ensures
     (c.fill.ensures.items ∙ ap (λ (rs : List Rule). marked_rules rs c.args.changes.now) c.rules-rules.ensures.value)
-    (alone_from_sorted c.fill.new.marks.items c.sort.new.marks.items c.sort.ensures.permutation alone)
-    c.sort.ensures.permutation c.sort.ensures.order
+    (alone_from_sorted c.fill.new.marks.items c.sort_apart.new.marks.items c.sort_apart.ensures.permutation (c.sort_apart.ensures.apart c.if-sort_apart.true).alone)
+    c.sort_apart.ensures.permutation c.sort_apart.ensures.falling
 
 pub returns-in-Some-least_clash-clause-err : goal.returns-in-Some-least_clash-clause-err
 returns-in-Some-least_clash-clause-err c =
     let table = c.args.table.now.rules in
     let changes = c.args.changes.now in
-    let same : c.deref-2.result.now ≡ marked_rules table changes =
-    c.deref-2.ensures.value ∙ c.fill-2.ensures.items ∙ ap (λ (rs : List Rule). marked_rules rs changes) c.rules-rules.ensures.value in
-    ambiguous_from_clash table changes (rules_of c.deref-2.result.now) c.in-Some-least_clash.i c.in-Some-least_clash.j c.rules-rules.ensures.distinct c.in_default.ensures
+    let same : c.deref.result.now ≡ marked_rules table changes =
+    c.deref.ensures.value ∙ c.fill-2.ensures.items ∙ ap (λ (rs : List Rule). marked_rules rs changes) c.rules-rules.ensures.value in
+    ambiguous_from_clash table changes (rules_of c.deref.result.now) c.in-Some-least_clash.i c.in-Some-least_clash.j c.rules-rules.ensures.distinct c.in_default.ensures
     (ap rules_of same ∙ rules_of-marked changes (all_rules table changes)) c.in-Some-least_clash.ensures
 
 pub returns-clause-ok : goal.returns-clause-ok
 returns-clause-ok c =
-    prepared_from_free c.args.table.now.rules c.args.changes.now c.fill-2.new.marks.items c.sort-2.new.marks.items c.rules-rules.ensures.distinct c.in_default.ensures
+    prepared_from_free c.args.table.now.rules c.args.changes.now c.fill-2.new.marks.items c.sort.new.marks.items c.rules-rules.ensures.distinct c.in_default.ensures
     (c.fill-2.ensures.items ∙ ap (λ (rs : List Rule). marked_rules rs c.args.changes.now) c.rules-rules.ensures.value)
-    (subst ClashesAlone c.deref-2.ensures.value (members_from_free c.deref-2.result.now c.in_default-least_clash.ensures))
-    c.sort-2.ensures.permutation c.sort-2.ensures.order
+    (subst ClashesAlone c.deref.ensures.value (members_from_free c.deref.result.now c.in_default-least_clash.ensures))
+    c.sort.ensures.permutation (falling_from_order c.sort.new.marks.items c.sort.ensures.order)

@@ -1,0 +1,97 @@
+//! Many changes of one switch: each marks the rule that it names, which is looked up among the sorted ones.
+ghost use Rattle.std.specs.Prelude.{◌≡◌, ◌<◌, ◌≤◌, [], IsTrue, IfSome, length, slice_get, slice_set, vec_len, vec_capacity};
+ghost use Rattle.std.specs.List.{AllByRecursion};
+ghost use Rattle.std.specs.Option.{option_map_or};
+ghost use Rattle.net_base.specs.Members.{IsDistinct};
+ghost use Rattle.flow_rules.specs.Tables.{keys_of};
+ghost use Rattle.round_mix.specs.Marks.{all_rules, rules_of};
+ghost use Rattle.round_mix.specs.Named.{names, IsPlaceOf, IsMarkedBy, AreMarked};
+ghost use Rattle.round_mix.specs.Prepared.{IsPrepared};
+
+use crate::apart::sort_apart;
+use crate::marking::{fill, mark_by};
+use crate::sorting::{key_order, sort_by_key};
+use crate::{Mark, MarkedRule};
+use flow_rules::{Rule, Table};
+use update_model::Change;
+
+/// Whether a change names a rule: by its key, and a delete by its action too.
+fn names(change: &Change, rule: &Rule) -> bool
+    ensures { result ≡ names change.now rule.now }
+{
+    match change {
+        Change::Insert(_, named) => named.key.is_same(&rule.key),
+        Change::Delete(_, named) => named.is_same(rule),
+        Change::Replace(_, named) => named.key.is_same(&rule.key),
+    }
+}
+
+/// Where the rule stands among sorted ones that a change names, if it is sure.
+fn place_of(marks: &[MarkedRule], change: &Change) -> Option<usize>
+    ensures { IfSome result (IsPlaceOf change.now marks.now) }
+{
+    let key = change.rule().key;
+    let Ok(i) = marks.binary_search_by(|marked| key_order(&marked.rule.key, &key)) else {
+        return None;
+    };
+    let found = marks[i];
+    let is_sure = matches!(found.mark, Mark::Sure);
+    if is_sure && names(change, &found.rule) {
+        Some(i)
+    } else {
+        None
+    }
+}
+
+/// Gives the rule at a position another mark.
+fn set_mark(marks: &mut Vec<MarkedRule>, i: usize, mark: Mark)
+    requires { i < vec_len marks.old }
+    ensures items { marks.new.items ≡ option_map_or (λ m. slice_set marks.old.items i (record m { mark = mark })) (slice_get marks.old.items i) marks.old.items }
+    ensures room { vec_capacity marks.new ≡ vec_capacity marks.old }
+{
+    marks[i].mark = mark;
+}
+
+/// Marks the rule that a change names, if it stands among the sorted ones and is sure.
+fn put_mark(marks: &mut Vec<MarkedRule>, change: &Change) -> bool
+    ensures marked { IsTrue result → IsMarkedBy change.now marks.old.items marks.new.items }
+    ensures room { vec_capacity marks.new ≡ vec_capacity marks.old }
+{
+    let Some(i) = place_of(marks, change) else {
+        return false;
+    };
+    set_mark(marks, i, mark_by(change));
+    true
+}
+
+/// Marks sorted rules, all of them sure before, by changes. It stops at a change that names none of them, or one that an
+/// earlier change names.
+fn put_marks(marks: &mut Vec<MarkedRule>, changes: &[Change]) -> bool
+    requires sure { AllByRecursion (λ m. m.mark ≡ Mark.Sure) marks.old.items }
+    requires distinct { IsDistinct (keys_of (rules_of marks.old.items)) }
+    ensures marked { IsTrue result → AreMarked (rules_of marks.old.items) changes.now marks.new.items }
+    ensures room { vec_capacity marks.new ≡ vec_capacity marks.old }
+{
+    for change in changes {
+        if !put_mark(marks, change) {
+            return false;
+        }
+    }
+    true
+}
+
+/// Prepares a table and changes by looking up each change's key among the sorted rules, in time n log n beside the search
+/// for clashes. It answers false where the changes aren't good or some mixture isn't clear, without a reason.
+pub fn mix_by_key(table: &Table, changes: &[Change], marks: &mut Vec<MarkedRule>) -> bool
+    requires { length (all_rules table.now.rules changes.now) ≤ vec_capacity marks.old }
+    ensures prepared { IsTrue result → IsPrepared table.now.rules changes.now marks.new.items }
+    ensures room { vec_capacity marks.old ≤ vec_capacity marks.new }
+{
+    let none = &changes[..0];
+    fill(none, changes, table.rules(), marks);
+    if !sort_apart(marks) {
+        return false;
+    }
+    sort_by_key(marks);
+    put_marks(marks, changes)
+}
