@@ -19,38 +19,41 @@ use topology::Net;
 use trying::Trial;
 use update_model::Change;
 
-/// The numbers of the changes of a round that a trial takes, if after them a packet has the outcome.
+/// What the trials are made on: the table before a round, the round, and the outcome that is wanted.
+#[derive(Clone, Copy)]
+struct Search<'a> {
+    net: &'a Net,
+    table: &'a Table,
+    round: &'a [Change],
+    wanted: Outcome,
+}
+
+/// The numbers of the changes of the round that a trial takes, if after them a packet has the outcome.
 fn found_by(
     alloc: Global,
-    net: &Net,
-    table: &Table,
-    round: &[Change],
+    search: Search<'_>,
     trial: &Trial,
-    wanted: Outcome,
 ) -> Result<Option<ListOf<usize>>, Memory>
-    requires { AreGood table.now.rules (changes_at trial.now.place.switch round.now) }
-    ensures { IfOk result (λ found. MatchOption found (¬ (outcome_after net.now table.now.rules round.now trial.now ≡ wanted)) (λ numbers. GiveOutcome net.now table.now.rules round.now trial.now.place trial.now.dst wanted numbers)) }
+    requires { AreGood search.table.now.rules (changes_at trial.now.place.switch search.round.now) }
+    ensures { IfOk result (λ found. MatchOption found (¬ (outcome_after search.entry.net.now search.entry.table.now.rules search.entry.round.now trial.now ≡ search.entry.wanted)) (λ numbers. GiveOutcome search.entry.net.now search.entry.table.now.rules search.entry.round.now trial.now.place trial.now.dst search.entry.wanted numbers)) }
 {
-    let tried = trial.table_after(table, round)?;
-    if outcome(net, &tried, trial.place, trial.dst) != wanted {
+    let tried = trial.table_after(search.table, search.round)?;
+    if outcome(search.net, &tried, trial.place, trial.dst) != search.wanted {
         return Ok(None);
     }
-    let numbers = trial.numbers(alloc, round)?;
+    let numbers = trial.numbers(alloc, search.round)?;
     Ok(Some(numbers))
 }
 
 /// The same for the trial that turns the key of a change, if the change is at the switch and covers the packet.
 fn found_with(
     alloc: Global,
-    net: &Net,
-    table: &Table,
-    round: &[Change],
+    search: Search<'_>,
     deletes: &Trial,
     change: &Change,
-    wanted: Outcome,
 ) -> Result<Option<ListOf<usize>>, Memory>
-    requires { AreGood table.now.rules (changes_at deletes.now.place.switch round.now) }
-    ensures { IfOk result (λ found. MatchOption found (FailsWith net.now table.now.rules round.now deletes.now.place deletes.now.dst wanted change.now) (λ numbers. GiveOutcome net.now table.now.rules round.now deletes.now.place deletes.now.dst wanted numbers)) }
+    requires { AreGood search.table.now.rules (changes_at deletes.now.place.switch search.round.now) }
+    ensures { IfOk result (λ found. MatchOption found (FailsWith search.entry.net.now search.entry.table.now.rules search.entry.round.now deletes.now.place deletes.now.dst search.entry.wanted change.now) (λ numbers. GiveOutcome search.entry.net.now search.entry.table.now.rules search.entry.round.now deletes.now.place deletes.now.dst search.entry.wanted numbers)) }
 {
     if !deletes.is_here(change) || !deletes.is_covered(change) {
         return Ok(None);
@@ -59,7 +62,7 @@ fn found_with(
         turned: Some(change.rule().key),
         ..*deletes
     };
-    found_by(alloc, net, table, round, &trial, wanted)
+    found_by(alloc, search, &trial)
 }
 
 /// Numbers of changes of a round at the switch of a place, ascending, after which a packet to the address has the outcome
@@ -90,11 +93,17 @@ pub fn changes_for(
         dst,
         turned: None,
     };
-    if let Some(numbers) = found_by(alloc, net, table, round, &deletes, wanted)? {
+    let search = Search {
+        net,
+        table,
+        round,
+        wanted,
+    };
+    if let Some(numbers) = found_by(alloc, search, &deletes)? {
         return Ok(numbers);
     }
     for change in round {
-        if let Some(numbers) = found_with(alloc, net, table, round, &deletes, change, wanted)? {
+        if let Some(numbers) = found_with(alloc, search, &deletes, change)? {
             return Ok(numbers);
         }
     }
