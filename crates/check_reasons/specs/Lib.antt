@@ -4,3 +4,4 @@ pub mod Cases
 pub mod Passed
 pub mod Loaded
 pub mod Touched
+pub mod Numbered

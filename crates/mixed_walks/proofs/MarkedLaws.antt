@@ -11,6 +11,7 @@ use Rattle.net_base.specs.declared.ids.SwitchId.{SwitchId}
 use Rattle.net_base.specs.declared.ids.Place.{Place}
 use Rattle.acyclic_numbering.specs.declared.Edge.{Edge}
 use Rattle.mixed_walks.specs.Marked.{IsMarked, IsPlaceList, IsNear, edge_number}
+use Rattle.mixed_walks.specs.Walks.{switches_of}
 
 -- the numbers below a number
 abbrev upto : ℕ → List ℕ
@@ -179,8 +180,8 @@ pub put_place : (places : List Place) (capacity : ℕ) (switches : List SwitchId
 put_place places capacity switches is place absent more room put members = record {
   room = (let r = is.room in omega arith);
   once = distinct_push places place is.once absent;
-  seen = λ p i. elim ((in_push places place p).0 i) [
-    | inl j ↦ (members p.switch).1 (inl (is.seen p j))
-    | inr e ↦ (members p.switch).1 (inr (ap (λ (x : Place). x.switch) e))
-  ];
+  seen = λ s. subst (λ (xs : List SwitchId). IsIn s put ↔ IsIn s xs) (sym (map-push (λ (p : Place). p.switch) places place)) (
+    λ i. (in_push (switches_of places) place.switch s).1 (elim ((members s).0 i) [ inl j ↦ inl ((is.seen s).0 j) | inr e ↦ inr e ]),
+    λ i. (members s).1 (elim ((in_push (switches_of places) place.switch s).0 i) [ inl j ↦ inl ((is.seen s).1 j) | inr e ↦ inr e ]),
+  );
 }

@@ -188,3 +188,11 @@ module _ (u : Update) (k dst : ℕ) (entry : Place) (keeps_old : TablesKeepVlans
   -- each place of a mixed walk is one of them
   pub on_walk_in : (p : Place) → IsOnMixedWalk u k dst entry p → IsIn p (all_places u.net entry)
   on_walk_in p reached = subst (λ (x : Place). IsIn x (all_places u.net entry)) reached.2 (walk_in entry reached.0 refl (inl refl) reached.1)
+
+  -- a packet keeps its entry's VLAN
+  pub on_walk_vlan : (p : Place) → IsOnMixedWalk u k dst entry p → p.vlan ≡ entry.vlan
+  on_walk_vlan p reached =
+      elim (on_walk_in p reached) [
+        | inl e ↦ ap (λ (x : Place). x.vlan) e
+        | inr i ↦ let (stop, j, e) = in_from_map (place_at entry.vlan) p (ends_of u.net.links) i in ap (λ (x : Place). x.vlan) e
+      ]

@@ -193,6 +193,7 @@ module _ (u : Update) (k dst : ℕ) (entry : Place) where
 
       pub walked_all : IsWalked u k dst entry noted
       walked_all = record {
+        places = λ p. (so.on_walk p, λ reached. in_take next p noted.places (all_found p reached));
         steps = λ s t. (
           λ i. (let h = (so.steps s t).0 i in record { place = h.place; next = h.next; on_walk = on_walk h.place h.among; goes = h.goes; from_is = h.from_is; to_is = h.to_is }),
           λ h. (so.steps s t).1 (record { place = h.place; next = h.next; among = all_found h.place h.on_walk; goes = h.goes; from_is = h.from_is; to_is = h.to_is }),

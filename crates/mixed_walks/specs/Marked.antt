@@ -4,6 +4,7 @@ use Rattle.net_base.specs.Members.{IsIn, IsDistinct}
 use Rattle.net_base.specs.declared.ids.SwitchId.{SwitchId}
 use Rattle.net_base.specs.declared.ids.Place.{Place}
 use Rattle.acyclic_numbering.specs.declared.Edge.{Edge}
+use Rattle.mixed_walks.specs.Walks.{switches_of}
 
 -- each member has a number of its own below the bound, the mark of a number says whether it stands there, and there is room for all
 pub record IsMarked {A : Type 0} (number : A → ℕ) (bound : ℕ) (list : List A) (capacity : ℕ) (marks : List Bool) : Type 0 where
@@ -24,8 +25,8 @@ edge_number e = e.from.0 * 128 + e.to.0
 abbrev pub IsNear : Edge → Type 0
 IsNear e = (e.from.0 < 128) × (e.to.0 < 128)
 
--- each place stands once, its switch stands in the other list, and there is room for 8193
+-- each place stands once, the switches are theirs, and there is room for 8193
 pub record IsPlaceList (places : List Place) (capacity : ℕ) (switches : List SwitchId) : Type 0 where
   pub room : 8193 ≤ capacity
   pub once : IsDistinct places
-  pub seen : (p : Place) → IsIn p places → IsIn p.switch switches
+  pub seen : (s : SwitchId) → IsIn s switches ↔ IsIn s (switches_of places)

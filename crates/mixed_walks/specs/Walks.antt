@@ -1,5 +1,5 @@
 -- The mixed walks of a class in a round: what is noted of them.
-use Rattle.std.specs.Prelude.{◌≡◌, ◌↔◌, ℕ, ◌<◌, ◌≤◌, List}
+use Rattle.std.specs.Prelude.{◌≡◌, ◌↔◌, ℕ, ◌<◌, ◌≤◌, List, map}
 use Rattle.std.specs.List.{AllByRecursion}
 use Rattle.net_base.specs.Members.{IsIn}
 use Rattle.net_base.specs.declared.ids.SwitchId.{SwitchId}
@@ -7,7 +7,7 @@ use Rattle.net_base.specs.declared.ids.Place.{Place}
 use Rattle.topology.specs.Networks.{Network, switch_count}
 use Rattle.flow_rules.specs.declared.rules.Rule.{Rule}
 use Rattle.update_model.specs.Changes.{rule_of, round_after}
-use Rattle.update_model.specs.Mixtures.{Update}
+use Rattle.update_model.specs.Mixtures.{Update, IsOnMixedWalk}
 use Rattle.round_mix.specs.Prepared.{MixedState}
 use Rattle.acyclic_numbering.specs.Heights.{IsEdge}
 use Rattle.acyclic_numbering.specs.declared.Edge.{Edge}
@@ -22,6 +22,10 @@ pub record WalkState : Type 0 where
   pub steps : List Edge
   pub leaving : List SwitchId
   pub dropping : List SwitchId
+
+-- the switches of places
+abbrev pub switches_of : List Place → List SwitchId
+switches_of places = map (λ p. p.switch) places
 
 -- the rounds up to round k neither set nor strip
 abbrev pub KeepVlansUpTo : Update → ℕ → Type 0
@@ -38,9 +42,10 @@ pub record IsRoundOf (net : Network) (mixes : List MixedState) (u : Update) (k :
   pub keeps_old : TablesKeepVlans u.old
   pub keeps : KeepVlansUpTo u k
 
--- what is noted are the steps of the mixed walks of an entry, and where a packet on them may leave or be discarded;
--- all of it at switches of the network
+-- what is noted are the places of the mixed walks of an entry, their steps, and where a packet on them may leave or be
+-- discarded; all of it at switches of the network
 pub record IsWalked (u : Update) (k dst : ℕ) (entry : Place) (noted : WalkState) : Type 0 where
+  pub places : (p : Place) → IsIn p noted.places ↔ IsOnMixedWalk u k dst entry p
   pub steps : (s t : SwitchId) → IsEdge noted.steps s t ↔ IsMixedStep u k dst entry s t
   pub leaving : (s : SwitchId) → IsIn s noted.leaving ↔ MayLeave u k dst entry s
   pub dropping : (s : SwitchId) → IsIn s noted.dropping ↔ DropsAt u k dst entry s

@@ -51,7 +51,8 @@ impl SwitchSet {
 
     /// The switches, in the order in which they were put.
     pub(crate) fn list(&self) -> &[SwitchId]
-        ensures { result.now ≡ self.now }
+        ensures value { result.now ≡ self.now }
+        ensures near { All (λ s. s.0 < 128) result.now }
     {
         &self.list
     }

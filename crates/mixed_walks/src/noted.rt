@@ -1,7 +1,9 @@
 // What is noted while the mixed walks of a class are walked.
-ghost use Rattle.std.specs.Prelude.{◌≡◌, ◌↔◌, ◌<◌, ◌∷◌, [], length, slice_get, IfOk};
+ghost use Rattle.std.specs.Prelude.{◌≡◌, ◌↔◌, ◌<◌, ◌∷◌, [], length, slice_get, All, IfOk};
 ghost use Rattle.net_base.specs.Members.{IsIn, IsDistinct};
 ghost use Rattle.net_base.specs.declared.ids.Place.{Place};
+ghost use Rattle.net_base.specs.declared.ids.SwitchId.{SwitchId};
+ghost use Rattle.mixed_walks.specs.Walks.{switches_of};
 ghost use Rattle.mixed_walks.specs.Walking.{IsNoted, AreFew};
 
 use crate::edges::EdgeSet;
@@ -57,6 +59,14 @@ impl Noted {
         ensures { slice_get self.now.places i ≡ Some result }
     {
         self.reached.at(i)
+    }
+
+    /// The switches of the places, each once.
+    pub(crate) fn switches(&self) -> &[SwitchId]
+        ensures seen { (s : SwitchId) → IsIn s result.now ↔ IsIn s (switches_of self.now.places) }
+        ensures near { All (λ s. s.0 < 128) result.now }
+    {
+        self.reached.switches()
     }
 
     /// The steps, each once.

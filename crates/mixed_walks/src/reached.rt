@@ -1,10 +1,12 @@
 // The places that the walks of a class come to, each of them once.
-ghost use Rattle.std.specs.Prelude.{◌≡◌, ◌↔◌, ◌⊎◌, ◌<◌, ◌++◌, [], List, IsTrue, length, slice_get, IfOk};
+ghost use Rattle.std.specs.Prelude.{◌≡◌, ◌↔◌, ◌⊎◌, ◌<◌, ◌++◌, [], List, IsTrue, length, slice_get, All, IfOk};
 ghost use Rattle.net_base.specs.Members.{IsIn, IsDistinct};
 ghost use Rattle.net_base.specs.declared.ids.Place.{Place};
+ghost use Rattle.net_base.specs.declared.ids.SwitchId.{SwitchId};
+ghost use Rattle.mixed_walks.specs.Walks.{switches_of};
 
 use crate::marked::SwitchSet;
-use net_base::{Memory, Place};
+use net_base::{Memory, Place, SwitchId};
 use std::alloc::Global;
 use std::marker::Model;
 
@@ -70,6 +72,14 @@ impl Reached {
         ensures { slice_get self.now i ≡ Some result }
     {
         self.places[i]
+    }
+
+    /// The switches of the places, each once.
+    pub(crate) fn switches(&self) -> &[SwitchId]
+        ensures seen { (s : SwitchId) → IsIn s result.now ↔ IsIn s (switches_of self.now) }
+        ensures near { All (λ s. s.0 < 128) result.now }
+    {
+        self.switches.list()
     }
 
     /// Whether the place stands there. It looks at the places only where one is at the switch.

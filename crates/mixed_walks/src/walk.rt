@@ -1,8 +1,10 @@
 // The mixed walks of a class in a round.
-ghost use Rattle.std.specs.Prelude.{◌≡◌, ℕ, ◌+◌, ◌<◌, [], length, IfOk};
+ghost use Rattle.std.specs.Prelude.{◌≡◌, ◌↔◌, ℕ, ◌+◌, ◌<◌, [], length, All, IfOk};
+ghost use Rattle.net_base.specs.Members.{IsIn};
+ghost use Rattle.net_base.specs.declared.ids.SwitchId.{SwitchId};
 ghost use Rattle.topology.specs.Networks.{switch_count};
 ghost use Rattle.update_model.specs.Mixtures.{Update};
-ghost use Rattle.mixed_walks.specs.Walks.{IsRoundOf, IsWalked};
+ghost use Rattle.mixed_walks.specs.Walks.{switches_of, IsRoundOf, IsWalked};
 ghost use Rattle.mixed_walks.specs.Walking.{IsWalkedTo};
 
 use crate::noted::Noted;
@@ -42,6 +44,14 @@ impl WalkRoom {
             noted: Noted::make(alloc)?,
             outcomes: Outcomes::with_room(alloc, 8193)?,
         })
+    }
+
+    /// The switches that the walks that were walked last come to, each once.
+    pub fn switches(&self) -> &[SwitchId]
+        ensures seen { (s : SwitchId) → IsIn s result.now ↔ IsIn s (switches_of self.now.places) }
+        ensures near { All (λ s. s.0 < 128) result.now }
+    {
+        self.noted.switches()
     }
 
     /// The steps between switches of the walks that were walked last, each once.

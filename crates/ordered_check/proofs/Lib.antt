@@ -5,3 +5,4 @@ pub mod MeaningLaws
 pub mod JudgeLaws
 pub mod RoundLaws
 pub mod StandLaws
+pub mod KeptLaws

@@ -57,12 +57,12 @@ IsLatestPick picks n (Some pick) = IsLatest picks n pick
 abbrev pub AreKept : List OrderedPick → List (Option OrderedPick) → Type 0
 AreKept picks of_class = (n : ℕ) (kept : Option OrderedPick) → slice_get of_class n ≡ Some kept → IsLatestPick picks n kept
 
-get_set_same : {A : Type 0} (xs : List A) (i : ℕ) (x y : A) → slice_get (set xs i x) i ≡ Some y → x ≡ y
+pub get_set_same : {A : Type 0} (xs : List A) (i : ℕ) (x y : A) → slice_get (set xs i x) i ≡ Some y → x ≡ y
 get_set_same [] i x y e = absurd (none-some y e)
 get_set_same (z ∷ xs) zero x y e = same_Some x y e
 get_set_same (z ∷ xs) (suc i) x y e = get_set_same xs i x y e
 
-get_set_other : {A : Type 0} (xs : List A) (i j : ℕ) (x : A) → ¬ (j ≡ i) → slice_get (set xs i x) j ≡ slice_get xs j
+pub get_set_other : {A : Type 0} (xs : List A) (i j : ℕ) (x : A) → ¬ (j ≡ i) → slice_get (set xs i x) j ≡ slice_get xs j
 get_set_other [] i j x ne = refl
 get_set_other (z ∷ xs) zero zero x ne = absurd (ne refl)
 get_set_other (z ∷ xs) zero (suc j) x ne = refl

@@ -11,7 +11,7 @@ use Rattle.certificates.specs.declared.OrderedEvidence.{OrderedEvidence}
 use Rattle.certificates.specs.declared.Evidence.TheVariants.{Ordered}
 use Rattle.check_reasons.specs.Ranks.{rank_of, number_of, class_of, least_class_number, classes_start}
 use Rattle.check_reasons.specs.Reasons.{IsOrderedReason, class_duties, rewrites, no_numbering, not_lower, may_drop, no_before, bypass}
-use Rattle.check_reasons.specs.Passed.{IsFirstFrom}
+use Rattle.check_reasons.specs.Passed.{IsFirstFrom, ClassesPass}
 use Rattle.check_reasons.proofs.RankLaws.{ordered_in_rounds, by_number, first_of_classes}
 use Rattle.ordered_check.specs.Picks.{IsKeptPick}
 use Rattle.ordered_check.specs.Firsts.{first_of, IsOfClasses, IsFirstAmong, IsFirstOfClass, IsFoundBelow}
@@ -45,6 +45,10 @@ module _ (t : Task) (e : OrderedEvidence) where
   pub first_of_all : (k : ℕ) (found : Option Reason) → IsFoundBelow t e k (class_count (classes_for t)) found → IfSome found (IsFirstFrom t (Ordered e) (classes_start k))
   first_of_all k None h = tt
   first_of_all k (Some reason) h = first_from_classes k reason h
+
+  pub none_of_all : (k : ℕ) (found : Option Reason) → IsFoundBelow t e k (class_count (classes_for t)) found → IfNone found (ClassesPass t (Ordered e) k)
+  none_of_all k None h = λ n class is. h n class (number_fits (classes_for t) n class is) is
+  none_of_all k (Some reason) h = tt
 
   -- ---- class by class
 

@@ -1,63 +1,92 @@
--- Where no change of a round covers the address of a class, and its pick was in force before, its certificate of the round before stands.
-use Rattle.std.proofs.Common.{◌≡◌, ℕ, zero, suc, ◌<◌, ◌≤◌, false, List, length, subst, arith}
+-- Where no change of a round may be met on the walks that a class had in the round before, these walks are all that it has, and
+-- where its pick was in force then, its certificate stands.
+use Rattle.std.proofs.Common.{◌≡◌, ℕ, zero, suc, ◌<◌, ◌≤◌, Bool, true, false, IsTrue, List, [], ◌∷◌, length, sym, ◌∙◌, ap, subst, inl, inr, arith}
+use Rattle.std.specs.Prelude.{◌==◌, ◌&&◌, Option, Some, None, IsSomeAnd}
+use Rattle.std.specs.List.{list_any}
+use Rattle.std.proofs.lemmas.Bool.{cases_Bool, cases_lt, both_ways, and_parts, and_from, or_parts, eqb-true}
+use Rattle.net_base.specs.Blocks.{in_block}
+use Rattle.net_base.specs.Members.{IsIn}
 use Rattle.net_base.specs.declared.ids.SwitchId.{SwitchId}
 use Rattle.net_base.specs.declared.ids.Place.{Place}
-use Rattle.net_base.proofs.MemberLaws.{each_at, each_weaker}
-use Rattle.net_base.proofs.WalkLaws.{walk_weaker}
+use Rattle.net_base.specs.declared.ids.Vlan.{Vlan}
+use Rattle.net_base.proofs.MemberLaws.{each_at, each_from_in, in_from_filter}
+use Rattle.flow_rules.specs.Patterns.{covers, admits_port, admits_vlan}
+use Rattle.flow_rules.specs.Tables.{IsClear}
+use Rattle.flow_rules.specs.declared.rules.Rule.{Rule}
+use Rattle.path_walk.specs.Outcomes.{header_at}
+use Rattle.path_walk.specs.UserConfigs.{IsUserConfig}
 use Rattle.path_walk.specs.declared.Outcome.{Outcome}
-use Rattle.path_walk.specs.declared.Outcome.TheVariants.{Discard, Leave, Go}
-use Rattle.waypoint_evidence.specs.Befores.{IsGuard}
 use Rattle.dest_classes.specs.Classes.{IsClass}
 use Rattle.dest_classes.specs.declared.Class.{Class}
 use Rattle.demands.specs.Duties.{PacketDuties}
-use Rattle.update_model.specs.Changes.{round_after}
-use Rattle.update_model.specs.Mixtures.{Update, IsPossible, MayGo, IsOnMixedWalk}
-use Rattle.certificates.specs.Steps.{IsMixedStep, MayLeave, MayDrop}
-use Rattle.certificates.specs.Ordered.{Position, positions, IsSafe, IsPickInForce, IsMeant, OrderedCertificate}
+use Rattle.update_model.specs.Changes.{switch_of, rule_of, changes_at, round_after, IsGoodRound}
+use Rattle.update_model.specs.Mixtures.{Update, tables_before, MayHold, IsPossible, IsOnMixedWalk}
+use Rattle.update_model.specs.declared.Change.{Change}
+use Rattle.certificates.specs.Ordered.{IsSafe, IsPickInForce, IsMeant, OrderedCertificate}
 use Rattle.certificates.specs.Certified.{Task, classes_for}
 use Rattle.certificates.specs.Valid.{IsValidOrdered, IsValidPick}
 use Rattle.certificates.specs.declared.OrderedPick.{OrderedPick}
 use Rattle.certificates.specs.declared.OrderedEvidence.{OrderedEvidence}
 use Rattle.certificates.specs.declared.Evidence.TheVariants.{Ordered}
-use Rattle.check_reasons.specs.Passed.{ChangesPass, RoundsPass}
+use Rattle.check_reasons.specs.Passed.{ChangesPass, RoundsPass, RoundKeepsVlans}
 use Rattle.check_reasons.specs.Reasons.{class_duties}
-use Rattle.check_reasons.specs.Touched.{touches}
-use Rattle.check_reasons.proofs.TouchLaws.{possible_before}
+use Rattle.check_reasons.specs.Touched.{may_cover}
+use Rattle.check_reasons.proofs.SameWalks.{was_on_walk, was_safe, NoneCovers, unchanged_at, possible_after}
+use Rattle.mixed_walks.specs.Walks.{KeepVlansUpTo, TablesKeepVlans}
+use Rattle.mixed_walks.proofs.PlaceLaws.{tables_keep, on_walk_vlan}
+use Rattle.ordered_check.specs.Picks.{IsKeptPick}
+use Rattle.ordered_check.specs.Kept.{is_marked, HoldsWalks, HoldsWalksBefore, touches_walk}
 use Rattle.ordered_check.proofs.MeaningLaws.{one_in_force}
 
--- ---- what keeps a class safe, where all that is possible was possible in the round before
+-- ---- changes that a round doesn't have
 
-module _ (u : Update) (k dst : ℕ) (entry : Place) (was : (place : Place) (found : Outcome) → IsPossible u (suc k) dst place found → IsPossible u k dst place found) where
-  on_walk : (place : Place) → IsOnMixedWalk u (suc k) dst entry place → IsOnMixedWalk u k dst entry place
-  on_walk place (rest, walk, ends) = (rest, walk_weaker (MayGo u (suc k) dst) (MayGo u k dst) (λ at next goes. was at (Go next) goes) entry rest walk, ends)
+none_of : {A : Type 0} (p : A → Bool) (xs : List A) (x : A) → list_any p xs ≡ false → IsIn x xs → p x ≡ false
+none_of p [] x off i = absurd i
+none_of p (y ∷ ys) x off (inl e) = ap p e ∙ (or_parts (p y) (list_any p ys) off).0
+none_of p (y ∷ ys) x off (inr i) = none_of p ys x (or_parts (p y) (list_any p ys) off).1 i
 
-  step : (s t : SwitchId) → IsMixedStep u (suc k) dst entry s t → IsMixedStep u k dst entry s t
-  step s t h = record { place = h.place; next = h.next; on_walk = on_walk h.place h.on_walk; goes = was h.place (Go h.next) h.goes; from_is = h.from_is; to_is = h.to_is }
+-- a change that isn't at a marked switch, or covers no packet of the class, covers none at a marked switch
+misses : (c : Change) (class : Class) (marks : List Bool) (place : Place) → place.vlan ≡ class.entry.vlan → IsTrue (is_marked marks place.switch) → (switch_of c).0 ≡ place.switch.0
+    → (may_cover c class && is_marked marks (switch_of c)) ≡ false → covers (rule_of c).key.pattern (header_at place class.first) ≡ false
+misses c class marks place vlan marked here off =
+    let pattern = (rule_of c).key.pattern in
+    elim (cases_Bool (covers pattern (header_at place class.first))) [
+      | inr none ↦ none
+      | inl on ↦
+          let (port_vlan, block) = and_parts (admits_port pattern.in_port place.port && admits_vlan pattern.vlan place.vlan) (in_block pattern.dst class.first) on in
+          let admitted = (and_parts (admits_port pattern.in_port place.port) (admits_vlan pattern.vlan place.vlan) port_vlan).1 in
+          let same = subst (λ (v : Vlan). admits_vlan pattern.vlan v ≡ true) vlan admitted in
+          let covered = and_from (in_block pattern.dst class.first) (admits_vlan pattern.vlan class.entry.vlan) block same in
+          let mark : is_marked marks (switch_of c) ≡ true = subst (λ n. is_marked marks (record { 0 = n }) ≡ true) (sym here) marked in
+          absurd (both_ways (may_cover c class && is_marked marks (switch_of c)) off (and_from (may_cover c class) (is_marked marks (switch_of c)) covered mark))
+    ]
 
-  leaving : (s : SwitchId) → MayLeave u (suc k) dst entry s → MayLeave u k dst entry s
-  leaving s h = record { place = h.place; port = h.port; vlan = h.vlan; on_walk = on_walk h.place h.on_walk; leaves = was h.place (Leave h.port h.vlan) h.leaves; at_is = h.at_is }
+-- ---- a round whose changes aren't met on the walks of the round before
 
-  dropping : MayDrop u (suc k) dst entry → MayDrop u k dst entry
-  dropping h = record { place = h.place; on_walk = on_walk h.place h.on_walk; drops = was h.place Discard h.drops }
+module _ (u : Update) (k : ℕ) (class : Class) (marks : List Bool) (less : suc k < length u.rounds) (good_before : IsGoodRound (tables_before u k) (round_after k u.rounds))
+    (good : IsGoodRound (tables_before u (suc k)) (round_after (suc k) u.rounds)) (clear : (s : SwitchId) (mixed : List Rule) → MayHold u (suc k) s mixed → IsClear mixed)
+    (keeps_old : TablesKeepVlans u.old) (keeps : KeepVlansUpTo u k) (held : HoldsWalks u k class marks) (off : touches_walk (round_after (suc k) u.rounds) class marks ≡ false) where
+  none_covers : (place : Place) → IsOnMixedWalk u k class.first class.entry place → NoneCovers u (suc k) class.first place
+  none_covers place on =
+      each_from_in (λ c. covers (rule_of c).key.pattern (header_at place class.first) ≡ false) (changes_at place.switch (round_after (suc k) u.rounds)) (λ c i.
+      let (in_round, here) = in_from_filter (λ d. (switch_of d).0 == place.switch.0) c (round_after (suc k) u.rounds) i in
+      misses c class marks place (on_walk_vlan u k class.first class.entry keeps_old keeps place on) (held place on) (eqb-true (switch_of c).0 place.switch.0 here)
+      (none_of (λ d. may_cover d class && is_marked marks (switch_of d)) (round_after (suc k) u.rounds) c off in_round))
 
-  abbrev Guards : ℕ → Position → Type 0
-  Guards j p = IsGuard entry.switch (IsMixedStep u j dst entry) (MayLeave u j dst entry) p.waypoint p.earlier p.set
+  was : (place : Place) → IsOnMixedWalk u k class.first class.entry place → (found : Outcome) → IsPossible u (suc k) class.first place found → IsPossible u k class.first place found
+  was place on found possible =
+      possible_after u k class.first (omega arith) good_before place found ((unchanged_at u (suc k) class.first good clear place (none_covers place on) found).0 possible)
 
-  guards : (p : Position) → Guards k p → Guards (suc k) p
-  guards p h = record {
-    before = record { begins = h.before.begins; stays = λ s t edge. h.before.stays s t (step s t edge) };
-    keeps = λ s leaves. h.keeps s (leaving s leaves);
-  }
+  safe_still : (duties : PacketDuties) (numbers : List ℕ) (sets : List (List ℕ)) → IsSafe u k class.first class.entry duties numbers sets → IsSafe u (suc k) class.first class.entry duties numbers sets
+  safe_still = was_safe u u k (suc k) class.first class.entry was
 
-  pub still_safe : (duties : PacketDuties) (numbers : List ℕ) (sets : List (List ℕ)) → IsSafe u k dst entry duties numbers sets → IsSafe u (suc k) dst entry duties numbers sets
-  still_safe duties numbers sets h = record {
-    falls = λ s t edge. h.falls s t (step s t edge);
-    arrives = λ arrive drops. h.arrives arrive (dropping drops);
-    guarded = record {
-      count = h.guarded.count;
-      guards = each_weaker (Guards k) (Guards (suc k)) guards (positions duties.chains sets) h.guarded.guards;
-    };
-  }
+  walks_still : HoldsWalks u (suc k) class marks
+  walks_still place on = held place (was_on_walk u u k (suc k) class.first class.entry was place on)
+
+-- what keeps a class safe in a round keeps it safe in the next, where all that is possible was possible
+pub still_safe : (u : Update) (k dst : ℕ) (entry : Place) → ((place : Place) (found : Outcome) → IsPossible u (suc k) dst place found → IsPossible u k dst place found)
+    → (duties : PacketDuties) (numbers : List ℕ) (sets : List (List ℕ)) → IsSafe u k dst entry duties numbers sets → IsSafe u (suc k) dst entry duties numbers sets
+still_safe u k dst entry was_there = was_safe u u k (suc k) dst entry (λ place on. was_there place)
 
 -- ---- the certificate
 
@@ -70,20 +99,41 @@ force_before picks round n pick force begun = record {
   latest = λ other i same le. force.latest other i same (omega arith);
 }
 
-pub certificate_stands : (t : Task) (e : OrderedEvidence) (k n : ℕ) (class : Class) (pick : OrderedPick) → IsValidOrdered t.update.net (length t.update.rounds) e → k < length t.update.rounds
-    → RoundsPass t (Ordered e) k → ChangesPass t (Ordered e) k → IsClass (classes_for t) n class → IsPickInForce e.picks (suc k) n pick → pick.round ≤ k → touches (round_after k t.update.rounds) class.first ≡ false
-    → OrderedCertificate t.update e k n class.first class.entry (class_duties t class)
-certificate_stands t e zero n class pick valid within before pass is force begun off =
+-- the rounds up to one neither set nor strip
+pub rounds_keep : (t : Task) (e : OrderedEvidence) (k : ℕ) → RoundsPass t (Ordered e) k → ChangesPass t (Ordered e) k → KeepVlansUpTo t.update k
+rounds_keep t e k before pass j le =
+    elim (cases_lt j k) [
+      | inl less ↦ (before j less).0.keeps
+      | inr ge ↦ let same : k ≡ j = omega arith in subst (λ i. RoundKeepsVlans (Ordered e) (round_after i t.update.rounds)) same pass.keeps
+    ]
+
+pub certificate_stands : (t : Task) (e : OrderedEvidence) (k n : ℕ) (class : Class) (pick : OrderedPick) (marks : List Bool) → IsUserConfig t.update.net t.update.old
+    → IsValidOrdered t.update.net (length t.update.rounds) e → k < length t.update.rounds → RoundsPass t (Ordered e) k → ChangesPass t (Ordered e) k → IsClass (classes_for t) n class
+    → IsPickInForce e.picks (suc k) n pick → pick.round ≤ k → HoldsWalksBefore t.update k class marks → touches_walk (round_after k t.update.rounds) class marks ≡ false
+    → OrderedCertificate t.update e k n class.first class.entry (class_duties t class) × HoldsWalks t.update k class marks
+certificate_stands t e zero n class pick marks user valid within before pass is force begun held off =
     absurd (let first = (each_at (IsValidPick (length t.update.rounds) (length e.uses)) e.picks pick valid.picks force.stands).0 in omega arith)
-certificate_stands t e (suc k) n class pick valid within before pass is force begun off =
+certificate_stands t e (suc k) n class pick marks user valid within before pass is force begun held off =
     let (changes, classes) = before k (omega arith) in
     let cert = classes n class is in
     let same : cert.pick ≡ pick = one_in_force e.picks valid.ascending (suc k) n cert.pick pick cert.in_force (force_before e.picks (suc k) n pick force begun) in
-    record {
-      pick = pick;
-      numbers = cert.numbers;
-      sets = cert.sets;
-      in_force = force;
-      meant = subst (λ (p : OrderedPick). IsMeant e p cert.numbers cert.sets) same cert.meant;
-      safe = still_safe t.update k class.first class.entry (possible_before t.update k class.first within changes.good pass.good pass.clear off) (class_duties t class) cert.numbers cert.sets cert.safe;
-    }
+    let keeps : KeepVlansUpTo t.update k = rounds_keep t e k (λ j less. before j (omega arith)) changes in
+    let keeps_old = tables_keep t.update.net t.update.old user in (
+      record {
+        pick = pick;
+        numbers = cert.numbers;
+        sets = cert.sets;
+        in_force = force;
+        meant = subst (λ (p : OrderedPick). IsMeant e p cert.numbers cert.sets) same cert.meant;
+        safe = safe_still t.update k class marks within changes.good pass.good pass.clear keeps_old keeps held off (class_duties t class) cert.numbers cert.sets cert.safe;
+      },
+      walks_still t.update k class marks within changes.good pass.good pass.clear keeps_old keeps held off,
+    )
+
+-- the same for what is kept of the pick in force
+pub class_stands : (t : Task) (e : OrderedEvidence) (k n : ℕ) (class : Class) (in_force : Option OrderedPick) (marks : List Bool) → IsUserConfig t.update.net t.update.old
+    → IsValidOrdered t.update.net (length t.update.rounds) e → k < length t.update.rounds → RoundsPass t (Ordered e) k → ChangesPass t (Ordered e) k → IsClass (classes_for t) n class
+    → IsKeptPick e.picks (suc k) n in_force → IsSomeAnd in_force (λ pick. pick.round ≤ k) → HoldsWalksBefore t.update k class marks → touches_walk (round_after k t.update.rounds) class marks ≡ false
+    → OrderedCertificate t.update e k n class.first class.entry (class_duties t class) × HoldsWalks t.update k class marks
+class_stands t e k n class None marks user valid within before pass is kept begun held off = absurd begun
+class_stands t e k n class (Some pick) marks user valid within before pass is kept begun held off = certificate_stands t e k n class pick marks user valid within before pass is kept begun held off

@@ -1,3 +1,5 @@
+pub mod Cases
 pub mod Picks
+pub mod Kept
 pub mod Judged
 pub mod Firsts

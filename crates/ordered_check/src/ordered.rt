@@ -1,49 +1,54 @@
 // The classes of the rounds of an ordered plan.
-ghost use Rattle.std.specs.Prelude.{◌≡◌, ℕ, ◌<◌, ◌≤◌, suc, true, false, length, IfOk, IfSome, IfNone};
-ghost use Rattle.topology.specs.Networks.{switch_count};
-ghost use Rattle.dest_classes.specs.Classes.{class_count, IsClass};
-ghost use Rattle.demands.specs.Duties.{duties_of};
-ghost use Rattle.certificates.specs.Ordered.{OrderedCertificate};
-ghost use Rattle.certificates.specs.Certified.{classes_for};
+ghost use Rattle.std.specs.Prelude.{◌≡◌, ◌≢◌, ◌↔◌, ℕ, ◌<◌, ◌≤◌, suc, true, false, List, Bool, length, All, IsTrue, IsSomeAnd, slice_get, Some, IfOk, IfSome, IfNone};
+ghost use Rattle.net_base.specs.Members.{IsIn};
+ghost use Rattle.net_base.specs.declared.ids.SwitchId.{SwitchId};
+ghost use Rattle.dest_classes.specs.Classes.{class_count};
+ghost use Rattle.dest_classes.specs.declared.Class.{Class};
+ghost use Rattle.certificates.specs.Certified.{classes_for, HasCertificate};
 ghost use Rattle.certificates.specs.declared.Evidence.TheVariants.{Ordered};
 ghost use Rattle.check_reasons.specs.Loaded.{AreLoaded};
-ghost use Rattle.mixed_walks.specs.Walks.{KeepVlansUpTo};
+ghost use Rattle.check_reasons.specs.Numbered.{IsNumbered};
 ghost use Rattle.check_reasons.specs.Ranks.{classes_start};
 ghost use Rattle.check_reasons.specs.Passed.{IsFirstFrom, ChangesPass, ClassesPass, RoundsPass};
-ghost use Rattle.check_reasons.specs.Touched.{touches};
-ghost use Rattle.ordered_check.specs.Picks.{IsKeptPick, PicksStand, HasPickRoom};
+ghost use Rattle.mixed_walks.specs.Walks.{IsWalked};
+ghost use Rattle.ordered_check.specs.Cases.{IsRound};
+ghost use Rattle.ordered_check.specs.Picks.{IsKeptPick, PicksStand};
+ghost use Rattle.ordered_check.specs.Kept.{is_marked, AreClasses, HasClassRoom, HoldsWalks, HoldsWalksBefore, WalksStand, touches_walk};
 ghost use Rattle.ordered_check.specs.Firsts.{first_of, IsFirstOfClass, IsFoundBelow};
 
-use crate::judging::{first_of_class, keeps_valid};
+use crate::cases::{OrderedCase, PreparedRound};
+use crate::judging::first_of_class;
 use crate::picks::PicksInForce;
-use certificates::{OrderedEvidence, OrderedPick};
-use check_reasons::{Case, Reason, is_touched};
-use demands::Duties;
+use certificates::OrderedPick;
+use check_reasons::{NumberedClass, Reason, may_cover};
 use dest_classes::{Class, ClassMap};
 use mixed_walks::WalkRoom;
-use net_base::Memory;
+use net_base::{Memory, SwitchId};
 use round_mix::Mixed;
 use std::alloc::Global;
 use std::marker::Model;
 use update_model::Change;
 
-/// How many changes of a round are compared with the address of each class. Where there are more, walking each class anew
-/// costs no more than to compare them all.
+/// How many changes of a round are compared with each class. Where there are more, walking each class anew costs no more
+/// than to compare them all.
 const MOST_COMPARED: usize = 64;
 
-/// Room for the classes of an ordered plan: the walks of one class, and the picks in force.
+/// Room for the classes of an ordered plan: the walks of one class, and of each class its pick in force and the switches
+/// that its last walk came to.
 #[derive(Drop)]
 pub struct OrderedRoom {
     walk: WalkRoom,
     picks: PicksInForce,
+    classes: Vec<Class>,
+    came: Vec<[bool; 128]>,
 }
 
 impl Model for OrderedRoom {
-    ghost use Rattle.ordered_check.specs.Picks.{PicksState};
+    ghost use Rattle.ordered_check.specs.Kept.{OrderedState};
 
-    ghost Value = { PicksState };
+    ghost Value = { OrderedState };
 
-    ghost view = { λ r. r.picks };
+    ghost view = { λ r. record { picks = r.picks; classes = r.classes.items; came = r.came.items } };
 }
 
 /// The first of two reasons, where there are two and the second is of a later class.
@@ -65,149 +70,209 @@ fn first_of(found: Option<Reason>, later: Option<Reason>) -> Option<Reason>
     }
 }
 
-/// Whether a class has its certificate where each class had one in the round before: its pick was in force then, and no
-/// change of the round covers its address. Not told where the round has more than `MOST_COMPARED` changes.
-fn is_unchanged(round: &[Change], k: usize, class: Class, pick: OrderedPick) -> bool
-    ensures { result ≡ true → (pick.round ≤ k) × (touches round.now class.first ≡ false) }
+/// The classes of a map, in the order of their numbers.
+fn all_classes(alloc: Global, classes: &ClassMap) -> Result<Vec<Class>, Memory>
+    ensures { IfOk result (λ list. AreClasses classes.now list.items) }
 {
-    pick.round as usize <= k && round.len() <= MOST_COMPARED && !is_touched(round, class.first)
+    let mut list = Vec::new(alloc);
+    for number in 0..classes.count() {
+        list.push(classes.class(number))?;
+    }
+    Ok(list)
 }
 
-/// The first reason why a class has no certificate in a round, where this is its pick in force and the rounds before passed.
-/// Its mixed walks are walked only where they may be others than in the round before.
+/// A mark for each switch below 128: whether it is one of these.
+fn marks_of(switches: &[SwitchId]) -> [bool; 128]
+    requires { All (λ s. s.0 < 128) switches.now }
+    ensures { (s : SwitchId) → IsTrue (is_marked result s) ↔ IsIn s switches.now }
+{
+    let mut marks = [false; 128];
+    for switch in switches {
+        marks[switch.0 as usize] = true;
+    }
+    marks
+}
+
+/// Whether the switch is marked.
+fn is_marked(marks: &[bool; 128], switch: SwitchId) -> bool
+    ensures { result ≡ is_marked marks.now switch }
+{
+    switch.0 < 128 && marks[switch.0 as usize]
+}
+
+/// Whether a change of the round may cover packets of the class at a marked switch.
+fn touches_walk(changes: &[Change], class: Class, marks: &[bool; 128]) -> bool
+    ensures { result ≡ touches_walk changes.now class marks.now }
+{
+    changes.iter().any(|change| may_cover(change, class) && is_marked(marks, change.switch()))
+}
+
+/// Whether a class has its certificate where each class had one in the round before, and these are the switches that its
+/// walks came to there: its pick was in force then, and no change of the round may be met on them. Not told where the round
+/// has more than `MOST_COMPARED` changes.
+fn is_unchanged(
+    round: &PreparedRound,
+    class: Class,
+    marks: &[bool; 128],
+    in_force: Option<OrderedPick>,
+) -> bool
+    ensures pick { result ≡ true → IsSomeAnd in_force (λ pick. pick.round ≤ round.now.number) }
+    ensures walk { result ≡ true → touches_walk round.now.changes.now class marks.now ≡ false }
+{
+    let Some(pick) = in_force else {
+        return false;
+    };
+    pick.round as usize <= round.number
+        && round.changes.len() <= MOST_COMPARED
+        && !touches_walk(round.changes, class, marks)
+}
+
+/// Walks the mixed walks of a class in a round of an ordered plan.
+fn walk_class(walk: &mut WalkRoom, of: &OrderedCase, round: &PreparedRound, numbered: NumberedClass)
+    requires class { IsNumbered (classes_for of.now.task) numbered }
+    requires round { IsRound of.now.task of.now.evidence round.now.number round.now.changes.now round.now.mixes.now }
+    ensures { IsWalked of.now.task.update round.now.number numbered.class.first numbered.class.entry walk.new }
+{
+    of.keeps_valid();
+    let case = of.case;
+    walk.walk(case.net, round.mixes, numbered.class);
+}
+
+/// The first reason why a class has no certificate in a round, where this is its pick in force. Where it has one, its mixed
+/// walks are those that were walked last.
 fn judge_class(
     walk: &mut WalkRoom,
-    case: &Case,
-    evidence: &OrderedEvidence,
-    duties: &Duties,
-    mixes: &[Mixed],
-    k: usize,
-    number: u32,
-    class: Class,
+    of: &OrderedCase,
+    round: &PreparedRound,
+    numbered: NumberedClass,
     in_force: Option<OrderedPick>,
 ) -> Option<Reason>
-    requires evidence { case.now.evidence ≡ Ordered evidence.now }
-    requires duties { duties.now ≡ record { demands = case.now.task.demands; classes = classes_for case.now.task } }
-    requires class { IsClass (classes_for case.now.task) number class }
-    requires round { k < length case.now.task.update.rounds }
-    requires loaded { AreLoaded case.now.task.update k mixes.now }
-    requires keeps { KeepVlansUpTo case.now.task.update k }
-    requires before { RoundsPass case.now.task case.now.evidence k }
-    requires pass { ChangesPass case.now.task case.now.evidence k }
-    requires in_force { IsKeptPick evidence.now.picks (suc k) number in_force }
-    ensures none { IfNone result (OrderedCertificate case.now.task.update evidence.now k number class.first class.entry
-        (duties_of case.now.task.demands class.entry class.first)) }
-    ensures some { IfSome result (IsFirstOfClass case.now.task evidence.now k number) }
+    requires class { IsNumbered (classes_for of.now.task) numbered }
+    requires round { IsRound of.now.task of.now.evidence round.now.number round.now.changes.now round.now.mixes.now }
+    requires in_force { IsKeptPick of.now.evidence.picks (suc round.now.number) numbered.number in_force }
+    ensures none { IfNone result (HasCertificate of.now.task (Ordered of.now.evidence) round.now.number numbered.number numbered.class) }
+    ensures some { IfSome result (IsFirstOfClass of.now.task of.now.evidence round.now.number numbered.number) }
+    ensures walked { IfNone result (IsWalked of.now.task.update round.now.number numbered.class.first numbered.class.entry walk.new) }
 {
-    keeps_valid(case, evidence);
+    of.keeps_valid();
     let Some(pick) = in_force else {
         return Some(Reason::NoNumbering {
-            round: (k + 1) as u32,
-            class: number,
+            round: (round.number + 1) as u32,
+            class: numbered.number,
         });
     };
-    if is_unchanged(case.plan.rounds.round(k), k, class, pick) {
-        return None;
-    }
-    walk.walk(case.net, mixes, class);
-    first_of_class(case, evidence, duties, walk, k, number, class, pick)
-}
-
-/// The first reason why a class of a map has no certificate in a round.
-fn judge_classes(
-    walk: &mut WalkRoom,
-    picks: &PicksInForce,
-    case: &Case,
-    evidence: &OrderedEvidence,
-    classes: &ClassMap,
-    duties: &Duties,
-    mixes: &[Mixed],
-    k: usize,
-) -> Option<Reason>
-    requires evidence { case.now.evidence ≡ Ordered evidence.now }
-    requires classes { classes.now ≡ classes_for case.now.task }
-    requires duties { duties.now ≡ record { demands = case.now.task.demands; classes = classes.now } }
-    requires round { k < length case.now.task.update.rounds }
-    requires loaded { AreLoaded case.now.task.update k mixes.now }
-    requires keeps { KeepVlansUpTo case.now.task.update k }
-    requires before { RoundsPass case.now.task case.now.evidence k }
-    requires pass { ChangesPass case.now.task case.now.evidence k }
-    requires stands { PicksStand evidence.now.picks (suc k) picks.now }
-    requires room { HasPickRoom classes.now picks.now }
-    ensures { IsFoundBelow case.now.task evidence.now k (class_count classes.now) result }
-{
-    keeps_valid(case, evidence);
-    let mut found = None;
-    for number in 0..classes.count() {
-        let class = classes.class(number);
-        let in_force = picks.of(number);
-        let reason = judge_class(
-            walk, case, evidence, duties, mixes, k, number, class, in_force,
-        );
-        found = first_of(found, reason);
-    }
-    found
+    walk_class(walk, of, round, numbered);
+    first_of_class(of, walk, round.number, numbered, pick)
 }
 
 impl OrderedRoom {
-    /// Room for the classes of a map.
+    /// Room for the classes of a map: less than 200 bytes for each.
     pub fn make(alloc: Global, classes: &ClassMap) -> Result<OrderedRoom, Memory>
-        ensures { IfOk result (HasPickRoom classes.now) }
+        ensures { IfOk result (HasClassRoom classes.now) }
     {
         Ok(OrderedRoom {
             walk: WalkRoom::make(alloc)?,
             picks: PicksInForce::make(alloc, classes.count())?,
+            classes: all_classes(alloc, classes)?,
+            came: vec![in alloc; [false; 128]; classes.count() as usize]?,
         })
     }
 
     /// Begins with the first round of a plan.
-    pub fn start(&mut self, case: &Case, evidence: &OrderedEvidence)
-        requires { case.now.evidence ≡ Ordered evidence.now }
-        ensures stands { PicksStand evidence.now.picks 0 self.new }
-        ensures room { length self.new.of_class ≡ length self.old.of_class }
+    pub fn start(&mut self, of: &OrderedCase)
+        requires { HasClassRoom (classes_for of.now.task) self.old }
+        ensures stands { PicksStand of.now.evidence.picks 0 self.new.picks }
+        ensures walks { WalksStand of.now.task.update 0 self.new }
+        ensures room { HasClassRoom (classes_for of.now.task) self.new }
     {
-        keeps_valid(case, evidence);
+        of.keeps_valid();
         self.picks.start();
+    }
+
+    /// The first reason why the class of this number has no certificate in a round.
+    fn judge_number(
+        &mut self,
+        of: &OrderedCase,
+        round: &PreparedRound,
+        number: u32,
+    ) -> Option<Reason>
+        requires number { number < class_count (classes_for of.now.task) }
+        requires round { IsRound of.now.task of.now.evidence round.now.number round.now.changes.now round.now.mixes.now }
+        requires stands { PicksStand of.now.evidence.picks (suc round.now.number) self.old.picks }
+        requires room { HasClassRoom (classes_for of.now.task) self.old }
+        requires walks { (class : Class) (marks : List Bool) → slice_get self.old.classes number ≡ Some class → slice_get self.old.came number ≡ Some marks
+            → HoldsWalksBefore of.now.task.update round.now.number class marks }
+        ensures none { (class : Class) → slice_get self.old.classes number ≡ Some class
+            → IfNone result (HasCertificate of.now.task (Ordered of.now.evidence) round.now.number number class) }
+        ensures some { IfSome result (IsFirstOfClass of.now.task of.now.evidence round.now.number number) }
+        ensures picks { self.new.picks ≡ self.old.picks }
+        ensures classes { self.new.classes ≡ self.old.classes }
+        ensures count { length self.new.came ≡ length self.old.came }
+        ensures others { (n : ℕ) → n ≢ number → slice_get self.new.came n ≡ slice_get self.old.came n }
+        ensures walks { IfNone result ((class : Class) (marks : List Bool) → slice_get self.new.classes number ≡ Some class → slice_get self.new.came number ≡ Some marks
+            → HoldsWalks of.now.task.update round.now.number class marks) }
+    {
+        of.keeps_valid();
+        let place = number as usize;
+        let class = self.classes[place];
+        let in_force = self.picks.of(number);
+        if is_unchanged(round, class, &self.came[place], in_force) {
+            return None;
+        }
+        let numbered = NumberedClass { number, class };
+        let reason = judge_class(&mut self.walk, of, round, numbered, in_force);
+        let marks = marks_of(self.walk.switches());
+        self.came[place] = marks;
+        reason
+    }
+
+    /// The first reason why a class has no certificate in a round.
+    fn judge_classes(&mut self, of: &OrderedCase, round: &PreparedRound) -> Option<Reason>
+        requires round { IsRound of.now.task of.now.evidence round.now.number round.now.changes.now round.now.mixes.now }
+        requires stands { PicksStand of.now.evidence.picks (suc round.now.number) self.old.picks }
+        requires room { HasClassRoom (classes_for of.now.task) self.old }
+        requires walks { WalksStand of.now.task.update round.now.number self.old }
+        ensures found { IsFoundBelow of.now.task of.now.evidence round.now.number (class_count (classes_for of.now.task)) result }
+        ensures picks { self.new.picks ≡ self.old.picks }
+        ensures room { HasClassRoom (classes_for of.now.task) self.new }
+        ensures walks { IfNone result (WalksStand of.now.task.update (suc round.now.number) self.new) }
+    {
+        of.keeps_valid();
+        let mut found = None;
+        for number in 0..of.class_count() {
+            let reason = self.judge_number(of, round, number);
+            found = first_of(found, reason);
+        }
+        found
     }
 
     /// The first reason why a class has no certificate in a round: by the reason's number, then by the class.
     /// The rounds are judged in their order, each once. A class whose pick was in force in the round before is walked only
-    /// where a change of the round covers its address, or the round has more than 64 changes.
-    pub fn judge_round(
-        &mut self,
-        case: &Case,
-        evidence: &OrderedEvidence,
-        classes: &ClassMap,
-        duties: &Duties,
-        mixes: &[Mixed],
-        k: usize,
-    ) -> Option<Reason>
-        requires evidence { case.now.evidence ≡ Ordered evidence.now }
-        requires classes { classes.now ≡ classes_for case.now.task }
-        requires duties { duties.now ≡ record { demands = case.now.task.demands; classes = classes.now } }
-        requires round { k < length case.now.task.update.rounds }
-        requires loaded { AreLoaded case.now.task.update k mixes.now }
-        requires keeps { KeepVlansUpTo case.now.task.update k }
-        requires before { RoundsPass case.now.task case.now.evidence k }
-        requires pass { ChangesPass case.now.task case.now.evidence k }
-        requires stands { PicksStand evidence.now.picks k self.old }
-        requires room { HasPickRoom classes.now self.old }
-        ensures none { IfNone result (ClassesPass case.now.task (Ordered evidence.now) k) }
-        ensures some { IfSome result (IsFirstFrom case.now.task (Ordered evidence.now) (classes_start k)) }
-        ensures stands { PicksStand evidence.now.picks (suc k) self.new }
-        ensures room { HasPickRoom classes.now self.new }
+    /// where a change of the round is at a switch that its walk of then came to, its prefix holds the class's address, and
+    /// its VLAN test admits the VLAN of the class's entry; or the round has more than 64 changes.
+    pub fn judge_round(&mut self, of: &OrderedCase, mixes: &[Mixed], k: usize) -> Option<Reason>
+        requires round { k < length of.now.task.update.rounds }
+        requires loaded { AreLoaded of.now.task.update k mixes.now }
+        requires before { RoundsPass of.now.task (Ordered of.now.evidence) k }
+        requires pass { ChangesPass of.now.task (Ordered of.now.evidence) k }
+        requires stands { PicksStand of.now.evidence.picks k self.old.picks }
+        requires walks { WalksStand of.now.task.update k self.old }
+        requires room { HasClassRoom (classes_for of.now.task) self.old }
+        ensures none { IfNone result (ClassesPass of.now.task (Ordered of.now.evidence) k) }
+        ensures some { IfSome result (IsFirstFrom of.now.task (Ordered of.now.evidence) (classes_start k)) }
+        ensures stands { PicksStand of.now.evidence.picks (suc k) self.new.picks }
+        ensures walks { IfNone result (WalksStand of.now.task.update (suc k) self.new) }
+        ensures room { HasClassRoom (classes_for of.now.task) self.new }
     {
-        keeps_valid(case, evidence);
+        of.keeps_valid();
+        let evidence = of.evidence;
         self.picks.advance(evidence.picks.list(), (k + 1) as u32);
-        judge_classes(
-            &mut self.walk,
-            &self.picks,
-            case,
-            evidence,
-            classes,
-            duties,
+        let case = of.case;
+        let round = PreparedRound {
+            number: k,
+            changes: case.plan.rounds.round(k),
             mixes,
-            k,
-        )
+        };
+        self.judge_classes(of, &round)
     }
 }

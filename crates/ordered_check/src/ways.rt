@@ -3,15 +3,16 @@ ghost use Rattle.std.specs.Prelude.{◌≡◌, ◌↔◌, ◌<◌, ◌≤◌, le
 ghost use Rattle.std.specs.Option.{option_copied};
 ghost use Rattle.net_base.specs.Members.{IsIn};
 ghost use Rattle.acyclic_numbering.specs.Heights.{IsEdge};
-ghost use Rattle.dest_classes.specs.Classes.{class_count, IsClass};
+ghost use Rattle.dest_classes.specs.Classes.{class_count};
 ghost use Rattle.demands.specs.Duties.{duties_of};
 ghost use Rattle.certificates.specs.Ordered.{chain_positions, positions};
+ghost use Rattle.check_reasons.specs.Numbered.{IsNumbered};
 ghost use Rattle.ordered_check.specs.Judged.{IsWayRound, sets_of, set_before, AreGuardedBelow, IsFirstWayRound};
 
 use crate::least::least_way_round;
 use acyclic_numbering::Edge;
+use check_reasons::NumberedClass;
 use demands::Duties;
-use dest_classes::Class;
 use net_base::SwitchId;
 use waypoint_evidence::Before;
 
@@ -85,12 +86,12 @@ fn from_place(indices: &[u64], place: usize) -> &[u64]
 }
 
 /// Whether there are so many positions in the chains of a class.
-pub(crate) fn has_positions(duties: &Duties, number: u32, class: Class, count: usize) -> bool
-    requires number { number < class_count duties.now.classes }
-    requires class { IsClass duties.now.classes number class }
-    ensures { IsTrue result ↔ (count ≡ length (flat_map (λ chain. chain) (duties_of duties.now.demands class.entry class.first).chains)) }
+pub(crate) fn has_positions(duties: &Duties, numbered: NumberedClass, count: usize) -> bool
+    requires number { numbered.number < class_count duties.now.classes }
+    requires class { IsNumbered duties.now.classes numbered }
+    ensures { IsTrue result ↔ (count ≡ length (flat_map (λ chain. chain) (duties_of duties.now.demands numbered.class.entry numbered.class.first).chains)) }
 {
-    let _ = class;
+    let number = numbered.number;
     let mut left = count;
     for i in 0..duties.chains(number) {
         let chain = duties.chain(number, i);
@@ -107,24 +108,24 @@ pub(crate) fn first_way_round(
     steps: &[Edge],
     leaving: &[SwitchId],
     duties: &Duties,
-    number: u32,
-    class: Class,
+    numbered: NumberedClass,
     befores: &[Before],
     indices: &[u64],
 ) -> Option<WayRound>
-    requires start { class.entry.switch.0 < 128 }
+    requires start { numbered.class.entry.switch.0 < 128 }
     requires steps { All (λ e. (e.from.0 < 128) × (e.to.0 < 128)) steps.now }
     requires leaving { All (λ s. s.0 < 128) leaving.now }
-    requires number { number < class_count duties.now.classes }
-    requires class { IsClass duties.now.classes number class }
+    requires number { numbered.number < class_count duties.now.classes }
+    requires class { IsNumbered duties.now.classes numbered }
     requires indices { All (λ i. i < length befores.now) indices.now }
-    requires count { length indices.now ≡ length (flat_map (λ chain. chain) (duties_of duties.now.demands class.entry class.first).chains) }
-    ensures none { IfNone result (AreGuardedBelow (IsWayRound class.entry.switch (IsEdge steps.now) (λ s. IsIn s leaving.now))
-        (positions (duties_of duties.now.demands class.entry class.first).chains (sets_of befores.now indices.now)) (length indices.now)) }
-    ensures some { IfSome result (IsFirstWayRound (IsWayRound class.entry.switch (IsEdge steps.now) (λ s. IsIn s leaving.now))
-        (positions (duties_of duties.now.demands class.entry class.first).chains (sets_of befores.now indices.now))) }
+    requires count { length indices.now ≡ length (flat_map (λ chain. chain) (duties_of duties.now.demands numbered.class.entry numbered.class.first).chains) }
+    ensures none { IfNone result (AreGuardedBelow (IsWayRound numbered.class.entry.switch (IsEdge steps.now) (λ s. IsIn s leaving.now))
+        (positions (duties_of duties.now.demands numbered.class.entry numbered.class.first).chains (sets_of befores.now indices.now)) (length indices.now)) }
+    ensures some { IfSome result (IsFirstWayRound (IsWayRound numbered.class.entry.switch (IsEdge steps.now) (λ s. IsIn s leaving.now))
+        (positions (duties_of duties.now.demands numbered.class.entry numbered.class.first).chains (sets_of befores.now indices.now))) }
 {
-    let start = class.entry.switch;
+    let number = numbered.number;
+    let start = numbered.class.entry.switch;
     let mut at = 0;
     for i in 0..duties.chains(number) {
         let chain = duties.chain(number, i);

@@ -2,7 +2,6 @@
 use Rattle.std.specs.Prelude.{◌≡◌, ℕ, suc, ◌<◌, length, if◌then◌else◌}
 use Rattle.net_base.specs.Members.{IsSameSet}
 use Rattle.net_base.specs.declared.ids.SwitchId.{SwitchId}
-use Rattle.topology.specs.Networks.{Network}
 use Rattle.flow_rules.specs.Tables.{rules_at}
 use Rattle.path_walk.specs.UserConfigs.{IsUserConfig}
 use Rattle.demands.specs.Good.{HasGoodPaths}
@@ -13,6 +12,7 @@ use Rattle.certificates.specs.declared.Evidence.{Evidence}
 use Rattle.certificates.specs.declared.Evidence.TheVariants.{Ordered, TwoPhase}
 use Rattle.check_reasons.specs.Cases.{CaseView}
 use Rattle.plan_checker.specs.Fits.{RoomView, Fits}
+use Rattle.ordered_check.specs.Kept.{WalksStand}
 use Rattle.ordered_check.specs.Picks.{PicksStand}
 use Rattle.round_tables.specs.Present.{StandsBefore}
 use Rattle.two_phase_check.specs.InForce.{LabelsStand}
@@ -34,13 +34,13 @@ pub record EndsAreGood (t : Task) : Type 0 where
 abbrev pub EndsAtNew : Task → Type 0
 EndsAtNew t = (s : SwitchId) → IsSameSet (rules_at (tables_before t.update (length t.update.rounds)) s) (rules_at t.new s)
 
--- what is kept of the picks stands before round k
-abbrev pub EvidenceStands : Network → Evidence → ℕ → RoomView → Type 0
-EvidenceStands net (Ordered e) k room = PicksStand e.picks k room.ordered
-EvidenceStands net (TwoPhase e) k room = LabelsStand net e k room.two_phase
+-- what is kept of the picks, and of the walks of an ordered plan, stands before round k
+abbrev pub EvidenceStands : Task → Evidence → ℕ → RoomView → Type 0
+EvidenceStands t (Ordered e) k room = PicksStand e.picks k room.ordered.picks × WalksStand t.update k room.ordered
+EvidenceStands t (TwoPhase e) k room = LabelsStand t.update.net e k room.two_phase
 
 -- the rooms fit the case and stand before round k
 pub record IsReady (c : CaseView) (k : ℕ) (room : RoomView) : Type 0 where
   pub fits : Fits c.task room
   pub tables : StandsBefore c.task.update k room.present
-  pub evidence : EvidenceStands c.task.update.net c.evidence k room
+  pub evidence : EvidenceStands c.task c.evidence k room

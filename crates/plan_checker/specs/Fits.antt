@@ -8,7 +8,7 @@ use Rattle.dest_classes.specs.declared.ClassFault.TheVariants as class
 use Rattle.demands.specs.Duties.{ClassDuties}
 use Rattle.certificates.specs.Certified.{Task, classes_for}
 use Rattle.round_tables.specs.Present.{PresentState, HasRoom}
-use Rattle.ordered_check.specs.Picks.{PicksState, HasPickRoom}
+use Rattle.ordered_check.specs.Kept.{OrderedState, HasClassRoom}
 use Rattle.two_phase_check.specs.declared.labels.LabelsInForce.{LabelsInForce}
 use Rattle.plan_checker.specs.declared.room.RoomFault.{RoomFault}
 use Rattle.plan_checker.specs.declared.room.RoomFault.TheVariants.{TooManyClasses, Memory}
@@ -18,7 +18,7 @@ pub record RoomView : Type 0 where
   pub classes : ClassList
   pub duties : ClassDuties
   pub present : PresentState
-  pub ordered : PicksState
+  pub ordered : OrderedState
   pub two_phase : LabelsInForce
   pub path : RoomState
 
@@ -27,7 +27,7 @@ pub record Fits (t : Task) (room : RoomView) : Type 0 where
   pub classes : room.classes ≡ classes_for t
   pub duties : room.duties ≡ record { demands = t.demands; classes = room.classes }
   pub present : HasRoom t.update.net t.update.rounds room.present
-  pub ordered : HasPickRoom room.classes room.ordered
+  pub ordered : HasClassRoom (classes_for t) room.ordered
   pub path : room.path.switches ≡ switch_count t.update.net
 
 -- why there is no room where there is no class map

@@ -23,6 +23,7 @@ use check_reasons::{Case, Reason, Verdict};
 use config_check::{Breaks, check_config};
 use demands::Demands;
 use flow_rules::Config;
+use ordered_check::OrderedCase;
 use topology::Net;
 
 /// The new or the old configuration.
@@ -74,7 +75,7 @@ pub fn end_reason(case: &Case, room: &mut CheckRoom) -> Option<Reason>
 fn classes_reason(case: &Case, k: usize, room: &mut CheckRoom) -> Option<Reason>
     requires within { k < length case.now.task.update.rounds }
     requires fits { Fits case.now.task room.old }
-    requires evidence { EvidenceStands case.now.task.update.net case.now.evidence k room.old }
+    requires evidence { EvidenceStands case.now.task case.now.evidence k room.old }
     requires loaded { AreLoaded case.now.task.update k room.old.present.mixes }
     requires ends { EndsAreGood case.now.task }
     requires before { RoundsPass case.now.task case.now.evidence k }
@@ -82,18 +83,19 @@ fn classes_reason(case: &Case, k: usize, room: &mut CheckRoom) -> Option<Reason>
     ensures none { IfNone result (ClassesPass case.now.task case.now.evidence k) }
     ensures some { IfSome result (IsFirstFrom case.now.task case.now.evidence (classes_start k)) }
     ensures fits { Fits case.now.task room.new }
-    ensures evidence { EvidenceStands case.now.task.update.net case.now.evidence (suc k) room.new }
+    ensures evidence { IfNone result (EvidenceStands case.now.task case.now.evidence (suc k) room.new) }
     ensures present { room.new.present ≡ room.old.present }
 {
     match &case.plan.evidence {
-        Evidence::Ordered(evidence) => room.ordered.judge_round(
-            case,
-            evidence,
-            &room.classes,
-            &room.duties,
-            room.present.mixes(),
-            k,
-        ),
+        Evidence::Ordered(evidence) => {
+            let of = OrderedCase {
+                case,
+                evidence,
+                classes: &room.classes,
+                duties: &room.duties,
+            };
+            room.ordered.judge_round(&of, room.present.mixes(), k)
+        }
         Evidence::TwoPhase(evidence) => room
             .two_phase
             .judge_round(case, evidence, &room.classes, room.present.mixes(), k),
@@ -128,7 +130,15 @@ fn start(case: &Case, room: &mut CheckRoom)
 {
     room.present.start(case);
     match &case.plan.evidence {
-        Evidence::Ordered(evidence) => room.ordered.start(case, evidence),
+        Evidence::Ordered(evidence) => {
+            let of = OrderedCase {
+                case,
+                evidence,
+                classes: &room.classes,
+                duties: &room.duties,
+            };
+            room.ordered.start(&of);
+        }
         Evidence::TwoPhase(_) => room.two_phase.start(),
     }
 }

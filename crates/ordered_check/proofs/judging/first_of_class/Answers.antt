@@ -83,18 +83,18 @@ counted t befores class indices named demands is same =
       λ h. long ∙ sym len ∙ h ∙ all,
     )
 
-pub shared_at-shared-requires : goal.shared_at-shared-requires
-shared_at-shared-requires c = use_within c.args.case.now.task.update.net (length c.args.case.now.task.update.rounds) c.args.evidence.now c.keeps_valid.ensures.valid (suc c.args.k) c.args.number c.args.pick c.requires.in_force
+pub shared-shared-requires : goal.shared-shared-requires
+shared-shared-requires c = use_within c.args.of.now.task.update.net (length c.args.of.now.task.update.rounds) c.args.of.now.evidence c.keeps_valid.ensures.valid (suc c.args.k) c.args.numbered.number c.args.pick c.requires.in_force
 
-pub numbering_of-numbering-requires : goal.numbering_of-numbering-requires
-numbering_of-numbering-requires c =
-    (valid_use c.args.case.now.task.update.net (length c.args.case.now.task.update.rounds) c.args.evidence.now c.keeps_valid.ensures.valid c.args.pick.shared c.shared_at-shared.result.now c.shared_at-shared.ensures).0
+pub numbering-numbering-requires : goal.numbering-numbering-requires
+numbering-numbering-requires c =
+    (valid_use c.args.of.now.task.update.net (length c.args.of.now.task.update.rounds) c.args.of.now.evidence c.keeps_valid.ensures.valid c.args.pick.shared c.shared-shared.result.now c.shared-shared.ensures).0
 
 pub least_not_lower-requires : goal.least_not_lower-requires
 least_not_lower-requires c =
-    let net = c.args.case.now.task.update.net in
-    let numbers = c.numbering_of-numbering.result.now in
-    let count = numbering_length net (length c.args.case.now.task.update.rounds) c.args.evidence.now c.keeps_valid.ensures.valid c.shared_at-shared.result.now.numbering numbers c.numbering_of-numbering.ensures in
+    let net = c.args.of.now.task.update.net in
+    let numbers = c.numbering-numbering.result.now in
+    let count = numbering_length net (length c.args.of.now.task.update.rounds) c.args.of.now.evidence c.keeps_valid.ensures.valid c.shared-shared.result.now.numbering numbers c.numbering-numbering.ensures in
     All-from_recursion (λ (e : Edge). (e.from.0 < length numbers) × (e.to.0 < length numbers)) c.steps-steps.result.now
     (each_weaker (λ (e : Edge). (e.from.0 < switch_count net) × (e.to.0 < switch_count net)) (λ (e : Edge). (e.from.0 < length numbers) × (e.to.0 < length numbers))
     (λ e h. let a = h.0 in let b = h.1 in (omega arith, omega arith)) c.steps-steps.result.now
@@ -102,72 +102,72 @@ least_not_lower-requires c =
 
 pub returns-in-Some-clause-some : goal.returns-in-Some-clause-some
 returns-in-Some-clause-some c =
-    let t = c.args.case.now.task in
-    let e = c.args.evidence.now in
-    let shared = c.shared_at-shared.result.now in
-    let numbers = c.numbering_of-numbering.result.now in
+    let t = c.args.of.now.task in
+    let e = c.args.of.now.evidence in
+    let shared = c.shared-shared.result.now in
+    let numbers = c.numbering-numbering.result.now in
     let noted = c.args.walk.now in
-    let n = c.args.number in
-    let j = setting t e c.args.k n c.args.pick c.args.class numbers shared noted c.keeps_valid.ensures.valid c.requires.class c.requires.round c.requires.in_force c.requires.walked c.shared_at-shared.ensures
-    c.numbering_of-numbering.ensures in
+    let n = c.args.numbered.number in
+    let j = setting t e c.args.k n c.args.pick c.args.numbered.class numbers shared noted c.keeps_valid.ensures.valid c.requires.class c.requires.round c.requires.in_force c.requires.walked c.shared-shared.ensures
+    c.numbering-numbering.ensures in
     at_round (λ r. IsFirstOfClass t e c.args.k n (NotLower r n c.in-Some.switch)) c.args.k
-    (not_lower_first t e c.args.k n c.args.class numbers (sets_of e.befores shared.befores) noted j c.in-Some.switch
+    (not_lower_first t e c.args.k n c.args.numbered.class numbers (sets_of e.befores shared.befores) noted j c.in-Some.switch
     (subst (λ (es : List Edge). IsLeastOf (HasEdgeUp es numbers) (Some c.in-Some.switch)) c.steps-steps.ensures c.in-Some.ensures))
 
 pub least_drop-requires-clause-number : goal.least_drop-requires-clause-number
-least_drop-requires-clause-number c = class_counted (classes_for c.args.case.now.task) c.args.duties.now c.args.case.now.task.demands c.args.number c.args.class c.requires.duties c.requires.class
+least_drop-requires-clause-number c = class_counted (classes_for c.args.of.now.task) c.class_duties-duties.result.now c.args.of.now.task.demands c.args.numbered.number c.args.numbered.class c.class_duties-duties.ensures c.requires.class
 
 pub has_positions-requires-clause-number : goal.has_positions-requires-clause-number
-has_positions-requires-clause-number c = class_counted (classes_for c.args.case.now.task) c.args.duties.now c.args.case.now.task.demands c.args.number c.args.class c.requires.duties c.requires.class
+has_positions-requires-clause-number c = class_counted (classes_for c.args.of.now.task) c.class_duties-duties.result.now c.args.of.now.task.demands c.args.numbered.number c.args.numbered.class c.class_duties-duties.ensures c.requires.class
 
 pub first_way_round-requires-clause-number : goal.first_way_round-requires-clause-number
-first_way_round-requires-clause-number c = class_counted (classes_for c.args.case.now.task) c.args.duties.now c.args.case.now.task.demands c.args.number c.args.class c.requires.duties c.requires.class
+first_way_round-requires-clause-number c = class_counted (classes_for c.args.of.now.task) c.class_duties-duties.result.now c.args.of.now.task.demands c.args.numbered.number c.args.numbered.class c.class_duties-duties.ensures c.requires.class
 
 pub returns-in-Some-least_drop-clause-some : goal.returns-in-Some-least_drop-clause-some
 returns-in-Some-least_drop-clause-some c =
-    let t = c.args.case.now.task in
-    let e = c.args.evidence.now in
-    let shared = c.shared_at-shared.result.now in
-    let numbers = c.numbering_of-numbering.result.now in
+    let t = c.args.of.now.task in
+    let e = c.args.of.now.evidence in
+    let shared = c.shared-shared.result.now in
+    let numbers = c.numbering-numbering.result.now in
     let noted = c.args.walk.now in
-    let n = c.args.number in
+    let n = c.args.numbered.number in
     let s = c.in-Some-least_drop.switch in
-    let class = c.args.class in
-    let j = setting t e c.args.k n c.args.pick class numbers shared noted c.keeps_valid.ensures.valid c.requires.class c.requires.round c.requires.in_force c.requires.walked c.shared_at-shared.ensures
-    c.numbering_of-numbering.ensures in
+    let class = c.args.numbered.class in
+    let j = setting t e c.args.k n c.args.pick class numbers shared noted c.keeps_valid.ensures.valid c.requires.class c.requires.round c.requires.in_force c.requires.walked c.shared-shared.ensures
+    c.numbering-numbering.ensures in
     let falls = subst (λ (es : List Edge). (x : SwitchId) → ¬ HasEdgeUp es numbers x) c.steps-steps.ensures c.in_default.ensures in
-    let demands : c.args.duties.now.demands ≡ t.demands = ap (λ (d : ClassDuties). d.demands) c.requires.duties in
+    let demands : c.class_duties-duties.result.now.demands ≡ t.demands = ap (λ (d : ClassDuties). d.demands) c.class_duties-duties.ensures in
     let least = subst (λ (ds : List DemandView). IsLeastOf (λ x. IsTrue (duties_of ds class.entry class.first).arrive × IsIn x noted.dropping) (Some s)) demands
-    (subst (λ (xs : List SwitchId). IsLeastOf (λ x. IsTrue (duties_of c.args.duties.now.demands class.entry class.first).arrive × IsIn x xs) (Some s)) c.dropping.ensures c.in-Some-least_drop.ensures) in
+    (subst (λ (xs : List SwitchId). IsLeastOf (λ x. IsTrue (duties_of c.class_duties-duties.result.now.demands class.entry class.first).arrive × IsIn x xs) (Some s)) c.dropping.ensures c.in-Some-least_drop.ensures) in
     at_round (λ r. IsFirstOfClass t e c.args.k n (MayDrop r n s)) c.args.k
     (may_drop_first t e c.args.k n class numbers (sets_of e.befores shared.befores) noted j falls s least)
 
 pub returns-then-not-has_positions-clause-some : goal.returns-then-not-has_positions-clause-some
 returns-then-not-has_positions-clause-some c =
-    let t = c.args.case.now.task in
-    let e = c.args.evidence.now in
-    let shared = c.shared_at-shared.result.now in
-    let numbers = c.numbering_of-numbering.result.now in
+    let t = c.args.of.now.task in
+    let e = c.args.of.now.evidence in
+    let shared = c.shared-shared.result.now in
+    let numbers = c.numbering-numbering.result.now in
     let noted = c.args.walk.now in
-    let n = c.args.number in
-    let class = c.args.class in
-    let j = setting t e c.args.k n c.args.pick class numbers shared noted c.keeps_valid.ensures.valid c.requires.class c.requires.round c.requires.in_force c.requires.walked c.shared_at-shared.ensures
-    c.numbering_of-numbering.ensures in
+    let n = c.args.numbered.number in
+    let class = c.args.numbered.class in
+    let j = setting t e c.args.k n c.args.pick class numbers shared noted c.keeps_valid.ensures.valid c.requires.class c.requires.round c.requires.in_force c.requires.walked c.shared-shared.ensures
+    c.numbering-numbering.ensures in
     let falls = subst (λ (es : List Edge). (x : SwitchId) → ¬ HasEdgeUp es numbers x) c.steps-steps.ensures c.in_default.ensures in
-    let demands : c.args.duties.now.demands ≡ t.demands = ap (λ (d : ClassDuties). d.demands) c.requires.duties in
+    let demands : c.class_duties-duties.result.now.demands ≡ t.demands = ap (λ (d : ClassDuties). d.demands) c.class_duties-duties.ensures in
     let arrives = subst (λ (ds : List DemandView). (x : SwitchId) → ¬ (IsTrue (duties_of ds class.entry class.first).arrive × IsIn x noted.dropping)) demands
-    (subst (λ (xs : List SwitchId). (x : SwitchId) → ¬ (IsTrue (duties_of c.args.duties.now.demands class.entry class.first).arrive × IsIn x xs)) c.dropping.ensures c.in_default-least_drop.ensures) in
-    let count = counted t e.befores class c.list-indices.result.now shared.befores c.args.duties.now.demands c.list-indices.ensures demands in
+    (subst (λ (xs : List SwitchId). (x : SwitchId) → ¬ (IsTrue (duties_of c.class_duties-duties.result.now.demands class.entry class.first).arrive × IsIn x xs)) c.dropping.ensures c.in_default-least_drop.ensures) in
+    let count = counted t e.befores class c.list-indices.result.now shared.befores c.class_duties-duties.result.now.demands c.list-indices.ensures demands in
     at_round (λ r. IsFirstOfClass t e c.args.k n (NoBefore r n)) c.args.k
     (no_before_first t e c.args.k n class numbers (sets_of e.befores shared.befores) noted j falls arrives
     (λ same. false≢true (sym c.if-not-has_positions.true ∙ c.has_positions.ensures.1 (count.0 same))))
 
 pub first_way_round-requires-clause-indices : goal.first_way_round-requires-clause-indices
 first_way_round-requires-clause-indices c =
-    let e = c.args.evidence.now in
-    let valid = valid_use c.args.case.now.task.update.net (length c.args.case.now.task.update.rounds) e c.keeps_valid.ensures.valid c.args.pick.shared c.shared_at-shared.result.now c.shared_at-shared.ensures in
-    All-from_recursion (λ (i : ℕ). i < length c.list-befores.result.now) c.list-indices.result.now
-    (subst (λ (bs : List (List ℕ)). AllByRecursion (λ (i : ℕ). i < length bs) c.list-indices.result.now) (sym c.list-befores.ensures)
+    let e = c.args.of.now.evidence in
+    let valid = valid_use c.args.of.now.task.update.net (length c.args.of.now.task.update.rounds) e c.keeps_valid.ensures.valid c.args.pick.shared c.shared-shared.result.now c.shared-shared.ensures in
+    All-from_recursion (λ (i : ℕ). i < length c.befores-befores.result.now) c.list-indices.result.now
+    (subst (λ (bs : List (List ℕ)). AllByRecursion (λ (i : ℕ). i < length bs) c.list-indices.result.now) (sym c.befores-befores.ensures)
     (subst (AllByRecursion (λ (i : ℕ). i < length e.befores)) (sym c.list-indices.ensures) valid.2))
 
 -- what is found with lists that are those of the case
@@ -193,43 +193,43 @@ module _ (class : Class) (steps steps_ : List Edge) (leaving leaving_ : List Swi
 
 pub returns-in_err-way-clause-none : goal.returns-in_err-way-clause-none
 returns-in_err-way-clause-none c =
-    let t = c.args.case.now.task in
-    let e = c.args.evidence.now in
-    let shared = c.shared_at-shared.result.now in
-    let numbers = c.numbering_of-numbering.result.now in
+    let t = c.args.of.now.task in
+    let e = c.args.of.now.evidence in
+    let shared = c.shared-shared.result.now in
+    let numbers = c.numbering-numbering.result.now in
     let noted = c.args.walk.now in
-    let n = c.args.number in
-    let class = c.args.class in
-    let j = setting t e c.args.k n c.args.pick class numbers shared noted c.keeps_valid.ensures.valid c.requires.class c.requires.round c.requires.in_force c.requires.walked c.shared_at-shared.ensures
-    c.numbering_of-numbering.ensures in
+    let n = c.args.numbered.number in
+    let class = c.args.numbered.class in
+    let j = setting t e c.args.k n c.args.pick class numbers shared noted c.keeps_valid.ensures.valid c.requires.class c.requires.round c.requires.in_force c.requires.walked c.shared-shared.ensures
+    c.numbering-numbering.ensures in
     let falls = subst (λ (es : List Edge). (x : SwitchId) → ¬ HasEdgeUp es numbers x) c.steps-steps.ensures c.in_default.ensures in
-    let demands : c.args.duties.now.demands ≡ t.demands = ap (λ (d : ClassDuties). d.demands) c.requires.duties in
+    let demands : c.class_duties-duties.result.now.demands ≡ t.demands = ap (λ (d : ClassDuties). d.demands) c.class_duties-duties.ensures in
     let arrives = subst (λ (ds : List DemandView). (x : SwitchId) → ¬ (IsTrue (duties_of ds class.entry class.first).arrive × IsIn x noted.dropping)) demands
-    (subst (λ (xs : List SwitchId). (x : SwitchId) → ¬ (IsTrue (duties_of c.args.duties.now.demands class.entry class.first).arrive × IsIn x xs)) c.dropping.ensures c.in_default-least_drop.ensures) in
-    let count = (counted t e.befores class c.list-indices.result.now shared.befores c.args.duties.now.demands c.list-indices.ensures demands).1 (c.has_positions.ensures.0 c.if-not-has_positions.false) in
-    let guarded = guarded_there class c.steps-steps.result.now noted.steps c.leaving.result.now noted.leaving c.args.duties.now.demands t.demands c.list-befores.result.now e.befores c.list-indices.result.now shared.befores
-    c.steps-steps.ensures c.leaving.ensures demands c.list-befores.ensures c.list-indices.ensures c.in_err-way.ensures.none in
+    (subst (λ (xs : List SwitchId). (x : SwitchId) → ¬ (IsTrue (duties_of c.class_duties-duties.result.now.demands class.entry class.first).arrive × IsIn x xs)) c.dropping.ensures c.in_default-least_drop.ensures) in
+    let count = (counted t e.befores class c.list-indices.result.now shared.befores c.class_duties-duties.result.now.demands c.list-indices.ensures demands).1 (c.has_positions.ensures.0 c.if-not-has_positions.false) in
+    let guarded = guarded_there class c.steps-steps.result.now noted.steps c.leaving.result.now noted.leaving c.class_duties-duties.result.now.demands t.demands c.befores-befores.result.now e.befores c.list-indices.result.now shared.befores
+    c.steps-steps.ensures c.leaving.ensures demands c.befores-befores.ensures c.list-indices.ensures c.in_err-way.ensures.none in
     none_holds c.from_residual.result (OrderedCertificate t.update e c.args.k n class.first class.entry (class_duties t class))
     (certificate_of t e c.args.k n class numbers (sets_of e.befores shared.befores) noted j falls arrives count guarded)
 
 pub returns-clause-some : goal.returns-clause-some
 returns-clause-some c =
-    let t = c.args.case.now.task in
-    let e = c.args.evidence.now in
-    let shared = c.shared_at-shared.result.now in
-    let numbers = c.numbering_of-numbering.result.now in
+    let t = c.args.of.now.task in
+    let e = c.args.of.now.evidence in
+    let shared = c.shared-shared.result.now in
+    let numbers = c.numbering-numbering.result.now in
     let noted = c.args.walk.now in
-    let n = c.args.number in
-    let class = c.args.class in
+    let n = c.args.numbered.number in
+    let class = c.args.numbered.class in
     let way = c.in_ok-way.way in
-    let j = setting t e c.args.k n c.args.pick class numbers shared noted c.keeps_valid.ensures.valid c.requires.class c.requires.round c.requires.in_force c.requires.walked c.shared_at-shared.ensures
-    c.numbering_of-numbering.ensures in
+    let j = setting t e c.args.k n c.args.pick class numbers shared noted c.keeps_valid.ensures.valid c.requires.class c.requires.round c.requires.in_force c.requires.walked c.shared-shared.ensures
+    c.numbering-numbering.ensures in
     let falls = subst (λ (es : List Edge). (x : SwitchId) → ¬ HasEdgeUp es numbers x) c.steps-steps.ensures c.in_default.ensures in
-    let demands : c.args.duties.now.demands ≡ t.demands = ap (λ (d : ClassDuties). d.demands) c.requires.duties in
+    let demands : c.class_duties-duties.result.now.demands ≡ t.demands = ap (λ (d : ClassDuties). d.demands) c.class_duties-duties.ensures in
     let arrives = subst (λ (ds : List DemandView). (x : SwitchId) → ¬ (IsTrue (duties_of ds class.entry class.first).arrive × IsIn x noted.dropping)) demands
-    (subst (λ (xs : List SwitchId). (x : SwitchId) → ¬ (IsTrue (duties_of c.args.duties.now.demands class.entry class.first).arrive × IsIn x xs)) c.dropping.ensures c.in_default-least_drop.ensures) in
-    let count = (counted t e.befores class c.list-indices.result.now shared.befores c.args.duties.now.demands c.list-indices.ensures demands).1 (c.has_positions.ensures.0 c.if-not-has_positions.false) in
-    let first = first_there class c.steps-steps.result.now noted.steps c.leaving.result.now noted.leaving c.args.duties.now.demands t.demands c.list-befores.result.now e.befores c.list-indices.result.now shared.befores
-    c.steps-steps.ensures c.leaving.ensures demands c.list-befores.ensures c.list-indices.ensures way c.in_ok-way.ensures.some in
+    (subst (λ (xs : List SwitchId). (x : SwitchId) → ¬ (IsTrue (duties_of c.class_duties-duties.result.now.demands class.entry class.first).arrive × IsIn x xs)) c.dropping.ensures c.in_default-least_drop.ensures) in
+    let count = (counted t e.befores class c.list-indices.result.now shared.befores c.class_duties-duties.result.now.demands c.list-indices.ensures demands).1 (c.has_positions.ensures.0 c.if-not-has_positions.false) in
+    let first = first_there class c.steps-steps.result.now noted.steps c.leaving.result.now noted.leaving c.class_duties-duties.result.now.demands t.demands c.befores-befores.result.now e.befores c.list-indices.result.now shared.befores
+    c.steps-steps.ensures c.leaving.ensures demands c.befores-befores.ensures c.list-indices.ensures way c.in_ok-way.ensures.some in
     at_round (λ r. IsFirstOfClass t e c.args.k n (Bypass r n way.waypoint way.switch)) c.args.k
     (bypass_first t e c.args.k n class numbers (sets_of e.befores shared.befores) noted j falls arrives count way first)

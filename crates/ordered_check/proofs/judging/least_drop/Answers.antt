@@ -7,6 +7,6 @@ use Rattle.ordered_check.proofs.judging.least_drop.Goals as goal
 
 pub returns-then-must_arrive : goal.returns-then-must_arrive
 returns-then-must_arrive c =
-    let arrive : IsTrue (duties_of c.args.duties.now.demands c.args.class.entry c.args.class.first).arrive = sym (c.must_arrive.ensures.arrive c.args.class c.requires.class) ∙ c.if-must_arrive.true in
-    least_iff (λ (s : SwitchId). IsIn s c.args.dropping.now) (λ (s : SwitchId). IsTrue (duties_of c.args.duties.now.demands c.args.class.entry c.args.class.first).arrive × IsIn s c.args.dropping.now) c.least_of.result
+    let arrive : IsTrue (duties_of c.args.duties.now.demands c.args.numbered.class.entry c.args.numbered.class.first).arrive = sym (c.must_arrive.ensures.arrive c.args.numbered.class c.requires.class) ∙ c.if-must_arrive.true in
+    least_iff (λ (s : SwitchId). IsIn s c.args.dropping.now) (λ (s : SwitchId). IsTrue (duties_of c.args.duties.now.demands c.args.numbered.class.entry c.args.numbered.class.first).arrive × IsIn s c.args.dropping.now) c.least_of.result
     (λ s i. (arrive, i)) (λ s w. w.1) c.least_of.ensures

@@ -17,16 +17,16 @@ sets_rest befores indices rest at taken is at_is =
 
 pub from_place-rest-requires : goal.from_place-rest-requires
 from_place-rest-requires c =
-    let chains = (duties_of c.args.duties.now.demands c.args.class.entry c.args.class.first).chains in
-    let fits = together_take chains c.loop-i.i c.chain-chain.result.now (c.chain-chain.ensures.chain c.args.class c.requires.class) in
+    let chains = (duties_of c.args.duties.now.demands c.args.numbered.class.entry c.args.numbered.class.first).chains in
+    let fits = together_take chains c.loop-i.i c.chain-chain.result.now (c.chain-chain.ensures.chain c.args.numbered.class c.requires.class) in
     let at_is = c.loop-i.invariant.at_is in
     let count : length c.args.indices.now ≡ together chains = c.requires.count in
     omega arith
 
 pub way_round_chain-requires-clause-enough : goal.way_round_chain-requires-clause-enough
 way_round_chain-requires-clause-enough c =
-    let chains = (duties_of c.args.duties.now.demands c.args.class.entry c.args.class.first).chains in
-    let fits = together_take chains c.loop-i.i c.chain-chain.result.now (c.chain-chain.ensures.chain c.args.class c.requires.class) in
+    let chains = (duties_of c.args.duties.now.demands c.args.numbered.class.entry c.args.numbered.class.first).chains in
+    let fits = together_take chains c.loop-i.i c.chain-chain.result.now (c.chain-chain.ensures.chain c.args.numbered.class c.requires.class) in
     let at_is = c.loop-i.invariant.at_is in
     let count : length c.args.indices.now ≡ together chains = c.requires.count in
     let rest = ap (λ (xs : List ℕ). length xs) c.from_place-rest.ensures ∙ length-drop c.loop-i.at c.args.indices.now in
@@ -34,33 +34,33 @@ way_round_chain-requires-clause-enough c =
 
 pub overflow_add-at : goal.overflow_add-at
 overflow_add-at c =
-    let chains = (duties_of c.args.duties.now.demands c.args.class.entry c.args.class.first).chains in
-    let fits = together_take chains c.loop-i.i c.chain-chain.result.now (c.chain-chain.ensures.chain c.args.class c.requires.class) in
+    let chains = (duties_of c.args.duties.now.demands c.args.numbered.class.entry c.args.numbered.class.first).chains in
+    let fits = together_take chains c.loop-i.i c.chain-chain.result.now (c.chain-chain.ensures.chain c.args.numbered.class c.requires.class) in
     let at_is = c.loop-i.invariant.at_is in
     let count : length c.args.indices.now ≡ together chains = c.requires.count in
     omega arith
 
 pub returns-in-Some-clause-some : goal.returns-in-Some-clause-some
 returns-in-Some-clause-some c =
-    let chains = (duties_of c.args.duties.now.demands c.args.class.entry c.args.class.first).chains in
-    let around = IsWayRound c.args.class.entry.switch (IsEdge c.args.steps.now) (λ s. IsIn s c.args.leaving.now) in
+    let chains = (duties_of c.args.duties.now.demands c.args.numbered.class.entry c.args.numbered.class.first).chains in
+    let around = IsWayRound c.args.numbered.class.entry.switch (IsEdge c.args.steps.now) (λ s. IsIn s c.args.leaving.now) in
     let sets = sets_of c.args.befores.now c.args.indices.now in
     let i = c.loop-i.i in
     let chain = c.chain-chain.result.now in
     let at_is = c.loop-i.invariant.at_is in
     let rest = sets_rest c.args.befores.now c.args.indices.now c.from_place-rest.result.now c.loop-i.at (together (take i chains)) c.from_place-rest.ensures at_is in
-    first_in_next around chains sets (length-map c.args.indices.now (λ i. slice_index_or c.args.befores.now i []) ∙ c.requires.count) i chain (c.chain-chain.ensures.chain c.args.class c.requires.class) c.in-Some.way
+    first_in_next around chains sets (length-map c.args.indices.now (λ i. slice_index_or c.args.befores.now i []) ∙ c.requires.count) i chain (c.chain-chain.ensures.chain c.args.numbered.class c.requires.class) c.in-Some.way
     (subst (AreGuardedBelow around (positions (take i chains) sets)) at_is c.loop-i.invariant.guarded)
     (subst (λ (xs : List (List ℕ)). IsFirstWayRound around (chain_positions None chain xs) c.in-Some.way) rest c.in-Some.ensures.some)
 
 pub loop-i-preserved : goal.loop-i-preserved
 loop-i-preserved c =
-    let chains = (duties_of c.args.duties.now.demands c.args.class.entry c.args.class.first).chains in
-    let around = IsWayRound c.args.class.entry.switch (IsEdge c.args.steps.now) (λ s. IsIn s c.args.leaving.now) in
+    let chains = (duties_of c.args.duties.now.demands c.args.numbered.class.entry c.args.numbered.class.first).chains in
+    let around = IsWayRound c.args.numbered.class.entry.switch (IsEdge c.args.steps.now) (λ s. IsIn s c.args.leaving.now) in
     let sets = sets_of c.args.befores.now c.args.indices.now in
     let i = c.loop-i.i in
     let chain = c.chain-chain.result.now in
-    let is = c.chain-chain.ensures.chain c.args.class c.requires.class in
+    let is = c.chain-chain.ensures.chain c.args.numbered.class c.requires.class in
     let at_is = c.loop-i.invariant.at_is in
     let rest = sets_rest c.args.befores.now c.args.indices.now c.from_place-rest.result.now c.loop-i.at (together (take i chains)) c.from_place-rest.ensures at_is in
     let more = guarded_more around chains sets (length-map c.args.indices.now (λ i. slice_index_or c.args.befores.now i []) ∙ c.requires.count) i chain is
@@ -74,11 +74,11 @@ loop-i-preserved c =
 
 pub returns-clause-none : goal.returns-clause-none
 returns-clause-none c =
-    let chains = (duties_of c.args.duties.now.demands c.args.class.entry c.args.class.first).chains in
-    let around = IsWayRound c.args.class.entry.switch (IsEdge c.args.steps.now) (λ s. IsIn s c.args.leaving.now) in
+    let chains = (duties_of c.args.duties.now.demands c.args.numbered.class.entry c.args.numbered.class.first).chains in
+    let around = IsWayRound c.args.numbered.class.entry.switch (IsEdge c.args.steps.now) (λ s. IsIn s c.args.leaving.now) in
     let sets = sets_of c.args.befores.now c.args.indices.now in
     let end = c.loop-i-test.false in
-    let count = c.chains-i-end.ensures.count c.args.class c.requires.class in
+    let count = c.chains-i-end.ensures.count c.args.numbered.class c.requires.class in
     let all : take c.loop-i.i chains ≡ chains = take_all c.loop-i.i chains (omega arith) in
     let at_is : c.loop-i.at ≡ length c.args.indices.now = c.loop-i.invariant.at_is ∙ ap together all ∙ sym c.requires.count in
     subst (AreGuardedBelow around (positions chains sets)) at_is

@@ -9,7 +9,7 @@ use Rattle.ordered_check.proofs.ways.first_way_round.Given as goal
 
 abbrev pub invariant-loop-i : goal.invariant-loop-i
 invariant-loop-i l = record {
-  at_is : l.at ≡ together (take l.i (duties_of l.duties.demands l.fn.class.entry l.fn.class.first).chains);
-  guarded : AreGuardedBelow (IsWayRound l.fn.class.entry.switch (IsEdge l.steps) (λ s. IsIn s l.leaving))
-      (positions (take l.i (duties_of l.duties.demands l.fn.class.entry l.fn.class.first).chains) (sets_of l.befores l.indices)) l.at;
+  at_is : l.at ≡ together (take l.i (duties_of l.duties.demands l.fn.numbered.class.entry l.fn.numbered.class.first).chains);
+  guarded : AreGuardedBelow (IsWayRound l.fn.numbered.class.entry.switch (IsEdge l.steps) (λ s. IsIn s l.leaving))
+      (positions (take l.i (duties_of l.duties.demands l.fn.numbered.class.entry l.fn.numbered.class.first).chains) (sets_of l.befores l.indices)) l.at;
 }

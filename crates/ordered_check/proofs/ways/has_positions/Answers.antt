@@ -6,8 +6,8 @@ use Rattle.ordered_check.proofs.ways.has_positions.Goals as goal
 
 pub returns-then-chain-left : goal.returns-then-chain-left
 returns-then-chain-left c =
-    let chains = (duties_of c.args.duties.now.demands c.args.class.entry c.args.class.first).chains in
-    let is = c.chain-chain.ensures.chain c.args.class c.requires.class in
+    let chains = (duties_of c.args.duties.now.demands c.args.numbered.class.entry c.args.numbered.class.first).chains in
+    let is = c.chain-chain.ensures.chain c.args.numbered.class c.requires.class in
     let fits = together_take chains c.loop-i.i c.chain-chain.result.now is in
     let so_far = c.loop-i.invariant in
     let more = c.if-chain-left.true in (
@@ -17,8 +17,8 @@ returns-then-chain-left c =
 
 pub loop-i-preserved : goal.loop-i-preserved
 loop-i-preserved c =
-    let chains = (duties_of c.args.duties.now.demands c.args.class.entry c.args.class.first).chains in
-    let is = c.chain-chain.ensures.chain c.args.class c.requires.class in
+    let chains = (duties_of c.args.duties.now.demands c.args.numbered.class.entry c.args.numbered.class.first).chains in
+    let is = c.chain-chain.ensures.chain c.args.numbered.class c.requires.class in
     let next = together_next chains c.loop-i.i c.chain-chain.result.now is in
     let so_far = c.loop-i.invariant in
     let less = c.if-chain-left.false in

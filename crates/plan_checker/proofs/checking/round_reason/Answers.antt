@@ -1,7 +1,22 @@
-use Rattle.std.proofs.Common.{rules}
+use Rattle.std.proofs.Common.{◌≡◌, ℕ, suc, sym, ap, rules, subst}
+use Rattle.certificates.specs.Certified.{Task}
+use Rattle.certificates.specs.declared.Evidence.{Evidence}
+use Rattle.certificates.specs.declared.Evidence.TheVariants.{Ordered, TwoPhase}
+use Rattle.ordered_check.specs.Kept.{OrderedState, WalksStand}
+use Rattle.ordered_check.specs.Picks.{PicksStand}
+use Rattle.two_phase_check.specs.InForce.{LabelsStand}
+use Rattle.two_phase_check.specs.declared.labels.LabelsInForce.{LabelsInForce}
 use Rattle.check_reasons.specs.Ranks.{round_start, classes_start}
+use Rattle.plan_checker.specs.Checking.{EvidenceStands}
+use Rattle.plan_checker.specs.Fits.{RoomView}
 use Rattle.plan_checker.proofs.Stages.{case_ascends, from_none, none_before_round, none_before_classes, rounds_more}
 use Rattle.plan_checker.proofs.checking.round_reason.Goals as goal
+
+-- what is kept stands in each room that keeps the same
+stands_there : (t : Task) (e : Evidence) (k : ℕ) (room other : RoomView) → room.ordered ≡ other.ordered → room.two_phase ≡ other.two_phase
+    → EvidenceStands t e k room → EvidenceStands t e k other
+stands_there t (Ordered e) k room other ordered two_phase h = subst (λ (o : OrderedState). PicksStand e.picks k o.picks × WalksStand t.update k o) ordered h
+stands_there t (TwoPhase e) k room other ordered two_phase h = subst (λ (l : LabelsInForce). LabelsStand t.update.net e k l) two_phase h
 
 pub returns-in-Some-clause-some : goal.returns-in-Some-clause-some
 returns-in-Some-clause-some c =
@@ -24,6 +39,13 @@ returns-clause-none c =
       record {
         fits = search rules;
         tables = c.apply_round.ensures.stands;
-        evidence = search rules;
+        evidence = stands_there case.task case.evidence (suc c.args.k) c.classes_reason.new.room (record {
+          classes = c.room-2.inside.classes;
+          duties = c.room-2.inside.duties;
+          present = c.apply_round.new.self;
+          ordered = c.room-2.inside.ordered;
+          two_phase = c.room-2.inside.two_phase;
+          path = c.room-2.inside.path;
+        }) (sym (ap (λ (r : RoomView). r.ordered) c.room-2.view_is)) (sym (ap (λ (r : RoomView). r.two_phase) c.room-2.view_is)) c.in_default-classes_reason.ensures.evidence;
       },
     )
