@@ -46,7 +46,7 @@ force_one picks round p q rise first second =
     ]
 
 -- one label table is in force
-table_one : (t : Task) (e : TwoPhaseEvidence) (k : ℕ) (a b : List Label) → Rise e.picks → IsTableInForce t e k a → IsTableInForce t e k b → a ≡ b
+pub table_one : (t : Task) (e : TwoPhaseEvidence) (k : ℕ) (a b : List Label) → Rise e.picks → IsTableInForce t e k a → IsTableInForce t e k b → a ≡ b
 table_one t e k a b rise first second =
     let same = force_one e.picks (suc k) first.pick second.pick rise first.in_force second.in_force in
     same_Some a b (sym first.is ∙ ap (λ (p : LabelPick). slice_get e.labels p.labels) same ∙ second.is)

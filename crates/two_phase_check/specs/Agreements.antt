@@ -19,10 +19,12 @@ use Rattle.two_phase_check.specs.declared.two_phase.Follow.{Follow}
 use Rattle.two_phase_check.specs.declared.two_phase.Follow.TheVariants.{Differs, Keeps, Astray}
 use Rattle.check_reasons.specs.Reasons.{Strays, IsMixedAtEntry, StraysAt}
 
--- a round of a task, by its number from 0
+-- a round of a task, by its number from 0, with the label table in force, and whether the classes stand that it doesn't touch
 pub record RoundView : Type 0 where
   pub task : Task
   pub number : ℕ
+  pub labels : List Label
+  pub stands : Bool
 
 -- an outcome is the expected one, but for a VLAN that is labelled with the version and the user's VLAN
 pub record AgreesWith (expected : Outcome) (labels : List Label) (version : Bool) (user : Vlan) (found : Outcome) : Type 0 where

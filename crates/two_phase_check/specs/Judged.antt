@@ -1,15 +1,25 @@
 -- The first class of a round of a two-phase plan that mixes the versions.
-use Rattle.std.specs.Prelude.{◌≡◌, ℕ, ◌<◌, List}
+use Rattle.std.specs.Prelude.{◌≡◌, ℕ, ◌<◌, false, List}
 use Rattle.dest_classes.specs.Classes.{ClassList, IsClass}
 use Rattle.dest_classes.specs.declared.Class.{Class}
+use Rattle.update_model.specs.Changes.{round_after}
 use Rattle.certificates.specs.Certified.{Task}
 use Rattle.certificates.specs.declared.Label.{Label}
+use Rattle.check_reasons.specs.Touched.{touches}
 use Rattle.two_phase_check.specs.Agreements.{MixesAt, KeepsVersions, IsLeastSwitch}
 use Rattle.two_phase_check.specs.declared.two_phase.MixedClass.{MixedClass}
 
 -- each class keeps the versions apart
 abbrev pub AllKeepVersions : Task → ℕ → ClassList → List Label → Type 0
 AllKeepVersions t k classes labels = (n : ℕ) (class : Class) → IsClass classes n class → KeepsVersions t k class labels
+
+-- where no change of the round covers its address, the class keeps the versions apart
+abbrev pub StandsUntouched : Task → ℕ → Class → List Label → Type 0
+StandsUntouched t k class labels = touches (round_after k t.update.rounds) class.first ≡ false → KeepsVersions t k class labels
+
+-- and so does each class
+abbrev pub StandUntouched : Task → ℕ → ClassList → List Label → Type 0
+StandUntouched t k classes labels = (n : ℕ) (class : Class) → IsClass classes n class → StandsUntouched t k class labels
 
 -- the least class that mixes the versions, and the least switch where it does
 pub record IsFirstMixed (t : Task) (k : ℕ) (classes : ClassList) (labels : List Label) (mixed : MixedClass) : Type 0 where

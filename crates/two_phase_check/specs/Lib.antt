@@ -1,3 +1,4 @@
 pub mod Agreements
 pub mod InForce
 pub mod Judged
+pub mod Kept

@@ -136,6 +136,7 @@ impl LabelsInForce {
         requires ascending { IsChain (λ p q. p.round < q.round) evidence.now.picks }
         requires stands { LabelsStand net.now evidence.now round self.old }
         ensures stands { LabelsStand net.now evidence.now round self.new }
+        ensures begun { AreBegun evidence.now.picks round self.new.begun }
         ensures in_force { IsTableInForceAt net.now evidence.now round self.new.table }
     {
         let picks = evidence.picks.list();

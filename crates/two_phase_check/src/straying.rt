@@ -7,9 +7,11 @@ ghost use Rattle.flow_rules.specs.Tables.{rules_of_all};
 ghost use Rattle.net_base.specs.declared.ids.Place.{Place};
 ghost use Rattle.path_walk.specs.Paths.{outcome_in};
 ghost use Rattle.path_walk.specs.declared.Outcome.TheVariants.{Go};
-ghost use Rattle.certificates.specs.TwoPhase.{outcome_carrying, KeepsPath};
+ghost use Rattle.update_model.specs.Changes.{round_after};
+ghost use Rattle.certificates.specs.TwoPhase.{outcome_carrying, tables_of, KeepsPath};
 ghost use Rattle.two_phase_check.specs.Agreements.{AreAllFound, HasOutcomeAlone, HasOtherOutcome, EndsSoon, IsFirstStray};
 
+use certificates::Label;
 use check_reasons::Case;
 use flow_rules::Config;
 use net_base::{Place, SwitchId, Vlan};
@@ -17,6 +19,7 @@ use path_walk::Outcome;
 use path_walk::following::outcome;
 use round_mix::{Mixed, Outcomes};
 use std::marker::Model;
+use update_model::Change;
 
 /// A round of a case, by its number from 0, each switch prepared for it.
 #[derive(Drop)]
@@ -24,6 +27,10 @@ pub(crate) struct RoundCase<'a> {
     pub(crate) case: &'a Case<'a>,
     pub(crate) mixes: &'a [Mixed],
     pub(crate) number: usize,
+    /// The label table in force.
+    pub(crate) labels: &'a [Label],
+    /// Whether a class keeps the versions apart where no change of the round covers its address.
+    pub(crate) stands: bool,
 }
 
 impl<'a> Model for RoundCase<'a> {
@@ -32,7 +39,7 @@ impl<'a> Model for RoundCase<'a> {
 
     ghost Value = { RoundView };
 
-    ghost view = { λ r. record { task = r.case.now.task; number = r.number } };
+    ghost view = { λ r. record { task = r.case.now.task; number = r.number; labels = r.labels.now; stands = r.stands } };
 
     ghost invariant = { λ r. AreLoaded r.case.now.task.update r.number r.mixes.now };
 }
@@ -55,6 +62,15 @@ fn are_all(list: &[Outcome], expected: Outcome) -> bool
     list.iter().all(|found| *found == expected)
 }
 
+/// The tables of a version.
+pub(crate) fn tables_of<'a>(round: &RoundCase<'a>, new: bool) -> &'a Config
+    ensures rules { rules_of_all result.now ≡ tables_of round.now.task.update round.now.task.new new }
+    ensures count { length result.now ≡ switch_count round.now.task.update.net }
+{
+    let case = round.case;
+    if new { case.new } else { case.old }
+}
+
 impl<'a> RoundCase<'a> {
     /// Does nothing: its contract says what every network keeps.
     pub(crate) fn keeps_network(&self)
@@ -64,8 +80,26 @@ impl<'a> RoundCase<'a> {
         case.net.keeps_rules();
     }
 
+    /// The changes of the round.
+    pub(crate) fn changes(&self) -> &'a [Change]
+        requires { self.now.number < length self.now.task.update.rounds }
+        ensures { result.now ≡ round_after self.now.number self.now.task.update.rounds }
+    {
+        let case = self.case;
+        case.plan.rounds.round(self.number)
+    }
+
+    /// How many host ports there are.
+    pub(crate) fn ports(&self) -> u32
+        ensures { result ≡ length self.now.task.update.net.hosts }
+    {
+        let case = self.case;
+        case.net.keeps_rules();
+        case.net.hosts().len() as u32
+    }
+
     /// How many switches there are.
-    fn switches(&self) -> u32
+    pub(crate) fn switches(&self) -> u32
         ensures { result ≡ switch_count self.now.task.update.net }
     {
         let case = self.case;
@@ -74,7 +108,13 @@ impl<'a> RoundCase<'a> {
 }
 
 /// Whether a packet at the place may have this outcome alone.
-fn stays(round: &RoundCase, place: Place, dst: u32, expected: Outcome, room: &mut Outcomes) -> bool
+pub(crate) fn stays(
+    round: &RoundCase,
+    place: Place,
+    dst: u32,
+    expected: Outcome,
+    room: &mut Outcomes,
+) -> bool
     requires switch { place.switch.0 < switch_count round.now.task.update.net }
     requires room { 8192 < length room.old.list + room.old.spare }
     ensures exact { MatchBool result (HasOutcomeAlone round.now.task.update round.now.number dst place expected) (HasOtherOutcome round.now.task.update round.now.number dst place expected) }
@@ -97,7 +137,7 @@ pub(crate) fn outcome_at(round: &RoundCase, tables: &Config, place: Place, dst: 
 }
 
 /// The outcome for a packet that carries another VLAN while it is in the network.
-fn carry(tag: Vlan, expected: Outcome) -> Outcome
+pub(crate) fn carry(tag: Vlan, expected: Outcome) -> Outcome
     ensures { result ≡ outcome_carrying tag expected }
 {
     match expected {

@@ -1,7 +1,6 @@
 // The classes of a round of a two-phase plan.
-ghost use Rattle.std.specs.Prelude.{◌≡◌, suc, ◌+◌, ◌<◌, IfOk, IfSome, IfNone, length};
+ghost use Rattle.std.specs.Prelude.{◌≡◌, suc, true, false, ◌+◌, ◌<◌, ◌≤◌, IfOk, IfSome, IfNone, length};
 ghost use Rattle.topology.specs.Networks.{Network, switch_count};
-ghost use Rattle.flow_rules.specs.Tables.{rules_of_all};
 ghost use Rattle.demands.specs.Good.{HasGoodPath, HasGoodPaths};
 ghost use Rattle.certificates.specs.TwoPhase.{tables_of};
 ghost use Rattle.certificates.specs.Certified.{classes_for};
@@ -10,25 +9,32 @@ ghost use Rattle.certificates.specs.declared.Evidence.TheVariants.{TwoPhase};
 ghost use Rattle.two_phase_check.specs.InForce.{LabelsStand};
 ghost use Rattle.check_reasons.specs.Loaded.{AreLoaded};
 ghost use Rattle.check_reasons.specs.Ranks.{classes_start};
-ghost use Rattle.check_reasons.specs.Passed.{IsFirstFrom, ClassesPass};
+ghost use Rattle.check_reasons.specs.Passed.{IsFirstFrom, ChangesPass, ClassesPass, RoundsPass};
+ghost use Rattle.check_reasons.specs.Touched.{touches};
 ghost use Rattle.two_phase_check.specs.Agreements.{Tells, IsKept, MixesBy, MixesAt, KeepsVersions, IsLeastSwitch};
 ghost use Rattle.two_phase_check.specs.Agreements as seen;
-ghost use Rattle.two_phase_check.specs.Judged.{AllKeepVersions, IsFirstMixed};
+ghost use Rattle.two_phase_check.specs.Kept.{AreKept, number_at};
+ghost use Rattle.two_phase_check.specs.Judged.{AllKeepVersions, IsFirstMixed, StandsUntouched, StandUntouched};
 
+use crate::keeping::{KeptPlace, MOST_KNOWN, Way, forget, keeps_way};
 use crate::labels::{LabelsInForce, agrees};
-use crate::straying::{RoundCase, find_outcomes, first_stray, outcome_at};
-use certificates::{Label, TwoPhaseEvidence};
-use check_reasons::{Case, Reason};
+use crate::straying::{RoundCase, find_outcomes, first_stray, outcome_at, tables_of};
+use certificates::TwoPhaseEvidence;
+use check_reasons::{Case, Reason, is_touched};
 use dest_classes::{Class, ClassMap};
-use flow_rules::Config;
 use net_base::{Memory, SwitchId};
 use path_walk::Outcome;
 use round_mix::{Mixed, Outcomes};
 use std::alloc::Global;
 use std::marker::Model;
+use update_model::Change;
 
 /// The most marked rules of a switch and a round.
 const MOST_MARKS: usize = 8192;
+
+/// How many changes of a round are compared with the address of each class. Where there are more, judging each class anew
+/// costs no more than to compare them all.
+const MOST_COMPARED: usize = 64;
 
 /// A class that mixes the versions, by its number, and the least switch where it does.
 #[derive(Clone, Copy)]
@@ -92,34 +98,27 @@ fn least_of(entry: SwitchId, old: Follow, new: Follow) -> Option<SwitchId>
     }
 }
 
-/// The tables of a version.
-fn tables_of<'a>(round: &RoundCase<'a>, version: bool) -> &'a Config
-    ensures rules { rules_of_all result.now ≡ tables_of round.now.task.update round.now.task.new version }
-    ensures count { length result.now ≡ switch_count round.now.task.update.net }
-{
-    let case = round.case;
-    if version { case.new } else { case.old }
-}
-
 /// What an outcome of the entry of a class tells of a version.
 fn follow_version(
     round: &RoundCase,
     class: Class,
-    labels: &[Label],
     version: bool,
     found: Outcome,
     room: &mut Outcomes,
+    known: &mut [Option<KeptPlace>],
 ) -> Follow
     requires entry { class.entry.switch.0 < switch_count round.now.task.update.net }
     requires good { HasGoodPath round.now.task.update.net (tables_of round.now.task.update round.now.task.new version) round.now.task.demands class.entry class.first }
     requires room { 8192 < length room.old.list + room.old.spare }
-    ensures tells { Tells round.now.task round.now.number class labels.now version found result }
+    requires known { AreKept round.now.task round.now.number known.old }
+    ensures tells { Tells round.now.task round.now.number class round.now.labels version found result }
     ensures room { 8192 < length room.new.list + room.new.spare }
+    ensures known { AreKept round.now.task round.now.number known.new }
 {
     round.keeps_network();
     let tables = tables_of(round, version);
     let expected = outcome_at(round, tables, class.entry, class.first);
-    if !agrees(found, expected, labels, version, class.entry.vlan) {
+    if !agrees(found, expected, round.labels, version, class.entry.vlan) {
         return Follow::Differs;
     }
     let Outcome::Go(next) = found else {
@@ -128,6 +127,14 @@ fn follow_version(
     let Outcome::Go(first) = expected else {
         return Follow::Keeps;
     };
+    let way = Way {
+        new: version,
+        dst: class.first,
+        tag: next.vlan,
+    };
+    if keeps_way(round, way, first, round.switches(), room, known) {
+        return Follow::Keeps;
+    }
     match first_stray(round, tables, class.first, first, next.vlan, room) {
         Some(switch) => Follow::Astray(switch),
         None => Follow::Keeps,
@@ -138,20 +145,22 @@ fn follow_version(
 fn mixed_by(
     round: &RoundCase,
     class: Class,
-    labels: &[Label],
     found: Outcome,
     room: &mut Outcomes,
+    known: &mut [Option<KeptPlace>],
 ) -> Option<SwitchId>
     requires entry { class.entry.switch.0 < switch_count round.now.task.update.net }
     requires old_good { HasGoodPath round.now.task.update.net round.now.task.update.old round.now.task.demands class.entry class.first }
     requires new_good { HasGoodPath round.now.task.update.net round.now.task.new round.now.task.demands class.entry class.first }
     requires room { 8192 < length room.old.list + room.old.spare }
-    ensures none { IfNone result (IsKept round.now.task round.now.number class labels.now found) }
-    ensures some { IfSome result (IsLeastSwitch (MixesBy round.now.task round.now.number class labels.now found)) }
+    requires known { AreKept round.now.task round.now.number known.old }
+    ensures none { IfNone result (IsKept round.now.task round.now.number class round.now.labels found) }
+    ensures some { IfSome result (IsLeastSwitch (MixesBy round.now.task round.now.number class round.now.labels found)) }
     ensures room { 8192 < length room.new.list + room.new.spare }
+    ensures known { AreKept round.now.task round.now.number known.new }
 {
-    let old = follow_version(round, class, labels, false, found, room);
-    let new = follow_version(round, class, labels, true, found, room);
+    let old = follow_version(round, class, false, found, room, known);
+    let new = follow_version(round, class, true, found, room, known);
     least_of(class.entry.switch, old, new)
 }
 
@@ -160,51 +169,94 @@ fn mixed_by(
 fn least_mixed(
     round: &RoundCase,
     class: Class,
-    labels: &[Label],
     at_entry: &mut Outcomes,
     on_path: &mut Outcomes,
+    known: &mut [Option<KeptPlace>],
 ) -> Option<SwitchId>
     requires entry { class.entry.switch.0 < switch_count round.now.task.update.net }
     requires old_good { HasGoodPath round.now.task.update.net round.now.task.update.old round.now.task.demands class.entry class.first }
     requires new_good { HasGoodPath round.now.task.update.net round.now.task.new round.now.task.demands class.entry class.first }
     requires entry_room { 8192 < length at_entry.old.list + at_entry.old.spare }
     requires path_room { 8192 < length on_path.old.list + on_path.old.spare }
-    ensures none { IfNone result (KeepsVersions round.now.task round.now.number class labels.now) }
-    ensures some { IfSome result (IsLeastSwitch (MixesAt round.now.task round.now.number class labels.now)) }
+    requires known { AreKept round.now.task round.now.number known.old }
+    ensures none { IfNone result (KeepsVersions round.now.task round.now.number class round.now.labels) }
+    ensures some { IfSome result (IsLeastSwitch (MixesAt round.now.task round.now.number class round.now.labels)) }
     ensures entry_room { 8192 < length at_entry.new.list + at_entry.new.spare }
     ensures path_room { 8192 < length on_path.new.list + on_path.new.spare }
+    ensures known { AreKept round.now.task round.now.number known.new }
 {
     find_outcomes(round, class.entry, class.first, at_entry);
     let outcomes = at_entry.list();
     let mut least = None;
     for found in outcomes {
-        least = lesser(least, mixed_by(round, class, labels, *found, on_path));
+        least = lesser(least, mixed_by(round, class, *found, on_path, known));
     }
     least
+}
+
+/// Whether no change of the round covers the address of the class. Not told where the round has more than `MOST_COMPARED`
+/// changes.
+fn is_untouched(changes: &[Change], class: Class) -> bool
+    ensures { result ≡ true → touches changes.now class.first ≡ false }
+{
+    changes.len() <= MOST_COMPARED && !is_touched(changes, class.first)
+}
+
+/// The least switch at which a class mixes the versions, where it does. Where the classes stand that the round doesn't
+/// touch, such a class isn't looked at again.
+fn judge_class(
+    round: &RoundCase,
+    class: Class,
+    at_entry: &mut Outcomes,
+    on_path: &mut Outcomes,
+    known: &mut [Option<KeptPlace>],
+) -> Option<SwitchId>
+    requires number { round.now.number < length round.now.task.update.rounds }
+    requires entry { class.entry.switch.0 < switch_count round.now.task.update.net }
+    requires old_good { HasGoodPath round.now.task.update.net round.now.task.update.old round.now.task.demands class.entry class.first }
+    requires new_good { HasGoodPath round.now.task.update.net round.now.task.new round.now.task.demands class.entry class.first }
+    requires stands { round.now.stands ≡ true → StandsUntouched round.now.task round.now.number class round.now.labels }
+    requires entry_room { 8192 < length at_entry.old.list + at_entry.old.spare }
+    requires path_room { 8192 < length on_path.old.list + on_path.old.spare }
+    requires known { AreKept round.now.task round.now.number known.old }
+    ensures none { IfNone result (KeepsVersions round.now.task round.now.number class round.now.labels) }
+    ensures some { IfSome result (IsLeastSwitch (MixesAt round.now.task round.now.number class round.now.labels)) }
+    ensures entry_room { 8192 < length at_entry.new.list + at_entry.new.spare }
+    ensures path_room { 8192 < length on_path.new.list + on_path.new.spare }
+    ensures known { AreKept round.now.task round.now.number known.new }
+{
+    if round.stands && is_untouched(round.changes(), class) {
+        return None;
+    }
+    least_mixed(round, class, at_entry, on_path, known)
 }
 
 /// The least class that mixes the versions, with the least switch where it does.
 fn first_mixed(
     round: &RoundCase,
     classes: &ClassMap,
-    labels: &[Label],
     at_entry: &mut Outcomes,
     on_path: &mut Outcomes,
+    known: &mut [Option<KeptPlace>],
 ) -> Option<MixedClass>
+    requires number { round.now.number < length round.now.task.update.rounds }
     requires hosts { classes.now.hosts ≡ round.now.task.update.net.hosts }
     requires old_good { HasGoodPaths round.now.task.update.net round.now.task.update.old round.now.task.demands classes.now }
     requires new_good { HasGoodPaths round.now.task.update.net round.now.task.new round.now.task.demands classes.now }
+    requires stands { round.now.stands ≡ true → StandUntouched round.now.task round.now.number classes.now round.now.labels }
     requires entry_room { 8192 < length at_entry.old.list + at_entry.old.spare }
     requires path_room { 8192 < length on_path.old.list + on_path.old.spare }
-    ensures none { IfNone result (AllKeepVersions round.now.task round.now.number classes.now labels.now) }
-    ensures some { IfSome result (IsFirstMixed round.now.task round.now.number classes.now labels.now) }
+    requires known { AreKept round.now.task round.now.number known.old }
+    ensures none { IfNone result (AllKeepVersions round.now.task round.now.number classes.now round.now.labels) }
+    ensures some { IfSome result (IsFirstMixed round.now.task round.now.number classes.now round.now.labels) }
     ensures entry_room { 8192 < length at_entry.new.list + at_entry.new.spare }
     ensures path_room { 8192 < length on_path.new.list + on_path.new.spare }
+    ensures known { AreKept round.now.task round.now.number known.new }
 {
     round.keeps_network();
     for number in 0..classes.count() {
         let class = classes.class(number);
-        if let Some(switch) = least_mixed(round, class, labels, at_entry, on_path) {
+        if let Some(switch) = judge_class(round, class, at_entry, on_path, known) {
             return Some(MixedClass {
                 class: number,
                 switch,
@@ -214,11 +266,91 @@ fn first_mixed(
     None
 }
 
+/// The number of the class that comes at this place, from 0, where those with one VLAN and address come one after the
+/// other, a class for each host port.
+fn number_at(i: u32, ports: u32, count: u32) -> u32
+    requires some { 0 < ports }
+    requires within { i < count }
+    requires few { count ≤ 8192 }
+    ensures { result ≡ number_at i ports count }
+{
+    i % ports * (count / ports) + i / ports
+}
+
+/// Whether each class keeps the versions apart. Classes whose paths may meet come one after the other.
+fn all_keep(
+    round: &RoundCase,
+    classes: &ClassMap,
+    at_entry: &mut Outcomes,
+    on_path: &mut Outcomes,
+    known: &mut [Option<KeptPlace>],
+) -> bool
+    requires number { round.now.number < length round.now.task.update.rounds }
+    requires hosts { classes.now.hosts ≡ round.now.task.update.net.hosts }
+    requires old_good { HasGoodPaths round.now.task.update.net round.now.task.update.old round.now.task.demands classes.now }
+    requires new_good { HasGoodPaths round.now.task.update.net round.now.task.new round.now.task.demands classes.now }
+    requires stands { round.now.stands ≡ true → StandUntouched round.now.task round.now.number classes.now round.now.labels }
+    requires entry_room { 8192 < length at_entry.old.list + at_entry.old.spare }
+    requires path_room { 8192 < length on_path.old.list + on_path.old.spare }
+    requires known { AreKept round.now.task round.now.number known.old }
+    ensures keep { result ≡ true → AllKeepVersions round.now.task round.now.number classes.now round.now.labels }
+    ensures entry_room { 8192 < length at_entry.new.list + at_entry.new.spare }
+    ensures path_room { 8192 < length on_path.new.list + on_path.new.spare }
+    ensures known { AreKept round.now.task round.now.number known.new }
+{
+    round.keeps_network();
+    let ports = round.ports();
+    let count = classes.count();
+    for i in 0..count {
+        let class = classes.class(number_at(i, ports, count));
+        if let Some(_switch) = judge_class(round, class, at_entry, on_path, known) {
+            return false;
+        }
+    }
+    true
+}
+
+/// The least class that mixes the versions, with the least switch where it does. At first no place is known.
+fn judge_classes(
+    round: &RoundCase,
+    classes: &ClassMap,
+    at_entry: &mut Outcomes,
+    on_path: &mut Outcomes,
+    known: &mut [Option<KeptPlace>],
+) -> Option<MixedClass>
+    requires number { round.now.number < length round.now.task.update.rounds }
+    requires hosts { classes.now.hosts ≡ round.now.task.update.net.hosts }
+    requires old_good { HasGoodPaths round.now.task.update.net round.now.task.update.old round.now.task.demands classes.now }
+    requires new_good { HasGoodPaths round.now.task.update.net round.now.task.new round.now.task.demands classes.now }
+    requires stands { round.now.stands ≡ true → StandUntouched round.now.task round.now.number classes.now round.now.labels }
+    requires entry_room { 8192 < length at_entry.old.list + at_entry.old.spare }
+    requires path_room { 8192 < length on_path.old.list + on_path.old.spare }
+    ensures none { IfNone result (AllKeepVersions round.now.task round.now.number classes.now round.now.labels) }
+    ensures some { IfSome result (IsFirstMixed round.now.task round.now.number classes.now round.now.labels) }
+    ensures entry_room { 8192 < length at_entry.new.list + at_entry.new.spare }
+    ensures path_room { 8192 < length on_path.new.list + on_path.new.spare }
+{
+    forget(known);
+    if all_keep(round, classes, at_entry, on_path, known) {
+        return None;
+    }
+    first_mixed(round, classes, at_entry, on_path, known)
+}
+
+/// Whether round k, from 0, isn't the first one and has the label table of the round before it, by how many picks had
+/// begun before and have begun now.
+fn keeps_labels(k: usize, before: usize, now: usize) -> bool
+    ensures { result ≡ true → (0 < k) × (before ≡ now) }
+{
+    k > 0 && before == now
+}
+
 /// Room to judge the rounds of a two-phase plan, and the label table in force.
 #[derive(Drop)]
 pub struct TwoPhaseRoom {
     at_entry: Outcomes,
     on_path: Outcomes,
+    known: Vec<Option<KeptPlace>>,
     labels: LabelsInForce,
 }
 
@@ -241,6 +373,7 @@ impl TwoPhaseRoom {
         Ok(TwoPhaseRoom {
             at_entry: Outcomes::with_room(alloc, MOST_MARKS + 1)?,
             on_path: Outcomes::with_room(alloc, MOST_MARKS + 1)?,
+            known: vec![in alloc; None; MOST_KNOWN]?,
             labels: LabelsInForce::none(),
         })
     }
@@ -253,6 +386,8 @@ impl TwoPhaseRoom {
     }
 
     /// The first reason of the classes of a round, by its number from 0, where there is one. Goes on to the next round.
+    /// The rounds are judged in their order, each once. Where the label table stays the same, a class is looked at only
+    /// where a change of the round covers its address, or the round has more than 64 changes.
     pub fn judge_round(
         &mut self,
         case: &Case,
@@ -267,12 +402,16 @@ impl TwoPhaseRoom {
         requires round { k < length case.now.task.update.rounds }
         requires old_good { HasGoodPaths case.now.task.update.net case.now.task.update.old case.now.task.demands (classes_for case.now.task) }
         requires new_good { HasGoodPaths case.now.task.update.net case.now.task.new case.now.task.demands (classes_for case.now.task) }
+        requires before { RoundsPass case.now.task case.now.evidence k }
+        requires pass { ChangesPass case.now.task case.now.evidence k }
         requires stands { LabelsStand case.now.task.update.net evidence.now k self.old }
         ensures none { IfNone result (ClassesPass case.now.task (TwoPhase evidence.now) k) }
         ensures some { IfSome result (IsFirstFrom case.now.task (TwoPhase evidence.now) (classes_start k)) }
         ensures stands { LabelsStand case.now.task.update.net evidence.now (suc k) self.new }
     {
+        let begun = self.labels.begun;
         self.labels.advance(case.net, evidence, k + 1);
+        let stands = keeps_labels(k, begun, self.labels.begun);
         if classes.count() == 0 {
             return None;
         }
@@ -280,19 +419,21 @@ impl TwoPhaseRoom {
         let Some(table) = self.labels.table else {
             return Some(Reason::BadLabels { round: number });
         };
+        let tables = evidence.labels.list();
+        let labels = tables[table as usize].list();
         let round = RoundCase {
             case,
             mixes,
             number: k,
+            labels,
+            stands,
         };
-        let tables = evidence.labels.list();
-        let labels = tables[table as usize].list();
-        let mixed = first_mixed(
+        let mixed = judge_classes(
             &round,
             classes,
-            labels,
             &mut self.at_entry,
             &mut self.on_path,
+            &mut self.known,
         )?;
         Some(Reason::MixedPath {
             round: number,

@@ -6,11 +6,14 @@ use Rattle.dest_classes.proofs.MapLaws.{number_fits}
 use Rattle.two_phase_check.specs.Agreements.{KeepsVersions}
 use Rattle.two_phase_check.proofs.two_phase.first_mixed.Goals as goal
 
-pub least_mixed-requires-clause-old_good : goal.least_mixed-requires-clause-old_good
-least_mixed-requires-clause-old_good c = c.requires.old_good c.loop-number.number c.class-class.result c.class-class.ensures.is
+pub judge_class-requires-clause-old_good : goal.judge_class-requires-clause-old_good
+judge_class-requires-clause-old_good c = c.requires.old_good c.loop-number.number c.class-class.result c.class-class.ensures.is
 
-pub least_mixed-requires-clause-new_good : goal.least_mixed-requires-clause-new_good
-least_mixed-requires-clause-new_good c = c.requires.new_good c.loop-number.number c.class-class.result c.class-class.ensures.is
+pub judge_class-requires-clause-new_good : goal.judge_class-requires-clause-new_good
+judge_class-requires-clause-new_good c = c.requires.new_good c.loop-number.number c.class-class.result c.class-class.ensures.is
+
+pub judge_class-requires-clause-stands : goal.judge_class-requires-clause-stands
+judge_class-requires-clause-stands c = λ on. c.requires.stands on c.loop-number.number c.class-class.result c.class-class.ensures.is
 
 pub loop-number-preserved : goal.loop-number-preserved
 loop-number-preserved c = record {
@@ -20,10 +23,11 @@ loop-number-preserved c = record {
         | inr late ↦ (
             let here : n ≡ c.loop-number.number = omega arith in
             let same : class ≡ c.class-class.result = c.class-class.ensures.only class (subst (λ m. IsClass c.args.classes.now m class) here is) in
-            subst (λ (x : Class). KeepsVersions c.args.round.now.task c.args.round.now.number x c.args.labels.now) (sym same) c.in_default.ensures.none)
+            subst (λ (x : Class). KeepsVersions c.args.round.now.task c.args.round.now.number x c.args.round.now.labels) (sym same) c.in_default.ensures.none)
       ];
-  entry_room = c.least_mixed.ensures.entry_room;
-  path_room = c.least_mixed.ensures.path_room;
+  entry_room = c.judge_class.ensures.entry_room;
+  path_room = c.judge_class.ensures.path_room;
+  known = c.judge_class.ensures.known;
 }
 
 pub returns-clause-none : goal.returns-clause-none

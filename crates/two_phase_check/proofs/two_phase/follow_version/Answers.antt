@@ -5,7 +5,7 @@ use Rattle.path_walk.specs.Paths.{outcome_in}
 use Rattle.path_walk.specs.declared.Outcome.{Outcome}
 use Rattle.path_walk.specs.declared.Outcome.TheVariants.{Go}
 use Rattle.certificates.specs.TwoPhase.{tables_of, KeepsPath}
-use Rattle.two_phase_check.specs.Agreements.{EndsSoon, AgreesWith}
+use Rattle.two_phase_check.specs.Agreements.{RoundView, EndsSoon, AgreesWith}
 use Rattle.two_phase_check.proofs.FollowLaws.{good_soon, tells_keeps}
 use Rattle.two_phase_check.proofs.two_phase.follow_version.Goals as goal
 
@@ -25,8 +25,22 @@ returns-in-None-clause-tells c =
     let k = c.args.round.now.number in
     let tables = tables_of t.update t.new c.args.version in
     let goes : outcome_in net (rules_of_all c.tables_of-tables.result.now) c.args.class.entry c.args.class.first ≡ Go c.in-Go-expected.first = sym c.in-Go-expected.ensures.value in
-    tells_keeps t k c.args.class c.args.labels.now c.args.version c.args.found c.in-Go.next c.in-Go-expected.first c.in-Go.is
+    tells_keeps t k c.args.class c.args.round.now.labels c.args.version c.args.found c.in-Go.next c.in-Go-expected.first c.in-Go.is
     (subst (λ (ts : List (List Rule)). outcome_in net ts c.args.class.entry c.args.class.first ≡ Go c.in-Go-expected.first) c.tables_of-tables.ensures.rules goes)
-    (subst (λ (ts : List (List Rule)). AgreesWith (outcome_in net ts c.args.class.entry c.args.class.first) c.args.labels.now c.args.version c.args.class.entry.vlan c.args.found) c.tables_of-tables.ensures.rules
-    (subst (λ (o : Outcome). AgreesWith o c.args.labels.now c.args.version c.args.class.entry.vlan c.args.found) c.outcome_at-expected.ensures.value (c.if-not-agrees.ensures.0 refl)))
+    (subst (λ (ts : List (List Rule)). AgreesWith (outcome_in net ts c.args.class.entry c.args.class.first) c.args.round.now.labels c.args.version c.args.class.entry.vlan c.args.found) c.tables_of-tables.ensures.rules
+    (subst (λ (o : Outcome). AgreesWith o c.args.round.now.labels c.args.version c.args.class.entry.vlan c.args.found) c.outcome_at-expected.ensures.value
+    (subst (λ (v : RoundView). AgreesWith c.outcome_at-expected.result v.labels c.args.version c.args.class.entry.vlan c.args.found) c.round.view_is (c.if-not-agrees.ensures.0 refl))))
     (subst (λ (ts : List (List Rule)). KeepsPath t.update k c.args.class.first ts c.in-Go-expected.first c.in-Go.next.vlan) c.tables_of-tables.ensures.rules c.in-None.ensures.none)
+
+pub returns-then-keeps_way-clause-tells : goal.returns-then-keeps_way-clause-tells
+returns-then-keeps_way-clause-tells c =
+    let t = c.args.round.now.task in
+    let net = t.update.net in
+    let k = c.args.round.now.number in
+    let goes : outcome_in net (rules_of_all c.tables_of-tables.result.now) c.args.class.entry c.args.class.first ≡ Go c.in-Go-expected.first = sym c.in-Go-expected.ensures.value in
+    tells_keeps t k c.args.class c.args.round.now.labels c.args.version c.args.found c.in-Go.next c.in-Go-expected.first c.in-Go.is
+    (subst (λ (ts : List (List Rule)). outcome_in net ts c.args.class.entry c.args.class.first ≡ Go c.in-Go-expected.first) c.tables_of-tables.ensures.rules goes)
+    (subst (λ (ts : List (List Rule)). AgreesWith (outcome_in net ts c.args.class.entry c.args.class.first) c.args.round.now.labels c.args.version c.args.class.entry.vlan c.args.found) c.tables_of-tables.ensures.rules
+    (subst (λ (o : Outcome). AgreesWith o c.args.round.now.labels c.args.version c.args.class.entry.vlan c.args.found) c.outcome_at-expected.ensures.value
+    (subst (λ (v : RoundView). AgreesWith c.outcome_at-expected.result v.labels c.args.version c.args.class.entry.vlan c.args.found) c.round.view_is (c.if-not-agrees.ensures.0 refl))))
+    (c.keeps_way.ensures.keeps c.if-keeps_way.true)

@@ -12,9 +12,10 @@ loop-found-preserved c =
     let k = c.args.round.now.number in
     let list = c.list-outcomes.result.now in
     record {
-      among = subst (λ (o : Option SwitchId). IsLeastAmong t k c.args.class c.args.labels.now (take (c.loop-found.found-index + 1) list) o) (sym c.lesser-least.ensures)
-          (among_more t k c.args.class c.args.labels.now list c.loop-found.found-index _ c.loop-found.least c.mixed_by.result c.loop-found-test.true c.loop-found.invariant.among c.mixed_by.ensures.none c.mixed_by.ensures.some);
+      among = subst (λ (o : Option SwitchId). IsLeastAmong t k c.args.class c.args.round.now.labels (take (c.loop-found.found-index + 1) list) o) (sym c.lesser-least.ensures)
+          (among_more t k c.args.class c.args.round.now.labels list c.loop-found.found-index _ c.loop-found.least c.mixed_by.result c.loop-found-test.true c.loop-found.invariant.among c.mixed_by.ensures.none c.mixed_by.ensures.some);
       room = c.mixed_by.ensures.room;
+      known = c.mixed_by.ensures.known;
     }
 
 pub returns-clause-none : goal.returns-clause-none
@@ -22,15 +23,15 @@ returns-clause-none c =
     let t = c.args.round.now.task in
     let k = c.args.round.now.number in
     let list = c.list-outcomes.result.now in
-    class_kept t k c.args.class c.args.labels.now list
+    class_kept t k c.args.class c.args.round.now.labels list
     (subst (λ (xs : List Outcome). AreAllFound t.update k c.args.class.first c.args.class.entry xs) (sym c.list-outcomes.ensures) c.find_outcomes.ensures.all) c.loop-found.least
-    (subst (λ (xs : List Outcome). IsLeastAmong t k c.args.class c.args.labels.now xs c.loop-found.least) (take_all c.loop-found.found-index list c.loop-found-test.false) c.loop-found.invariant.among)
+    (subst (λ (xs : List Outcome). IsLeastAmong t k c.args.class c.args.round.now.labels xs c.loop-found.least) (take_all c.loop-found.found-index list c.loop-found-test.false) c.loop-found.invariant.among)
 
 pub returns-clause-some : goal.returns-clause-some
 returns-clause-some c =
     let t = c.args.round.now.task in
     let k = c.args.round.now.number in
     let list = c.list-outcomes.result.now in
-    class_least t k c.args.class c.args.labels.now list
+    class_least t k c.args.class c.args.round.now.labels list
     (subst (λ (xs : List Outcome). AreAllFound t.update k c.args.class.first c.args.class.entry xs) (sym c.list-outcomes.ensures) c.find_outcomes.ensures.all) c.loop-found.least
-    (subst (λ (xs : List Outcome). IsLeastAmong t k c.args.class c.args.labels.now xs c.loop-found.least) (take_all c.loop-found.found-index list c.loop-found-test.false) c.loop-found.invariant.among)
+    (subst (λ (xs : List Outcome). IsLeastAmong t k c.args.class c.args.round.now.labels xs c.loop-found.least) (take_all c.loop-found.found-index list c.loop-found-test.false) c.loop-found.invariant.among)

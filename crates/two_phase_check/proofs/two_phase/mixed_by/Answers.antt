@@ -8,12 +8,12 @@ pub returns-clause-none : goal.returns-clause-none
 returns-clause-none c =
     let t = c.args.round.now.task in
     let k = c.args.round.now.number in
-    subst (λ (o : Option SwitchId). IfNone o (IsKept t k c.args.class c.args.labels.now c.args.found)) (sym c.least_of.ensures)
-    (mixed_kept t k c.args.class c.args.labels.now c.args.found c.follow_version-old.result c.follow_version-new.result c.follow_version-old.ensures.tells c.follow_version-new.ensures.tells)
+    subst (λ (o : Option SwitchId). IfNone o (IsKept t k c.args.class c.args.round.now.labels c.args.found)) (sym c.least_of.ensures)
+    (mixed_kept t k c.args.class c.args.round.now.labels c.args.found c.follow_version-old.result c.follow_version-new.result c.follow_version-old.ensures.tells c.follow_version-new.ensures.tells)
 
 pub returns-clause-some : goal.returns-clause-some
 returns-clause-some c =
     let t = c.args.round.now.task in
     let k = c.args.round.now.number in
-    subst (λ (o : Option SwitchId). IfSome o (IsLeastSwitch (MixesBy t k c.args.class c.args.labels.now c.args.found))) (sym c.least_of.ensures)
-    (mixed_least t k c.args.class c.args.labels.now c.args.found c.follow_version-old.result c.follow_version-new.result c.follow_version-old.ensures.tells c.follow_version-new.ensures.tells)
+    subst (λ (o : Option SwitchId). IfSome o (IsLeastSwitch (MixesBy t k c.args.class c.args.round.now.labels c.args.found))) (sym c.least_of.ensures)
+    (mixed_least t k c.args.class c.args.round.now.labels c.args.found c.follow_version-old.result c.follow_version-new.result c.follow_version-old.ensures.tells c.follow_version-new.ensures.tells)
