@@ -2,4 +2,6 @@
 #![tactic(auto)]
 
 #[cfg(test)]
+mod retried;
+#[cfg(test)]
 mod tests;

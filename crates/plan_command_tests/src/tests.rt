@@ -1,4 +1,5 @@
 // `plan` over files in memory, and `check` of what it planned.
+use crate::retried;
 use check_command::{CheckNames, check};
 use command_base::Status;
 use example_files::{
@@ -89,6 +90,29 @@ fn ordered_plans_are_found_and_accepted(rt: HostRuntime) -> Result<(), Fail> {
             detour::chain_update(),
             detour_plans::chain(),
             b"accepted: ordered, 1 rounds, 6 classes\n",
+        ),
+    ];
+    assert_eq!(rt; first_other_plan(rt.alloc(), &rows)?, None);
+    Ok(())
+}
+
+#[test]
+fn a_change_that_failed_is_made_once_its_walk_is_safe(rt: HostRuntime) -> Result<(), Fail> {
+    let rows: [(UpdateTexts<'_>, &[u8], &[u8]); 3] = [
+        (
+            retried::after_the_walk(),
+            retried::after_the_walk_plan(),
+            b"accepted: ordered, 2 rounds, 6 classes\n",
+        ),
+        (
+            retried::beside_the_walk(),
+            retried::beside_the_walk_plan(),
+            b"accepted: ordered, 3 rounds, 6 classes\n",
+        ),
+        (
+            retried::other_addresses(),
+            retried::other_addresses_plan(),
+            b"accepted: ordered, 3 rounds, 10 classes\n",
         ),
     ];
     assert_eq!(rt; first_other_plan(rt.alloc(), &rows)?, None);

@@ -1,10 +1,8 @@
 -- What the end of a search is worth: the plan is valid and certified.
-use Rattle.std.proofs.Common.{◌≡◌, ℕ, zero, suc, ◌+◌, ◌<◌, ◌≤◌, true, false, cond, List, [], ◌∷◌, ◌++◌, length, get_or, refl, sym, ◌∙◌, subst, ap, inl, inr, arith, length-append}
-use Rattle.std.proofs.lemmas.List.{length-map}
+use Rattle.std.proofs.Common.{◌≡◌, ℕ, zero, suc, ◌+◌, ◌<◌, ◌≤◌, true, false, cond, List, [], ◌∷◌, ◌++◌, length, get_or, refl, sym, ◌∙◌, subst, ap, inl, inr, arith}
 use Rattle.std.proofs.lemmas.List.Sums.{sum_by-cons}
-use Rattle.std.specs.Prelude.{sum_by, filter_map, Option, Some, None}
-use Rattle.std.specs.List.{AllByRecursion, cons_option}
-use Rattle.std.specs.Ordering.{is_lt}
+use Rattle.std.specs.Prelude.{sum_by, Option, Some, None}
+use Rattle.std.specs.List.{AllByRecursion}
 use Rattle.std.proofs.lemmas.Bool.{cases_lt}
 use Rattle.net_base.specs.Members.{IsIn, IsSameSet}
 use Rattle.net_base.proofs.MemberLaws.{each_at, each_weaker, each_from_in, in_map, in_append_left, in_append_right}
@@ -12,8 +10,6 @@ use Rattle.net_base.proofs.ListLaws.{in_filter_map}
 use Rattle.net_base.specs.Blocks.{Block}
 use Rattle.net_base.specs.declared.ids.SwitchId.{SwitchId}
 use Rattle.topology.specs.Networks.{IsNetwork, switch_count, capacity_of}
-use Rattle.flow_rules.specs.Order.{key_cmp}
-use Rattle.flow_rules.specs.Patterns.{key_eq}
 use Rattle.flow_rules.specs.Same.{action_eq}
 use Rattle.flow_rules.specs.Tables.{rules_at, keys_of, table_blocks}
 use Rattle.flow_rules.specs.declared.rules.Key.{Key}
@@ -25,7 +21,7 @@ use Rattle.demands.specs.Good.{HasGoodPaths}
 use Rattle.update_model.specs.Changes.{switch_of, rule_of, Applies, tables_after, tables_after_change, round_after, settled_tables, round_blocks, IsGoodRound}
 use Rattle.update_model.specs.Mixtures.{Update, tables_before, AreGoodRounds, AreClearRounds, need_of}
 use Rattle.update_model.specs.Ranges.{IsPlanChange}
-use Rattle.update_model.specs.Remaining.{rule_with, difference, changes_between, changes_from, with_key, keys_in_order, remaining}
+use Rattle.update_model.specs.Remaining.{rule_with, difference, changes_between, keys_in_order, remaining}
 use Rattle.update_model.specs.declared.Change.{Change}
 use Rattle.update_model.specs.declared.Change.TheVariants.{Insert, Delete, Replace}
 use Rattle.update_model.proofs.DifferenceLaws.{rule_same, remaining_in}

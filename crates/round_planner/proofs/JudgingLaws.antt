@@ -6,12 +6,19 @@ use Rattle.std.proofs.lemmas.Option.{same_Some, slice_get-get_or}
 use Rattle.std.proofs.lemmas.Bool.{cases_lt}
 use Rattle.net_base.specs.Blocks.{in_block}
 use Rattle.net_base.specs.Members.{IsIn}
+use Rattle.net_base.proofs.WalkLaws.{reached_start, reached_more}
+use Rattle.net_base.specs.Walks.{IsWalk, end_of}
+use Rattle.net_base.specs.declared.ids.Place.{Place}
+use Rattle.topology.specs.Networks.{IsNetwork, switch_count}
+use Rattle.acyclic_numbering.specs.declared.Edge.{Edge}
 use Rattle.net_base.proofs.MemberLaws.{each_at, each_weaker, each_append, in_append_left, in_append_right}
 use Rattle.dest_classes.specs.Classes.{IsClass, class_count}
 use Rattle.dest_classes.specs.declared.Class.{Class}
 use Rattle.dest_classes.proofs.MapLaws.{class_exists}
 use Rattle.update_model.specs.Changes.{rule_of, round_after}
-use Rattle.update_model.specs.Mixtures.{Update}
+use Rattle.update_model.specs.Mixtures.{Update, MayGo, IsOnMixedWalk}
+use Rattle.certificates.specs.Steps.{IsMixedStep}
+use Rattle.mixed_walks.specs.Walks.{WalkState, IsWalked}
 use Rattle.update_model.specs.declared.Change.{Change}
 use Rattle.certificates.specs.Ordered.{IsSafe, IsPickInForce, IsMeant}
 use Rattle.certificates.specs.Valid.{IsChain, IsPickBefore, IsValidUse}
@@ -27,7 +34,9 @@ use Rattle.ordered_check.proofs.MeaningLaws.{one_in_force, one_meaning, at_place
 use Rattle.ordered_check.proofs.StandLaws.{still_safe}
 use Rattle.round_planner.specs.declared.judging.Found.{Found}
 use Rattle.round_planner.specs.Search.{Aim, duties_in}
-use Rattle.round_planner.specs.Standing.{IsCertifiedClass, IsNextRound, HasPickOf, HasFound, HasNotFound, AreSafeBelow, HasUnsafe}
+use Rattle.round_planner.specs.declared.failing.UnsafeClass.{UnsafeClass}
+use Rattle.round_planner.specs.Failures.{IsVisited}
+use Rattle.round_planner.specs.Standing.{IsCertifiedClass, IsNextRound, HasPickOf, HasFound, HasNotFound, AreSafeBelow, IsUnsafe, HasUnsafe}
 
 -- ---- the pick in force
 
@@ -182,8 +191,30 @@ module _ (aim : Aim) (u : Update) (e : OrderedEvidence) (k : ℕ) where
       ]
 
   -- the class with a number is not safe by any evidence
-  pub unsafe_at : (m : ℕ) → m < class_count aim.classes
-      → ((class : Class) → IsClass aim.classes m class → (numbers : List ℕ) (sets : List (List ℕ)) → ¬ IsSafe u k class.first class.entry (duties_in aim class) numbers sets) → HasUnsafe aim u k
-  unsafe_at m less never =
+  pub unsafe_at : (m : ℕ) → m < class_count aim.classes → (f : UnsafeClass) → ((class : Class) → IsClass aim.classes m class → (f.class ≡ class) × IsUnsafe aim u k f) → HasUnsafe aim u k f
+  unsafe_at m less f judged =
       let (class, is) = class_exists aim.classes m less in
-      record { number = m; class = class; is_class = is; never = never class is }
+      let (same, unsafe_) = judged class is in
+      record { number = m; is_class = subst (IsClass aim.classes m) (sym same) is; unsafe_ = unsafe_ }
+
+-- ---- the switches that mixed walks come to
+
+module _ (u : Update) (k dst : ℕ) (entry : Place) (noted : WalkState) (walked : IsWalked u k dst entry noted) where
+  -- they are the entry's and the ends of the steps
+  pub visits_all : (marks : List Bool) → IsVisited marks entry.switch → AllByRecursion (λ (e : Edge). IsVisited marks e.to) noted.steps
+      → (place : Place) → IsOnMixedWalk u k dst entry place → IsVisited marks place.switch
+  visits_all marks begins ends place (rest, walk, last) = subst (λ (p : Place). IsVisited marks p.switch) last (along entry rest (reached_start (MayGo u k dst) entry) begins walk)
+    where
+      along : (start : Place) (rest : List Place) → IsOnMixedWalk u k dst entry start → IsVisited marks start.switch → IsWalk (MayGo u k dst) start rest → IsVisited marks (end_of start rest).switch
+      along start [] reached here walk = here
+      along start (next ∷ rest) reached here walk =
+          let step : IsMixedStep u k dst entry start.switch next.switch = record { place = start; next = next; on_walk = reached; goes = walk.0; from_is = refl; to_is = refl } in
+          let edge : Edge = record { from = start.switch; to = next.switch } in
+          along next rest (reached_more (MayGo u k dst) entry start next reached walk.0)
+          (each_at (λ (e : Edge). IsVisited marks e.to) noted.steps edge ends ((walked.steps start.switch next.switch).1 step)) walk.1
+
+  -- and among the 128 of every network
+  pub steps_near : IsNetwork u.net → AllByRecursion (λ (e : Edge). e.to.0 < 128) noted.steps
+  steps_near net =
+      each_weaker (λ (e : Edge). (e.from.0 < switch_count u.net) × (e.to.0 < switch_count u.net)) (λ (e : Edge). e.to.0 < 128)
+      (λ e h. let few = net.few in let within = h.1 in omega arith) noted.steps walked.steps_within

@@ -14,3 +14,7 @@ pub mod RunLaws
 pub mod OrderLaws
 pub mod OneSearch
 pub mod AnswerLaws
+pub mod CoveringLaws
+pub mod StillLaws
+pub mod FailureLaws
+pub mod LeftLaws

@@ -1,6 +1,5 @@
 -- Where a search begins, goes on and ends.
-use Rattle.std.proofs.Common.{◌≡◌, ◌<◌, true, false, List, [], ◌∷◌, ◌++◌, length, subst, ap, arith, length-append}
-use Rattle.std.specs.Prelude.{◌≢◌}
+use Rattle.std.proofs.Common.{◌<◌, List, [], ◌∷◌, ◌++◌, length, ap, arith, length-append}
 use Rattle.topology.specs.Networks.{IsNetwork}
 use Rattle.flow_rules.specs.Tables.{rules_of_all}
 use Rattle.flow_rules.specs.declared.rules.Rule.{Rule}
@@ -8,7 +7,7 @@ use Rattle.path_walk.specs.UserConfigs.{IsUserConfig}
 use Rattle.update_model.specs.Remaining.{remaining}
 use Rattle.update_model.specs.declared.Change.{Change}
 use Rattle.round_planner.specs.Search.{Aim}
-use Rattle.round_planner.specs.Searching.{SearchState, IsAt, IsMoved, IsEnded}
+use Rattle.round_planner.specs.Searching.{SearchState, IsAt}
 use Rattle.round_planner.proofs.EndLaws.{found_count}
 
 -- one change more leaves one less

@@ -18,8 +18,7 @@ use Rattle.update_model.proofs.RoundLaws.{settled_start}
 use Rattle.acyclic_numbering.specs.Heights.{number_of, IsHeight}
 use Rattle.waypoint_evidence.specs.Befores.{IsBeforeSet, IsGuard, IsLeastBefore}
 use Rattle.certificates.specs.Steps.{IsMixedStep, MayLeave, MayDrop}
-use Rattle.certificates.specs.Ordered.{Position, positions, IsSafe, OrderedCertificate}
-use Rattle.certificates.specs.declared.OrderedEvidence.{OrderedEvidence}
+use Rattle.certificates.specs.Ordered.{Position, positions, IsSafe}
 use Rattle.class_evidence.specs.Found.{IsLeastEvidence}
 use Rattle.trial_tables.specs.Trials.{single}
 use Rattle.round_planner.specs.Search.{Aim, update_by, single_rounds}

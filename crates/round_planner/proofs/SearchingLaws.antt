@@ -1,5 +1,5 @@
 -- A change that is tried, and what comes of it.
-use Rattle.std.proofs.Common.{◌≡◌, ℕ, zero, suc, ◌+◌, ◌<◌, ◌≤◌, true, false, List, [], ◌∷◌, ◌++◌, length, take, drop, get_or, refl, sym, ◌∙◌, subst, ap, inl, inr, arith, length-append}
+use Rattle.std.proofs.Common.{◌≡◌, ℕ, zero, suc, ◌+◌, ◌<◌, ◌≤◌, List, [], ◌∷◌, ◌++◌, length, take, drop, get_or, refl, sym, ◌∙◌, subst, ap, inl, inr, arith, length-append}
 use Rattle.std.specs.Prelude.{Some, slice_get}
 use Rattle.std.specs.List.{AllByRecursion}
 use Rattle.net_base.specs.Members.{IsIn}
@@ -30,8 +30,10 @@ use Rattle.trial_tables.specs.Trials.{TrialState, single, HasRoomAlone, IsSettle
 use Rattle.round_planner.specs.declared.judging.Found.{Found}
 use Rattle.round_planner.specs.Search.{Aim, duties_in, update_by, single_rounds, CanBeSafe, Qualifies, IsFirstQualifying}
 use Rattle.round_planner.specs.Standing.{Stands, IsCertifiedClass, IsNextRound, AreSafeBelow, HasUnsafe, AreWithPicks}
-use Rattle.round_planner.specs.Searching.{SearchState, IsAt, IsTryingAt, IsTried, IsMoved}
-use Rattle.round_planner.proofs.SameRound.{IsSameRound, same_back, same_alone, same_prefix, tables_at, held_same, safe_same}
+use Rattle.round_planner.specs.declared.failing.UnsafeClass.{UnsafeClass}
+use Rattle.round_planner.specs.Failures.{IsUnsafeClass}
+use Rattle.round_planner.specs.Searching.{SearchState, IsAt, IsTryingAt}
+use Rattle.round_planner.proofs.SameRound.{IsSameRound, same_back, same_alone, same_prefix, tables_at, held_same, on_walk_same, safe_same}
 use Rattle.table_difference.proofs.LengthLaws.{few_remain}
 use Rattle.std.proofs.lemmas.Bool.{cases_lt}
 use Rattle.round_planner.proofs.EndLaws.{good}
@@ -96,12 +98,15 @@ module _ (aim : Aim) (old : List (List Rule)) (old_user : IsUserConfig aim.net o
             class.first class.entry (duties_in aim class) numbers sets h;
       }
 
-  -- some class isn't: it doesn't
-  pub qualifies_not : HasUnsafe aim next (length changes) → ¬ Qualifies aim (tables_after changes old) c
-  qualifies_not unsafe q =
-      let can = q.safe unsafe.number unsafe.class unsafe.is_class in
-      unsafe.never can.numbers can.sets
-      (safe_same (single aim.net (tables_after changes old) c) 0 next (length changes) same unsafe.class.first unsafe.class.entry (duties_in aim unsafe.class) can.numbers can.sets can.safe)
+  -- some class isn't: it fails by that
+  pub fails_by : (f : UnsafeClass) → HasUnsafe aim next (length changes) f → IsUnsafeClass aim (tables_after changes old) c f
+  fails_by f unsafe = record {
+    number = unsafe.number;
+    is_class = unsafe.is_class;
+    never = λ can. unsafe.unsafe_.never can.numbers can.sets
+        (safe_same (single aim.net (tables_after changes old) c) 0 next (length changes) same f.class.first f.class.entry (duties_in aim f.class) can.numbers can.sets can.safe);
+    visits = λ place on. unsafe.unsafe_.visits place (on_walk_same (single aim.net (tables_after changes old) c) 0 next (length changes) same f.class.first f.class.entry place on);
+  }
 
   -- the switches are prepared for it as the next round of the search
   pub round_of : (tables : List (List Rule)) → tables ≡ tables_after changes old → (mixes : List MixedState) → AreLoaded (single aim.net tables c) 0 mixes → IsRoundOf aim.net mixes next (length changes)
@@ -252,8 +257,8 @@ module _ (aim : Aim) (old : List (List Rule)) (old_user : IsUserConfig aim.net o
   pub tried_qualifies : (found : List Found) → AreSafeBelow aim (update_by aim old (changes ++ c ∷ [])) s.store.evidence (length changes) (class_count aim.classes) found → Qualifies aim (tables_after changes old) c
   tried_qualifies found safe = qualifies aim old old_user new_user changes c s.store.evidence at.stands remains room_alone found safe
 
-  pub tried_fails : HasUnsafe aim (update_by aim old (changes ++ c ∷ [])) (length changes) → ¬ Qualifies aim (tables_after changes old) c
-  tried_fails unsafe = qualifies_not aim old old_user new_user changes c s.store.evidence at.stands remains unsafe
+  pub tried_fails : (f : UnsafeClass) → HasUnsafe aim (update_by aim old (changes ++ c ∷ [])) (length changes) f → IsUnsafeClass aim (tables_after changes old) c f
+  tried_fails f unsafe = fails_by aim old old_user new_user changes c s.store.evidence at.stands remains f unsafe
 
 -- the tables are those before again
 pub given_up : (aim : Aim) (old : List (List Rule)) (changes : List Change) (s : SearchState) (trial : TrialState) → IsAt aim old changes s → rules_of_all trial.tables ≡ rules_of_all s.trial.tables → IsSettled aim.net trial
@@ -263,11 +268,6 @@ given_up aim old changes s trial at rules settled = record { rounds = at.rounds;
 -- ---- a change among those that remain
 
 module _ {A : Type 0} where
-  pub in_at : (xs : List A) (i : ℕ) (x : A) → i < length xs → x ≡ get_or xs i x → IsIn x xs
-  in_at [] i x less is = absurd (let f : i < 0 = less in omega arith)
-  in_at (y ∷ xs) zero x less is = inl is
-  in_at (y ∷ xs) (suc i) x less is = inr (in_at xs i x (omega arith) is)
-
   pub split_there : (xs : List A) (i : ℕ) (x : A) → i < length xs → x ≡ get_or xs i x → xs ≡ take i xs ++ x ∷ drop (suc i) xs
   split_there [] i x less is = absurd (let f : i < 0 = less in omega arith)
   split_there (y ∷ xs) zero x less is = ap (λ z. z ∷ xs) (sym is)
@@ -280,19 +280,6 @@ module _ {A : Type 0} where
 
   pub take_more : (xs : List A) (i : ℕ) (x : A) → i < length xs → x ≡ get_or xs i x → take (i + 1) xs ≡ take i xs ++ x ∷ []
   take_more xs i x less is = ap (λ n. take n xs) (let e : i + 1 ≡ suc i = omega arith in e) ∙ take_suc xs i x less is
-
--- none of the changes so far qualifies, and the next one does
-pub moved : (aim : Aim) (old : List (List Rule)) (changes left : List Change) (i : ℕ) (c : Change) (s : SearchState) → left ≡ remaining (tables_after changes old) aim.new → i < length left → c ≡ get_or left i c
-    → AllByRecursion (λ d. ¬ Qualifies aim (tables_after changes old) d) (take i left) → IsTried aim old changes c s true → IsMoved aim old changes s true
-moved aim old changes left i c s are less is none (q, go) =
-    (c, go (record { earlier = take i left; later = drop (suc i) left; are = sym are ∙ split_there left i c less is; none_earlier = none; qualifies = q }))
-
--- nor does the next one
-pub none_more : (aim : Aim) (old : List (List Rule)) (changes left : List Change) (i : ℕ) (c : Change) (s : SearchState) → i < length left → c ≡ get_or left i c
-    → AllByRecursion (λ d. ¬ Qualifies aim (tables_after changes old) d) (take i left) → IsTried aim old changes c s false
-    → AllByRecursion (λ d. ¬ Qualifies aim (tables_after changes old) d) (take (i + 1) left) × IsAt aim old changes s
-none_more aim old changes left i c s less is none (fails, at) =
-    (subst (AllByRecursion (λ d. ¬ Qualifies aim (tables_after changes old) d)) (sym (take_more left i c less is)) (each_append (λ d. ¬ Qualifies aim (tables_after changes old) d) (take i left) (c ∷ []) none (fails, tt)), at)
 
 -- ---- a search that begins
 

@@ -1,5 +1,5 @@
 -- What a search is for, and where it is.
-use Rattle.std.specs.Prelude.{◌≡◌, Bool, true, false, List, [], ◌∷◌, ◌++◌}
+use Rattle.std.specs.Prelude.{◌≡◌, ℕ, Bool, true, false, List, [], ◌∷◌, ◌++◌, length, Option, Some, None}
 use Rattle.std.specs.List.{AllByRecursion}
 use Rattle.topology.specs.Networks.{Network}
 use Rattle.flow_rules.specs.Tables.{TableState, rules_of_all}
@@ -16,6 +16,9 @@ use Rattle.evidence_store.specs.State.{StoreState}
 use Rattle.trial_tables.specs.Trials.{TrialState, IsSettled, IsTrying}
 use Rattle.round_planner.specs.declared.Ordered.{Ordered}
 use Rattle.round_planner.specs.declared.Ordered.TheVariants.{Rounds, Stuck}
+use Rattle.round_planner.specs.declared.failing.Failure.{Failure}
+use Rattle.round_planner.specs.declared.left.Left.{Left}
+use Rattle.round_planner.specs.Failures.{IsFailure, AreLeft}
 use Rattle.round_planner.specs.Search.{Aim, single_rounds, Qualifies, IsFirstQualifying, EndsOrdered, EndsStuck}
 use Rattle.round_planner.specs.Standing.{Stands}
 
@@ -49,18 +52,42 @@ pub record IsTryingAt (aim : Aim) (old : List (List Rule)) (changes : List Chang
   pub classes : s.store.classes ≡ class_count aim.classes
 
 -- what trying a change leads to: it qualifies and, if it is the first that does, the search has made it;
--- or it doesn't qualify and the search is where it was
-abbrev pub IsTried : Aim → List (List Rule) → List Change → Change → SearchState → Bool → Type 0
-IsTried aim old changes c s true =
+-- or it fails and the search is where it was
+abbrev pub IsTried : Aim → List (List Rule) → List Change → Change → SearchState → Option Failure → Type 0
+IsTried aim old changes c s None =
     Qualifies aim (tables_after changes old) c
     × (IsFirstQualifying aim (tables_after changes old) (remaining (tables_after changes old) aim.new) c → IsAt aim old (changes ++ c ∷ []) s)
-IsTried aim old changes c s false = (¬ Qualifies aim (tables_after changes old) c) × IsAt aim old changes s
+IsTried aim old changes c s (Some f) = IsFailure aim (tables_after changes old) c f × IsAt aim old changes s
 
--- what going through the remaining changes leads to: the search has made one more, or none of them qualifies
-abbrev pub IsMoved : Aim → List (List Rule) → List Change → SearchState → Bool → Type 0
-IsMoved aim old changes s true = (c : Change) × IsAt aim old (changes ++ c ∷ []) s
-IsMoved aim old changes s false =
-    AllByRecursion (λ d. ¬ Qualifies aim (tables_after changes old) d) (remaining (tables_after changes old) aim.new) × IsAt aim old changes s
+-- the same of a change that remains: if it fails, why it does is kept with it
+abbrev pub IsLeftTried : Aim → List (List Rule) → List Change → Left → SearchState → Bool → Type 0
+IsLeftTried aim old changes one s true =
+    Qualifies aim (tables_after changes old) one.change
+    × (IsFirstQualifying aim (tables_after changes old) (remaining (tables_after changes old) aim.new) one.change → IsAt aim old (changes ++ one.change ∷ []) s)
+IsLeftTried aim old changes one s false = (¬ Qualifies aim (tables_after changes old) one.change) × IsAt aim old changes s
+
+-- one of those that remain was made, that at the place
+pub record IsMadeAt (aim : Aim) (old : List (List Rule)) (changes : List Change) (s : SearchState) (left : List Left) (place : ℕ) : Type 0 where
+  pub front : List Left
+  pub one : Left
+  pub back : List Left
+  pub are : left ≡ front ++ one ∷ back
+  pub at_place : length front ≡ place
+  pub at : IsAt aim old (changes ++ one.change ∷ []) s
+
+-- none of the changes that remain qualifies
+abbrev pub NoneQualifies : Aim → List (List Rule) → Type 0
+NoneQualifies aim tables = AllByRecursion (λ d. ¬ Qualifies aim tables d) (remaining tables aim.new)
+
+-- what going through the remaining changes leads to: the search has made the one at a place, or none of them qualifies
+abbrev pub IsPlaced : Aim → List (List Rule) → List Change → SearchState → List Left → Option ℕ → Type 0
+IsPlaced aim old changes s left (Some place) = IsMadeAt aim old changes s left place
+IsPlaced aim old changes s left None = NoneQualifies aim (tables_after changes old) × IsAt aim old changes s
+
+-- what one step of the search leads to: it has made one change more, and these remain then, or none that remains qualifies
+abbrev pub IsMoved : Aim → List (List Rule) → List Change → SearchState → List Left → Bool → Type 0
+IsMoved aim old changes s left true = (c : Change) × IsAt aim old (changes ++ c ∷ []) s × AreLeft aim (tables_after (changes ++ c ∷ []) old) left
+IsMoved aim old changes s left false = NoneQualifies aim (tables_after changes old) × IsAt aim old changes s
 
 -- where the search ends: ordered, as no change remains, or stuck, as none of those that remain qualifies
 abbrev pub IsEnded : Aim → List (List Rule) → SearchState → Bool → Type 0

@@ -1,14 +1,15 @@
 -- Where a search stands, and what is found while a change is tried.
-use Rattle.std.specs.Prelude.{◌≡◌, ◌⊎◌, ℕ, ◌<◌, ◌≤◌, List, [], ◌∷◌, length, Option, Some, None}
+use Rattle.std.specs.Prelude.{◌≡◌, ◌⊎◌, ℕ, ◌<◌, ◌≤◌, List, [], ◌∷◌, length}
 use Rattle.std.specs.List.{AllByRecursion}
 use Rattle.net_base.specs.Members.{IsIn}
 use Rattle.net_base.specs.declared.ids.SwitchId.{SwitchId}
+use Rattle.net_base.specs.declared.ids.Place.{Place}
 use Rattle.flow_rules.specs.Tables.{IsClear}
 use Rattle.flow_rules.specs.declared.rules.Rule.{Rule}
 use Rattle.dest_classes.specs.Classes.{IsClass, class_count}
 use Rattle.dest_classes.specs.declared.Class.{Class}
 use Rattle.update_model.specs.Changes.{IsGoodRound, round_after}
-use Rattle.update_model.specs.Mixtures.{Update, MayHold, tables_before}
+use Rattle.update_model.specs.Mixtures.{Update, MayHold, IsOnMixedWalk, tables_before}
 use Rattle.update_model.specs.declared.Change.{Change}
 use Rattle.certificates.specs.Ordered.{IsSafe, OrderedCertificate}
 use Rattle.certificates.specs.Valid.{IsChain, IsValidNumbering, IsValidBefore}
@@ -19,6 +20,10 @@ use Rattle.evidence_store.specs.Stored.{IsWithPick}
 use Rattle.round_planner.specs.declared.judging.Found.{Found}
 use Rattle.round_planner.specs.declared.judging.Judged.{Judged}
 use Rattle.round_planner.specs.declared.judging.Judged.TheVariants.{Kept, New, Unsafe}
+use Rattle.round_planner.specs.declared.judging.Verdict.{Verdict}
+use Rattle.round_planner.specs.declared.judging.Verdict.TheVariants as verdict
+use Rattle.round_planner.specs.declared.failing.UnsafeClass.{UnsafeClass}
+use Rattle.round_planner.specs.Failures.{IsVisited}
 use Rattle.round_planner.specs.Search.{Aim, duties_in, update_by, AreFirstQualifying, IsSearchEvidence}
 
 -- the class has its certificate in round k by the evidence so far
@@ -48,11 +53,16 @@ pub record IsNextRound (aim : Aim) (u : Update) (e : OrderedEvidence) (k : ℕ) 
 abbrev pub HasPickOf : OrderedEvidence → ℕ → Type 0
 HasPickOf e n = (pick : OrderedPick) × IsIn pick e.picks × (pick.class ≡ n)
 
+-- no evidence keeps the class safe in round k, and each switch that its mixed walks come to is marked
+pub record IsUnsafe (aim : Aim) (u : Update) (k : ℕ) (f : UnsafeClass) : Type 0 where
+  pub never : (numbers : List ℕ) (sets : List (List ℕ)) → ¬ IsSafe u k f.class.first f.class.entry (duties_in aim f.class) numbers sets
+  pub visits : (place : Place) → IsOnMixedWalk u k f.class.first f.class.entry place → IsVisited f.visited place.switch
+
 -- what is found for a class in round k: the pick in force keeps it safe, or it fails and new evidence does, or nothing does
 abbrev pub IsJudged : Aim → Update → OrderedEvidence → ℕ → ℕ → Class → Judged → Type 0
 IsJudged aim u e k n class Kept = IsCertifiedClass aim u e k n class
 IsJudged aim u e k n class (New evidence) = (¬ IsCertifiedClass aim u e k n class) × IsSafeEvidence u k class (duties_in aim class) evidence
-IsJudged aim u e k n class Unsafe = (numbers : List ℕ) (sets : List (List ℕ)) → ¬ IsSafe u k class.first class.entry (duties_in aim class) numbers sets
+IsJudged aim u e k n class (Unsafe f) = (f.class ≡ class) × IsUnsafe aim u k f
 
 -- new evidence was found for class n
 pub record HasFound (aim : Aim) (u : Update) (k n : ℕ) (class : Class) (found : List Found) : Type 0 where
@@ -73,17 +83,16 @@ pub record AreSafeBelow (aim : Aim) (u : Update) (e : OrderedEvidence) (k below 
   pub within : AllByRecursion (λ (f : Found). f.class < below) found
   pub ascending : IsChain (λ (f g : Found). f.class < g.class) found
 
--- some class is not safe by any evidence
-pub record HasUnsafe (aim : Aim) (u : Update) (k : ℕ) : Type 0 where
+-- one of the classes is not safe by any evidence
+pub record HasUnsafe (aim : Aim) (u : Update) (k : ℕ) (f : UnsafeClass) : Type 0 where
   pub number : ℕ
-  pub class : Class
-  pub is_class : IsClass aim.classes number class
-  pub never : (numbers : List ℕ) (sets : List (List ℕ)) → ¬ IsSafe u k class.first class.entry (duties_in aim class) numbers sets
+  pub is_class : IsClass aim.classes number f.class
+  pub unsafe_ : IsUnsafe aim u k f
 
 -- what is found for all classes in round k
-abbrev pub AreJudged : Aim → Update → OrderedEvidence → ℕ → Option (List Found) → Type 0
-AreJudged aim u e k (Some found) = AreSafeBelow aim u e k (class_count aim.classes) found
-AreJudged aim u e k None = HasUnsafe aim u k
+abbrev pub AreJudged : Aim → Update → OrderedEvidence → ℕ → Verdict → Type 0
+AreJudged aim u e k (verdict.Safe found) = AreSafeBelow aim u e k (class_count aim.classes) found.items
+AreJudged aim u e k (verdict.Unsafe f) = HasUnsafe aim u k f
 
 -- the evidence with a pick more for each class for which new evidence was found
 abbrev pub AreWithPicks : OrderedEvidence → ℕ → List Found → OrderedEvidence → Type 0

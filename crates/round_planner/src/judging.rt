@@ -1,5 +1,5 @@
 // What is found for the classes while a change is tried.
-ghost use Rattle.std.specs.Prelude.{◌≡◌, ◌↔◌, ℕ, ◌+◌, ◌<◌, ◌≤◌, suc, true, false, List, length, IsTrue, IfOk, option_map, slice_get, Some};
+ghost use Rattle.std.specs.Prelude.{◌≡◌, ◌↔◌, ℕ, ◌+◌, ◌<◌, ◌≤◌, suc, true, false, List, length, IsTrue, IfOk, slice_get, Some};
 ghost use Rattle.std.specs.List.{AllByRecursion};
 ghost use Rattle.net_base.specs.Blocks.{in_block};
 ghost use Rattle.topology.specs.Networks.{switch_count};
@@ -14,6 +14,7 @@ ghost use Rattle.mixed_walks.specs.Walks.{IsRoundOf, IsWalked};
 ghost use Rattle.round_planner.specs.Search.{duties_in};
 ghost use Rattle.round_planner.specs.Standing.{HasPickOf, IsNextRound, IsCertifiedClass, IsJudged, AreSafeBelow, AreJudged};
 
+use crate::failing::{UnsafeClass, visited_on};
 use crate::goal::Goal;
 use acyclic_numbering::Numbering;
 use certificates::{OrderedEvidence, Shared};
@@ -31,7 +32,15 @@ use update_model::Change;
 pub(crate) enum Judged {
     Kept,
     New(ClassEvidence),
-    Unsafe,
+    Unsafe(UnsafeClass),
+}
+
+/// What is found for all classes in a round: new evidence for those that the pick in force doesn't keep safe, or the first
+/// class that is not safe by any evidence.
+#[derive(Drop)]
+pub(crate) enum Verdict {
+    Safe(Vec<Found>),
+    Unsafe(UnsafeClass),
 }
 
 /// A change that is tried as the next round, and the switches as they are prepared for that round.
@@ -156,25 +165,26 @@ fn judge_class(
     }
     match evidence_of(alloc, goal.net, walk, goal.duties, number, class)? {
         Some(evidence) => Ok(Judged::New(evidence)),
-        None => Ok(Judged::Unsafe),
+        None => Ok(Judged::Unsafe(UnsafeClass {
+            class,
+            visited: visited_on(class.entry.switch, walk.steps()),
+        })),
     }
 }
 
-/// What is found for all classes while the round of a change is carried out: new evidence for those
-/// that the pick in force doesn't keep safe, or none where some class is not safe by any evidence.
+/// What is found for all classes while the round of a change is carried out.
 pub(crate) fn judge_all(
     alloc: Global,
     goal: &Goal,
     walk: &mut WalkRoom,
     tried: Tried,
     store: &EvidenceStore,
-) -> Result<Option<Vec<Found>>, Memory>
+) -> Result<Verdict, Memory>
     requires round { (u : Update) × (k : ℕ) × IsRoundOf goal.now.net tried.mixes.now u k }
     requires numberings { AllByRecursion (IsValidNumbering goal.now.net) store.now.evidence.numberings }
     requires classes { store.now.classes ≡ class_count goal.now.classes }
-    ensures { IfOk result (λ found. (u : Update) (k : ℕ) → IsRoundOf goal.now.net tried.entry.mixes.now u k
-        → IsNextRound goal.now u store.now.evidence k tried.entry.change.now
-        → AreJudged goal.now u store.now.evidence k (option_map (λ v. v.items) found)) }
+    ensures { IfOk result (λ verdict. (u : Update) (k : ℕ) → IsRoundOf goal.now.net tried.entry.mixes.now u k
+        → IsNextRound goal.now u store.now.evidence k tried.entry.change.now → AreJudged goal.now u store.now.evidence k verdict) }
 {
     let mut found = Vec::new(alloc);
     for number in 0..goal.classes.count() {
@@ -184,8 +194,8 @@ pub(crate) fn judge_all(
                 class: number,
                 evidence,
             })?,
-            Judged::Unsafe => return Ok(None),
+            Judged::Unsafe(failing) => return Ok(Verdict::Unsafe(failing)),
         }
     }
-    Ok(Some(found))
+    Ok(Verdict::Safe(found))
 }

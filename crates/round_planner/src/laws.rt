@@ -1,8 +1,15 @@
-//! The search of an update has one end. The law is a function that does nothing: its contract is the law.
-ghost use Rattle.std.specs.Prelude.{◌≡◌, List};
+//! The search of an update has one end, and what is known of a change that failed stands for a while. Each law is a function
+//! that does nothing: its contract is the law.
+ghost use Rattle.std.specs.Prelude.{◌≡◌, ◌≢◌, ◌<◌, List, length};
+ghost use Rattle.std.specs.List.{AllByRecursion};
 ghost use Rattle.flow_rules.specs.declared.rules.Rule.{Rule};
+ghost use Rattle.dest_classes.specs.declared.Class.{Class};
+ghost use Rattle.update_model.specs.Changes.{switch_of, rule_of, tables_after};
 ghost use Rattle.update_model.specs.declared.Change.{Change};
-ghost use Rattle.round_planner.specs.Search.{Aim, EndsOrdered, EndsStuck};
+ghost use Rattle.certificates.specs.Certified.{KeepsVlan};
+ghost use Rattle.mixed_walks.specs.Walks.{TablesKeepVlans};
+ghost use Rattle.round_planner.specs.Search.{Aim, CanBeSafe, Qualifies, EndsOrdered, EndsStuck};
+ghost use Rattle.round_planner.specs.Failures.{HasRoomThere, IsApart};
 
 /// A search ends ordered or stuck and not both, and its changes are the only ones, because the first change of a list that
 /// qualifies is the only first one.
@@ -13,4 +20,16 @@ pub fn searches_end_once()
         → EndsStuck aim old changes → EndsStuck aim old others → changes ≡ others }
     ensures apart { (aim : Aim) (old : List (List Rule)) (changes others : List Change)
         → EndsOrdered aim old changes → ¬ EndsStuck aim old others }
+{}
+
+/// A failure of a change stands while nothing touches what it rests on: one by its table, while no change is made at its
+/// switch; one by a class that no evidence keeps safe, while no change covers the class at a switch that the mixed walks
+/// of the class come to when the change is tried. The walks are then the same, and so is what keeps the class safe.
+pub fn failures_stand()
+    ensures table { (aim : Aim) (tables : List (List Rule)) (c : Change) → ¬ HasRoomThere aim.net tables c → (changes : List Change)
+        → AllByRecursion (λ d. (switch_of d).0 ≢ (switch_of c).0) changes → ¬ Qualifies aim (tables_after changes tables) c }
+    ensures class { (aim : Aim) (tables : List (List Rule)) (c : Change) (class : Class) → TablesKeepVlans tables → KeepsVlan (rule_of c).action
+        → ¬ CanBeSafe aim tables c class → (changes : List Change)
+        → AllByRecursion (λ d. KeepsVlan (rule_of d).action × ((switch_of d).0 < length tables) × IsApart aim tables c class d) changes
+        → ¬ CanBeSafe aim (tables_after changes tables) c class }
 {}

@@ -1,9 +1,11 @@
 //! Ordered plans: rounds of one change each, found by a search for changes that are safe.
 #![tactic(auto)]
 
+mod failing;
 mod goal;
 mod judging;
 pub mod laws;
+mod left;
 mod picking;
 mod searching;
 
@@ -42,9 +44,11 @@ pub enum Ordered {
 /// is clear in every mixture, within capacity, and keeps every class safe by some evidence. It ends ordered where no change
 /// remains, and stuck where none of them qualifies. After Mahajan and Wattenhofer (2013).
 ///
-/// Takes one walk for each change that is tried and each class whose address the change covers, up to the first class that it
-/// doesn't keep safe; for the first change that is made, one for each class. A walk is that of a packet through the mixtures
-/// of the round.
+/// A change that failed is tried again only after one that touches what its failure rests on: the table of its switch, or a
+/// class at a switch that the class's walks came to. Each try takes one walk for each class whose address the change covers,
+/// up to the first class that it doesn't keep safe; for the first change that is made, one for each class. A walk is that of
+/// a packet through the mixtures of the round. It holds some 200 bytes for each change that remains, of which there are at
+/// most 4096.
 pub fn order(
     alloc: Global,
     net: &Net,

@@ -1,5 +1,5 @@
 // The search, change by change.
-ghost use Rattle.std.specs.Prelude.{◌≡◌, ◌≤◌, ◌++◌, ◌∷◌, [], List, suc, length, IfOk, OnOk};
+ghost use Rattle.std.specs.Prelude.{◌≡◌, ◌≤◌, ◌++◌, ◌∷◌, [], List, suc, length, map, IfOk, OnOk};
 ghost use Rattle.std.specs.List.{AllByRecursion};
 ghost use Rattle.net_base.specs.Members.{IsIn};
 ghost use Rattle.flow_rules.specs.Tables.{rules_of_all};
@@ -13,11 +13,15 @@ ghost use Rattle.trial_tables.specs.Trials.{IsTrying};
 ghost use Rattle.round_planner.specs.declared.judging.Found.{Found as FoundOf};
 ghost use Rattle.round_planner.specs.Search.{IsFirstQualifying, update_by};
 ghost use Rattle.round_planner.specs.Standing.{Stands, AreSafeBelow};
-ghost use Rattle.round_planner.specs.Searching.{IsAt, IsTried, IsMoved, IsTryingAt, IsEnded, plan_by, answer_by};
+ghost use Rattle.round_planner.specs.declared.left.Left.{Left as LeftOf};
+ghost use Rattle.round_planner.specs.Failures.{HasStanding, AreLeft};
+ghost use Rattle.round_planner.specs.Searching.{IsAt, IsTried, IsLeftTried, IsPlaced, IsMoved, IsTryingAt, IsEnded, plan_by, answer_by};
 
 use crate::Ordered;
+use crate::failing::Failure;
 use crate::goal::Goal;
-use crate::judging::{Found, Tried, judge_all};
+use crate::judging::{Found, Tried, Verdict, judge_all};
+use crate::left::{Left, take_out, untried};
 use crate::picking::add_picks;
 use certificates::{Evidence, Plan};
 use evidence_store::EvidenceStore;
@@ -95,51 +99,97 @@ impl Search {
         Ok(())
     }
 
-    /// Tries a change, and makes it if it qualifies. The result says whether it does.
-    fn try_change(&mut self, alloc: Global, goal: &Goal, change: &Change) -> Result<bool, Memory>
+    /// Tries a change, and makes it if it qualifies. Otherwise the result says why it doesn't.
+    fn try_change(
+        &mut self,
+        alloc: Global,
+        goal: &Goal,
+        change: &Change,
+    ) -> Result<Option<Failure>, Memory>
         requires { (old : List (List Rule)) × (changes : List ChangeOf) × IsUserConfig goal.now.net old × IsAt goal.now old changes self.old
             × IsIn change.now (remaining (tables_after changes old) goal.now.new) }
-        ensures { IfOk result (λ taken. (old : List (List Rule)) (changes : List ChangeOf) → IsUserConfig goal.now.net old → IsAt goal.now old changes self.old
-            → IsIn change.now (remaining (tables_after changes old) goal.now.new) → IsTried goal.now old changes change.now self.new taken) }
+        ensures { IfOk result (λ failure. (old : List (List Rule)) (changes : List ChangeOf) → IsUserConfig goal.now.net old → IsAt goal.now old changes self.old
+            → IsIn change.now (remaining (tables_after changes old) goal.now.new) → IsTried goal.now old changes change.now self.new failure) }
     {
         goal.net.keeps_rules();
         if !self.trial.begin(goal.net, change) {
-            return Ok(false);
+            return Ok(Some(Failure::Table));
         }
         let tried = Tried {
             change,
             mixes: self.trial.mixes(),
         };
         match judge_all(alloc, goal, &mut self.walk, tried, &self.store)? {
-            Some(found) => {
+            Verdict::Safe(found) => {
                 self.take(alloc, goal, change, found)?;
-                Ok(true)
+                Ok(None)
             }
-            None => {
+            Verdict::Unsafe(failing) => {
                 self.trial.give_up(goal.net, change);
+                Ok(Some(Failure::Class(failing)))
+            }
+        }
+    }
+
+    /// Tries a change that remains, unless its failure stands. The result says whether it is made; if it isn't, why it
+    /// failed is kept.
+    fn try_left(&mut self, alloc: Global, goal: &Goal, left: &mut Left) -> Result<bool, Memory>
+        requires { (old : List (List Rule)) × (changes : List ChangeOf) × IsUserConfig goal.now.net old × IsAt goal.now old changes self.old
+            × IsIn left.old.change (remaining (tables_after changes old) goal.now.new) × HasStanding goal.now (tables_after changes old) left.old }
+        ensures change { OnOk result (left.new.change ≡ left.old.change) }
+        ensures tried { IfOk result (λ taken. (old : List (List Rule)) (changes : List ChangeOf) → IsUserConfig goal.now.net old → IsAt goal.now old changes self.old
+            → IsIn left.old.change (remaining (tables_after changes old) goal.now.new) → HasStanding goal.now (tables_after changes old) left.old
+            → IsLeftTried goal.now old changes left.old self.new taken × HasStanding goal.now (tables_after changes old) left.new) }
+    {
+        if left.failure.is_some() {
+            return Ok(false);
+        }
+        match self.try_change(alloc, goal, &left.change)? {
+            None => Ok(true),
+            Some(failure) => {
+                left.failure = Some(failure);
                 Ok(false)
             }
         }
     }
 
-    /// Tries the changes that remain, in order, up to the first that qualifies. The result says whether one does.
-    pub(crate) fn take_first(
+    /// Tries the changes that remain, in order, up to the first that qualifies. The result is its place, if one does.
+    fn take_first(
         &mut self,
         alloc: Global,
         goal: &Goal,
-        left: &[Change],
-    ) -> Result<bool, Memory>
+        left: &mut [Left],
+    ) -> Result<Option<usize>, Memory>
         requires { (old : List (List Rule)) × (changes : List ChangeOf) × IsUserConfig goal.now.net old × IsAt goal.now old changes self.old
-            × (left.now ≡ remaining (tables_after changes old) goal.now.new) }
-        ensures { IfOk result (λ taken. (old : List (List Rule)) (changes : List ChangeOf) → IsUserConfig goal.now.net old → IsAt goal.now old changes self.old
-            → left.now ≡ remaining (tables_after changes old) goal.now.new → IsMoved goal.now old changes self.new taken) }
+            × AreLeft goal.now (tables_after changes old) left.old }
+        ensures changes { OnOk result (map (λ (l : LeftOf). l.change) left.new ≡ map (λ (l : LeftOf). l.change) left.old) }
+        ensures placed { IfOk result (λ place. (old : List (List Rule)) (changes : List ChangeOf) → IsUserConfig goal.now.net old → IsAt goal.now old changes self.old
+            → AreLeft goal.now (tables_after changes old) left.old
+            → IsPlaced goal.now old changes self.new left.new place × AllByRecursion (HasStanding goal.now (tables_after changes old)) left.new) }
     {
-        for change in left {
-            if self.try_change(alloc, goal, change)? {
-                return Ok(true);
+        for place in 0..left.len() {
+            if self.try_left(alloc, goal, &mut left[place])? {
+                return Ok(Some(place));
             }
         }
-        Ok(false)
+        Ok(None)
+    }
+
+    /// Makes the first of the changes that remain that qualifies. The result says whether one does.
+    fn go_on(&mut self, alloc: Global, goal: &Goal, left: &mut Vec<Left>) -> Result<bool, Memory>
+        requires { (old : List (List Rule)) × (changes : List ChangeOf) × IsUserConfig goal.now.net old × IsAt goal.now old changes self.old
+            × AreLeft goal.now (tables_after changes old) left.old.items }
+        ensures { IfOk result (λ taken. (old : List (List Rule)) (changes : List ChangeOf) → IsUserConfig goal.now.net old → IsAt goal.now old changes self.old
+            → AreLeft goal.now (tables_after changes old) left.old.items → IsMoved goal.now old changes self.new left.new.items taken) }
+    {
+        goal.net.keeps_rules();
+        match self.take_first(alloc, goal, left)? {
+            Some(place) => {
+                take_out(left, place);
+                Ok(true)
+            }
+            None => Ok(false),
+        }
     }
 
     /// Goes on until no change remains, or until none of those that remain qualifies. The result says whether none remains.
@@ -149,15 +199,14 @@ impl Search {
             → IsEnded goal.now old self.new none_remains) }
     {
         goal.net.keeps_rules();
-        'searching: loop {
-            let left = remaining(alloc, self.trial.tables(), goal.new)?;
-            if left.is_empty() {
-                return Ok(true);
-            }
-            if !self.take_first(alloc, goal, &left)? {
+        let changes = remaining(alloc, self.trial.tables(), goal.new)?;
+        let mut left = untried(alloc, &changes)?;
+        'searching: while !left.is_empty() {
+            if !self.go_on(alloc, goal, &mut left)? {
                 return Ok(false);
             }
         }
+        Ok(true)
     }
 
     /// The plan of the rounds so far.

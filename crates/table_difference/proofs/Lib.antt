@@ -2,3 +2,4 @@ pub mod OrderLaws
 pub mod StepLaws
 pub mod SwitchLaws
 pub mod LengthLaws
+pub mod WithoutLaws

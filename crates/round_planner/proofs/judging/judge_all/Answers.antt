@@ -16,7 +16,7 @@ returns-in-Unsafe c u k round next =
     let aim = c.args.goal.now in
     let count : c.count-number-end.result ≡ class_count aim.classes = c.count-number-end.ensures.count ∙ ap (λ (a : Aim). class_count a.classes) c.goal.view_is in
     let less : c.loop-number.number < c.count-number-end.result = omega arith in
-    unsafe_at aim u c.args.store.now.evidence k c.loop-number.number (subst (λ n. c.loop-number.number < n) count less)
+    unsafe_at aim u c.args.store.now.evidence k c.loop-number.number (subst (λ n. c.loop-number.number < n) count less) c.in-Unsafe.failing
     (λ class is. subst (IsJudged aim u c.args.store.now.evidence k c.loop-number.number class) c.in-Unsafe.is (c.in_ok-judge_class.ensures u k class round is next))
 
 pub loop-number-preserved : goal.loop-number-preserved

@@ -1,7 +1,7 @@
-use Rattle.std.proofs.Common.{◌≡◌, ℕ, false, List, Option, Some, None, sym, ap, ◌∙◌, subst}
+use Rattle.std.proofs.Common.{◌≡◌, ℕ, false, List, Option, Some, None, ◌<◌, refl, sym, ap, ◌∙◌, subst, arith}
 use Rattle.std.proofs.lemmas.Bool.{false≢true}
 use Rattle.net_base.specs.Blocks.{in_block}
-use Rattle.topology.specs.Networks.{Network}
+use Rattle.topology.specs.Networks.{Network, IsNetwork, switch_count}
 use Rattle.dest_classes.specs.Classes.{ClassList, IsClass}
 use Rattle.dest_classes.specs.declared.Class.{Class}
 use Rattle.demands.specs.Duties.{DemandView, duties_of}
@@ -11,10 +11,13 @@ use Rattle.update_model.specs.Mixtures.{Update}
 use Rattle.round_mix.specs.Prepared.{MixedState}
 use Rattle.class_evidence.specs.Found.{IsFound}
 use Rattle.class_evidence.specs.declared.ClassEvidence.{ClassEvidence}
+use Rattle.std.specs.List.{AllByRecursion}
+use Rattle.acyclic_numbering.specs.declared.Edge.{Edge}
 use Rattle.mixed_walks.specs.Walks.{IsRoundOf}
+use Rattle.round_planner.specs.Failures.{IsVisited}
 use Rattle.round_planner.specs.Search.{Aim, duties_in}
 use Rattle.round_planner.specs.Standing.{IsCertifiedClass}
-use Rattle.round_planner.proofs.JudgingLaws.{picks_up_to, stays_certified}
+use Rattle.round_planner.proofs.JudgingLaws.{picks_up_to, stays_certified, visits_all, steps_near}
 use Rattle.round_planner.proofs.judging.judge_class.Goals as goal
 
 -- the switches are prepared for a round in the same network
@@ -76,10 +79,33 @@ returns-in-Some c u k class round is next =
           (c.in_ok-evidence.ensures u k here.net_is walked),
     )
 
+-- each switch of the network is one of 128
+near_switch : (net : Network) → IsNetwork net → (s : ℕ) → s < switch_count net → s < 128
+near_switch net is s less = let few = is.few in omega arith
+
+pub visited_on-requires-clause-entry : goal.visited_on-requires-clause-entry
+visited_on-requires-clause-entry c =
+    near_switch c.goal.inside.net.now c.keeps_rules.ensures c.class-class.result.entry.switch.0
+    (class_within c.goal.inside.net.now c.keeps_rules.ensures c.goal.inside.classes.now c.args.number c.class-class.result c.goal.invariant.hosts c.class-class.ensures.is)
+
+pub visited_on-requires-clause-within : goal.visited_on-requires-clause-within
+visited_on-requires-clause-within c =
+    let (u, k, round) = c.requires.round in
+    let here = round_here c.args.goal.now.net c.goal.inside.net.now (ap (λ (a : Aim). a.net) c.goal.view_is) c.args.tried.mixes.now u k round in
+    let class = c.class-class.result in
+    subst (AllByRecursion (λ (e : Edge). e.to.0 < 128)) (sym c.steps.ensures)
+    (steps_near u k class.first class.entry _ (c.walk.ensures u k here) (subst (λ (n : Network). IsNetwork n) (sym here.net_is) c.keeps_rules.ensures))
+
 pub returns-in-None : goal.returns-in-None
 returns-in-None c u k class round is next =
     let aim = c.args.goal.now in
     let here = round_here aim.net c.goal.inside.net.now (ap (λ (a : Aim). a.net) c.goal.view_is) c.args.tried.mixes.now u k round in
-    let same = this_class aim.classes c.goal.inside.classes.now (ap (λ (a : Aim). a.classes) c.goal.view_is) c.args.number c.class-class.result c.class-class.ensures.only class is in
-    found_for aim c.goal.inside.duties.now.demands (ap (λ (a : Aim). a.demands) c.goal.view_is) u k c.class-class.result class same c.in_ok-evidence.field-0 None c.in-None.is
-    (c.in_ok-evidence.ensures u k here.net_is (c.walk.ensures u k here))
+    let found = c.class-class.result in
+    let walked = c.walk.ensures u k here in (
+      this_class aim.classes c.goal.inside.classes.now (ap (λ (a : Aim). a.classes) c.goal.view_is) c.args.number found c.class-class.ensures.only class is,
+      record {
+        never = found_for aim c.goal.inside.duties.now.demands (ap (λ (a : Aim). a.demands) c.goal.view_is) u k found found refl c.in_ok-evidence.field-0 None c.in-None.is (c.in_ok-evidence.ensures u k here.net_is walked);
+        visits = visits_all u k found.first found.entry _ walked c.visited_on.result c.visited_on.ensures.begins
+            (subst (AllByRecursion (λ (e : Edge). IsVisited c.visited_on.result e.to)) c.steps.ensures c.visited_on.ensures.ends);
+      },
+    )

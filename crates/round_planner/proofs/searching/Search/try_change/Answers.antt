@@ -1,16 +1,16 @@
-use Rattle.std.proofs.Common.{◌++◌, ◌∷◌, [], List, Option, Vec, Global, length, sym, ◌∙◌, subst, ap}
-use Rattle.std.specs.Prelude.{option_map}
+use Rattle.std.proofs.Common.{◌++◌, ◌∷◌, [], List, length, sym, ◌∙◌, subst, ap}
 use Rattle.topology.specs.Networks.{Network, IsNetwork}
 use Rattle.flow_rules.specs.declared.rules.Rule.{Rule}
 use Rattle.path_walk.specs.UserConfigs.{IsUserConfig}
-use Rattle.update_model.specs.Changes.{Applies}
+use Rattle.flow_rules.specs.Tables.{rules_of_all}
+use Rattle.update_model.specs.Changes.{Applies, tables_after}
 use Rattle.round_mix.specs.Prepared.{MixedState}
 use Rattle.mixed_walks.specs.Walks.{IsRoundOf}
-use Rattle.trial_tables.specs.Trials.{IsSettled, IsTrying}
-use Rattle.round_planner.specs.declared.judging.Found.{Found}
+use Rattle.trial_tables.specs.Trials.{IsSettled, IsTrying, HasRoomAlone}
 use Rattle.round_planner.specs.Search.{Aim, update_by}
 use Rattle.round_planner.specs.Standing.{AreJudged}
 use Rattle.round_planner.specs.Searching.{IsAt}
+use Rattle.round_planner.proofs.FailureLaws.{no_room}
 use Rattle.round_planner.proofs.SearchingLaws.{applies_here, tried_round, tried_at, tried_next, tried_qualifies, tried_fails, given_up}
 use Rattle.round_planner.proofs.searching.Search.try_change.Goals as goal
 
@@ -51,12 +51,11 @@ take-requires c =
       changes,
       user,
       tried_at aim old user new_user changes c.args.change.now _ c.begin.new.self here i c.begin.ensures.rules trying,
-      subst (λ (o : Option (Vec Found Global)). AreJudged aim next c.self.inside.store.evidence (length changes) (option_map (λ v. v.items) o)) c.in-Some.is
-          (c.in_ok-found.ensures next (length changes) prepared following),
+      subst (AreJudged aim next c.self.inside.store.evidence (length changes)) c.in-Safe.is (c.in_ok-found.ensures next (length changes) prepared following),
     )
 
-pub returns-in_ok-take-in-Some : goal.returns-in_ok-take-in-Some
-returns-in_ok-take-in-Some c old changes user at i =
+pub returns-in_ok-take-in-Safe : goal.returns-in_ok-take-in-Safe
+returns-in_ok-take-in-Safe c old changes user at i =
     let aim = c.args.goal.now in
     let new_user = subst (λ (a : Aim). IsUserConfig a.net a.new) c.goal.view_is c.goal.invariant.user in
     let here = subst (IsAt aim old changes) (sym c.self.view_is) at in
@@ -66,15 +65,14 @@ returns-in_ok-take-in-Some c old changes user at i =
     let prepared = subst (λ (ms : List MixedState). IsRoundOf aim.net ms next (length changes)) (sym c.mixes.ensures) round in
     let net = subst (λ (n : Network). IsNetwork n) (ap (λ (a : Aim). a.net) c.goal.view_is) c.keeps_rules.ensures in
     let following = tried_next aim old user new_user changes c.args.change.now _ c.begin.new.self here i c.begin.ensures.rules trying net in
-    let safe = subst (λ (o : Option (Vec Found Global)). AreJudged aim next c.self.inside.store.evidence (length changes) (option_map (λ v. v.items) o)) c.in-Some.is
-    (c.in_ok-found.ensures next (length changes) prepared following) in (
-      tried_qualifies aim old user new_user changes c.args.change.now _ c.begin.new.self here i c.begin.ensures.rules trying c.in-Some.found.items safe,
+    let safe = subst (AreJudged aim next c.self.inside.store.evidence (length changes)) c.in-Safe.is (c.in_ok-found.ensures next (length changes) prepared following) in (
+      tried_qualifies aim old user new_user changes c.args.change.now _ c.begin.new.self here i c.begin.ensures.rules trying c.in-Safe.found.items safe,
       λ first.
-          c.in_ok-take-in-Some.ensures old changes user (tried_at aim old user new_user changes c.args.change.now _ c.begin.new.self here i c.begin.ensures.rules trying) safe first,
+          c.in_ok-take-in-Safe.ensures old changes user (tried_at aim old user new_user changes c.args.change.now _ c.begin.new.self here i c.begin.ensures.rules trying) safe first,
     )
 
-pub returns-in-None : goal.returns-in-None
-returns-in-None c old changes user at i =
+pub returns-in-Unsafe : goal.returns-in-Unsafe
+returns-in-Unsafe c old changes user at i =
     let aim = c.args.goal.now in
     let new_user = subst (λ (a : Aim). IsUserConfig a.net a.new) c.goal.view_is c.goal.invariant.user in
     let here = subst (IsAt aim old changes) (sym c.self.view_is) at in
@@ -84,9 +82,20 @@ returns-in-None c old changes user at i =
     let prepared = subst (λ (ms : List MixedState). IsRoundOf aim.net ms next (length changes)) (sym c.mixes.ensures) round in
     let net = subst (λ (n : Network). IsNetwork n) (ap (λ (a : Aim). a.net) c.goal.view_is) c.keeps_rules.ensures in
     let following = tried_next aim old user new_user changes c.args.change.now _ c.begin.new.self here i c.begin.ensures.rules trying net in
-    let unsafe = subst (λ (o : Option (Vec Found Global)). AreJudged aim next c.self.inside.store.evidence (length changes) (option_map (λ v. v.items) o)) c.in-None.is
-    (c.in_ok-found.ensures next (length changes) prepared following) in (
-      tried_fails aim old user new_user changes c.args.change.now _ c.begin.new.self here i c.begin.ensures.rules trying unsafe,
+    let unsafe = subst (AreJudged aim next c.self.inside.store.evidence (length changes)) c.in-Unsafe.is (c.in_ok-found.ensures next (length changes) prepared following) in (
+      tried_fails aim old user new_user changes c.args.change.now _ c.begin.new.self here i c.begin.ensures.rules trying c.in-Unsafe.failing unsafe,
       given_up aim old changes _ c.give_up.new.self here (c.give_up.ensures.rules ∙ c.begin.ensures.rules)
           (subst (λ (n : Network). IsSettled n c.give_up.new.self) (ap (λ (a : Aim). a.net) c.goal.view_is) c.give_up.ensures.settled),
+    )
+
+pub returns-then-not-begin : goal.returns-then-not-begin
+returns-then-not-begin c old changes user at i =
+    let aim = c.args.goal.now in
+    let here = subst (IsAt aim old changes) (sym c.self.view_is) at in
+    let none = c.begin.ensures.never c.if-not-begin.true in
+    let net = ap (λ (a : Aim). a.net) c.goal.view_is in
+    let alone : ¬ HasRoomAlone aim.net (tables_after changes old) c.args.change.now =
+    subst (λ (ts : List (List Rule)). ¬ HasRoomAlone aim.net ts c.args.change.now) here.tables (subst (λ (n : Network). ¬ HasRoomAlone n (rules_of_all c.self.inside.trial.tables) c.args.change.now) net none) in (
+      no_room aim.net c.self.inside.trial (tables_after changes old) c.args.change.now here.settled here.tables alone,
+      given_up aim old changes _ c.begin.new.self here c.begin.ensures.rules (subst (λ (n : Network). IsSettled n c.begin.new.self) net (c.begin.ensures.no c.if-not-begin.true)),
     )

@@ -1,0 +1,207 @@
+-- A failure of a change stands while nothing touches what it rests on.
+use Rattle.std.proofs.Common.{◌≡◌, ◌≢◌, ◌↔◌, ℕ, zero, suc, ◌<◌, ◌≤◌, cond, List, [], ◌∷◌, length, sym, ◌∙◌, subst, ap, inl, inr, arith, length-set, get_or-set_other}
+use Rattle.std.specs.Prelude.{◌==◌, not, map}
+use Rattle.std.specs.List.{AllByRecursion}
+use Rattle.std.proofs.lemmas.Bool.{cases_eq, eq-eqb, cond-true, cond_both}
+use Rattle.net_base.proofs.MemberLaws.{each_append, each_filter, each_get_or, each_set, each_weaker}
+use Rattle.net_base.proofs.NameLaws.{same_switch}
+use Rattle.net_base.specs.declared.ids.SwitchId.{SwitchId}
+use Rattle.net_base.specs.declared.ids.Place.{Place}
+use Rattle.topology.specs.Networks.{Network, switch_count, capacity_of}
+use Rattle.flow_rules.specs.Patterns.{key_eq}
+use Rattle.flow_rules.specs.Tables.{IsClear, rules_at, rules_of_all, covering}
+use Rattle.flow_rules.specs.declared.rules.Rule.{Rule}
+use Rattle.path_walk.specs.Outcomes.{header_at}
+use Rattle.path_walk.specs.declared.Outcome.{Outcome}
+use Rattle.dest_classes.specs.declared.Class.{Class}
+use Rattle.update_model.specs.Changes.{switch_of, rule_of, rules_after_change, tables_after_change, tables_after, changes_at, round_after}
+use Rattle.update_model.specs.Mixtures.{Update, IsMixture, MayHold, IsPossible, IsOnMixedWalk, need_of, entries_needed}
+use Rattle.update_model.specs.declared.Change.{Change}
+use Rattle.update_model.specs.declared.Change.TheVariants.{Insert, Delete, Replace}
+use Rattle.update_model.proofs.ChangeLaws.{rules_at-after_change}
+use Rattle.certificates.specs.Certified.{KeepsVlan}
+use Rattle.mixed_walks.specs.Walks.{TablesKeepVlans}
+use Rattle.trial_tables.specs.Trials.{TrialState, single, HasRoomAlone, IsSettled}
+use Rattle.trial_tables.proofs.TrialLaws.{changes_here, changes_there}
+use Rattle.trial_tables.proofs.AloneLaws.{alone_clear}
+use Rattle.round_planner.specs.Search.{Aim, duties_in, CanBeSafe, Qualifies}
+use Rattle.round_planner.specs.Failures.{HasRoomThere, IsVisited, CoversClass, IsTouched, IsApart, IsFailure}
+use Rattle.round_planner.specs.declared.failing.Failure.{Failure}
+use Rattle.round_planner.specs.declared.failing.Failure.TheVariants as failure
+use Rattle.round_planner.proofs.CoveringLaws.{covering_kept, possible_by_covering}
+use Rattle.check_reasons.proofs.SameWalks.{same_on_walk, same_safe}
+use Rattle.round_planner.proofs.StillLaws.{walk_vlan, not_covered}
+
+-- the rules of another switch than the change's stay
+other_rules : (d : Change) (tables : List (List Rule)) (s : SwitchId) → s.0 ≢ (switch_of d).0 → rules_at (tables_after_change d tables) s ≡ rules_at tables s
+other_rules d tables s ne = get_or-set_other tables (switch_of d).0 s.0 (rules_after_change d (rules_at tables (switch_of d))) [] ne
+
+-- ---- room in the table
+
+module _ (net : Network) (tables : List (List Rule)) (c : Change) where
+  -- room alone is room in the table
+  pub room_there : HasRoomAlone net tables c → HasRoomThere net tables c
+  room_there alone = record {
+    clear = λ mixed held. alone.clear (switch_of c) mixed (subst (λ (cs : List Change). IsMixture (rules_at tables (switch_of c)) cs mixed) (sym (changes_here c)) held);
+    fits = λ within. subst (λ (cs : List Change). entries_needed (rules_at tables (switch_of c)) cs ≤ capacity_of net (switch_of c)) (changes_here c) (alone.fits (switch_of c) within);
+  }
+
+  -- and room in the table is room alone, where the tables are clear and within capacity
+  module _ (clear : (s : SwitchId) → IsClear (rules_at tables s)) (fits : (s : SwitchId) → s.0 < switch_count net → length (rules_at tables s) ≤ capacity_of net s) where
+    pub room_alone_from : HasRoomThere net tables c → HasRoomAlone net tables c
+    room_alone_from there = record { clear = clear_each; fits = fits_each }
+      where
+        clear_each : (s : SwitchId) (mixed : List Rule) → MayHold (single net tables c) 0 s mixed → IsClear mixed
+        clear_each s mixed held =
+            elim (cases_eq s.0 (switch_of c).0) [
+              | inl e ↦
+                  let same : s ≡ switch_of c = same_switch s (switch_of c) e in
+                  there.clear mixed (subst (λ (cs : List Change). IsMixture (rules_at tables (switch_of c)) cs mixed) (changes_here c)
+                  (subst (λ (x : SwitchId). IsMixture (rules_at tables x) (changes_at x (c ∷ [])) mixed) same held))
+              | inr ne ↦ alone_clear (rules_at tables s) (clear s) mixed (subst (λ (cs : List Change). IsMixture (rules_at tables s) cs mixed) (changes_there c s ne) held)
+            ]
+
+        fits_each : (s : SwitchId) → s.0 < switch_count net → need_of (single net tables c) 0 s ≤ capacity_of net s
+        fits_each s within =
+            elim (cases_eq s.0 (switch_of c).0) [
+              | inl e ↦
+                  let same : switch_of c ≡ s = sym (same_switch s (switch_of c) e) in
+                  subst (λ (x : SwitchId). entries_needed (rules_at tables x) (changes_at x (c ∷ [])) ≤ capacity_of net x) same
+                  (subst (λ (cs : List Change). entries_needed (rules_at tables (switch_of c)) cs ≤ capacity_of net (switch_of c)) (sym (changes_here c))
+                  (there.fits (subst (λ (x : SwitchId). x.0 < switch_count net) (sym same) within)))
+              | inr ne ↦
+                  let had = fits s within in
+                  subst (λ (cs : List Change). entries_needed (rules_at tables s) cs ≤ capacity_of net s) (sym (changes_there c s ne)) (omega arith)
+            ]
+
+  -- a change at another switch leaves it as it is
+  pub room_back : (d : Change) → (switch_of c).0 ≢ (switch_of d).0 → HasRoomThere net (tables_after_change d tables) c → HasRoomThere net tables c
+  room_back d apart there =
+      let same = other_rules d tables (switch_of c) apart in
+      record {
+        clear = λ mixed held. there.clear mixed (subst (λ (rs : List Rule). IsMixture rs (c ∷ []) mixed) (sym same) held);
+        fits = λ within. subst (λ (rs : List Rule). entries_needed rs (c ∷ []) ≤ capacity_of net (switch_of c)) same (there.fits within);
+      }
+
+-- where no room was found for a change that is tried there is none in its table
+pub no_room : (net : Network) (t : TrialState) (tables : List (List Rule)) (c : Change) → IsSettled net t → rules_of_all t.tables ≡ tables → ¬ HasRoomAlone net tables c → ¬ HasRoomThere net tables c
+no_room net t tables c settled are none there =
+    none (room_alone_from net tables c (λ s. subst (λ (ts : List (List Rule)). IsClear (rules_at ts s)) are (settled.fit.clear s))
+    (λ s within. subst (λ (ts : List (List Rule)). length (rules_at ts s) ≤ capacity_of net s) are (settled.fit.fits s within)) there)
+
+-- ---- a class that is not safe
+
+module _ (aim : Aim) (tables : List (List Rule)) (c : Change) (keeps_rules : TablesKeepVlans tables) (keeps : KeepsVlan (rule_of c).action) (class : Class) where
+  abbrev u : Update
+  u = single aim.net tables c
+
+  keep_rounds : (j : ℕ) → AllByRecursion (λ d. KeepsVlan (rule_of d).action) (round_after j u.rounds)
+  keep_rounds zero = (keeps, tt)
+  keep_rounds (suc j) = tt
+
+  module _ (d : Change) (within : (switch_of d).0 < length tables) (apart : IsApart aim tables c class d) where
+    abbrev v : Update
+    v = single aim.net (tables_after_change d tables) c
+
+    -- the same rules cover a packet of the class where its mixed walks come to
+    same_covering : (place : Place) → IsOnMixedWalk u 0 class.first class.entry place
+        → covering (header_at place class.first) (rules_at (tables_after_change d tables) place.switch) ≡ covering (header_at place class.first) (rules_at tables place.switch)
+    same_covering place on =
+        elim (cases_eq place.switch.0 (switch_of d).0) [
+          | inl e ↦
+              let off : ¬ CoversClass d class = apart place on (same_switch place.switch (switch_of d) e) in
+              ap (covering (header_at place class.first)) (rules_at-after_change d tables place.switch within
+              ∙ cond-true ((switch_of d).0 == place.switch.0) (rules_after_change d (rules_at tables place.switch)) (rules_at tables place.switch) (eq-eqb (switch_of d).0 place.switch.0 (sym e)))
+              ∙ covering_kept (header_at place class.first) d (not_covered d class place (walk_vlan u 0 class.first class.entry keeps_rules (λ j _. keep_rounds j) place on) off) (rules_at tables place.switch)
+          | inr ne ↦ ap (covering (header_at place class.first)) (other_rules d tables place.switch ne)
+        ]
+
+    same_outcomes : (place : Place) → IsOnMixedWalk u 0 class.first class.entry place → (found : Outcome) → IsPossible v 0 class.first place found ↔ IsPossible u 0 class.first place found
+    same_outcomes place on found =
+        let same = same_covering place on in
+        let cs = changes_at place.switch (c ∷ []) in (
+          possible_by_covering aim.net place class.first (rules_at (tables_after_change d tables) place.switch) (rules_at tables place.switch) same cs found,
+          possible_by_covering aim.net place class.first (rules_at tables place.switch) (rules_at (tables_after_change d tables) place.switch) (sym same) cs found,
+        )
+
+    -- evidence that keeps the class safe after the change does before it
+    pub safe_back : CanBeSafe aim (tables_after_change d tables) c class → CanBeSafe aim tables c class
+    safe_back can = record {
+      numbers = can.numbers;
+      sets = can.sets;
+      safe = (same_safe u v 0 0 class.first class.entry same_outcomes (duties_in aim class) can.numbers can.sets).0 can.safe;
+    }
+
+    -- and its mixed walks are the same
+    pub walk_same : (place : Place) → IsOnMixedWalk v 0 class.first class.entry place → IsOnMixedWalk u 0 class.first class.entry place
+    walk_same place = (same_on_walk u v 0 0 class.first class.entry same_outcomes place).0
+
+-- ---- a failure, after one change
+
+pub failure_stands : (aim : Aim) (tables : List (List Rule)) (c : Change) → TablesKeepVlans tables → KeepsVlan (rule_of c).action → (d : Change) → (switch_of d).0 < length tables
+    → (f : Failure) → ¬ IsTouched (switch_of c) d f → IsFailure aim tables c f → IsFailure aim (tables_after_change d tables) c f
+failure_stands aim tables c keeps_rules keeps d within failure.Table untouched fails =
+    λ room. fails (room_back aim.net tables c d (λ e. untouched (sym e)) room)
+failure_stands aim tables c keeps_rules keeps d within (failure.Class f) untouched fails =
+    let apart : IsApart aim tables c f.class d = λ place on at covers_it. untouched (subst (IsVisited f.visited) at (fails.visits place on), covers_it) in
+    record {
+      number = fails.number;
+      is_class = fails.is_class;
+      never = λ can. fails.never (safe_back aim tables c keeps_rules keeps f.class d within apart can);
+      visits = λ place on. fails.visits place (walk_same aim tables c keeps_rules keeps f.class d within apart place on);
+    }
+
+-- a failure rules the change out
+pub fails_then : (aim : Aim) (tables : List (List Rule)) (c : Change) (f : Failure) → IsFailure aim tables c f → ¬ Qualifies aim tables c
+fails_then aim tables c failure.Table fails q = fails (room_there aim.net tables c q.stands)
+fails_then aim tables c (failure.Class f) fails q = fails.never (q.safe fails.number f.class fails.is_class)
+
+-- ---- after several changes
+
+module _ (P : Rule → Type 0) where
+  replaced : (r : Rule) (rules : List Rule) → AllByRecursion P rules → P r → AllByRecursion P (map (λ q. cond (key_eq q.key r.key) r q) rules)
+  replaced r [] all this = tt
+  replaced r (q ∷ rules) all this = (cond_both (key_eq q.key r.key) r q P (λ _. this) (λ _. all.0), replaced r rules all.1 this)
+
+  each_after : (d : Change) (rules : List Rule) → AllByRecursion P rules → P (rule_of d) → AllByRecursion P (rules_after_change d rules)
+  each_after (Insert s r) rules all this = each_append P rules (r ∷ []) all (this, tt)
+  each_after (Delete s r) rules all this = each_filter P (λ q. not (key_eq q.key r.key)) rules all
+  each_after (Replace s r) rules all this = replaced r rules all this
+
+abbrev Keeps : Rule → Type 0
+Keeps r = KeepsVlan r.action
+
+keeps_after : (d : Change) (tables : List (List Rule)) → TablesKeepVlans tables → KeepsVlan (rule_of d).action → TablesKeepVlans (tables_after_change d tables)
+keeps_after d tables all keeps =
+    each_set (AllByRecursion Keeps) tables (switch_of d).0 (rules_after_change d (rules_at tables (switch_of d))) all
+    (each_after Keeps d (rules_at tables (switch_of d)) (each_get_or (AllByRecursion Keeps) tables (switch_of d).0 [] all tt) keeps)
+
+-- tables that keep the VLANs do after changes that keep them
+pub keeps_all : (changes : List Change) (tables : List (List Rule)) → TablesKeepVlans tables → AllByRecursion (λ d. KeepsVlan (rule_of d).action) changes → TablesKeepVlans (tables_after changes tables)
+keeps_all [] tables all keeps = all
+keeps_all (d ∷ changes) tables all keeps = keeps_all changes (tables_after_change d tables) (keeps_after d tables all keeps.0) keeps.1
+
+pub never_room : (net : Network) (c : Change) (changes : List Change) (tables : List (List Rule)) → ¬ HasRoomThere net tables c → AllByRecursion (λ d. (switch_of d).0 ≢ (switch_of c).0) changes
+    → ¬ HasRoomThere net (tables_after changes tables) c
+never_room net c [] tables none apart = none
+never_room net c (d ∷ changes) tables none apart =
+    never_room net c changes (tables_after_change d tables) (λ room. none (room_back net tables c d (λ e. apart.0 (sym e)) room)) apart.1
+
+module _ (aim : Aim) (c : Change) (keeps : KeepsVlan (rule_of c).action) (class : Class) where
+  -- a change that keeps the VLANs, at a switch of the tables, and covers the class at none that its mixed walks come to
+  abbrev pub LeavesWalks : List (List Rule) → Change → Type 0
+  LeavesWalks tables d = KeepsVlan (rule_of d).action × ((switch_of d).0 < length tables) × IsApart aim tables c class d
+
+  pub never_safe : (changes : List Change) (tables : List (List Rule)) → TablesKeepVlans tables → AllByRecursion (LeavesWalks tables) changes → ¬ CanBeSafe aim tables c class
+      → ¬ CanBeSafe aim (tables_after changes tables) c class
+  never_safe [] tables rules apart never = never
+  never_safe (d ∷ changes) tables rules apart never =
+      let (kept, within, off) = apart.0 in
+      never_safe changes (tables_after_change d tables) (keeps_after d tables rules kept)
+      (each_weaker (LeavesWalks tables) (LeavesWalks (tables_after_change d tables))
+      (λ e h. (
+        h.0,
+        subst (λ n. (switch_of e).0 < n) (sym (length-set tables (switch_of d).0 (rules_after_change d (rules_at tables (switch_of d))))) h.1,
+        λ place on at covers_it. h.2 place (walk_same aim tables c rules keeps class d within off place on) at covers_it,
+      )) changes apart.1)
+      (λ can. never (safe_back aim tables c rules keeps class d within off can))

@@ -1,0 +1,83 @@
+-- Why a change doesn't qualify, and what that rests on.
+use Rattle.std.specs.Prelude.{◌≡◌, ◌<◌, ◌≤◌, ℕ, Bool, true, false, List, [], ◌∷◌, length, map, slice_index_or, IsTrue, IfSome}
+use Rattle.std.specs.List.{AllByRecursion}
+use Rattle.net_base.specs.Blocks.{in_block}
+use Rattle.net_base.specs.declared.ids.SwitchId.{SwitchId}
+use Rattle.net_base.specs.declared.ids.Place.{Place}
+use Rattle.topology.specs.Networks.{Network, switch_count, capacity_of}
+use Rattle.flow_rules.specs.Patterns.{admits_vlan}
+use Rattle.flow_rules.specs.Tables.{IsClear, rules_at}
+use Rattle.flow_rules.specs.declared.rules.Rule.{Rule}
+use Rattle.dest_classes.specs.Classes.{IsClass}
+use Rattle.dest_classes.specs.declared.Class.{Class}
+use Rattle.update_model.specs.Changes.{switch_of, rule_of}
+use Rattle.update_model.specs.Mixtures.{IsMixture, IsOnMixedWalk, entries_needed}
+use Rattle.update_model.specs.Remaining.{remaining}
+use Rattle.update_model.specs.declared.Change.{Change}
+use Rattle.certificates.specs.Certified.{KeepsVlan}
+use Rattle.mixed_walks.specs.Walks.{TablesKeepVlans}
+use Rattle.trial_tables.specs.Trials.{single}
+use Rattle.round_planner.specs.declared.failing.Failure.{Failure}
+use Rattle.round_planner.specs.declared.failing.Failure.TheVariants as failure
+use Rattle.round_planner.specs.declared.failing.UnsafeClass.{UnsafeClass}
+use Rattle.round_planner.specs.declared.left.Left.{Left}
+use Rattle.round_planner.specs.Search.{Aim, CanBeSafe}
+
+-- ---- what a failure is
+
+-- each mixture of the change and its table is clear, and the entries that are needed are within the switch's capacity
+pub record HasRoomThere (net : Network) (tables : List (List Rule)) (c : Change) : Type 0 where
+  pub clear : (mixed : List Rule) → IsMixture (rules_at tables (switch_of c)) (c ∷ []) mixed → IsClear mixed
+  pub fits : (switch_of c).0 < switch_count net → entries_needed (rules_at tables (switch_of c)) (c ∷ []) ≤ capacity_of net (switch_of c)
+
+-- the switch is marked
+abbrev pub IsVisited : List Bool → SwitchId → Type 0
+IsVisited marks s = slice_index_or marks s.0 false ≡ true
+
+-- while the change is made no evidence keeps the class safe, and each switch that its mixed walks come to is marked
+pub record IsUnsafeClass (aim : Aim) (tables : List (List Rule)) (c : Change) (f : UnsafeClass) : Type 0 where
+  pub number : ℕ
+  pub is_class : IsClass aim.classes number f.class
+  pub never : ¬ CanBeSafe aim tables c f.class
+  pub visits : (place : Place) → IsOnMixedWalk (single aim.net tables c) 0 f.class.first f.class.entry place → IsVisited f.visited place.switch
+
+-- why the change doesn't qualify: it has no room in its table, or a class is not safe by any evidence
+abbrev pub IsFailure : Aim → List (List Rule) → Change → Failure → Type 0
+IsFailure aim tables c failure.Table = ¬ HasRoomThere aim.net tables c
+IsFailure aim tables c (failure.Class f) = IsUnsafeClass aim tables c f
+
+-- ---- what it rests on
+
+-- the change covers the packets of the class: its VLAN test admits their VLAN, and its prefix holds their address
+abbrev pub CoversClass : Change → Class → Type 0
+CoversClass d class = IsTrue (admits_vlan (rule_of d).key.pattern.vlan class.entry.vlan) × IsTrue (in_block (rule_of d).key.pattern.dst class.first)
+
+-- the change touches what a failure of a change at the switch rests on: its table, or the packets of the class at a marked switch
+abbrev pub IsTouched : SwitchId → Change → Failure → Type 0
+IsTouched s d failure.Table = (switch_of d).0 ≡ s.0
+IsTouched s d (failure.Class f) = IsVisited f.visited (switch_of d) × CoversClass d f.class
+
+-- while the change c is made no packet of the class comes to a switch where the change d covers it
+abbrev pub IsApart : Aim → List (List Rule) → Change → Class → Change → Type 0
+IsApart aim tables c class d = (place : Place) → IsOnMixedWalk (single aim.net tables c) 0 class.first class.entry place → place.switch ≡ switch_of d → ¬ CoversClass d class
+
+-- ---- the changes that remain
+
+-- the failure of a change that remains stands, if there is one
+abbrev pub HasStanding : Aim → List (List Rule) → Left → Type 0
+HasStanding aim tables left = IfSome left.failure (λ f. IsFailure aim tables left.change f)
+
+-- neither the tables nor the change set or strip a tag, and there is the switch of the change
+pub record IsOfUsers (tables : List (List Rule)) (left : Left) : Type 0 where
+  pub rules : TablesKeepVlans tables
+  pub change : KeepsVlan (rule_of left.change).action
+  pub within : (switch_of left.change).0 < length tables
+
+-- so for each of the changes that remain
+abbrev pub AreOfUsers : List (List Rule) → List Left → Type 0
+AreOfUsers tables left = AllByRecursion (IsOfUsers tables) left
+
+-- these are the changes that remain, in order, and each failure stands
+pub record AreLeft (aim : Aim) (tables : List (List Rule)) (left : List Left) : Type 0 where
+  pub changes : map (λ (l : Left). l.change) left ≡ remaining tables aim.new
+  pub standing : AllByRecursion (HasStanding aim tables) left

@@ -1,0 +1,110 @@
+// Why a change that remains doesn't qualify, and which changes touch that.
+ghost use Rattle.std.specs.Prelude.{◌≡◌, ◌↔◌, ◌<◌, IsTrue};
+ghost use Rattle.std.specs.List.{AllByRecursion};
+ghost use Rattle.net_base.specs.declared.ids.SwitchId.{SwitchId as Switch};
+ghost use Rattle.update_model.specs.Changes.{switch_of};
+ghost use Rattle.round_planner.specs.Failures.{IsVisited, CoversClass, IsTouched};
+
+use acyclic_numbering::Edge;
+use dest_classes::Class;
+use flow_rules::admits_vlan;
+use net_base::SwitchId;
+use std::marker::Model;
+use update_model::Change;
+
+/// The switches that the mixed walks of a class come to.
+#[derive(Drop)]
+pub(crate) struct Visited {
+    marks: [bool; 128],
+}
+
+impl Model for Visited {
+    ghost use Rattle.std.specs.Prelude.{List, Bool};
+
+    ghost Value = { List Bool };
+
+    ghost view = { λ v. v.marks };
+}
+
+/// A class that no evidence keeps safe while a change is made, and the switches that its mixed walks come to then.
+#[derive(Drop)]
+pub(crate) struct UnsafeClass {
+    pub(crate) class: Class,
+    pub(crate) visited: Visited,
+}
+
+/// Why a change doesn't qualify.
+#[derive(Drop)]
+pub(crate) enum Failure {
+    /// Its switch has no room for it, or some mixture of it isn't clear.
+    Table,
+    /// A class is not safe by any evidence.
+    Class(UnsafeClass),
+}
+
+impl Visited {
+    /// One switch.
+    fn of(switch: SwitchId) -> Visited
+        requires { switch.0 < 128 }
+        ensures { IsVisited result switch }
+    {
+        let mut marks = [false; 128];
+        marks[switch.0 as usize] = true;
+        Visited { marks }
+    }
+
+    /// One switch more, that to which the step leads.
+    fn put_end(&mut self, step: &Edge)
+        requires { step.now.to.0 < 128 }
+        ensures there { IsVisited self.new step.now.to }
+        ensures kept { (s : Switch) → IsVisited self.old s → IsVisited self.new s }
+    {
+        self.marks[step.to.0 as usize] = true;
+    }
+
+    /// Whether the switch is one of them.
+    fn has(&self, switch: SwitchId) -> bool
+        requires { switch.0 < 128 }
+        ensures { IsTrue result ↔ IsVisited self.now switch }
+    {
+        self.marks[switch.0 as usize]
+    }
+}
+
+/// The switches that mixed walks come to: that of their entry, and the ends of their steps.
+pub(crate) fn visited_on(entry: SwitchId, steps: &[Edge]) -> Visited
+    requires entry { entry.0 < 128 }
+    requires within { AllByRecursion (λ e. e.to.0 < 128) steps.now }
+    ensures begins { IsVisited result entry }
+    ensures ends { AllByRecursion (λ e. IsVisited result e.to) steps.now }
+{
+    let mut visited = Visited::of(entry);
+    for step in steps {
+        visited.put_end(step);
+    }
+    visited
+}
+
+/// Whether a change covers the packets of a class.
+fn covers_class(change: &Change, class: Class) -> bool
+    ensures { IsTrue result ↔ CoversClass change.now class }
+{
+    let pattern = change.rule().key.pattern;
+    admits_vlan(pattern.vlan, class.entry.vlan) && pattern.dst.has(class.first)
+}
+
+impl Failure {
+    /// Whether a change that was made touches what this failure of a change at a switch rests on: its table,
+    /// or the packets of the class at a switch that their mixed walks come to.
+    pub(crate) fn is_touched(&self, switch: SwitchId, made: &Change) -> bool
+        requires { (switch_of made.now).0 < 128 }
+        ensures { IsTrue result ↔ IsTouched switch made.now self.now }
+    {
+        match self {
+            Failure::Table => made.switch().0 == switch.0,
+            Failure::Class(failing) => {
+                failing.visited.has(made.switch()) && covers_class(made, failing.class)
+            }
+        }
+    }
+}
