@@ -4,9 +4,9 @@ use check_command::CheckNames;
 use command_base::Status;
 use drive_command::{DriveNames, drive};
 use example_files::{
-    Answer, UpdateTexts, answer_of, detour, detour_plans, none, square, update_names, wide,
+    Answer, UpdateTexts, answer_of, detour, detour_plans, driven_source, none, square,
+    update_names, wide,
 };
-use net_base::{Memory, MemorySource};
 use std::alloc::Global;
 use std::process::Abort;
 
@@ -24,29 +24,6 @@ const HELLOS: &str = "feed s1 0100000800000000\nfeed s3 0400000800000000\n";
 // HELLO comes from each switch of the detour.
 const DETOUR_HELLOS: &str =
     "feed s 0100000800000000\nfeed x 0100000800000000\nfeed w 0100000800000000\nfeed y 0100000800000000\nfeed d 0100000800000000\n";
-
-// A source with the files of an update, a plan and inputs.
-fn held(
-    alloc: Global,
-    texts: &UpdateTexts<'_>,
-    plan: &[u8],
-    input: &[u8],
-) -> Result<MemorySource, Memory> {
-    let mut source = MemorySource::make(alloc, 4096, Vec::new(alloc))?;
-    source.add(
-        String::from_str(alloc, "topology")?,
-        texts.topology.to_vec(alloc)?,
-    )?;
-    source.add(String::from_str(alloc, "old")?, texts.old.to_vec(alloc)?)?;
-    source.add(String::from_str(alloc, "new")?, texts.new.to_vec(alloc)?)?;
-    source.add(
-        String::from_str(alloc, "policy")?,
-        texts.policy.to_vec(alloc)?,
-    )?;
-    source.add(String::from_str(alloc, "plan")?, plan.to_vec(alloc)?)?;
-    source.add(String::from_str(alloc, "input")?, input.to_vec(alloc)?)?;
-    Ok(source)
-}
 
 fn names(input: &str) -> DriveNames<'_> {
     DriveNames {
@@ -66,7 +43,8 @@ fn answered(
     plan: &[u8],
     input: &[u8],
 ) -> Answer {
-    let mut source = held(alloc, texts, plan, input).expect(rt, "a source");
+    let source = driven_source(alloc, texts, plan, input);
+    let mut source = source.expect(rt, "a source");
     answer_of(alloc, drive(alloc, &mut source, &names("input")))
 }
 
@@ -345,7 +323,7 @@ fn other_plans_are_refused(rt: HostRuntime) {
 #[test]
 fn inputs_that_are_not_held_are_a_fault_of_reading(rt: HostRuntime) {
     let alloc = rt.alloc();
-    let source = held(alloc, &square::update(), square::plan(), b"start");
+    let source = driven_source(alloc, &square::update(), square::plan(), b"start");
     let mut source = source.expect(&rt, "a source");
     let answer = answer_of(alloc, drive(alloc, &mut source, &names("inputs")));
     assert!(rt; answer.is(Status::ReadFault, b""));

@@ -92,3 +92,26 @@ pub fn update_source(
     source.add(String::from_str(alloc, "plan")?, plan.to_vec(alloc)?)?;
     Ok(source)
 }
+
+/// A source that holds `topology`, `old`, `new`, `policy`, `plan` and `input`. A take gives at most 4096 bytes, and no call fails.
+pub fn driven_source(
+    alloc: Global,
+    texts: &UpdateTexts<'_>,
+    plan: &[u8],
+    input: &[u8],
+) -> Result<MemorySource, Memory> {
+    let mut source = MemorySource::make(alloc, 4096, Vec::new(alloc))?;
+    source.add(
+        String::from_str(alloc, "topology")?,
+        texts.topology.to_vec(alloc)?,
+    )?;
+    source.add(String::from_str(alloc, "old")?, texts.old.to_vec(alloc)?)?;
+    source.add(String::from_str(alloc, "new")?, texts.new.to_vec(alloc)?)?;
+    source.add(
+        String::from_str(alloc, "policy")?,
+        texts.policy.to_vec(alloc)?,
+    )?;
+    source.add(String::from_str(alloc, "plan")?, plan.to_vec(alloc)?)?;
+    source.add(String::from_str(alloc, "input")?, input.to_vec(alloc)?)?;
+    Ok(source)
+}

@@ -1,14 +1,9 @@
 //! The program: it reads the words of the command line and the files that they name, and writes one answer.
 #![tactic(auto)]
 
-mod command;
-mod run;
-#[cfg(test)]
-mod tests;
-
-use crate::run::run;
 use command_base::Status;
 use net_base::{FileSource, StdoutSink};
+use planner_run::run::run;
 use std::process::ExitCode;
 use std::rt::Env;
 use std::{env, io};

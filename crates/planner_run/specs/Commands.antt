@@ -26,8 +26,8 @@ use Rattle.import_command.specs.Imported.{ImportMeaning, import_dialogue, IsImpo
 use Rattle.explain_command.specs.Explained.{IsExplainAnswer}
 use Rattle.drive_command.specs.Names as drive
 use Rattle.drive_command.specs.Driven.{DriveMeaning, drive_dialogue, IsDriveAnswer}
-use Rattle.planner_cli.specs.declared.command.Command.{Command}
-use Rattle.planner_cli.specs.declared.command.Command.TheVariants as command
+use Rattle.planner_run.specs.declared.command.Command.{Command}
+use Rattle.planner_run.specs.declared.command.Command.TheVariants as command
 
 -- a command, with the names of its files, or the number of switches of a sample
 pub data Asked : Type 0 where

@@ -1,6 +1,6 @@
 // The words of the command line.
 ghost use Rattle.std.specs.Prelude.{◌≡◌, map, string_bytes, option_map};
-ghost use Rattle.planner_cli.specs.Commands.{asked, seen};
+ghost use Rattle.planner_run.specs.Commands.{asked, seen};
 
 use check_command::{CheckNames, check_names};
 use command_base::{PlanNames, UpdateNames, plan_names, update_names};

@@ -13,7 +13,7 @@ use Rattle.command_base.specs.Dialogues.{LeadsTo, Ends}
 use Rattle.command_base.specs.Replies.{answer_of, IsEarlyEnd, Meets}
 use Rattle.command_base.specs.Runs.{EndsAs}
 use Rattle.sample_command.specs.Summaries.{SaysSummary}
-use Rattle.planner_cli.specs.Commands.{Asked, Sample, OfSample, asked, dialogue, dialogue_on, IsSaid}
+use Rattle.planner_run.specs.Commands.{Asked, Sample, OfSample, asked, dialogue, dialogue_on, IsSaid}
 
 -- its reply is where its dialogue leads, over every source
 pub sample_meets : (held : Option Files) (n before now : ℕ) (r : Result Reply Exit) (selected : List ℕ) (taken : ℕ) → IfOk r (λ reply. SaysSummary n (answer_of reply)) → IfErr r (λ e. e ≡ exit.Memory)

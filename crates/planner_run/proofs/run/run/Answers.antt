@@ -11,10 +11,10 @@ use Rattle.upgrade_command.specs.Texts.{IsUpgradeAnswer}
 use Rattle.emit_command.specs.Answers.{IsEmitAnswer}
 use Rattle.import_command.specs.Imported.{import_dialogue, IsImportAnswer}
 use Rattle.drive_command.specs.Driven.{drive_dialogue, IsDriveAnswer}
-use Rattle.planner_cli.specs.Commands.{Config, Check, Plan, Upgrade, Emit, Replay, Simulate, Explain, Import, Drive, OfConfig, OfCheck, OfPlan, OfUpgrade, OfEmit, OfReplay, OfSimulate, OfExplain, OfImport, OfDrive, IsSaid}
-use Rattle.planner_cli.proofs.Answered.{answered}
-use Rattle.planner_cli.proofs.Sampled.{sample_ends}
-use Rattle.planner_cli.proofs.run.run.Goals as goal
+use Rattle.planner_run.specs.Commands.{Config, Check, Plan, Upgrade, Emit, Replay, Simulate, Explain, Import, Drive, OfConfig, OfCheck, OfPlan, OfUpgrade, OfEmit, OfReplay, OfSimulate, OfExplain, OfImport, OfDrive, IsSaid}
+use Rattle.planner_run.proofs.Answered.{answered}
+use Rattle.planner_run.proofs.Sampled.{sample_ends}
+use Rattle.planner_run.proofs.run.run.Goals as goal
 
 pub returns-clause-config : goal.returns-clause-config
 returns-clause-config g c = λ files names tells asks.

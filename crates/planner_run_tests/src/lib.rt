@@ -1,0 +1,5 @@
+//! Tests of whole runs of the program, over files and a sink in memory.
+#![tactic(auto)]
+
+#[cfg(test)]
+mod tests;
