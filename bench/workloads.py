@@ -1,0 +1,212 @@
+"""Updates by which the speed of the planner is told: the files of each, and the words of the run that is timed."""
+import ipaddress
+import json
+import random
+
+from rings import Ring
+
+CONFIG = ["config", "topology.json", "config.json"]
+PLAN = ["plan", "topology.json", "old.json", "new.json", "policy.json"]
+CHECK = ["check", "topology.json", "old.json", "new.json", "policy.json", "plan.json"]
+# The greatest size of a topology and of a configuration, in bytes.
+GREATEST_FILE = 16 * 2**20
+
+
+class Workload:
+    """The words of a run and its files, by their names without `.json`: values, or texts as they are. The plan of a `check` is
+    made by the planner where it isn't among them."""
+
+    def __init__(self, words, **files):
+        self.words, self.files = words, files
+
+    def needs_plan(self):
+        return "plan.json" in self.words and "plan" not in self.files
+
+    def write(self, folder):
+        for name, value in self.files.items():
+            text = value if isinstance(value, str) else json.dumps(value, separators=(",", ":"))
+            (folder / f"{name}.json").write_text(text)
+
+
+def updating(words, topology, old, new, policy):
+    return Workload(words, topology=topology, old=old, new=new, policy=policy)
+
+
+# ---- rings
+
+def turned_ring(words, switches, destinations):
+    """All packets go round a ring in one direction, and then in the other; each switch has a destination at home."""
+    ring = Ring(switches, destinations)
+    return updating(words, ring.topology(), ring.config(2), ring.config(3), ring.policy())
+
+
+def reversed_ring(switches):
+    """All destinations leave at one switch, and only the last of the switches that remain can turn."""
+    ring = Ring(switches, 16)
+    ring.home = lambda destination: 0
+    demands = [{"from": f"r{i}:1", "dst": "10.0.0.0/20", "deliver": True} for i in range(1, switches)]
+    return updating(PLAN, ring.topology(), ring.config(3), ring.config(2), {"demands": demands})
+
+
+def tagged_ring():
+    """A two-phase plan of a ring with 64 VLANs and 16 destinations: about 8000 classes."""
+    ring = Ring(128, 16, hosts=range(7), vlans=range(1, 65), tags=(3000, 3063), capacity=8192)
+    return Workload(CHECK, topology=ring.topology(), old=ring.config(2), new=ring.config(3), policy={"demands": []}, plan=ring.two_phase_plan())
+
+
+# ---- detours
+
+LINKS = [["s:2", "x:1"], ["x:2", "w:1"], ["w:2", "y:1"], ["y:2", "d:1"], ["s:3", "y:3"], ["x:3", "d:2"]]
+OLD = {"s": 2, "x": 2, "w": 2, "y": 2, "d": 3}
+NEW = {"s": 3, "x": 3, "w": 1, "y": 1, "d": 3}
+
+
+def detours(count, priority=lambda i: 100):
+    """Traffic to each of so many prefixes passes w in the one direction, and then in the other; no single change is safe."""
+    prefixes = [f"10.{i // 256}.{i % 256}.0/24" for i in range(count)]
+
+    def config(ports):
+        return {"rules": [{"switch": s, "priority": priority(i), "dst": p, "out": out} for s, out in ports.items() for i, p in enumerate(prefixes)]}
+
+    topology = {"switches": [{"name": s, "capacity": 8192} for s in OLD], "links": LINKS, "hosts": ["s:1", "d:3"],
+                "vlans": ["untagged"], "tags": [3000, 3009]}
+    demands = [{"from": "s:1", "dst": "10.0.0.0/8", "through": ["w"], "deliver": False}]
+    demands += [{"from": "s:1", "dst": p, "deliver": True} for p in prefixes]
+    return topology, config(OLD), config(NEW), {"demands": demands}
+
+
+# ---- one switch
+
+def one_switch(vlans):
+    return {"switches": [{"name": "s0", "capacity": 8192}], "links": [], "hosts": [f"s0:{port}" for port in range(1, 65)], "vlans": vlans, "tags": []}
+
+
+def rules_by_port(count, priority):
+    """So many rules of one switch, each for a port and a VLAN of its own."""
+    return [{"switch": "s0", "priority": priority(i), "in_port": 1 + i % 64, "vlan": 1 + i // 64, "dst": "128.0.0.0/1", "out": 1 + (i + 1) % 64} for i in range(count)]
+
+
+def next_port(rule):
+    """Another port to send to, which is not the one that the packets come from."""
+    out = 1 + (rule["out"] + 1) % 64
+    return {**rule, "out": out if out != rule["in_port"] else 1 + out % 64}
+
+
+def replaced_rules(words, count):
+    """Rules of equal priority at one switch, each replaced."""
+    old = rules_by_port(count, lambda i: 100)
+    vlans = list(range(1, 2 + (count - 1) // 64))
+    return updating(words, one_switch(vlans), {"rules": old}, {"rules": [next_port(rule) for rule in old]}, {"demands": []})
+
+
+def rekeyed_rules(count):
+    """Rules of one switch that all give way to rules of other priorities: twice as many changes."""
+    topology = {**one_switch(["untagged"]), "hosts": ["s0:1", "s0:2"]}
+    rules = [[{"switch": "s0", "priority": first + i, "dst": "10.0.0.0/24", "out": out} for i in range(count)] for first, out in ((1, 1), (3001, 2))]
+    return updating(PLAN, topology, {"rules": rules[0]}, {"rules": rules[1]}, {"demands": []})
+
+
+def toggled_rules(rounds, count, switches):
+    """A plan in which so many rules, spread over the switches, come in each odd round and go in each even one. No packet meets them."""
+    topology = {"switches": [{"name": f"r{i}", "capacity": 8192} for i in range(switches)], "links": [], "hosts": ["r0:1", "r0:2"],
+                "vlans": ["untagged"], "tags": []}
+    config = {"rules": [{"switch": "r0", "priority": 16383, "dst": "0.0.0.0/0", "out": "drop"}]}
+    rules = [{"switch": f"r{i % switches}", "priority": 1 + i // switches, "dst": "10.0.0.0/24", "out": "drop"} for i in range(count)]
+    come, go = ([[word, i] for i in range(count)] for word in ("insert", "delete"))
+    texts = [json.dumps(changes, separators=(",", ":")) for changes in (come, go)]
+    head = json.dumps({"format": 2, "kind": "ordered", "rules": rules, "uses": [[0, []]], "picks": [[1, c, 0] for c in range(6)],
+                       "numberings": [[0] * switches], "befores": []}, separators=(",", ":"))
+    plan = f'{head[:-1]},"rounds":[{",".join(texts[k % 2] for k in range(rounds))}]}}'
+    return Workload(CHECK, topology=topology, old=config, new=config, policy={"demands": []}, plan=plan)
+
+
+# ---- many classes
+
+def idle_rounds(rounds):
+    """Rounds of one change that few packets meet, over about 7900 classes with long paths."""
+    ring = Ring(128, 15)
+    quarters = [f"10.0.{j}.{64 * q}" for j in range(15) for q in range(4)]
+    atoms = sorted({0, int(ipaddress.ip_address("10.0.15.0")), *(int(ipaddress.ip_address(it)) for it in quarters)})
+    homes = {int(ipaddress.ip_address(it)): 1 + int(it.split(".")[2]) for it in quarters}
+    plan = {"format": 2, "kind": "ordered", "rules": [{"switch": "r0", "priority": 1, "dst": "10.0.0.0/24", "out": "drop"}],
+            "rounds": [[["insert" if k % 2 == 0 else "delete", 0]] for k in range(rounds)],
+            "numberings": [[0] * 128, *(ring.numbers(j, 0, False) for j in range(15))], "befores": [], "uses": [[i, []] for i in range(16)],
+            "picks": [[1, host * len(atoms) + i, homes.get(atom, 0)] for host in range(128) for i, atom in enumerate(atoms)]}
+    config = ring.config(2)
+    policy = {"demands": [{"dst": f"{it}/26"} for it in quarters]}
+    return Workload(CHECK, topology=ring.topology(), old=config, new=config, policy=policy, plan=plan)
+
+
+def chains(words, classes):
+    """A line of 128 switches with so many classes, and 512 chains of 16 waypoints that each packet meets."""
+    dice = random.Random(1)
+    found = set()
+    while len(found) < 512:
+        found.add(tuple(sorted(dice.sample(range(128), 16))))
+    topology = {"switches": [{"name": f"r{i}", "capacity": 8192} for i in range(128)], "links": [[f"r{i}:2", f"r{i + 1}:3"] for i in range(127)],
+                "hosts": [*(f"r0:{port}" for port in range(10, 42)), "r127:1"], "vlans": ["untagged"], "tags": [3000, 3000]}
+    # The rules for single prefixes are never reached; they tell the classes apart.
+    rules = [{"switch": f"r{i}", "priority": 100, "dst": "0.0.0.0/0", "out": 2 if i < 127 else 1} for i in range(128)]
+    rules += [{"switch": "r127", "priority": 1, "dst": f"10.{i // 128}.{2 * (i % 128)}.0/24", "out": "drop"} for i in range((classes // 33 - 1) // 2)]
+    more = [{"switch": "r64", "priority": 200, "dst": "0.0.0.0/0", "out": 2}]
+    demands = [{"dst": "0.0.0.0/0", "through": [f"r{s}" for s in chain]} for chain in sorted(found)]
+    return updating(words, topology, {"rules": rules}, {"rules": rules + more}, {"demands": demands})
+
+
+def parallel_links(switches):
+    """A line of switches with 31 links each to the next, all of which a packet may take in the one round, and 31 hosts: about 8000 classes."""
+    names = [f"r{i}" for i in range(switches + 1)]
+    links = [[f"{names[i]}:{1 + p}", f"{names[i + 1]}:{32 + p}"] for i in range(switches) for p in range(31)]
+    topology = {"switches": [{"name": name, "capacity": 64} for name in names], "links": links, "hosts": [f"r0:{32 + p}" for p in range(31)],
+                "vlans": ["untagged"], "tags": [3000, 3000]}
+    rules = [{"switch": names[i], "priority": 1 + p, "dst": "10.0.0.0/24", "out": 1 + p} for i in range(switches) for p in range(31)]
+    plan = {"format": 2, "kind": "ordered", "rules": rules, "rounds": [[[word, i] for i in range(len(rules))] for word in ("insert", "delete")],
+            "numberings": [list(range(switches, -1, -1))], "befores": [], "uses": [[0, []]], "picks": [[1, c, 0] for c in range(31 * 258)]}
+    nothing = {"rules": []}
+    policy = {"demands": [{"dst": f"10.0.0.{p}/32"} for p in range(255)]}
+    return Workload(CHECK, topology=topology, old=nothing, new=nothing, policy=policy, plan=plan)
+
+
+# ---- long files
+
+def filled(value):
+    """The text of the value, filled up to the greatest size with a member that is ignored."""
+    text = json.dumps({**value, "comment": ""})
+    return text[:-2] + "x" * (GREATEST_FILE - len(text)) + '"}'
+
+
+def long_files():
+    """A topology of 128 switches with 64 used ports each and a configuration of 2048 rules, both filled up to the limit."""
+    names = [f"switch-{i}" for i in range(128)]
+    links = [[f"{names[i]}:1", f"{names[(i + 1) % 128]}:2"] for i in range(128)]
+    links += [[f"{names[i]}:{port}", f"{names[i + 64]}:{port}"] for port in range(3, 64) for i in range(64)]
+    topology = {"switches": [{"name": name, "capacity": 8192} for name in names], "links": links, "hosts": [f"{name}:64" for name in names],
+                "vlans": ["untagged"], "tags": [3000, 3009]}
+    rules = [{"switch": f"switch-{i}", "priority": 100, "dst": f"10.0.{j}.0/24", "out": 64 if i == j * 8 else 1} for i in range(128) for j in range(16)]
+    return Workload(CONFIG, topology=filled(topology), config=filled({"rules": rules}))
+
+
+# The workloads by their names, each with what is done.
+WORKLOADS = {
+    "config-long": ("config, two files of 16 MiB", long_files),
+    "config-one": ("config, 2048 rules at one switch, 8192 classes",
+                   lambda: Workload(CONFIG, topology=one_switch(list(range(1, 65))), config={"rules": rules_by_port(2048, lambda i: 16383 - i)})),
+    "check-ring": ("check, ring of 128 switches (508 rounds, 768 classes)", lambda: turned_ring(CHECK, 128, 4)),
+    "plan-ring": ("plan, ring of 128 switches", lambda: turned_ring(PLAN, 128, 4)),
+    "check-rules": ("check, ring of 128 switches with 2048 rules", lambda: turned_ring(CHECK, 128, 16)),
+    "plan-rules": ("plan, ring of 128 switches with 2048 rules", lambda: turned_ring(PLAN, 128, 16)),
+    "plan-reversed": ("plan, reversed ring of 32 switches", lambda: reversed_ring(32)),
+    "plan-reversed-64": ("plan, reversed ring of 64 switches", lambda: reversed_ring(64)),
+    "check-tagged": ("check, two phases, 64 VLANs, 8000 classes", tagged_ring),
+    "plan-detours": ("plan, 400 detours", lambda: updating(PLAN, *detours(400))),
+    "check-ranks": ("check, two phases, 400 priorities, 806 rounds", lambda: updating(CHECK, *detours(400, lambda i: 100 + i))),
+    "plan-replaced": ("plan, 2048 rules of equal priority at one switch, all replaced", lambda: replaced_rules(PLAN, 2048)),
+    "check-replaced": ("check of that plan", lambda: replaced_rules(CHECK, 2048)),
+    "plan-rekeyed": ("plan, 2047 rules of one switch, each with another priority", lambda: rekeyed_rules(2047)),
+    "check-big-rounds": ("check, 268 rounds of 8190 changes at one switch", lambda: toggled_rules(268, 8190, 1)),
+    "check-spread": ("check, 4200 rounds of 523 changes at 128 switches", lambda: toggled_rules(4200, 523, 128)),
+    "check-idle": ("check, 4200 rounds of one change over 7900 classes", lambda: idle_rounds(4200)),
+    "check-chains": ("check, 8184 classes with 512 chains", lambda: chains(CHECK, 8184)),
+    "plan-chains": ("plan, 1056 classes with 512 chains", lambda: chains(PLAN, 1056)),
+    "check-parallel": ("check, 31 parallel links between 16 switches, 8000 classes", lambda: parallel_links(16)),
+}
