@@ -22,11 +22,11 @@ import sys
 import tempfile
 import time
 
-# Processor minutes for 1,000 lines of code, definitions and proofs, by which the time of a build is foretold: 75,400 lines took 75.
-MINUTES_FOR_1000_LINES = 1.0
+# Processor minutes for 1,000 lines of code, definitions and proofs, by which the time of a build is foretold: 98,000 lines took 138.
+MINUTES_FOR_1000_LINES = 1.4
 # How many processors a crate that is proved alone keeps busy, on average.
 BUSY_FOR_ONE_CRATE = 1.5
-# How much of each further processor is busy, on average: some wait for the longest chain of crates. Four took 27 minutes for 75.
+# How much of each further processor is busy, on average: some wait for the longest chain of crates. Four took 51 minutes for 138.
 BUSY_FOR_FURTHER = 0.6
 # Memory that a crate may take while it is proved, in bytes.
 MEMORY_FOR_ONE_CRATE = 3_000_000_000

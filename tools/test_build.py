@@ -55,7 +55,7 @@ class Order(unittest.TestCase):
 
     def test_time_is_that_of_the_chain_or_of_all_work(self):
         lines = {it: 1000 * number for it, number in LINES.items()}
-        of = lambda left, processors, copies: round(build.foretold(CRATES, left, lines, processors, copies))
+        of = lambda left, processors, copies: round(build.foretold(CRATES, left, lines, processors, copies) / build.MINUTES_FOR_1000_LINES)
         self.assertEqual(of(["base", "left", "right", "top"], 1, 1), 200)
         self.assertEqual(of(["base", "left", "right", "top"], 4, 4), 127)
         self.assertEqual(of(["left"], 4, 1), 8)
