@@ -11,7 +11,7 @@ use Rattle.net_base.proofs.ItemLaws.{distinct_first, get_from_in, past_end}
 use Rattle.net_base.proofs.MemberLaws.{in_append_cases, IsSubsequence-last, in_from_subsequence}
 use Rattle.net_base.proofs.NameLaws.{same_switch}
 use Rattle.demands.specs.Duties.{PacketDuties}
-use Rattle.update_model.specs.Mixtures.{Update, IsMixedWalk}
+use Rattle.update_model.specs.Mixtures.{Rollout, IsMixedWalk}
 use Rattle.certificates.specs.Steps.{switches_along}
 use Rattle.breaking_walks.specs.Breaking.{switches_before, HasBreakingWalk}
 use Rattle.breaking_walks.specs.declared.search.Aim.TheVariants.{Meet}
@@ -93,7 +93,7 @@ pub comes_twice : (start : Place) (rest : List Place) → IsIn (end_of start res
 comes_twice start rest i =
     subst (IsSubsequence ((end_of start rest).switch ∷ (end_of start rest).switch ∷ [])) (sym (along_split start rest)) (twice_in (end_of start rest).switch (switches_before start rest) i)
 
-module _ (u : Update) (k dst : ℕ) (entry : Place) (duties : PacketDuties) where
+module _ (u : Rollout) (k dst : ℕ) (entry : Place) (duties : PacketDuties) where
   -- a walk that breaks the duties breaks them in one of three ways
   pub none_breaks : (n : ℕ) → ((rest : List Place) → IsMixedWalk u k dst entry rest → (end_of entry rest).switch.0 < n)
       → IsNoneDropped u k dst entry duties → IsNoneUnmet u k dst entry duties → IsNoneTwice u k dst entry n → ¬ HasBreakingWalk u k dst entry duties
@@ -123,7 +123,7 @@ module _ (u : Update) (k dst : ℕ) (entry : Place) (duties : PacketDuties) wher
       none i misses.chain (omega arith) at rest (record { walk = walk; aimed = (misses.missed, record { port = leaves.port; vlan = leaves.vlan; leaves = leaves.leaves }) })
 
 -- one switch more
-pub none_twice_next : (u : Update) (k dst : ℕ) (entry : Place) (s : SwitchId) → IsNoneFound u k dst entry (s ∷ s ∷ []) Meet → IsNoneTwice u k dst entry s.0 → IsNoneTwice u k dst entry (s.0 + 1)
+pub none_twice_next : (u : Rollout) (k dst : ℕ) (entry : Place) (s : SwitchId) → IsNoneFound u k dst entry (s ∷ s ∷ []) Meet → IsNoneTwice u k dst entry s.0 → IsNoneTwice u k dst entry (s.0 + 1)
 none_twice_next u k dst entry s none below rest walk less again =
     let last = end_of entry rest in
     elim (cases_lt last.switch.0 s.0) [

@@ -16,7 +16,7 @@ use Rattle.net_base.proofs.WalkLaws.{end_of-push}
 use Rattle.path_walk.specs.declared.Outcome.{Outcome}
 use Rattle.path_walk.specs.declared.Outcome.TheVariants.{Discard, Leave, Go}
 use Rattle.demands.specs.Duties.{PacketDuties}
-use Rattle.update_model.specs.Mixtures.{Update, MayGo, IsMixedWalk}
+use Rattle.update_model.specs.Mixtures.{Rollout, MayGo, IsMixedWalk}
 use Rattle.certificates.specs.Steps.{switches_along}
 use Rattle.breaking_walks.specs.Breaking.{switches_before, IsBreakingWalk}
 use Rattle.breaking_walks.specs.Broken.{IsBroken, IsFirstRepeat}
@@ -76,7 +76,7 @@ module _ (entry : Place) (rest : List Place) (i : ℕ) (less : i < length rest) 
 pub repeats_nowhere : (entry : Place) (rest : List Place) (n : ℕ) → length rest ≤ n → IsDistinct (switches_along entry (take n rest)) → IsDistinct (switches_along entry rest)
 repeats_nowhere entry rest n all distinct = subst (λ (xs : List Place). IsDistinct (switches_along entry xs)) (take_all n rest all) distinct
 
-module _ (u : Update) (k dst : ℕ) (entry : Place) (duties : PacketDuties) where
+module _ (u : Rollout) (k dst : ℕ) (entry : Place) (duties : PacketDuties) where
   -- a walk up to its first repeat breaks the duties there, and not before
   pub breaks_cut : (rest : List Place) (i : ℕ) → IsMixedWalk u k dst entry rest → IsFirstRepeat entry rest i → IsBreakingWalk u k dst entry duties (take (suc i) rest) None
   breaks_cut rest i walk first =

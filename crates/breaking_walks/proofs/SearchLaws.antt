@@ -8,7 +8,7 @@ use Rattle.net_base.specs.declared.ids.Place.{Place}
 use Rattle.topology.specs.Networks.{IsNetwork, switch_count}
 use Rattle.path_walk.specs.declared.Outcome.{Outcome}
 use Rattle.path_walk.specs.declared.Outcome.TheVariants.{Discard, Leave, Go}
-use Rattle.update_model.specs.Mixtures.{Update, IsPossible, MayGo}
+use Rattle.update_model.specs.Mixtures.{Rollout, IsPossible, MayGo}
 use Rattle.certificates.specs.Steps.{switches_along}
 use Rattle.breaking_walks.specs.Searches.{MayLeaveAt, IsAimed, IsFound, IsNoneFound}
 use Rattle.breaking_walks.specs.Trails.{first_node, IsWayTo, IsAimedAt, ArePut}
@@ -20,16 +20,16 @@ use Rattle.breaking_walks.proofs.WithinLaws.{goes_within}
 use Rattle.breaking_walks.proofs.TrailLaws.{node_along, node_at, along_is, IsLed, IsTrail, IsSearchedTo, way_is, some_is, searched_next, none_along}
 
 -- a node is looked for
-abbrev pub IsAimedNode : Update → ℕ → ℕ → List SwitchId → Aim → Node → Type 0
+abbrev pub IsAimedNode : Rollout → ℕ → ℕ → List SwitchId → Aim → Node → Type 0
 IsAimedNode u k dst chain Meet node = node.met ≡ length chain
 IsAimedNode u k dst chain LeaveUnmet node = (node.met < length chain) × MayLeaveAt u k dst node.place
 IsAimedNode u k dst chain Drop node = IsPossible u k dst node.place Discard
 
 -- the search among the mixed walks of an entry has come so far
-abbrev pub IsSearched : Update → ℕ → ℕ → Place → List SwitchId → Aim → ℕ → List (Node × ℕ) → Type 0
+abbrev pub IsSearched : Rollout → ℕ → ℕ → Place → List SwitchId → Aim → ℕ → List (Node × ℕ) → Type 0
 IsSearched u k dst entry chain aim next trail = IsSearchedTo (MayGo u k dst) chain entry (IsAimedNode u k dst chain aim) next trail
 
-module _ (u : Update) (k dst : ℕ) (entry : Place) (chain : List SwitchId) where
+module _ (u : Rollout) (k dst : ℕ) (entry : Place) (chain : List SwitchId) where
   -- by the outcomes at its place
   aimed_by : (aim : Aim) (node : Node) (found : List Outcome) → ((o : Outcome) → IsIn o found ↔ IsPossible u k dst node.place o)
       → IsAimedAt aim chain node.met found ↔ IsAimedNode u k dst chain aim node

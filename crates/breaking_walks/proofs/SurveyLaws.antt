@@ -11,7 +11,7 @@ use Rattle.path_walk.specs.declared.Outcome.{Outcome}
 use Rattle.path_walk.specs.declared.Outcome.TheVariants.{Discard, Leave, Go}
 use Rattle.acyclic_numbering.specs.Heights.{IsEdge, Falls, number_of}
 use Rattle.acyclic_numbering.specs.declared.Edge.{Edge}
-use Rattle.update_model.specs.Mixtures.{Update, IsPossible, MayGo, IsMixedWalk}
+use Rattle.update_model.specs.Mixtures.{Rollout, IsPossible, MayGo, IsMixedWalk}
 use Rattle.certificates.specs.Steps.{IsMixedStep, switches_along}
 use Rattle.certificates.proofs.Falling.{distinct_walk}
 use Rattle.breaking_walks.specs.Breaking.{switches_before}
@@ -26,12 +26,12 @@ abbrev Never : Node → Type 0
 Never node = ⊥
 
 -- the steps and the discards of the first places, so many, are noted
-pub record IsSurveyed (u : Update) (dst : ℕ) (entry : Place) (next : ℕ) (trail : List (Node × ℕ)) (edges : List Edge) (may_drop : Bool) : Type 0 where
+pub record IsSurveyed (u : Rollout) (dst : ℕ) (entry : Place) (next : ℕ) (trail : List (Node × ℕ)) (edges : List Edge) (may_drop : Bool) : Type 0 where
   pub so : IsSearchedTo (MayGo u 0 dst) [] entry Never next trail
   pub steps : (f : Node × ℕ) (q : Place) → IsIn f (take next trail) → MayGo u 0 dst f.0.place q → IsEdge edges f.0.place.switch q.switch
   pub drops : may_drop ≡ false → (f : Node × ℕ) → IsIn f (take next trail) → ¬ IsPossible u 0 dst f.0.place Discard
 
-module _ (u : Update) (dst : ℕ) (entry : Place) where
+module _ (u : Rollout) (dst : ℕ) (entry : Place) where
   pub surveyed_none : IsSurveyed u dst entry 0 ((first_node [] entry, 0) ∷ []) [] false
   surveyed_none = record {
     so = searched_none (MayGo u 0 dst) [] entry Never;
@@ -100,7 +100,7 @@ distinct_last (x ∷ xs) y distinct (inl e) = distinct.0 (subst (λ z. IsIn z (x
 distinct_last (x ∷ xs) y distinct (inr i) = distinct_last xs y distinct.1 i
 
 -- where no switch stands twice, none is come to again
-pub never_again : (u : Update) (k dst : ℕ) (entry : Place) → NeverRepeats u k dst entry → (rest : List Place) → IsMixedWalk u k dst entry rest
+pub never_again : (u : Rollout) (k dst : ℕ) (entry : Place) → NeverRepeats u k dst entry → (rest : List Place) → IsMixedWalk u k dst entry rest
     → ¬ IsIn (end_of entry rest).switch (switches_before entry rest)
 never_again u k dst entry never rest walk again =
     distinct_last (switches_before entry rest) (end_of entry rest).switch (subst IsDistinct (along_split entry rest) (never rest walk)) again

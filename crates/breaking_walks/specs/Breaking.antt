@@ -9,7 +9,7 @@ use Rattle.net_base.specs.declared.ids.Vlan.{Vlan}
 use Rattle.path_walk.specs.declared.Outcome.{Outcome}
 use Rattle.path_walk.specs.declared.Outcome.TheVariants.{Discard, Leave, Go}
 use Rattle.demands.specs.Duties.{PacketDuties}
-use Rattle.update_model.specs.Mixtures.{Update, IsPossible, IsMixedWalk}
+use Rattle.update_model.specs.Mixtures.{Rollout, IsPossible, IsMixedWalk}
 use Rattle.certificates.specs.Steps.{switches_along}
 
 -- some chain isn't met by these switches in order
@@ -19,7 +19,7 @@ pub record MissesSome (chains : List (List SwitchId)) (switches : List SwitchId)
   pub missed : ¬ IsSubsequence chain switches
 
 -- a packet may leave there although some chain isn't met
-pub record MayLeaveUnmet (u : Update) (k dst : ℕ) (place : Place) (chains : List (List SwitchId)) (switches : List SwitchId) : Type 0 where
+pub record MayLeaveUnmet (u : Rollout) (k dst : ℕ) (place : Place) (chains : List (List SwitchId)) (switches : List SwitchId) : Type 0 where
   pub port : Port
   pub vlan : Vlan
   pub leaves : IsPossible u k dst place (Leave port vlan)
@@ -32,20 +32,20 @@ switches_before start (next ∷ rest) = start.switch ∷ switches_before next re
 
 -- a mixed walk breaks the duties: the switch of its last place stands earlier; or the packet may leave there with a chain unmet;
 -- or it may be discarded there and must arrive
-abbrev pub Breaks : Update → ℕ → ℕ → Place → PacketDuties → List Place → Type 0
+abbrev pub Breaks : Rollout → ℕ → ℕ → Place → PacketDuties → List Place → Type 0
 Breaks u k dst entry duties rest =
     IsIn (end_of entry rest).switch (switches_before entry rest)
     ⊎ (MayLeaveUnmet u k dst (end_of entry rest) duties.chains (switches_along entry rest)
     ⊎ (IsTrue duties.arrive × IsPossible u k dst (end_of entry rest) Discard))
 
 -- some mixed walk of round k breaks the duties
-pub record HasBreakingWalk (u : Update) (k dst : ℕ) (entry : Place) (duties : PacketDuties) : Type 0 where
+pub record HasBreakingWalk (u : Rollout) (k dst : ℕ) (entry : Place) (duties : PacketDuties) : Type 0 where
   pub rest : List Place
   pub walk : IsMixedWalk u k dst entry rest
   pub breaks : Breaks u k dst entry duties rest
 
 -- how a walk breaks: by its last place, or by an outcome there that ends the packet, where no switch stands twice
-abbrev pub BreaksBy : Update → ℕ → ℕ → Place → PacketDuties → List Place → Option Outcome → Type 0
+abbrev pub BreaksBy : Rollout → ℕ → ℕ → Place → PacketDuties → List Place → Option Outcome → Type 0
 BreaksBy u k dst entry duties rest None = IsIn (end_of entry rest).switch (switches_before entry rest)
 BreaksBy u k dst entry duties rest (Some (Leave port vlan)) =
     IsDistinct (switches_along entry rest) × (IsPossible u k dst (end_of entry rest) (Leave port vlan) × MissesSome duties.chains (switches_along entry rest))
@@ -54,7 +54,7 @@ BreaksBy u k dst entry duties rest (Some Discard) =
 BreaksBy u k dst entry duties rest (Some (Go next)) = ⊥
 
 -- a mixed walk that breaks the duties at its end, and not before: none of the switches before its last place stands twice
-pub record IsBreakingWalk (u : Update) (k dst : ℕ) (entry : Place) (duties : PacketDuties) (rest : List Place) (end : Option Outcome) : Type 0 where
+pub record IsBreakingWalk (u : Rollout) (k dst : ℕ) (entry : Place) (duties : PacketDuties) (rest : List Place) (end : Option Outcome) : Type 0 where
   pub walk : IsMixedWalk u k dst entry rest
   pub before : IsDistinct (switches_before entry rest)
   pub breaks : BreaksBy u k dst entry duties rest end

@@ -7,38 +7,38 @@ use Rattle.net_base.specs.declared.ids.Place.{Place}
 use Rattle.path_walk.specs.declared.Outcome.{Outcome}
 use Rattle.path_walk.specs.declared.Outcome.TheVariants.{Discard, Leave, Go}
 use Rattle.demands.specs.Duties.{PacketDuties}
-use Rattle.update_model.specs.Mixtures.{Update, IsPossible, IsMixedWalk}
+use Rattle.update_model.specs.Mixtures.{Rollout, IsPossible, IsMixedWalk}
 use Rattle.certificates.specs.Steps.{switches_along}
 use Rattle.breaking_walks.specs.declared.search.Aim.TheVariants.{LeaveUnmet}
 use Rattle.breaking_walks.specs.Searches.{IsNoneFound}
 use Rattle.breaking_walks.specs.Breaking.{MissesSome, MayLeaveUnmet, switches_before}
 
 -- how a walk breaks: by a switch that stands twice, or by an outcome at its last place
-abbrev pub BrokenBy : Update → ℕ → ℕ → Place → PacketDuties → List Place → Option Outcome → Type 0
+abbrev pub BrokenBy : Rollout → ℕ → ℕ → Place → PacketDuties → List Place → Option Outcome → Type 0
 BrokenBy u k dst entry duties rest None = ¬ IsDistinct (switches_along entry rest)
 BrokenBy u k dst entry duties rest (Some (Leave port vlan)) = IsPossible u k dst (end_of entry rest) (Leave port vlan) × MissesSome duties.chains (switches_along entry rest)
 BrokenBy u k dst entry duties rest (Some Discard) = IsPossible u k dst (end_of entry rest) Discard × IsTrue duties.arrive
 BrokenBy u k dst entry duties rest (Some (Go next)) = ⊥
 
 -- a mixed walk that breaks the duties so
-pub record IsBroken (u : Update) (k dst : ℕ) (entry : Place) (duties : PacketDuties) (rest : List Place) (end : Option Outcome) : Type 0 where
+pub record IsBroken (u : Rollout) (k dst : ℕ) (entry : Place) (duties : PacketDuties) (rest : List Place) (end : Option Outcome) : Type 0 where
   pub walk : IsMixedWalk u k dst entry rest
   pub by : BrokenBy u k dst entry duties rest end
 
 -- no packet that must arrive may be discarded
-abbrev pub IsNoneDropped : Update → ℕ → ℕ → Place → PacketDuties → Type 0
+abbrev pub IsNoneDropped : Rollout → ℕ → ℕ → Place → PacketDuties → Type 0
 IsNoneDropped u k dst entry duties = (rest : List Place) → IsMixedWalk u k dst entry rest → IsTrue duties.arrive → ¬ IsPossible u k dst (end_of entry rest) Discard
 
 -- no packet may leave with a chain unmet
-abbrev pub IsNoneUnmet : Update → ℕ → ℕ → Place → PacketDuties → Type 0
+abbrev pub IsNoneUnmet : Rollout → ℕ → ℕ → Place → PacketDuties → Type 0
 IsNoneUnmet u k dst entry duties = (rest : List Place) → IsMixedWalk u k dst entry rest → ¬ MayLeaveUnmet u k dst (end_of entry rest) duties.chains (switches_along entry rest)
 
 -- nor with one of the first n chains unmet
-abbrev pub IsNoneUnmetTo : Update → ℕ → ℕ → Place → List (List SwitchId) → ℕ → Type 0
+abbrev pub IsNoneUnmetTo : Rollout → ℕ → ℕ → Place → List (List SwitchId) → ℕ → Type 0
 IsNoneUnmetTo u k dst entry chains n = (i : ℕ) (chain : List SwitchId) → i < n → slice_get chains i ≡ Some chain → IsNoneFound u k dst entry chain LeaveUnmet
 
 -- no packet may come twice to one of the first n switches
-abbrev pub IsNoneTwice : Update → ℕ → ℕ → Place → ℕ → Type 0
+abbrev pub IsNoneTwice : Rollout → ℕ → ℕ → Place → ℕ → Type 0
 IsNoneTwice u k dst entry n =
     (rest : List Place) → IsMixedWalk u k dst entry rest → (end_of entry rest).switch.0 < n → ¬ IsIn (end_of entry rest).switch (switches_before entry rest)
 

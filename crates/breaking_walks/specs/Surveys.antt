@@ -8,15 +8,15 @@ use Rattle.path_walk.specs.declared.Outcome.{Outcome}
 use Rattle.path_walk.specs.declared.Outcome.TheVariants.{Discard, Go}
 use Rattle.acyclic_numbering.specs.Heights.{IsEdge}
 use Rattle.acyclic_numbering.specs.declared.Edge.{Edge}
-use Rattle.update_model.specs.Mixtures.{Update, IsPossible, IsMixedWalk}
+use Rattle.update_model.specs.Mixtures.{Rollout, IsPossible, IsMixedWalk}
 use Rattle.certificates.specs.Steps.{switches_along}
 
 -- on no mixed walk a packet may be discarded
-abbrev pub NeverDrops : Update → ℕ → ℕ → Place → Type 0
+abbrev pub NeverDrops : Rollout → ℕ → ℕ → Place → Type 0
 NeverDrops u k dst entry = (rest : List Place) → IsMixedWalk u k dst entry rest → ¬ IsPossible u k dst (end_of entry rest) Discard
 
 -- on no mixed walk a switch stands twice
-abbrev pub NeverRepeats : Update → ℕ → ℕ → Place → Type 0
+abbrev pub NeverRepeats : Rollout → ℕ → ℕ → Place → Type 0
 NeverRepeats u k dst entry = (rest : List Place) → IsMixedWalk u k dst entry rest → IsDistinct (switches_along entry rest)
 
 -- the steps from the switch by these outcomes are added

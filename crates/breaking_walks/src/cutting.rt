@@ -4,7 +4,7 @@ ghost use Rattle.std.specs.List.{list_any};
 ghost use Rattle.net_base.specs.Members.{IsIn, IsDistinct};
 ghost use Rattle.net_base.specs.declared.ids.Place.{Place as PlaceOf};
 ghost use Rattle.demands.specs.Duties.{PacketDuties};
-ghost use Rattle.update_model.specs.Mixtures.{Update};
+ghost use Rattle.update_model.specs.Mixtures.{Rollout};
 ghost use Rattle.certificates.specs.Steps.{switches_along};
 ghost use Rattle.breaking_walks.specs.Breaking.{IsBreakingWalk};
 ghost use Rattle.breaking_walks.specs.Broken.{IsBroken, IsFirstRepeat};
@@ -62,7 +62,7 @@ fn first_places(alloc: Global, places: &[Place], count: usize) -> Result<ListOf<
 
 /// The walk up to the first place whose switch stands earlier; the whole walk where no switch stands twice.
 pub(crate) fn cut(alloc: Global, entry: Place, walk: BreakingWalk) -> Result<BreakingWalk, Memory>
-    ensures { (u : Update) (k dst : ℕ) (duties : PacketDuties) → IsBroken u k dst entry duties walk.rest walk.end
+    ensures { (u : Rollout) (k dst : ℕ) (duties : PacketDuties) → IsBroken u k dst entry duties walk.rest walk.end
         → IfOk result (λ w. IsBreakingWalk u k dst entry duties w.rest w.end) }
 {
     match first_repeat(entry, walk.rest.list()) {

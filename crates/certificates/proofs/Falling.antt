@@ -7,10 +7,10 @@ use Rattle.net_base.proofs.WalkLaws.{reached_more, reached_start}
 use Rattle.net_base.proofs.MemberLaws.{each_weaker}
 use Rattle.net_base.specs.declared.ids.Place.{Place}
 use Rattle.acyclic_numbering.specs.Heights.{number_of, Falls}
-use Rattle.update_model.specs.Mixtures.{Update, MayGo, IsMixedWalk, IsOnMixedWalk}
+use Rattle.update_model.specs.Mixtures.{Rollout, MayGo, IsMixedWalk, IsOnMixedWalk}
 use Rattle.certificates.specs.Steps.{IsMixedStep, switches_along}
 
-module _ (u : Update) (k dst : ℕ) (entry : Place) (numbers : List ℕ) (falls : Falls (IsMixedStep u k dst entry) numbers) where
+module _ (u : Rollout) (k dst : ℕ) (entry : Place) (numbers : List ℕ) (falls : Falls (IsMixedStep u k dst entry) numbers) where
   -- a lower number than that of the place
   abbrev IsBelow : Place → Place → Type 0
   IsBelow p q = number_of numbers q.switch < number_of numbers p.switch

@@ -12,11 +12,11 @@ use Rattle.net_base.specs.declared.ids.Port.{Port}
 use Rattle.net_base.specs.declared.ids.Vlan.{Vlan}
 use Rattle.waypoint_evidence.specs.Befores.{HoldsEarlier, IsFirst, IsGuard}
 use Rattle.path_walk.specs.declared.Outcome.TheVariants.{Leave}
-use Rattle.update_model.specs.Mixtures.{Update, IsPossible, MayGo, IsMixedWalk, IsOnMixedWalk}
+use Rattle.update_model.specs.Mixtures.{Rollout, IsPossible, MayGo, IsMixedWalk, IsOnMixedWalk}
 use Rattle.certificates.specs.Steps.{IsMixedStep, MayLeave, switches_along}
 use Rattle.certificates.specs.Ordered.{Position, chain_positions, positions, AreGuarded}
 
-module _ (u : Update) (k dst : ℕ) (entry : Place) where
+module _ (u : Rollout) (k dst : ℕ) (entry : Place) where
   -- the position is guarded
   abbrev Guards : Position → Type 0
   Guards p = IsGuard entry.switch (IsMixedStep u k dst entry) (MayLeave u k dst entry) p.waypoint p.earlier p.set

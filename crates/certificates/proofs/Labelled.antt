@@ -15,7 +15,7 @@ use Rattle.path_walk.specs.declared.Ended.{Ended}
 use Rattle.path_walk.specs.declared.Outcome.{Outcome}
 use Rattle.path_walk.specs.declared.Outcome.TheVariants.{Discard, Leave, Go}
 use Rattle.path_walk.proofs.PathLaws.{EndsAt, walk_begins, walk_same, HasVlan, outcome_keeps, walk_keeps}
-use Rattle.update_model.specs.Mixtures.{Update, IsPossible, MayGo, IsMixedWalk}
+use Rattle.update_model.specs.Mixtures.{Rollout, IsPossible, MayGo, IsMixedWalk}
 use Rattle.certificates.specs.TwoPhase.{carrying, outcome_carrying, KeepsPath, tables_of, TwoPhaseCertificate}
 use Rattle.certificates.specs.Laws.{EndsFor, trace_by}
 use Rattle.certificates.specs.declared.TwoPhaseEvidence.{TwoPhaseEvidence}
@@ -39,7 +39,7 @@ end_switch : (tag : Vlan) (entry : Place) (qs : List Place) → (end_of entry (m
 end_switch tag entry [] = refl
 end_switch tag entry (q ∷ qs) = ap (λ p. p.switch) (end_carrying tag q qs)
 
-module _ (u : Update) (k dst : ℕ) (tables : List (List Rule)) (user : IsUserConfig u.net tables) where
+module _ (u : Rollout) (k dst : ℕ) (tables : List (List Rule)) (user : IsUserConfig u.net tables) where
   -- a mixed walk that carries a VLAN along a path whose outcomes are kept is that path, as far as it goes
   along : (first : Place) (tag : Vlan) → KeepsPath u k dst tables first tag → (place : Place) → IsReached (Forwards u.net tables dst) first place → (rest : List Place)
       → IsWalk (MayGo u k dst) (carrying tag place) rest → (qs : List Place) × IsWalk (Forwards u.net tables dst) place qs × (rest ≡ map (carrying tag) qs)
@@ -89,7 +89,7 @@ module _ (u : Update) (k dst : ℕ) (tables : List (List Rule)) (user : IsUserCo
             (subst (λ f. IsEnd (ended_by (end_of entry (map (carrying tag) qs)) f)) same ends)),
       )
 
-module _ (u : Update) (new : List (List Rule)) (evidence : TwoPhaseEvidence) (k dst : ℕ) (entry : Place) (old_path new_path : Trace)
+module _ (u : Rollout) (new : List (List Rule)) (evidence : TwoPhaseEvidence) (k dst : ℕ) (entry : Place) (old_path new_path : Trace)
     (certificate : TwoPhaseCertificate u new evidence k dst entry) (old_user : IsUserConfig u.net u.old) (new_user : IsUserConfig u.net new)
     (old_is : IsPath u.net u.old entry dst old_path) (new_is : IsPath u.net new entry dst new_path) where
   -- the path of a version

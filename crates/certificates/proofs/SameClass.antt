@@ -14,7 +14,8 @@ use Rattle.update_model.specs.Mixtures.{IsPossible}
 use Rattle.update_model.specs.declared.Change.{Change}
 use Rattle.update_model.proofs.HeldLaws.{each_held, EachRuleOf}
 use Rattle.demands.specs.Duties.{DemandView}
-use Rattle.certificates.specs.Certified.{Task, blocks_of}
+use Rattle.certificates.specs.Updates.{Task, rollout}
+use Rattle.certificates.specs.Certified.{blocks_of}
 use Rattle.flow_rules.specs.Tables.{table_blocks}
 
 each_from_flat : {A B : Type 0} (P : B → Type 0) (f : A → List B) (xs : List A) → AllByRecursion P (flat_map f xs) → AllByRecursion (λ x. AllByRecursion P (f x)) xs
@@ -42,25 +43,25 @@ rounds_alike a b rounds all =
     (λ round h. each_from_map (λ (c : Change). (rule_of c).key.pattern.dst) (SameIn a b) round h) rounds
     (each_from_flat (SameIn a b) (λ round. map (λ c. (rule_of c).key.pattern.dst) round) rounds all)
 
-one_way : (t : Task) (a b : ℕ) → IsSameClass (blocks_of t.update.old t.new t.demands t.update.rounds) a b
-    → (k : ℕ) (place : Place) (found : Outcome) → IsPossible t.update k a place found → IsPossible t.update k b place found
+one_way : (t : Task) (a b : ℕ) → IsSameClass (blocks_of t.update.old t.update.new t.update.demands t.rounds) a b
+    → (k : ℕ) (place : Place) (found : Outcome) → IsPossible (rollout t) k a place found → IsPossible (rollout t) k b place found
 one_way t a b same k place found possible =
     let old = table_blocks t.update.old in
-    let new = table_blocks t.new in
-    let asked = map (λ (d : DemandView). d.dst) t.demands in
-    let changed = flat_map (λ (round : List Change). map (λ c. (rule_of c).key.pattern.dst) round) t.update.rounds in
+    let new = table_blocks t.update.new in
+    let asked = map (λ (d : DemandView). d.dst) t.update.demands in
+    let changed = flat_map (λ (round : List Change). map (λ c. (rule_of c).key.pattern.dst) round) t.rounds in
     let front = each_first (SameIn a b) ((old ++ new) ++ asked) changed same in
     let tables = tables_alike a b t.update.old (each_first (SameIn a b) old new (each_first (SameIn a b) (old ++ new) asked front)) in
-    let rounds = rounds_alike a b t.update.rounds (each_last (SameIn a b) ((old ++ new) ++ asked) changed same) in
+    let rounds = rounds_alike a b t.rounds (each_last (SameIn a b) ((old ++ new) ++ asked) changed same) in
     record {
       mixed = possible.mixed;
       held = possible.held;
-      is = possible.is ∙ ap (acted t.update.net place) (lookup_same place.port place.vlan a b possible.mixed (each_held (TreatsAlike a b) t.update k place.switch possible.mixed tables rounds possible.held));
+      is = possible.is ∙ ap (acted t.update.net place) (lookup_same place.port place.vlan a b possible.mixed (each_held (TreatsAlike a b) (rollout t) k place.switch possible.mixed tables rounds possible.held));
     }
 
-pub same_outcomes : (t : Task) (a b : ℕ) → IsSameClass (blocks_of t.update.old t.new t.demands t.update.rounds) a b
-    → (k : ℕ) (place : Place) (found : Outcome) → IsPossible t.update k a place found ↔ IsPossible t.update k b place found
+pub same_outcomes : (t : Task) (a b : ℕ) → IsSameClass (blocks_of t.update.old t.update.new t.update.demands t.rounds) a b
+    → (k : ℕ) (place : Place) (found : Outcome) → IsPossible (rollout t) k a place found ↔ IsPossible (rollout t) k b place found
 same_outcomes t a b same k place found = (
   one_way t a b same k place found,
-  one_way t b a (each_weaker (SameIn a b) (SameIn b a) (λ _ e. sym e) (blocks_of t.update.old t.new t.demands t.update.rounds) same) k place found,
+  one_way t b a (each_weaker (SameIn a b) (SameIn b a) (λ _ e. sym e) (blocks_of t.update.old t.update.new t.update.demands t.rounds) same) k place found,
 )

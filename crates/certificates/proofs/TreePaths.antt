@@ -17,7 +17,7 @@ use Rattle.demands.specs.Duties.{DemandView, demand_covers, demands_on, duties_o
 use Rattle.demands.specs.Good.{HasGoodPath, IsDropped, switches_of}
 use Rattle.acyclic_numbering.specs.Heights.{number_of, Falls}
 use Rattle.update_model.specs.Changes.{changes_at, round_after}
-use Rattle.update_model.specs.Mixtures.{Update, tables_before, IsPossible, MayGo, IsOnMixedWalk, AreGoodRounds}
+use Rattle.update_model.specs.Mixtures.{Rollout, tables_before, IsPossible, MayGo, IsOnMixedWalk, AreGoodRounds}
 use Rattle.certificates.specs.Steps.{IsMixedStep, MayDrop, switches_along}
 use Rattle.certificates.specs.Trees.{LeavesOrStays}
 use Rattle.certificates.proofs.Falling.{distinct_walk}
@@ -69,7 +69,7 @@ module _ (net : Network) (tables : List (List Rule)) (demands : List DemandView)
       ] refl
 
 -- the tables after a certified round have a fine path
-module _ (u : Update) (good : AreGoodRounds u) (k : ℕ) (less : k < length u.rounds) (dst : ℕ) (entry : Place) (arrive : Bool)
+module _ (u : Rollout) (good : AreGoodRounds u) (k : ℕ) (less : k < length u.rounds) (dst : ℕ) (entry : Place) (arrive : Bool)
     (numbers : List ℕ) (falls : Falls (IsMixedStep u k dst entry) numbers) (arrives : IsTrue arrive → ¬ MayDrop u k dst entry) where
   abbrev next_out : Place → Outcome
   next_out p = outcome_in u.net (tables_before u (suc k)) p dst

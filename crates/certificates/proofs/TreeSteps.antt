@@ -28,11 +28,12 @@ use Rattle.dest_classes.specs.Classes.{ClassList, IsClass, boundaries, atom_coun
 use Rattle.dest_classes.specs.declared.Class.{Class}
 use Rattle.demands.specs.Duties.{PacketDuties, duties_of}
 use Rattle.update_model.specs.Changes.{settled_tables, round_after}
-use Rattle.update_model.specs.Mixtures.{Update, IsPossible}
+use Rattle.update_model.specs.Mixtures.{Rollout, IsPossible}
 use Rattle.update_model.specs.declared.Change.{Change}
 use Rattle.update_model.specs.declared.Change.TheVariants.{Replace}
 use Rattle.certificates.specs.Steps.{switches_along}
-use Rattle.certificates.specs.Certified.{Task, classes_for}
+use Rattle.certificates.specs.Updates.{Task}
+use Rattle.certificates.specs.Certified.{classes_for}
 use Rattle.certificates.specs.Trees.{IsTreeUpdate, IsSafeForAll, IsRemainingReplace}
 use Rattle.topology.proofs.LinkLaws.{host_at}
 use Rattle.certificates.proofs.TreeRounds.{blocks, within_at, AllFit, new_fit, same_blocks, same_lookup, rule_differs, possible_single}
@@ -148,37 +149,37 @@ module _ (out : Place → Outcome) (now new : SwitchId → Action) where
         | inr h ↦ inr (record { first = h.first; after = h.after; walk = h.walk; same_end = h.same_end; distinct = h.distinct; differs = h.differs; agree = h.agree })
       ]
 
-module _ (t : Task) (tree : IsTreeUpdate t) (old_once : (s : SwitchId) → IsTable (rules_at t.update.old s)) (new_once : (s : SwitchId) → IsTable (rules_at t.new s))
+module _ (t : Task) (tree : IsTreeUpdate t) (old_once : (s : SwitchId) → IsTable (rules_at t.update.old s)) (new_once : (s : SwitchId) → IsTable (rules_at t.update.new s))
     (is_net : IsNetwork t.update.net) (tables : List (List Rule)) (fit : AllFit t tree old_once new_once tables)
-    (present_fine : (n : ℕ) (class : Class) → IsClass (classes_for t) n class → FinePath (λ p. outcome_in t.update.net tables p class.first) (duties_of t.demands class.entry class.first).arrive class.entry)
+    (present_fine : (n : ℕ) (class : Class) → IsClass (classes_for t) n class → FinePath (λ p. outcome_in t.update.net tables p class.first) (duties_of t.update.demands class.entry class.first).arrive class.entry)
     (old : List (List Rule)) (rounds_with : Change → List (List Change)) (k : ℕ)
     (before : (c : Change) → settled_tables (rounds_with c) k old ≡ tables) (round : (c : Change) → round_after k (rounds_with c) ≡ c ∷ []) where
   abbrev net : Network
   net = t.update.net
 
   -- an update in which round k is the change alone, and the tables before it are the present ones
-  abbrev update_with : Change → Update
+  abbrev update_with : Change → Rollout
   update_with c = record { net = net; old = old; rounds = rounds_with c }
 
   abbrev arrive : Class → Bool
-  arrive class = (duties_of t.demands class.entry class.first).arrive
+  arrive class = (duties_of t.update.demands class.entry class.first).arrive
 
   -- outcomes for a class in the present tables and in the new ones
   abbrev now_out : Class → Place → Outcome
   now_out class p = outcome_in net tables p class.first
 
   abbrev new_out : Class → Place → Outcome
-  new_out class p = outcome_in net t.new p class.first
+  new_out class p = outcome_in net t.update.new p class.first
 
   abbrev new_fine : (n : ℕ) (class : Class) → IsClass (classes_for t) n class → FinePath (new_out class) (arrive class) class.entry
-  new_fine n class is = fine_from_good net t.new t.demands class.entry class.first (tree.new_good n class is)
+  new_fine n class is = fine_from_good net t.update.new t.update.demands class.entry class.first (tree.new_good n class is)
 
   -- the actions at each switch for the address of a class
   abbrev now_at : Class → SwitchId → Action
   now_at class s = lookup (header_at class.entry class.first) (rules_at tables s)
 
   abbrev new_at : Class → SwitchId → Action
-  new_at class s = lookup (header_at class.entry class.first) (rules_at t.new s)
+  new_at class s = lookup (header_at class.entry class.first) (rules_at t.update.new s)
 
   -- addresses that lie in the same prefixes
   abbrev Alike : ℕ → ℕ → Type 0
@@ -187,10 +188,10 @@ module _ (t : Task) (tree : IsTreeUpdate t) (old_once : (s : SwitchId) → IsTab
   now_same : (class : Class) (dst : ℕ) → Alike dst class.first → (p : Place) → outcome_in net tables p dst ≡ acted net p (now_at class p.switch)
   now_same class dst alike p = ap (acted net p) (same_lookup t tree old_once new_once tables fit p.switch (header_at p dst) (header_at class.entry class.first) alike)
 
-  new_same : (class : Class) (dst : ℕ) → Alike dst class.first → (p : Place) → outcome_in net t.new p dst ≡ acted net p (new_at class p.switch)
-  new_same class dst alike p = ap (acted net p) (same_lookup t tree old_once new_once t.new (new_fit t tree old_once new_once) p.switch (header_at p dst) (header_at class.entry class.first) alike)
+  new_same : (class : Class) (dst : ℕ) → Alike dst class.first → (p : Place) → outcome_in net t.update.new p dst ≡ acted net p (new_at class p.switch)
+  new_same class dst alike p = ap (acted net p) (same_lookup t tree old_once new_once t.update.new (new_fit t tree old_once new_once) p.switch (header_at p dst) (header_at class.entry class.first) alike)
 
-  alike_in : (s : SwitchId) (next : Rule) → IsIn next (rules_at t.new s) → (a b : ℕ) → in_block next.key.pattern.dst a ≡ true → in_block next.key.pattern.dst b ≡ true → Alike a b
+  alike_in : (s : SwitchId) (next : Rule) → IsIn next (rules_at t.update.new s) → (a b : ℕ) → in_block next.key.pattern.dst a ≡ true → in_block next.key.pattern.dst b ≡ true → Alike a b
   alike_in s next wanted a b ia ib = same_blocks t tree old_once new_once next.key.pattern.dst (within_at t tree old_once new_once s next wanted) a b ia ib
 
   -- the new path of a class leaves after a last switch that isn't new
@@ -216,7 +217,7 @@ module _ (t : Task) (tree : IsTreeUpdate t) (old_once : (s : SwitchId) → IsTab
   first_kind n class is =
       let path = tree.new_good n class is in
       let fine = new_fine n class is in
-      elim (leaves_or_drops net t.new t.demands class.entry class.first path (tree.leaves n class path.trace is path.path)) [
+      elim (leaves_or_drops net t.update.new t.update.demands class.entry class.first path (tree.leaves n class path.trace is path.path)) [
         | inr drops ↦ inr (inr drops)
         | inl leaves ↦ (
             let other = fine_same (new_out class) (class_new_out class) (new_same class class.first (λ q i. refl)) (arrive class) class.entry fine in
@@ -254,10 +255,10 @@ module _ (t : Task) (tree : IsTreeUpdate t) (old_once : (s : SwitchId) → IsTab
       at_entry (r ∷ rest) walk e = absurd (let f : Discard ≡ Go r = sym drops ∙ walk.0 in cc)
 
   abbrev duties : Class → PacketDuties
-  duties class = duties_of t.demands class.entry class.first
+  duties class = duties_of t.update.demands class.entry class.first
 
   chainless : (class : Class) → (duties class).chains ≡ []
-  chainless class = no_chains t.demands tree.no_waypoints class.entry class.first
+  chainless class = no_chains t.update.demands tree.no_waypoints class.entry class.first
 
   -- the class stays safe in a round of the change
   abbrev Keeps : Change → Class → Type 0
@@ -273,9 +274,9 @@ module _ (t : Task) (tree : IsTreeUpdate t) (old_once : (s : SwitchId) → IsTab
       let fine = new_fine n class is in
       fine.arrives must (drop_at_end (new_out class) class.entry fine.rest fine.walk class.entry (inl refl) drops)
 
-  module _ (c : Change) (at : SwitchId) (next : Rule) (c_is : c ≡ Replace at next) (wanted : IsIn next (rules_at t.new at)) where
+  module _ (c : Change) (at : SwitchId) (next : Rule) (c_is : c ≡ Replace at next) (wanted : IsIn next (rules_at t.update.new at)) where
     outcomes : (dst : ℕ) (place : Place) (found : Outcome) → IsPossible (update_with c) k dst place found
-        → (found ≡ outcome_in net tables place dst) ⊎ ((place.switch ≡ at) × (in_block next.key.pattern.dst dst ≡ true) × (found ≡ outcome_in net t.new place dst))
+        → (found ≡ outcome_in net tables place dst) ⊎ ((place.switch ≡ at) × (in_block next.key.pattern.dst dst ≡ true) × (found ≡ outcome_in net t.update.new place dst))
     outcomes = possible_single t tree old_once new_once tables fit at next wanted old (rounds_with c) k (before c) c c_is (round c)
 
     -- a class all of whose new path is new stays safe
@@ -293,7 +294,7 @@ module _ (t : Task) (tree : IsTreeUpdate t) (old_once : (s : SwitchId) → IsTab
       let (next, remains, wanted, has) = rule_differs t tree old_once new_once tables fit h.first.switch (header_at class.entry class.first) h.differs in
       (Replace h.first.switch next, remains, keeps next wanted has)
     where
-      keeps : (next : Rule) → IsIn next (rules_at t.new h.first.switch) → in_block next.key.pattern.dst class.first ≡ true
+      keeps : (next : Rule) → IsIn next (rules_at t.update.new h.first.switch) → in_block next.key.pattern.dst class.first ≡ true
           → IsSafeForAll t (update_with (Replace h.first.switch next)) k
       keeps next wanted has n other is =
           let u = update_with (Replace h.first.switch next) in
@@ -322,7 +323,7 @@ module _ (t : Task) (tree : IsTreeUpdate t) (old_once : (s : SwitchId) → IsTab
         let (next, remains, wanted, has) = rule_differs t tree old_once new_once tables fit class.entry.switch (header_at class.entry class.first) h.differs in
         (Replace class.entry.switch next, remains, keeps next wanted has)
       where
-        keeps : (next : Rule) → IsIn next (rules_at t.new class.entry.switch) → in_block next.key.pattern.dst class.first ≡ true
+        keeps : (next : Rule) → IsIn next (rules_at t.update.new class.entry.switch) → in_block next.key.pattern.dst class.first ≡ true
             → IsSafeForAll t (update_with (Replace class.entry.switch next)) k
         keeps next wanted has m other other_is =
             elim (all m other other_is) [

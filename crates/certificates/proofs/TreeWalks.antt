@@ -23,7 +23,7 @@ use Rattle.path_walk.specs.declared.Outcome.{Outcome}
 use Rattle.path_walk.specs.declared.Outcome.TheVariants.{Discard, Leave, Go}
 use Rattle.demands.specs.Duties.{PacketDuties}
 use Rattle.acyclic_numbering.specs.Heights.{IsLower, Falls}
-use Rattle.update_model.specs.Mixtures.{Update, IsPossible, MayGo}
+use Rattle.update_model.specs.Mixtures.{Rollout, IsPossible, MayGo}
 use Rattle.certificates.specs.Steps.{IsMixedStep, MayDrop, switches_along}
 use Rattle.certificates.specs.Ordered.{IsSafe, AreGuarded}
 use Rattle.acyclic_numbering.proofs.AlongLists.{IsNext, FallsAlong, numbers_along, numbers_both}
@@ -201,10 +201,10 @@ fine_same out other same arrive entry fine = record {
 }
 
 -- some numbering and before sets keep the class safe
-abbrev pub SomeKeepsSafe : Update → ℕ → ℕ → Place → PacketDuties → Type 0
+abbrev pub SomeKeepsSafe : Rollout → ℕ → ℕ → Place → PacketDuties → Type 0
 SomeKeepsSafe u k dst entry duties = (numbers : List ℕ) × (sets : List (List ℕ)) × IsSafe u k dst entry duties numbers sets
 
-module _ (u : Update) (k dst : ℕ) (entry : Place) (duties : PacketDuties) (no_chains : duties.chains ≡ []) where
+module _ (u : Rollout) (k dst : ℕ) (entry : Place) (duties : PacketDuties) (no_chains : duties.chains ≡ []) where
   -- what holds of the entry, and after each step along which the numbers fall
   module _ (numbers : List ℕ) (Holds : Place → Type 0) (begins : Holds entry)
       (goes : (p q : Place) → Holds p → MayGo u k dst p q → Holds q × IsLower numbers p.switch q.switch)

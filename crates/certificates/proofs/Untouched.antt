@@ -16,7 +16,7 @@ use Rattle.path_walk.specs.Outcomes.{acted, header_at}
 use Rattle.path_walk.specs.Paths.{outcome_in}
 use Rattle.path_walk.specs.declared.Outcome.{Outcome}
 use Rattle.update_model.specs.Changes.{switch_of, rule_of, AppliesTo, IsGoodRound, changes_at, round_after}
-use Rattle.update_model.specs.Mixtures.{Update, tables_before, IsPossible, MayHold}
+use Rattle.update_model.specs.Mixtures.{Rollout, tables_before, IsPossible, MayHold}
 use Rattle.update_model.specs.Matches.{Writes}
 use Rattle.update_model.specs.declared.Change.{Change}
 use Rattle.update_model.specs.declared.Change.TheVariants.{Insert, Delete, Replace}
@@ -28,7 +28,7 @@ writes_rule r (Insert s q) w = w
 writes_rule r (Delete s q) w = absurd w
 writes_rule r (Replace s q) w = w
 
-module _ (u : Update) (k dst : ℕ) (good : IsGoodRound (tables_before u k) (round_after k u.rounds)) (clear : (s : SwitchId) (mixed : List Rule) → MayHold u k s mixed → IsClear mixed)
+module _ (u : Rollout) (k dst : ℕ) (good : IsGoodRound (tables_before u k) (round_after k u.rounds)) (clear : (s : SwitchId) (mixed : List Rule) → MayHold u k s mixed → IsClear mixed)
     (untouched : AllByRecursion (λ c. in_block (rule_of c).key.pattern.dst dst ≡ false) (round_after k u.rounds)) (place : Place) where
   -- the round at the place's switch, and the table there before it
   abbrev here : List Change

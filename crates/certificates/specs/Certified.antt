@@ -1,4 +1,5 @@
 -- Certified plans.
+use Rattle.certificates.specs.Updates.{Task, rollout}
 use Rattle.std.specs.Prelude.{◌≡◌, ℕ, ◌<◌, ◌≤◌, Bool, true, false, List, ◌++◌, length, map}
 use Rattle.std.specs.List.{AllByRecursion}
 use Rattle.net_base.specs.Blocks.{Block}
@@ -15,7 +16,7 @@ use Rattle.dest_classes.specs.declared.Class.{Class}
 use Rattle.demands.specs.Duties.{DemandView, duties_of}
 use Rattle.demands.specs.Good.{HasGoodPaths}
 use Rattle.update_model.specs.Changes.{rule_of, round_blocks}
-use Rattle.update_model.specs.Mixtures.{Update, tables_before, AreGoodRounds, AreClearRounds, need_of}
+use Rattle.update_model.specs.Mixtures.{Rollout, tables_before, AreGoodRounds, AreClearRounds, need_of}
 use Rattle.update_model.specs.declared.Change.{Change}
 use Rattle.certificates.specs.Ordered.{OrderedCertificate}
 use Rattle.certificates.specs.TwoPhase.{TwoPhaseCertificate}
@@ -32,15 +33,9 @@ abbrev pub blocks_of : List (List Rule) → List (List Rule) → List DemandView
 blocks_of old new demands rounds =
     table_blocks old ++ table_blocks new ++ map (λ d. d.dst) demands ++ round_blocks rounds
 
--- an update to new tables under demands
-pub record Task : Type 0 where
-  pub update : Update
-  pub new : List (List Rule)
-  pub demands : List DemandView
-
 -- the classes of an update
 abbrev pub classes_for : Task → ClassList
-classes_for t = classes_of t.update.net (blocks_of t.update.old t.new t.demands t.update.rounds)
+classes_for t = classes_of t.update.net (blocks_of t.update.old t.update.new t.update.demands t.rounds)
 
 -- whether it is the evidence of a two-phase plan
 abbrev pub is_two_phase : Evidence → Bool
@@ -50,8 +45,8 @@ is_two_phase (TwoPhase evidence) = true
 -- round k and class n have a certificate of the evidence's kind
 abbrev pub HasCertificate : Task → Evidence → ℕ → ℕ → Class → Type 0
 HasCertificate t (Ordered evidence) k n class =
-    OrderedCertificate t.update evidence k n class.first class.entry (duties_of t.demands class.entry class.first)
-HasCertificate t (TwoPhase evidence) k n class = TwoPhaseCertificate t.update t.new evidence k class.first class.entry
+    OrderedCertificate (rollout t) evidence k n class.first class.entry (duties_of t.update.demands class.entry class.first)
+HasCertificate t (TwoPhase evidence) k n class = TwoPhaseCertificate (rollout t) t.update.new evidence k class.first class.entry
 
 -- an ordered plan neither sets nor strips
 abbrev pub KeepsVlans : Evidence → List (List Change) → Type 0
@@ -60,11 +55,11 @@ KeepsVlans (TwoPhase evidence) rounds = Unit {0}
 
 -- a certified plan
 pub record IsCertified (t : Task) (evidence : Evidence) : Type 0 where
-  pub old_good : HasGoodPaths t.update.net t.update.old t.demands (classes_for t)
-  pub new_good : HasGoodPaths t.update.net t.new t.demands (classes_for t)
-  pub good : AreGoodRounds t.update
-  pub clear : AreClearRounds t.update
-  pub fits : (k : ℕ) (s : SwitchId) → k < length t.update.rounds → s.0 < switch_count t.update.net → need_of t.update k s ≤ capacity_of t.update.net s
-  pub keeps : KeepsVlans evidence t.update.rounds
-  pub certificates : (k n : ℕ) (class : Class) → k < length t.update.rounds → IsClass (classes_for t) n class → HasCertificate t evidence k n class
-  pub ends : (s : SwitchId) → IsSameSet (rules_at (tables_before t.update (length t.update.rounds)) s) (rules_at t.new s)
+  pub old_good : HasGoodPaths t.update.net t.update.old t.update.demands (classes_for t)
+  pub new_good : HasGoodPaths t.update.net t.update.new t.update.demands (classes_for t)
+  pub good : AreGoodRounds (rollout t)
+  pub clear : AreClearRounds (rollout t)
+  pub fits : (k : ℕ) (s : SwitchId) → k < length t.rounds → s.0 < switch_count t.update.net → need_of (rollout t) k s ≤ capacity_of t.update.net s
+  pub keeps : KeepsVlans evidence t.rounds
+  pub certificates : (k n : ℕ) (class : Class) → k < length t.rounds → IsClass (classes_for t) n class → HasCertificate t evidence k n class
+  pub ends : (s : SwitchId) → IsSameSet (rules_at (tables_before (rollout t) (length t.rounds)) s) (rules_at t.update.new s)

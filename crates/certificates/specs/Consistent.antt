@@ -10,10 +10,12 @@ use Rattle.flow_rules.specs.declared.rules.Rule.{Rule}
 use Rattle.path_walk.specs.Paths.{Trace, IsPath, IsEnd}
 use Rattle.path_walk.specs.declared.Ended.TheVariants.{Left}
 use Rattle.demands.specs.Good.{MeetsDemands}
-use Rattle.update_model.specs.Runs.{IsRun, state_after_run}
+use Rattle.update_model.specs.Runs.{AreEnabled, state_after}
+use Rattle.update_model.specs.States.{first_state}
+use Rattle.update_model.specs.declared.Change.{Change}
 use Rattle.update_model.specs.declared.Event.{Event}
 use Rattle.update_model.specs.declared.Packet.{Packet}
-use Rattle.certificates.specs.Certified.{Task}
+use Rattle.certificates.specs.Updates.{Update}
 
 -- the trace of a packet
 abbrev pub trace_of : Packet → Trace
@@ -24,15 +26,16 @@ pub record FollowsTables (net : Network) (tables : List (List Rule)) (p : Packet
   pub path : Trace
   pub is_path : IsPath net tables p.entry p.dst path
   pub begins : IsPrefix p.visits path.stops
-  pub whole : IsEnd p.ended → trace_of p ≡ path
+  pub whole : IsEnd p.ended → record { stops = p.visits; ended = p.ended } ≡ path
 
 -- a consistent packet: its trace meets the demands, and under a two-phase plan it follows the old or the new tables and leaves with its entry's VLAN
-pub record IsConsistentPacket (t : Task) (two_phase : Bool) (p : Packet) : Type 0 where
-  pub good : MeetsDemands t.demands p.entry p.dst (trace_of p)
-  pub version : IsTrue two_phase → FollowsTables t.update.net t.update.old p ⊎ FollowsTables t.update.net t.new p
+pub record IsConsistentPacket (u : Update) (two_phase : Bool) (p : Packet) : Type 0 where
+  pub good : MeetsDemands u.demands p.entry p.dst (record { stops = p.visits; ended = p.ended })
+  pub version : IsTrue two_phase → FollowsTables u.net u.old p ⊎ FollowsTables u.net u.new p
   pub vlan : IsTrue two_phase → (s : SwitchId) (port : Port) (vlan : Vlan) → p.ended ≡ Left s port vlan → vlan ≡ p.entry.vlan
 
--- a consistent update, under a two-phase plan or another: each packet is, in every state of every run
-abbrev pub IsConsistent : Task → Bool → Type 0
-IsConsistent t two_phase =
-    (events : List Event) → IsRun t.update events → AllByRecursion (IsConsistentPacket t two_phase) (state_after_run t.update events).packets
+-- an update is consistent by these rounds, those of a two-phase plan or others: each packet is, in every state of every run
+abbrev pub IsConsistent : Update → List (List Change) → Bool → Type 0
+IsConsistent u rounds two_phase =
+    (events : List Event) → AreEnabled u.net rounds (first_state u.old) events
+    → AllByRecursion (IsConsistentPacket u two_phase) (state_after u.net rounds (first_state u.old) events).packets

@@ -17,44 +17,49 @@ use Rattle.path_walk.specs.declared.Outcome.{Outcome}
 use Rattle.path_walk.specs.declared.Outcome.TheVariants.{Discard, Leave, Go}
 use Rattle.demands.specs.Duties.{DemandView}
 use Rattle.update_model.specs.Changes.{round_after, rule_of}
-use Rattle.update_model.specs.Mixtures.{Update, IsMixedWalk, IsPossible, AreGoodRounds, AreClearRounds, tables_before}
+use Rattle.update_model.specs.Mixtures.{Rollout, IsMixedWalk, IsPossible, AreGoodRounds, AreClearRounds, tables_before}
 use Rattle.update_model.specs.Runs.{IsRun, state_after_run}
 use Rattle.update_model.specs.declared.Event.{Event}
 use Rattle.acyclic_numbering.specs.Heights.{Falls}
 use Rattle.certificates.specs.Steps.{IsMixedStep, switches_along}
 use Rattle.certificates.specs.Ordered.{AreGuarded}
 use Rattle.certificates.specs.TwoPhase.{TwoPhaseCertificate}
-use Rattle.certificates.specs.Certified.{Task, IsCertified, blocks_of, is_two_phase}
+use Rattle.certificates.specs.Updates.{Update, Task, task_for, rollout}
+use Rattle.certificates.specs.Certified.{IsCertified, blocks_of, is_two_phase}
 use Rattle.update_model.specs.OneRound.{WalkedOneRound}
 use Rattle.certificates.specs.Consistent.{IsConsistent}
 use Rattle.certificates.specs.declared.Evidence.{Evidence}
 use Rattle.certificates.specs.declared.Plan.{Plan}
 use Rattle.certificates.specs.declared.TwoPhaseEvidence.{TwoPhaseEvidence}
 
--- the update of a plan, as a task
+-- the update of a network between two configurations, under demands
+abbrev pub update_of : Network → List TableState → List TableState → List DemandView → Update
+update_of net old new demands = record { net = net; old = rules_of_all old; new = rules_of_all new; demands = demands }
+
+-- the update by the rounds of a plan
 abbrev pub task_of : Network → List TableState → List TableState → List DemandView → Plan → Task
 task_of net old new demands plan =
-    record { update = record { net = net; old = rules_of_all old; rounds = plan.rounds }; new = rules_of_all new; demands = demands }
+    task_for (update_of net old new demands) plan
 
 -- in every run each packet walks through the mixtures of one round
-abbrev pub EachWalksOneRound : Update → Type 0
+abbrev pub EachWalksOneRound : Rollout → Type 0
 EachWalksOneRound u =
     AreGoodRounds u → AreClearRounds u → (events : List Event) → IsRun u events → AllByRecursion (WalkedOneRound u) (state_after_run u events).packets
 
 -- addresses that no prefix tells apart have the same possible outcomes
 abbrev pub SameClassSameOutcomes : Task → Type 0
 SameClassSameOutcomes t =
-    (a b : ℕ) → IsSameClass (blocks_of t.update.old t.new t.demands t.update.rounds) a b
-    → (k : ℕ) (place : Place) (found : Outcome) → IsPossible t.update k a place found ↔ IsPossible t.update k b place found
+    (a b : ℕ) → IsSameClass (blocks_of t.update.old t.update.new t.update.demands t.rounds) a b
+    → (k : ℕ) (place : Place) (found : Outcome) → IsPossible (rollout t) k a place found ↔ IsPossible (rollout t) k b place found
 
 -- where the numbers fall, no mixed walk has a switch twice
-abbrev pub FallingNumbersKeepFromLoops : Update → Type 0
+abbrev pub FallingNumbersKeepFromLoops : Rollout → Type 0
 FallingNumbersKeepFromLoops u =
     (k dst : ℕ) (entry : Place) (numbers : List ℕ) → Falls (IsMixedStep u k dst entry) numbers
     → (rest : List Place) → IsMixedWalk u k dst entry rest → IsDistinct (switches_along entry rest)
 
 -- where the chains are guarded, a mixed walk at whose last place a packet may leave has met each chain in order
-abbrev pub GuardedChainsAreMet : Update → Type 0
+abbrev pub GuardedChainsAreMet : Rollout → Type 0
 GuardedChainsAreMet u =
     (k dst : ℕ) (entry : Place) (chains : List (List SwitchId)) (sets : List (List ℕ)) → AreGuarded u k dst entry chains sets
     → (rest : List Place) (port : Port) (vlan : Vlan) → IsMixedWalk u k dst entry rest → IsPossible u k dst (end_of entry rest) (Leave port vlan)
@@ -80,19 +85,19 @@ trace_by entry rest found = record { stops = map stop_of (entry ∷ rest); ended
 abbrev pub LabelledWalksArePaths : Task → Type 0
 LabelledWalksArePaths t =
     (evidence : TwoPhaseEvidence) (k dst : ℕ) (entry : Place) (old_path new_path : Trace)
-    → TwoPhaseCertificate t.update t.new evidence k dst entry
-    → IsPath t.update.net t.update.old entry dst old_path → IsPath t.update.net t.new entry dst new_path
-    → (rest : List Place) → IsMixedWalk t.update k dst entry rest
+    → TwoPhaseCertificate (rollout t) t.update.new evidence k dst entry
+    → IsPath t.update.net t.update.old entry dst old_path → IsPath t.update.net t.update.new entry dst new_path
+    → (rest : List Place) → IsMixedWalk (rollout t) k dst entry rest
     → (IsPrefix (map stop_of (entry ∷ rest)) old_path.stops ⊎ IsPrefix (map stop_of (entry ∷ rest)) new_path.stops)
-    × ((found : Outcome) → IsPossible t.update k dst (end_of entry rest) found → IsEnd (ended_by (end_of entry rest) found)
+    × ((found : Outcome) → IsPossible (rollout t) k dst (end_of entry rest) found → IsEnd (ended_by (end_of entry rest) found)
     → ((trace_by entry rest found ≡ old_path) ⊎ (trace_by entry rest found ≡ new_path)) × EndsFor entry.vlan found)
 
 -- a certified plan is consistent
 abbrev pub CertifiedIsConsistent : Task → Evidence → Type 0
-CertifiedIsConsistent t evidence = IsCertified t evidence → IsConsistent t (is_two_phase evidence)
+CertifiedIsConsistent t evidence = IsCertified t evidence → IsConsistent t.update t.rounds (is_two_phase evidence)
 
 -- where a round changes no rule for an address, the possible outcomes are those of the tables before it
-abbrev pub UntouchedIsUnchanged : Update → Type 0
+abbrev pub UntouchedIsUnchanged : Rollout → Type 0
 UntouchedIsUnchanged u =
     AreGoodRounds u → AreClearRounds u → (k dst : ℕ) → k < length u.rounds → AllByRecursion (λ c. in_block (rule_of c).key.pattern.dst dst ≡ false) (round_after k u.rounds)
     → (place : Place) (found : Outcome) → IsPossible u k dst place found ↔ (found ≡ outcome_in u.net (tables_before u k) place dst)

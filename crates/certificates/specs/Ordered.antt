@@ -7,7 +7,7 @@ use Rattle.net_base.specs.declared.ids.Place.{Place}
 use Rattle.acyclic_numbering.specs.Heights.{Falls}
 use Rattle.waypoint_evidence.specs.Befores.{IsGuard}
 use Rattle.demands.specs.Duties.{PacketDuties}
-use Rattle.update_model.specs.Mixtures.{Update}
+use Rattle.update_model.specs.Mixtures.{Rollout}
 use Rattle.certificates.specs.Steps.{IsMixedStep, MayLeave, MayDrop}
 use Rattle.certificates.specs.declared.Shared.{Shared}
 use Rattle.certificates.specs.declared.OrderedPick.{OrderedPick}
@@ -31,13 +31,13 @@ positions [] sets = []
 positions (chain ∷ chains) sets = chain_positions None chain sets ++ positions chains (drop (length chain) sets)
 
 -- there are as many before sets as the chains have positions together, and each guards its position
-pub record AreGuarded (u : Update) (k dst : ℕ) (entry : Place) (chains : List (List SwitchId)) (sets : List (List ℕ)) : Type 0 where
+pub record AreGuarded (u : Rollout) (k dst : ℕ) (entry : Place) (chains : List (List SwitchId)) (sets : List (List ℕ)) : Type 0 where
   pub count : length sets ≡ length (flat_map (λ chain. chain) chains)
   pub guards : AllByRecursion (λ p. IsGuard entry.switch (IsMixedStep u k dst entry) (MayLeave u k dst entry) p.waypoint p.earlier p.set) (positions chains sets)
 
 -- a numbering and before sets that keep a class safe in round k: each step of a mixed walk goes to a lower number,
 -- nothing that must arrive may be dropped, and each chain is guarded
-pub record IsSafe (u : Update) (k dst : ℕ) (entry : Place) (duties : PacketDuties) (numbers : List ℕ) (sets : List (List ℕ)) : Type 0 where
+pub record IsSafe (u : Rollout) (k dst : ℕ) (entry : Place) (duties : PacketDuties) (numbers : List ℕ) (sets : List (List ℕ)) : Type 0 where
   pub falls : Falls (IsMixedStep u k dst entry) numbers
   pub arrives : IsTrue duties.arrive → ¬ MayDrop u k dst entry
   pub guarded : AreGuarded u k dst entry duties.chains sets
@@ -57,7 +57,7 @@ pub record IsMeant (evidence : OrderedEvidence) (pick : OrderedPick) (numbers : 
   pub sets_are : AllZip (λ i set. slice_get evidence.befores i ≡ Some set) use_.befores sets
 
 -- the certificate of round k (the one after the first k) and class n: a pick is in force, and what it means keeps the class safe
-pub record OrderedCertificate (u : Update) (evidence : OrderedEvidence) (k n dst : ℕ) (entry : Place) (duties : PacketDuties) : Type 0 where
+pub record OrderedCertificate (u : Rollout) (evidence : OrderedEvidence) (k n dst : ℕ) (entry : Place) (duties : PacketDuties) : Type 0 where
   pub pick : OrderedPick
   pub numbers : List ℕ
   pub sets : List (List ℕ)

@@ -5,10 +5,10 @@ use Rattle.net_base.specs.declared.ids.Port.{Port}
 use Rattle.net_base.specs.declared.ids.Vlan.{Vlan}
 use Rattle.net_base.specs.declared.ids.Place.{Place}
 use Rattle.path_walk.specs.declared.Outcome.TheVariants.{Discard, Leave}
-use Rattle.update_model.specs.Mixtures.{Update, IsPossible, MayGo, IsOnMixedWalk}
+use Rattle.update_model.specs.Mixtures.{Rollout, IsPossible, MayGo, IsOnMixedWalk}
 
 -- a step of some mixed walk goes from the one switch to the other
-pub record IsMixedStep (u : Update) (k dst : ℕ) (entry : Place) (s t : SwitchId) : Type 0 where
+pub record IsMixedStep (u : Rollout) (k dst : ℕ) (entry : Place) (s t : SwitchId) : Type 0 where
   pub place : Place
   pub next : Place
   pub on_walk : IsOnMixedWalk u k dst entry place
@@ -17,7 +17,7 @@ pub record IsMixedStep (u : Update) (k dst : ℕ) (entry : Place) (s t : SwitchI
   pub to_is : next.switch ≡ t
 
 -- a packet may leave the network at a place of a mixed walk at the switch
-pub record MayLeave (u : Update) (k dst : ℕ) (entry : Place) (s : SwitchId) : Type 0 where
+pub record MayLeave (u : Rollout) (k dst : ℕ) (entry : Place) (s : SwitchId) : Type 0 where
   pub place : Place
   pub port : Port
   pub vlan : Vlan
@@ -26,7 +26,7 @@ pub record MayLeave (u : Update) (k dst : ℕ) (entry : Place) (s : SwitchId) : 
   pub at_is : place.switch ≡ s
 
 -- a packet may be discarded at a place of a mixed walk
-pub record MayDrop (u : Update) (k dst : ℕ) (entry : Place) : Type 0 where
+pub record MayDrop (u : Rollout) (k dst : ℕ) (entry : Place) : Type 0 where
   pub place : Place
   pub on_walk : IsOnMixedWalk u k dst entry place
   pub drops : IsPossible u k dst place Discard

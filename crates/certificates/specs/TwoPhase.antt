@@ -10,7 +10,7 @@ use Rattle.flow_rules.specs.declared.rules.Rule.{Rule}
 use Rattle.path_walk.specs.Paths.{outcome_in, Forwards}
 use Rattle.path_walk.specs.declared.Outcome.{Outcome}
 use Rattle.path_walk.specs.declared.Outcome.TheVariants.{Discard, Leave, Go}
-use Rattle.update_model.specs.Mixtures.{Update, IsPossible}
+use Rattle.update_model.specs.Mixtures.{Rollout, IsPossible}
 use Rattle.certificates.specs.declared.Label.{Label}
 use Rattle.certificates.specs.declared.LabelPick.{LabelPick}
 use Rattle.certificates.specs.declared.TwoPhaseEvidence.{TwoPhaseEvidence}
@@ -31,7 +31,7 @@ IsLabelled labels version user (Go next) = IsIn (record { vlan = next.vlan; new 
 IsLabelled labels version user _ = Unit {0}
 
 -- the tables of a version: the new ones, or the old ones
-abbrev pub tables_of : Update → List (List Rule) → Bool → List (List Rule)
+abbrev pub tables_of : Rollout → List (List Rule) → Bool → List (List Rule)
 tables_of u new version = if version then new else u.old
 
 -- the outcome agrees with a version: it is that configuration's outcome there, but for a VLAN with the version's label
@@ -41,13 +41,13 @@ pub record Agrees (net : Network) (tables : List (List Rule)) (labels : List Lab
   pub labelled : IsLabelled labels version entry.vlan found
 
 -- along the path of the tables from a place, a packet that carries the VLAN has the path's outcomes alone
-abbrev pub KeepsPath : Update → ℕ → ℕ → List (List Rule) → Place → Vlan → Type 0
+abbrev pub KeepsPath : Rollout → ℕ → ℕ → List (List Rule) → Place → Vlan → Type 0
 KeepsPath u k dst tables first tag =
     (place : Place) → IsReached (Forwards u.net tables dst) first place → (found : Outcome) → IsPossible u k dst (carrying tag place) found
     → found ≡ outcome_carrying tag (outcome_in u.net tables place dst)
 
 -- after an outcome at the entry that goes on and agrees with these tables, a packet keeps to their path
-abbrev pub KeepsOn : Update → ℕ → ℕ → List (List Rule) → Place → Outcome → Type 0
+abbrev pub KeepsOn : Rollout → ℕ → ℕ → List (List Rule) → Place → Outcome → Type 0
 KeepsOn u k dst tables entry found =
     (first next : Place) → found ≡ Go next → outcome_in u.net tables entry dst ≡ Go first → KeepsPath u k dst tables first next.vlan
 
@@ -59,7 +59,7 @@ pub record IsLabelPickInForce (picks : List LabelPick) (round : ℕ) (pick : Lab
 
 -- the certificate of round k and an entry of a two-phase plan: a label table is in force, its users' VLANs are declared,
 -- each possible outcome at the entry agrees with the old or the new tables, and what goes on keeps to their path
-pub record TwoPhaseCertificate (u : Update) (new : List (List Rule)) (evidence : TwoPhaseEvidence) (k dst : ℕ) (entry : Place) : Type 0 where
+pub record TwoPhaseCertificate (u : Rollout) (new : List (List Rule)) (evidence : TwoPhaseEvidence) (k dst : ℕ) (entry : Place) : Type 0 where
   pub pick : LabelPick
   pub labels : List Label
   pub in_force : IsLabelPickInForce evidence.picks (suc k) pick

@@ -47,7 +47,7 @@ module _ (files : Files) (names : CheckNames) (old new : Option (List ℕ)) (res
     | inr (m, means, said) ↦ inr (m, check_means files names m means)
   ]
 
-  judged : IsJudged {D = CheckMeaning} (λ m. FilesMeanPlan files names m) (λ m. check_count m) (λ m. IsCertified (task_in m) m.plan.evidence) (λ m. IsConsistent (task_in m) (is_two_phase m.plan.evidence))
+  judged : IsJudged {D = CheckMeaning} (λ m. FilesMeanPlan files names m) (λ m. check_count m) (λ m. IsCertified (task_in m) m.plan.evidence) (λ m. IsConsistent m.update m.plan.rounds (is_two_phase m.plan.evidence))
       (λ m. accepted_line m.plan.evidence (length m.plan.rounds) (check_count m)) (λ m. IsRefusedLine (task_in m) m.plan.evidence) a.answer
   judged = record {
     over = λ m means. said_over IsCheckAnswer files (check_dialogue names) a.answer m a.over (means_check files names m means);
@@ -61,7 +61,7 @@ module _ (files : Files) (names : CheckNames) (old new : Option (List ℕ)) (res
         λ h. both.1 (h.meaning, h.mean, h.few, h.certified),
       )
 
-  keeps : result ≡ status.Done → (m : CheckMeaning) → FilesMeanPlan files names m → IsConsistent (task_in m) (is_two_phase m.plan.evidence)
+  keeps : result ≡ status.Done → (m : CheckMeaning) → FilesMeanPlan files names m → IsConsistent m.update m.plan.rounds (is_two_phase m.plan.evidence)
   keeps is m mean = law.done_then _ _ _ _ _ _ a.answer judged old new result a.status_is a.written is m mean
 
   refused : (result ≡ status.Refused) ↔ FilesAreRefused files names

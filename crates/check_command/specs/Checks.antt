@@ -4,7 +4,8 @@ use Rattle.std.specs.Io.KnownBytes.{Appends}
 use Rattle.net_base.specs.Outside.{Files}
 use Rattle.dest_classes.specs.Classes.{ClassList, IsClass, class_count}
 use Rattle.dest_classes.specs.declared.Class.{Class}
-use Rattle.certificates.specs.Certified.{Task, IsCertified, classes_for, is_two_phase}
+use Rattle.certificates.specs.Updates.{Task, Update, task_for}
+use Rattle.certificates.specs.Certified.{IsCertified, classes_for, is_two_phase}
 use Rattle.certificates.specs.Consistent.{IsConsistent}
 use Rattle.certificates.specs.declared.Evidence.{Evidence}
 use Rattle.certificates.specs.declared.Plan.{Plan}
@@ -17,13 +18,13 @@ use Rattle.command_base.specs.Judgements.{IsJudgement, most_classes}
 use Rattle.command_base.specs.Dialogues.{Dialogue, Ends, and_then}
 use Rattle.command_base.specs.Meanings.{IsReadAs}
 use Rattle.command_base.specs.Readings.{reading_update, reading_plan}
-use Rattle.command_base.specs.Updates.{UpdateMeaning, FilesMeanUpdate, task_for}
+use Rattle.command_base.specs.Updates.{FilesMeanUpdate}
 use Rattle.check_command.specs.Names.{CheckNames}
 use Rattle.check_command.specs.ReasonLines.{accepted_line, refused_line, class_named}
 
 -- an update, and a plan of it
 pub record CheckMeaning : Type 0 where
-  pub update : UpdateMeaning
+  pub update : Update
   pub plan : Plan
 
 -- the update by the rounds of its plan
@@ -51,8 +52,8 @@ pub record IsRefusedLine (t : Task) (evidence : Evidence) (line : List ℕ) : Ty
 -- the answer on a plan: one that is certified keeps every packet of every run consistent
 abbrev pub IsPlanVerdict : Task → Evidence → Answer → Type 0
 IsPlanVerdict t evidence answer =
-    IsJudgement (class_count (classes_for t)) (IsCertified t evidence) (IsConsistent t (is_two_phase evidence))
-    (accepted_line evidence (length t.update.rounds) (class_count (classes_for t))) (IsRefusedLine t evidence) answer
+    IsJudgement (class_count (classes_for t)) (IsCertified t evidence) (IsConsistent t.update t.rounds (is_two_phase evidence))
+    (accepted_line evidence (length t.rounds) (class_count (classes_for t))) (IsRefusedLine t evidence) answer
 
 -- the answer of `check`: the verdict on the plan that was read
 abbrev pub IsCheckAnswer : CheckMeaning → Answer → Type 0

@@ -17,7 +17,7 @@ pub record CheckPromise (files : Files) (names : CheckNames) (old new : Option (
   pub done : IsSettled result → ((result ≡ status.Done) ↔ FilesAreCertified files names)
   -- The headline. Then in every state of every run, in which the changes of each round come in any order between the hops of
   -- packets, each packet's trace meets the demands, and under two phases it is the old or the new path.
-  pub keeps : (m : CheckMeaning) → FilesMeanPlan files names m → result ≡ status.Done → IsConsistent (task_in m) (is_two_phase m.plan.evidence)
+  pub keeps : (m : CheckMeaning) → FilesMeanPlan files names m → result ≡ status.Done → IsConsistent m.update m.plan.rounds (is_two_phase m.plan.evidence)
   -- Refused comes exactly where the plan isn't certified; the line names the first reason.
   pub refused : IsSettled result → ((result ≡ status.Refused) ↔ FilesAreRefused files names)
   pub first : (m : CheckMeaning) → FilesMeanPlan files names m → result ≡ status.Refused → NamesFirstReason m old new

@@ -19,7 +19,7 @@ use Rattle.path_walk.specs.declared.Outcome.TheVariants.{Discard, Leave, Go}
 use Rattle.waypoint_evidence.specs.Befores.{IsGuard}
 use Rattle.demands.specs.Duties.{PacketDuties}
 use Rattle.update_model.specs.Changes.{rule_of, AppliesTo, IsGoodRound, changes_at, rules_after, round_after}
-use Rattle.update_model.specs.Mixtures.{Update, tables_before, IsPossible, MayHold, MayGo, IsOnMixedWalk}
+use Rattle.update_model.specs.Mixtures.{Rollout, tables_before, IsPossible, MayHold, MayGo, IsOnMixedWalk}
 use Rattle.update_model.specs.Matches.{Writes}
 use Rattle.update_model.specs.declared.Change.{Change}
 use Rattle.update_model.specs.declared.Change.TheVariants.{Insert, Delete, Replace}
@@ -31,9 +31,9 @@ use Rattle.certificates.specs.Ordered.{Position, positions, IsSafe}
 
 -- ---- what keeps a class safe, where the steps, leavings and drops of one round are those of another
 
-module _ (u v : Update) (k j dst : ℕ) (entry : Place) (step : (s t : SwitchId) → IsMixedStep v j dst entry s t → IsMixedStep u k dst entry s t)
+module _ (u v : Rollout) (k j dst : ℕ) (entry : Place) (step : (s t : SwitchId) → IsMixedStep v j dst entry s t → IsMixedStep u k dst entry s t)
     (leaving : (s : SwitchId) → MayLeave v j dst entry s → MayLeave u k dst entry s) (dropping : MayDrop v j dst entry → MayDrop u k dst entry) where
-  abbrev Guards : Update → ℕ → Position → Type 0
+  abbrev Guards : Rollout → ℕ → Position → Type 0
   Guards w i p = IsGuard entry.switch (IsMixedStep w i dst entry) (MayLeave w i dst entry) p.waypoint p.earlier p.set
 
   guards : (p : Position) → Guards u k p → Guards v j p
@@ -54,7 +54,7 @@ module _ (u v : Update) (k j dst : ℕ) (entry : Place) (step : (s t : SwitchId)
 
 -- ---- what is possible at the places of the walks of one round was possible there in that round
 
-module _ (u v : Update) (k j dst : ℕ) (entry : Place)
+module _ (u v : Rollout) (k j dst : ℕ) (entry : Place)
     (was : (place : Place) → IsOnMixedWalk u k dst entry place → (found : Outcome) → IsPossible v j dst place found → IsPossible u k dst place found) where
   walk_from : (start : Place) (rest : List Place) → IsOnMixedWalk u k dst entry start → IsWalk (MayGo v j dst) start rest → IsOnMixedWalk u k dst entry (end_of start rest)
   walk_from start [] on walk = on
@@ -85,7 +85,7 @@ module _ (u v : Update) (k j dst : ℕ) (entry : Place)
 
 -- ---- the same is possible at the places of the walks of one round
 
-module _ (u v : Update) (k j dst : ℕ) (entry : Place)
+module _ (u v : Rollout) (k j dst : ℕ) (entry : Place)
     (agree : (place : Place) → IsOnMixedWalk u k dst entry place → (found : Outcome) → IsPossible v j dst place found ↔ IsPossible u k dst place found) where
   was : (place : Place) → IsOnMixedWalk u k dst entry place → (found : Outcome) → IsPossible v j dst place found → IsPossible u k dst place found
   was place on found = (agree place on found).0
@@ -150,10 +150,10 @@ writes_rule r (Delete s q) w = absurd w
 writes_rule r (Replace s q) w = w
 
 -- no change at the place's switch covers a packet to the address there
-abbrev pub NoneCovers : Update → ℕ → ℕ → Place → Type 0
+abbrev pub NoneCovers : Rollout → ℕ → ℕ → Place → Type 0
 NoneCovers u k dst place = AllByRecursion (λ c. covers (rule_of c).key.pattern (header_at place dst) ≡ false) (changes_at place.switch (round_after k u.rounds))
 
-module _ (u : Update) (k dst : ℕ) (good : IsGoodRound (tables_before u k) (round_after k u.rounds)) (clear : (s : SwitchId) (mixed : List Rule) → MayHold u k s mixed → IsClear mixed)
+module _ (u : Rollout) (k dst : ℕ) (good : IsGoodRound (tables_before u k) (round_after k u.rounds)) (clear : (s : SwitchId) (mixed : List Rule) → MayHold u k s mixed → IsClear mixed)
     (place : Place) (untouched : NoneCovers u k dst place) where
   -- the round at the place's switch, and the table there before it
   abbrev here : List Change
@@ -208,7 +208,7 @@ module _ (u : Update) (k dst : ℕ) (good : IsGoodRound (tables_before u k) (rou
   )
 
 -- the outcome in the tables before a round was possible in the round before, after all of its changes
-pub possible_after : (u : Update) (k dst : ℕ) → k < length u.rounds → IsGoodRound (tables_before u k) (round_after k u.rounds)
+pub possible_after : (u : Rollout) (k dst : ℕ) → k < length u.rounds → IsGoodRound (tables_before u k) (round_after k u.rounds)
     → (place : Place) (found : Outcome) → found ≡ outcome_in u.net (tables_before u (suc k)) place dst → IsPossible u k dst place found
 possible_after u k dst less good place found is =
     let after = next_tables u k less good place.switch in

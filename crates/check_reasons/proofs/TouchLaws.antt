@@ -10,7 +10,7 @@ use Rattle.flow_rules.specs.Tables.{IsClear}
 use Rattle.flow_rules.specs.declared.rules.Rule.{Rule}
 use Rattle.path_walk.specs.declared.Outcome.{Outcome}
 use Rattle.update_model.specs.Changes.{rule_of, round_after, IsGoodRound}
-use Rattle.update_model.specs.Mixtures.{Update, tables_before, MayHold, IsPossible}
+use Rattle.update_model.specs.Mixtures.{Rollout, tables_before, MayHold, IsPossible}
 use Rattle.update_model.specs.declared.Change.{Change}
 use Rattle.certificates.proofs.Untouched.{unchanged}
 use Rattle.check_reasons.specs.Touched.{touches}
@@ -30,7 +30,7 @@ none_covers (c ∷ round) dst off =
     ]
 
 -- after all changes of the round before
-pub possible_before : (u : Update) (k dst : ℕ) → suc k < length u.rounds → IsGoodRound (tables_before u k) (round_after k u.rounds)
+pub possible_before : (u : Rollout) (k dst : ℕ) → suc k < length u.rounds → IsGoodRound (tables_before u k) (round_after k u.rounds)
     → IsGoodRound (tables_before u (suc k)) (round_after (suc k) u.rounds) → ((s : SwitchId) (mixed : List Rule) → MayHold u (suc k) s mixed → IsClear mixed)
     → touches (round_after (suc k) u.rounds) dst ≡ false → (place : Place) (found : Outcome) → IsPossible u (suc k) dst place found → IsPossible u k dst place found
 possible_before u k dst less good_before good clear off place found possible =

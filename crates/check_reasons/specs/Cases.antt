@@ -3,7 +3,7 @@ use Rattle.topology.specs.Networks.{Network}
 use Rattle.flow_rules.specs.Tables.{TableState, rules_of_all}
 use Rattle.path_walk.specs.UserConfigs.{IsUserConfig}
 use Rattle.demands.specs.Duties.{DemandView}
-use Rattle.certificates.specs.Certified.{Task}
+use Rattle.certificates.specs.Updates.{Task}
 use Rattle.certificates.specs.Valid.{IsValidPlan}
 use Rattle.certificates.specs.Laws.{task_of}
 use Rattle.certificates.specs.declared.Evidence.{Evidence}
@@ -28,5 +28,5 @@ pub record IsCase (net : Network) (old new : List TableState) (plan : Plan) : Ty
 -- what every case keeps: both configurations are user configurations, and the plan is valid
 pub record IsChecked (c : CaseView) : Type 0 where
   pub old_user : IsUserConfig c.task.update.net c.task.update.old
-  pub new_user : IsUserConfig c.task.update.net c.task.new
-  pub valid : IsValidPlan c.task.update.net (record { rounds = c.task.update.rounds; evidence = c.evidence })
+  pub new_user : IsUserConfig c.task.update.net c.task.update.new
+  pub valid : IsValidPlan c.task.update.net (record { rounds = c.task.rounds; evidence = c.evidence })

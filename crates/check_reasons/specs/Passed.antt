@@ -10,7 +10,8 @@ use Rattle.dest_classes.specs.declared.Class.{Class}
 use Rattle.update_model.specs.Changes.{rule_of, round_after, IsGoodRound}
 use Rattle.update_model.specs.Mixtures.{tables_before, MayHold, need_of}
 use Rattle.update_model.specs.declared.Change.{Change}
-use Rattle.certificates.specs.Certified.{Task, KeepsVlan, HasCertificate, classes_for}
+use Rattle.certificates.specs.Updates.{Task, rollout}
+use Rattle.certificates.specs.Certified.{KeepsVlan, HasCertificate, classes_for}
 use Rattle.certificates.specs.declared.Evidence.{Evidence}
 use Rattle.certificates.specs.declared.Evidence.TheVariants.{Ordered, TwoPhase}
 use Rattle.check_reasons.specs.Ranks.{Rank, IsBefore, rank_of}
@@ -34,10 +35,10 @@ RoundKeepsVlans (TwoPhase e) round = Unit {0}
 
 -- the changes of round k give no reason
 pub record ChangesPass (t : Task) (evidence : Evidence) (k : ℕ) : Type 0 where
-  pub good : IsGoodRound (tables_before t.update k) (round_after k t.update.rounds)
-  pub clear : (s : SwitchId) (mixed : List Rule) → MayHold t.update k s mixed → IsClear mixed
-  pub fits : (s : SwitchId) → s.0 < switch_count t.update.net → need_of t.update k s ≤ capacity_of t.update.net s
-  pub keeps : RoundKeepsVlans evidence (round_after k t.update.rounds)
+  pub good : IsGoodRound (tables_before (rollout t) k) (round_after k t.rounds)
+  pub clear : (s : SwitchId) (mixed : List Rule) → MayHold (rollout t) k s mixed → IsClear mixed
+  pub fits : (s : SwitchId) → s.0 < switch_count t.update.net → need_of (rollout t) k s ≤ capacity_of t.update.net s
+  pub keeps : RoundKeepsVlans evidence (round_after k t.rounds)
 
 -- each class of round k has its certificate
 abbrev pub ClassesPass : Task → Evidence → ℕ → Type 0

@@ -15,7 +15,7 @@ use Rattle.acyclic_numbering.specs.Heights.{IsEdge, number_of, Falls, AreHeights
 use Rattle.acyclic_numbering.specs.Numbered.{IsClosedWalk}
 use Rattle.acyclic_numbering.specs.declared.Edge.{Edge}
 use Rattle.waypoint_evidence.specs.Befores.{IsBeforeSet, IsGuard, IsLeastBefore}
-use Rattle.update_model.specs.Mixtures.{Update}
+use Rattle.update_model.specs.Mixtures.{Rollout}
 use Rattle.certificates.specs.Steps.{IsMixedStep, MayLeave}
 use Rattle.certificates.specs.Ordered.{Position, chain_positions, positions, IsSafe}
 use Rattle.certificates.specs.Valid.{IsValidBefore}
@@ -105,14 +105,14 @@ module _ (V : List ℕ → Type 0) where
 -- ---- a class whose mixed walks were noted
 
 -- what is noted stands at switches of the network
-pub all_within : (u : Update) (k dst : ℕ) (entry : _) (noted : WalkState) (net : Network) → u.net ≡ net → IsWalked u k dst entry noted → AreWithin (switch_count net) noted
+pub all_within : (u : Rollout) (k dst : ℕ) (entry : _) (noted : WalkState) (net : Network) → u.net ≡ net → IsWalked u k dst entry noted → AreWithin (switch_count net) noted
 all_within u k dst entry noted net same walked =
     subst (λ (n : Network). AreWithin (switch_count n) noted) same (record {
       steps = All-from_recursion (λ (e : Edge). (e.from.0 < switch_count u.net) × (e.to.0 < switch_count u.net)) noted.steps walked.steps_within;
       leaving = All-from_recursion (λ (s : SwitchId). s.0 < switch_count u.net) noted.leaving walked.leaving_within;
     })
 
-module _ (u : Update) (k : ℕ) (class : Class) (duties : PacketDuties) (noted : WalkState) (walked : IsWalked u k class.first class.entry noted) where
+module _ (u : Rollout) (k : ℕ) (class : Class) (duties : PacketDuties) (noted : WalkState) (walked : IsWalked u k class.first class.entry noted) where
   abbrev mixed : SwitchId → SwitchId → Type 0
   mixed = IsMixedStep u k class.first class.entry
 

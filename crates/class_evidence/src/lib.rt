@@ -6,7 +6,7 @@ ghost use Rattle.std.specs.List.{AllByRecursion, AllZip};
 ghost use Rattle.topology.specs.Networks.{switch_count};
 ghost use Rattle.dest_classes.specs.Classes.{class_count, IsClass};
 ghost use Rattle.demands.specs.Duties.{duties_of};
-ghost use Rattle.update_model.specs.Mixtures.{Update};
+ghost use Rattle.update_model.specs.Mixtures.{Rollout};
 ghost use Rattle.certificates.specs.Ordered.{IsSafe};
 ghost use Rattle.mixed_walks.specs.Walks.{IsWalked};
 ghost use Rattle.class_evidence.specs.Found.{IsFound};
@@ -53,8 +53,8 @@ pub fn evidence_of(
     requires number { number < class_count duties.now.classes }
     requires class { IsClass duties.now.classes number class }
     requires entry { class.entry.switch.0 < switch_count net.now }
-    requires walked { (u : Update) × (k : ℕ) × (u.net ≡ net.now) × IsWalked u k class.first class.entry walk.now }
-    ensures { IfOk result (λ found. (u : Update) (k : ℕ) → u.net ≡ net.now → IsWalked u k class.first class.entry walk.now
+    requires walked { (u : Rollout) × (k : ℕ) × (u.net ≡ net.now) × IsWalked u k class.first class.entry walk.now }
+    ensures { IfOk result (λ found. (u : Rollout) (k : ℕ) → u.net ≡ net.now → IsWalked u k class.first class.entry walk.now
         → IsFound u k class (duties_of duties.now.demands class.entry class.first) found) }
 {
     net.keeps_rules();
@@ -89,8 +89,8 @@ pub fn keeps_safe(
     requires entry { class.entry.switch.0 < switch_count net.now }
     requires numbering { length numbering.now ≡ switch_count net.now }
     requires indices { All (λ i. i < length befores.now) indices.now }
-    requires walked { (u : Update) × (k : ℕ) × (u.net ≡ net.now) × IsWalked u k class.first class.entry walk.now }
-    ensures { (u : Update) (k : ℕ) (sets : List (List ℕ)) → u.net ≡ net.now → IsWalked u k class.first class.entry walk.now
+    requires walked { (u : Rollout) × (k : ℕ) × (u.net ≡ net.now) × IsWalked u k class.first class.entry walk.now }
+    ensures { (u : Rollout) (k : ℕ) (sets : List (List ℕ)) → u.net ≡ net.now → IsWalked u k class.first class.entry walk.now
         → AllZip (λ i set. slice_get befores.now i ≡ Some set) indices.now sets
         → IsTrue result ↔ IsSafe u k class.first class.entry (duties_of duties.now.demands class.entry class.first) numbering.now sets }
 {

@@ -20,7 +20,8 @@ use Rattle.command_base.specs.Dialogues.{Dialogue, Bad, Ends, Reads, and_then}
 use Rattle.command_base.specs.Meanings.{IsReadAs, Means, IsAnswerOver}
 use Rattle.command_base.specs.Readings.{reading, meant, reading_policy, reading_update, reading_plan_files}
 use Rattle.command_base.specs.Names.{UpdateNames, PlanNames}
-use Rattle.command_base.specs.Updates.{UpdateMeaning, PlanMeaning, IsPolicyOf, FilesMeanUpdate, FilesMeanOnePlan}
+use Rattle.certificates.specs.Updates.{Update}
+use Rattle.command_base.specs.Updates.{PlanMeaning, IsPolicyOf, FilesMeanUpdate, FilesMeanOnePlan}
 
 -- the line on a bad file, which begins with the letter b
 pub record IsBadLine (answer : Answer) : Type 0 where
@@ -102,7 +103,7 @@ policy_means files net None demands means = sym means
 policy_means files net (Some name) demands means = read_means files kind.Policy demand_words (demands_in net) name demands means
 
 -- the files of an update
-pub means_update : (files : Files) (names : UpdateNames) (u : UpdateMeaning) → FilesMeanUpdate files names u → Means files (reading_update names) u
+pub means_update : (files : Files) (names : UpdateNames) (u : Update) → FilesMeanUpdate files names u → Means files (reading_update names) u
 unfolding reading_update
 means_update files names u is =
     means_then files _ _ u.net u (means_read files kind.Topology net_words network_in names.topology u.net is.topology_is)
@@ -110,7 +111,7 @@ means_update files names u is =
     (means_then files _ _ u.new u (means_read files kind.New config_words (configuration_in u.net) names.new u.new is.new_is)
     (means_then files _ _ u.demands u (means_policy files u.net (Some names.policy) u.demands is.policy_is) refl)))
 
-pub update_means : (files : Files) (names : UpdateNames) (u : UpdateMeaning) → Means files (reading_update names) u → FilesMeanUpdate files names u
+pub update_means : (files : Files) (names : UpdateNames) (u : Update) → Means files (reading_update names) u → FilesMeanUpdate files names u
 unfolding reading_update
 update_means files names u means =
     let (net, topology_is, second) = means_parts files _ _ u means in

@@ -13,7 +13,8 @@ use Rattle.command_base.specs.declared.kinds.FileKind.TheVariants as kind
 use Rattle.command_base.specs.Lines.{FaultWords, net_words, config_words, demand_words, plan_words}
 use Rattle.command_base.specs.Dialogues.{Dialogue, Bad, Ends, Reads, FileRead, file_read, and_then}
 use Rattle.command_base.specs.Names.{UpdateNames, PlanNames}
-use Rattle.command_base.specs.Updates.{UpdateMeaning, PlanMeaning}
+use Rattle.certificates.specs.Updates.{Update}
+use Rattle.command_base.specs.Updates.{PlanMeaning}
 
 -- ends with what the bytes mean, or where the file is bad
 abbrev pub meant : {A E : Type 0} → FileKind → (E → FaultWords) → Result A E → Dialogue A
@@ -42,7 +43,7 @@ abbrev pub reading_plan : Network → List ℕ → Dialogue Plan
 reading_plan net name = reading kind.Plan plan_words (plan_in net) name
 
 -- reads the network, the old and the new configuration and the policy
-unfoldable pub reading_update : UpdateNames → Dialogue UpdateMeaning
+unfoldable pub reading_update : UpdateNames → Dialogue Update
 reading_update names =
     and_then (reading_topology names.topology) (λ net. and_then (reading_config kind.Old net names.old) (λ old. and_then (reading_config kind.New net names.new) (λ new.
     and_then (reading_policy net (Some names.policy)) (λ demands. Ends (record { net = net; old = old; new = new; demands = demands })))))

@@ -9,7 +9,7 @@ use Rattle.flow_rules.specs.Tables.{rules_of_all}
 use Rattle.config_files.specs.Configuration.{configuration_in}
 use Rattle.demands.specs.Duties.{DemandView}
 use Rattle.demands.specs.Policy.{demands_in}
-use Rattle.certificates.specs.Certified.{Task}
+use Rattle.certificates.specs.Updates.{Update}
 use Rattle.certificates.specs.declared.Plan.{Plan}
 use Rattle.plan_format.specs.Plans.{plan_in}
 use Rattle.command_base.specs.declared.kinds.FileKind.TheVariants as kind
@@ -18,20 +18,9 @@ use Rattle.command_base.specs.declared.plan_files.PlanFiles.{PlanFiles}
 use Rattle.command_base.specs.Names.{UpdateNames, PlanNames}
 use Rattle.command_base.specs.Meanings.{IsReadAs}
 
--- an update: the network, the old and the new configuration, and the demands
-pub record UpdateMeaning : Type 0 where
-  pub net : Network
-  pub old : List (List Rule)
-  pub new : List (List Rule)
-  pub demands : List DemandView
-
 -- the meaning of files that were read
-abbrev pub meaning_of : UpdateFiles → UpdateMeaning
+abbrev pub meaning_of : UpdateFiles → Update
 meaning_of files = record { net = files.net; old = rules_of_all files.old; new = rules_of_all files.new; demands = files.demands }
-
--- the update by the rounds of a plan
-abbrev pub task_for : UpdateMeaning → Plan → Task
-task_for u plan = record { update = record { net = u.net; old = u.old; rounds = plan.rounds }; new = u.new; demands = u.demands }
 
 -- the policy means these demands; without one there are none
 abbrev pub IsPolicyOf : Files → Network → Option (List ℕ) → List DemandView → Type 0
@@ -39,7 +28,7 @@ IsPolicyOf files net None demands = demands ≡ []
 IsPolicyOf files net (Some name) demands = IsReadAs files kind.Policy (demands_in net) name demands
 
 -- the files mean this update
-pub record FilesMeanUpdate (files : Files) (names : UpdateNames) (u : UpdateMeaning) : Type 0 where
+pub record FilesMeanUpdate (files : Files) (names : UpdateNames) (u : Update) : Type 0 where
   pub topology_is : IsReadAs files kind.Topology network_in names.topology u.net
   pub old_is : IsReadAs files kind.Old (configuration_in u.net) names.old u.old
   pub new_is : IsReadAs files kind.New (configuration_in u.net) names.new u.new

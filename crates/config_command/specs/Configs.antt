@@ -11,7 +11,7 @@ use Rattle.dest_classes.specs.declared.Class.{Class}
 use Rattle.dest_classes.specs.Classes.{IsClass}
 use Rattle.demands.specs.Duties.{DemandView}
 use Rattle.demands.specs.Good.{MeetsDemands}
-use Rattle.update_model.specs.Mixtures.{Update}
+use Rattle.update_model.specs.Mixtures.{Rollout}
 use Rattle.update_model.specs.Runs.{IsRun, state_after_run}
 use Rattle.update_model.specs.declared.Event.{Event}
 use Rattle.certificates.specs.Consistent.{trace_of}
@@ -85,6 +85,6 @@ pub record NamesFirstBreak (m : ConfigMeaning) (old new : Option (List ℕ)) : T
 -- in every run of packets over the tables, in which nothing is changed, each packet's trace meets the demands
 abbrev pub KeepsPacketsGood : Network → List (List Rule) → List DemandView → Type 0
 KeepsPacketsGood net tables demands =
-    let still : Update = record { net = net; old = tables; rounds = [] } in
+    let still : Rollout = record { net = net; old = tables; rounds = [] } in
     (events : List Event) → IsRun still events
     → AllByRecursion (λ p. MeetsDemands demands p.entry p.dst (trace_of p)) (state_after_run still events).packets

@@ -13,7 +13,7 @@ use Rattle.net_base.specs.declared.ids.SwitchId.{SwitchId}
 use Rattle.flow_rules.specs.Tables.{rules_at}
 use Rattle.flow_rules.specs.declared.rules.Rule.{Rule}
 use Rattle.update_model.specs.Changes.{switch_of, AppliesTo, Applies, entry_named, rules_after_change, rules_after, tables_after_change, round_after, IsGoodRound}
-use Rattle.update_model.specs.Mixtures.{Update, tables_before}
+use Rattle.update_model.specs.Mixtures.{Rollout, tables_before}
 use Rattle.update_model.specs.Runs.{AreEnabled, state_after}
 use Rattle.update_model.specs.States.{State, settled_count, MayChange, state_after_event}
 use Rattle.update_model.specs.declared.Change.{Change}
@@ -64,7 +64,7 @@ pub distinct_rising : (xs : List ℕ) → IsStrictlyIncreasing xs → IsDistinct
 distinct_rising [] rise = tt
 distinct_rising (x ∷ xs) rise = (λ i. let h = rising_above x x xs rise i in absurd (omega arith), distinct_rising xs (rising_rest x xs rise))
 
-module _ (u : Update) (k : ℕ) (good : IsGoodRound (tables_before u k) (round_after k u.rounds)) (sw : SwitchId) where
+module _ (u : Rollout) (k : ℕ) (good : IsGoodRound (tables_before u k) (round_after k u.rounds)) (sw : SwitchId) where
   -- the changes of the round with these numbers
   abbrev changes_of : List ℕ → List Change
   changes_of numbers = changes_numbered (round_after k u.rounds) numbers

@@ -14,7 +14,7 @@ use Rattle.dest_classes.specs.declared.Class.{Class}
 use Rattle.dest_classes.proofs.EntryLaws.{class_entry}
 use Rattle.demands.specs.Duties.{DemandView, duties_of}
 use Rattle.update_model.specs.Changes.{round_after}
-use Rattle.update_model.specs.Mixtures.{Update, AreGoodRounds, AreClearRounds}
+use Rattle.update_model.specs.Mixtures.{Rollout, AreGoodRounds, AreClearRounds}
 use Rattle.check_reasons.specs.Touched.{touches}
 use Rattle.breaking_walks.specs.Breaking.{IsBreakingWalk, HasBreakingWalk}
 use Rattle.breaking_walks.specs.declared.BreakingWalk.{BreakingWalk}
@@ -28,7 +28,7 @@ use Rattle.counter_run.proofs.TouchLaws.{has_before}
 use Rattle.counter_run.proofs.ViewLaws.{round_of, has_here, walk_there}
 
 -- a class whose address no change covers breaks only if it does in the round before
-pub class_unchanged : (u : Update) → AreGoodRounds u → AreClearRounds u → (demands : List DemandView) (k : ℕ) (class : Class) → k < length u.rounds → 0 < k
+pub class_unchanged : (u : Rollout) → AreGoodRounds u → AreClearRounds u → (demands : List DemandView) (k : ℕ) (class : Class) → k < length u.rounds → 0 < k
     → touches (round_after k u.rounds) class.first ≡ false → ((j : ℕ) → j < k → ¬ ClassBreaks u demands j class) → ¬ ClassBreaks u demands k class
 class_unchanged u good clear demands zero class less some off before breaks = absurd (omega arith)
 class_unchanged u good clear demands (suc j) class less some off before breaks =
@@ -68,7 +68,7 @@ module _ (stage : Stage) (is : IsStage stage) (v : RoundView) (same : v ≡ view
       (has_here (update_in stage) stage.number class.first class.entry (duties_of demands class.entry class.first) breaks))
 
 -- one more class that doesn't break
-pub classes_more : (u : Update) (classes : ClassList) (demands : List DemandView) (k number : ℕ) (class : Class) → ((other : Class) → IsClass classes number other → other ≡ class)
+pub classes_more : (u : Rollout) (classes : ClassList) (demands : List DemandView) (k number : ℕ) (class : Class) → ((other : Class) → IsClass classes number other → other ≡ class)
     → ((n : ℕ) (other : Class) → n < number → IsClass classes n other → ¬ ClassBreaks u demands k other) → ¬ ClassBreaks u demands k class
     → (n : ℕ) (other : Class) → n < number + 1 → IsClass classes n other → ¬ ClassBreaks u demands k other
 classes_more u classes demands k number class only before none n other less is =
@@ -81,7 +81,7 @@ classes_more u classes demands k number class only before none n other less is =
     ]
 
 -- one more round in which none breaks
-pub rounds_more : (u : Update) (classes : ClassList) (demands : List DemandView) (number : ℕ) → ((k : ℕ) → k < number → NoneBreaks u classes demands k) → NoneBreaks u classes demands number
+pub rounds_more : (u : Rollout) (classes : ClassList) (demands : List DemandView) (number : ℕ) → ((k : ℕ) → k < number → NoneBreaks u classes demands k) → NoneBreaks u classes demands number
     → (k : ℕ) → k < number + 1 → NoneBreaks u classes demands k
 rounds_more u classes demands number before none k less =
     elim (cases_lt k number) [

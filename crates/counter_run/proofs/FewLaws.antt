@@ -16,7 +16,7 @@ use Rattle.path_walk.specs.declared.Outcome.{Outcome}
 use Rattle.dest_classes.specs.declared.Class.{Class}
 use Rattle.demands.specs.Duties.{DemandView, duties_of}
 use Rattle.update_model.specs.Changes.{switch_of, round_after}
-use Rattle.update_model.specs.Mixtures.{Update, IsMixedWalk}
+use Rattle.update_model.specs.Mixtures.{Rollout, IsMixedWalk}
 use Rattle.update_model.specs.declared.Change.{Change}
 use Rattle.update_model.specs.declared.Event.TheVariants as event
 use Rattle.certificates.specs.Steps.{switches_along}
@@ -71,7 +71,7 @@ map_same : {A : Type 0} (xs : List A) → map (λ (x : A). x) xs ≡ xs
 map_same [] = refl
 map_same (x ∷ xs) = ap (λ l. x ∷ l) (map_same xs)
 
-module _ (u : Update) (k dst : ℕ) where
+module _ (u : Rollout) (k dst : ℕ) where
   -- the numbers before each hop are all different
   numbers_apart : (place : Place) (rest : List Place) (end : Option Outcome) (steps : List HopStep) → AreSteps u k dst place rest end steps → AllByRecursion (λ s. IsDistinct s.changes) steps
   numbers_apart place [] None [] are = tt
@@ -136,7 +136,7 @@ module _ (u : Update) (k dst : ℕ) where
       let c = length-map steps (λ (s : HopStep). s.place.switch) in
       omega (arith, few, c)
 
-pub few_events : (u : Update) → IsNetwork u.net → (k : ℕ) → k < length u.rounds → (demands : List DemandView) (class : Class) → IsEntry u.net class.entry → (rest : List Place) (end : Option Outcome)
+pub few_events : (u : Rollout) → IsNetwork u.net → (k : ℕ) → k < length u.rounds → (demands : List DemandView) (class : Class) → IsEntry u.net class.entry → (rest : List Place) (end : Option Outcome)
     → IsBreakingWalk u k class.first class.entry (duties_of demands class.entry class.first) rest end → (steps : List HopStep) → AreSteps u k class.first class.entry rest end steps
     → AreFewFor u.net u.rounds (whole_rounds (take k u.rounds) ++ event.Start ∷ event.Enter class.entry class.first ∷ flat_map step_events steps)
 few_events u valid k less demands class is_entry rest end breaking steps are =

@@ -15,7 +15,7 @@ use Rattle.dest_classes.specs.declared.Class.{Class}
 use Rattle.demands.specs.Duties.{DemandView, duties_of}
 use Rattle.demands.specs.Good.{switches_of}
 use Rattle.update_model.specs.Changes.{round_after}
-use Rattle.update_model.specs.Mixtures.{Update, tables_before, AreGoodRounds}
+use Rattle.update_model.specs.Mixtures.{Rollout, tables_before, AreGoodRounds}
 use Rattle.update_model.specs.Runs.{AreEnabled, state_after}
 use Rattle.update_model.specs.States.{State, first_state, state_after_event}
 use Rattle.update_model.specs.declared.Change.{Change}
@@ -38,7 +38,7 @@ pub along_stops : (places : List Place) → switches_of (map stop_of places) ≡
 along_stops [] = refl
 along_stops (p ∷ places) = ap (λ l. p.switch ∷ l) (along_stops places)
 
-module _ (u : Update) (k dst : ℕ) where
+module _ (u : Rollout) (k dst : ℕ) where
   switches_none : (place : Place) (rest : List Place) (steps : List HopStep) → AreSteps u k dst place rest None steps → switches_in steps ≡ switches_before place rest
   switches_none place [] [] are = refl
   switches_none place [] (s ∷ steps) are = absurd are
@@ -105,7 +105,7 @@ good_on_way : (demands : List DemandView) (k : ℕ) (entry : Place) (dst : ℕ) 
 good_on_way demands k entry dst place visits distinct = (record { distinct = distinct; chains = tt; arrives = λ a d. d }, tt)
 
 -- and that of the packet after a breaking walk is not
-bad_at_end : (u : Update) (demands : List DemandView) (k : ℕ) (entry : Place) (dst : ℕ) (rest : List Place) (end : Option Outcome)
+bad_at_end : (u : Rollout) (demands : List DemandView) (k : ℕ) (entry : Place) (dst : ℕ) (rest : List Place) (end : Option Outcome)
     → BreaksBy u k dst entry (duties_of demands entry dst) rest end
     → ¬ HasGoodTrace demands (ended_packet end (packet_under_way k entry dst (end_of entry rest) (map stop_of (entry ∷ rest))))
 bad_at_end u demands k entry dst rest None breaks good = repeated entry rest breaks (subst IsDistinct (along_stops (entry ∷ rest)) good.distinct)
@@ -118,7 +118,7 @@ bad_at_end u demands k entry dst rest (Some (Go next)) breaks good = breaks
 
 -- ---- events of no packet
 
-module _ (u : Update) (P : List Packet → Type 0) where
+module _ (u : Rollout) (P : List Packet → Type 0) where
   still_before : (st : State) (events : List Event) → P st.packets → AllByRecursion IsOfNoPacket events → HoldsBefore u.net u.rounds P st events
   still_before st [] h still = tt
   still_before st (event.Start ∷ events) h still = (h, still_before (state_after_event u.net u.rounds st event.Start) events h still.1)
@@ -135,7 +135,7 @@ all_pending [] i c is = absurd (let f : None ≡ Some c = is in cc)
 all_pending (d ∷ round) zero c is = refl
 all_pending (d ∷ round) (suc i) c is = all_pending round i c is
 
-module _ (u : Update) (good : AreGoodRounds u) (k : ℕ) (less : k < length u.rounds) (demands : List DemandView) (class : Class)
+module _ (u : Rollout) (good : AreGoodRounds u) (k : ℕ) (less : k < length u.rounds) (demands : List DemandView) (class : Class)
     (is_entry : IsEntry u.net class.entry) (small : class.first < 2 ^ 32) (rest : List Place) (end : Option Outcome)
     (breaking : IsBreakingWalk u k class.first class.entry (duties_of demands class.entry class.first) rest end)
     (steps : List HopStep) (are : AreSteps u k class.first class.entry rest end steps) where

@@ -19,7 +19,7 @@ use Rattle.dest_classes.specs.declared.Class.{Class}
 use Rattle.demands.specs.Duties.{PacketDuties}
 use Rattle.breaking_walks.specs.Breaking.{BreaksBy}
 use Rattle.update_model.specs.Changes.{changes_at, tables_after, round_after, settled_tables}
-use Rattle.update_model.specs.Mixtures.{Update, tables_before, MayBe, IsPossible, IsMixedWalk}
+use Rattle.update_model.specs.Mixtures.{Rollout, tables_before, MayBe, IsPossible, IsMixedWalk}
 use Rattle.update_model.specs.declared.Change.{Change}
 use Rattle.update_model.specs.declared.Event.{Event}
 use Rattle.update_model.proofs.ChangeLaws.{length-tables_after}
@@ -108,7 +108,7 @@ pub end_more : {A : Type 0} (start : A) (xs : List A) (i : ℕ) (d : A) → i < 
 end_more start xs i d less = sym (ap (end_of start) (take_more xs i d less) ∙ end_of-push start (take i xs) (get_or xs i d))
 
 -- a walk ends inside the network
-pub end_inside : (u : Update) → IsNetwork u.net → (k dst : ℕ) (start : Place) (rest : List Place) → start.switch.0 < switch_count u.net → IsMixedWalk u k dst start rest
+pub end_inside : (u : Rollout) → IsNetwork u.net → (k dst : ℕ) (start : Place) (rest : List Place) → start.switch.0 < switch_count u.net → IsMixedWalk u k dst start rest
     → (end_of start rest).switch.0 < switch_count u.net
 end_inside u valid k dst start rest inside walk =
     each_at (λ (s : SwitchId). s.0 < switch_count u.net) (switches_along start rest) (end_of start rest).switch
@@ -120,7 +120,7 @@ end_inside u valid k dst start rest inside walk =
 pub flat_map_push : {A B : Type 0} (f : A → List B) (xs : List A) (x : A) → flat_map f (xs ++ x ∷ []) ≡ flat_map f xs ++ f x
 flat_map_push f xs x = flat_map-append f xs (x ∷ []) ∙ ap (λ ys. flat_map f xs ++ ys) (append-nil (f x))
 
-module _ (u : Update) (k dst : ℕ) where
+module _ (u : Rollout) (k dst : ℕ) where
   steps_push : (place : Place) (rest : List Place) (steps : List HopStep) (next : Place) (s : HopStep) → AreSteps u k dst place rest None steps
       → IsStep u k dst (end_of place rest) (Go next) s → AreSteps u k dst place (rest ++ next ∷ []) None (steps ++ s ∷ [])
   steps_push place [] [] next s are step = (step, tt)
@@ -135,7 +135,7 @@ module _ (u : Update) (k dst : ℕ) where
   steps_end place (x ∷ rest) [] found s are step = absurd are
   steps_end place (x ∷ rest) (t ∷ steps) found s are step = (are.0, steps_end x rest steps found s are.1 step)
 
-module _ (u : Update) (k : ℕ) (class : Class) (old : List Event) where
+module _ (u : Rollout) (k : ℕ) (class : Class) (old : List Event) where
   pub along_none : GoOnAlong u k class [] None old old
   along_none = record { steps = []; are = tt; added = sym (append-nil old) }
 
@@ -167,7 +167,7 @@ module _ (u : Update) (k : ℕ) (class : Class) (old : List Event) where
       (along_more (take i rest) mid new along (get_or rest i d) (subst (λ (p : Place). GoOnBy u k class.first p (Go (get_or rest i d)) mid new) is by))
 
 -- a breaking walk ends by an outcome that is possible at its last place
-pub end_possible : (u : Update) (k dst : ℕ) (entry : Place) (duties : PacketDuties) (rest : List Place) (end : Option Outcome) → BreaksBy u k dst entry duties rest end
+pub end_possible : (u : Rollout) (k dst : ℕ) (entry : Place) (duties : PacketDuties) (rest : List Place) (end : Option Outcome) → BreaksBy u k dst entry duties rest end
     → IfSome end (λ found. IsPossible u k dst (end_of entry rest) found)
 end_possible u k dst entry duties rest None breaks = tt
 end_possible u k dst entry duties rest (Some (Leave port vlan)) breaks = breaks.1.0

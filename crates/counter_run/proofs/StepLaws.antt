@@ -22,7 +22,7 @@ use Rattle.path_walk.specs.declared.Outcome.{Outcome}
 use Rattle.path_walk.specs.declared.Outcome.TheVariants.{Go}
 use Rattle.demands.specs.Good.{switches_of}
 use Rattle.update_model.specs.Changes.{switch_of, AppliesTo, rules_after, changes_at, round_after, IsGoodRound}
-use Rattle.update_model.specs.Mixtures.{Update, tables_before}
+use Rattle.update_model.specs.Mixtures.{Rollout, tables_before}
 use Rattle.update_model.specs.Runs.{AreEnabled, state_after}
 use Rattle.update_model.specs.States.{State, hopped, with_packet, IsHopping, state_after_event}
 use Rattle.update_model.specs.declared.Change.{Change}
@@ -57,12 +57,12 @@ ended_packet None p = p
 ended_packet (Some found) p = hopped p found
 
 -- the hops are made one after the other, and then this is the packet
-pub record AreHops (u : Update) (P : List Packet → Type 0) (st : State) (steps : List HopStep) (last : Packet) : Type 0 where
+pub record AreHops (u : Rollout) (P : List Packet → Type 0) (st : State) (steps : List HopStep) (last : Packet) : Type 0 where
   pub enabled : AreEnabled u.net u.rounds st (flat_map step_events steps)
   pub packets : (state_after u.net u.rounds st (flat_map step_events steps)).packets ≡ last ∷ []
   pub before : HoldsBefore u.net u.rounds P st (flat_map step_events steps)
 
-module _ (u : Update) (k : ℕ) (good : IsGoodRound (tables_before u k) (round_after k u.rounds)) (entry : Place) (dst : ℕ) where
+module _ (u : Rollout) (k : ℕ) (good : IsGoodRound (tables_before u k) (round_after k u.rounds)) (entry : Place) (dst : ℕ) where
   abbrev packet_at : Place → List Stop → Packet
   packet_at place visits = packet_under_way k entry dst place visits
 

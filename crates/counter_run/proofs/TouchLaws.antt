@@ -6,12 +6,12 @@ use Rattle.net_base.proofs.WalkLaws.{walk_weaker}
 use Rattle.path_walk.specs.declared.Outcome.{Outcome}
 use Rattle.demands.specs.Duties.{PacketDuties}
 use Rattle.update_model.specs.Changes.{round_after}
-use Rattle.update_model.specs.Mixtures.{Update, IsPossible, MayGo, AreGoodRounds, AreClearRounds}
+use Rattle.update_model.specs.Mixtures.{Rollout, IsPossible, MayGo, AreGoodRounds, AreClearRounds}
 use Rattle.check_reasons.specs.Touched.{touches}
 use Rattle.check_reasons.proofs.TouchLaws.{possible_before}
 use Rattle.breaking_walks.specs.Breaking.{Breaks, HasBreakingWalk}
 
-module _ (u : Update) (good : AreGoodRounds u) (clear : AreClearRounds u) (k dst : ℕ) (less : suc k < length u.rounds) (off : touches (round_after (suc k) u.rounds) dst ≡ false) where
+module _ (u : Rollout) (good : AreGoodRounds u) (clear : AreClearRounds u) (k dst : ℕ) (less : suc k < length u.rounds) (off : touches (round_after (suc k) u.rounds) dst ≡ false) where
   was_possible : (place : Place) (found : Outcome) → IsPossible u (suc k) dst place found → IsPossible u k dst place found
   was_possible = possible_before u k dst less (good k (omega arith)) (good (suc k) less) (clear (suc k) less) off
 

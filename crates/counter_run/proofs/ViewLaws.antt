@@ -6,15 +6,15 @@ use Rattle.path_walk.specs.declared.Outcome.{Outcome}
 use Rattle.path_walk.specs.declared.Outcome.TheVariants.{Discard, Leave, Go}
 use Rattle.demands.specs.Duties.{PacketDuties}
 use Rattle.update_model.specs.Changes.{round_after}
-use Rattle.update_model.specs.Mixtures.{Update, tables_before}
+use Rattle.update_model.specs.Mixtures.{Rollout, tables_before}
 use Rattle.round_outcomes.specs.Rounds.{RoundView, alone}
 use Rattle.breaking_walks.specs.Breaking.{Breaks, BreaksBy, HasBreakingWalk, IsBreakingWalk}
 
 -- round k of an update by itself
-abbrev pub round_of : Update → ℕ → RoundView
+abbrev pub round_of : Rollout → ℕ → RoundView
 round_of u k = record { net = u.net; tables = tables_before u k; round = round_after k u.rounds }
 
-module _ (u : Update) (k dst : ℕ) (entry : Place) (duties : PacketDuties) where
+module _ (u : Rollout) (k dst : ℕ) (entry : Place) (duties : PacketDuties) where
   breaks_there : (rest : List Place) → Breaks (alone (round_of u k)) 0 dst entry duties rest → Breaks u k dst entry duties rest
   breaks_there rest (inl again) = inl again
   breaks_there rest (inr (inl unmet)) = inr (inl (record { port = unmet.port; vlan = unmet.vlan; leaves = unmet.leaves; misses = unmet.misses }))

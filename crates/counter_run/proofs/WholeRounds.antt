@@ -11,7 +11,7 @@ use Rattle.net_base.proofs.MemberLaws.{each_append}
 use Rattle.topology.specs.Networks.{Network}
 use Rattle.flow_rules.specs.declared.rules.Rule.{Rule}
 use Rattle.update_model.specs.Changes.{tables_after_change, tables_after, round_after, IsGoodRound}
-use Rattle.update_model.specs.Mixtures.{Update, tables_before, AreGoodRounds}
+use Rattle.update_model.specs.Mixtures.{Rollout, tables_before, AreGoodRounds}
 use Rattle.update_model.specs.States.{State, first_state, state_after_event}
 use Rattle.update_model.specs.Runs.{AreEnabled, state_after}
 use Rattle.update_model.specs.declared.Change.{Change}
@@ -101,7 +101,7 @@ more_rounds rounds k less =
     ∙ ap (λ es. whole_rounds (take k rounds) ++ es) (append-nil (whole_round (round_after k rounds)))
 
 -- good rounds can be carried out whole, so many of them
-pub whole_rounds_run : (u : Update) → AreGoodRounds u → (k : ℕ) → k ≤ length u.rounds
+pub whole_rounds_run : (u : Rollout) → AreGoodRounds u → (k : ℕ) → k ≤ length u.rounds
     → AreEnabled u.net u.rounds (first_state u.old) (whole_rounds (take k u.rounds))
     × ((flags : List Bool)
     × (state_after u.net u.rounds (first_state u.old) (whole_rounds (take k u.rounds)) ≡ record { phase = Settled k; tables = tables_before u k; pending = flags; packets = [] }))

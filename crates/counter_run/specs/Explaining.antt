@@ -3,7 +3,7 @@ use Rattle.std.specs.Prelude.{ℕ, ◌<◌, List, length}
 use Rattle.dest_classes.specs.Classes.{ClassList, IsClass}
 use Rattle.dest_classes.specs.declared.Class.{Class}
 use Rattle.demands.specs.Duties.{DemandView, duties_of}
-use Rattle.update_model.specs.Mixtures.{Update}
+use Rattle.update_model.specs.Mixtures.{Rollout}
 use Rattle.update_model.specs.declared.Event.{Event}
 use Rattle.breaking_walks.specs.Breaking.{HasBreakingWalk}
 use Rattle.topology.specs.Networks.{Network}
@@ -13,15 +13,15 @@ use Rattle.counter_run.specs.declared.Explained.{Explained}
 use Rattle.counter_run.specs.declared.Explained.TheVariants.{Run, Nothing}
 
 -- some mixed walk of round k breaks the duties of the class
-abbrev pub ClassBreaks : Update → List DemandView → ℕ → Class → Type 0
+abbrev pub ClassBreaks : Rollout → List DemandView → ℕ → Class → Type 0
 ClassBreaks u demands k class = HasBreakingWalk u k class.first class.entry (duties_of demands class.entry class.first)
 
 -- no class breaks in a round
-abbrev pub NoneBreaks : Update → ClassList → List DemandView → ℕ → Type 0
+abbrev pub NoneBreaks : Rollout → ClassList → List DemandView → ℕ → Type 0
 NoneBreaks u classes demands k = (n : ℕ) (class : Class) → IsClass classes n class → ¬ ClassBreaks u demands k class
 
 -- the first round in which a class breaks, the first such class there, and a run that shows it
-pub record IsFirstBreakingRun (u : Update) (classes : ClassList) (demands : List DemandView) (events : List Event) : Type 0 where
+pub record IsFirstBreakingRun (u : Rollout) (classes : ClassList) (demands : List DemandView) (events : List Event) : Type 0 where
   pub round : ℕ
   pub within : round < length u.rounds
   pub number : ℕ
@@ -33,7 +33,7 @@ pub record IsFirstBreakingRun (u : Update) (classes : ClassList) (demands : List
   pub shown : IsBreakingRun u demands round class events
 
 -- what is answered: such a run, or nothing where no class breaks in any round
-abbrev pub IsExplained : Update → ClassList → List DemandView → Explained → Type 0
+abbrev pub IsExplained : Rollout → ClassList → List DemandView → Explained → Type 0
 IsExplained u classes demands (Run events) = IsFirstBreakingRun u classes demands events
 IsExplained u classes demands Nothing = (k : ℕ) → k < length u.rounds → NoneBreaks u classes demands k
 

@@ -10,7 +10,7 @@ use Rattle.dest_classes.specs.declared.Class.{Class}
 use Rattle.demands.specs.Duties.{DemandView, duties_of}
 use Rattle.demands.specs.Good.{IsGood}
 use Rattle.update_model.specs.Changes.{round_after}
-use Rattle.update_model.specs.Mixtures.{Update}
+use Rattle.update_model.specs.Mixtures.{Rollout}
 use Rattle.update_model.specs.Runs.{IsRun, state_after_run}
 use Rattle.update_model.specs.declared.Change.{Change}
 use Rattle.update_model.specs.declared.Event.{Event}
@@ -45,7 +45,7 @@ HasGoodTrace demands p = IsGood (duties_of demands p.entry p.dst) (trace_of p)
 -- A run that shows how a packet of the class breaks its duties in a round. The rounds before are carried out whole; then the round starts,
 -- the packet enters, and each change that is made after that is at the switch of the hop before which it stands. There is no other packet.
 -- Its trace breaks its duties after the last event, and not before.
-pub record IsBreakingRun (u : Update) (demands : List DemandView) (k : ℕ) (class : Class) (events : List Event) : Type 0 where
+pub record IsBreakingRun (u : Rollout) (demands : List DemandView) (k : ℕ) (class : Class) (events : List Event) : Type 0 where
   pub steps : List HopStep
   pub events_are : events ≡ whole_rounds (take k u.rounds) ++ event.Start ∷ event.Enter class.entry class.first ∷ flat_map step_events steps
   pub there : AllByRecursion (λ s. AllByRecursion (IsChangeAt (round_after k u.rounds) s.place.switch) s.changes) steps
@@ -63,5 +63,5 @@ abbrev pub AreFewFor : Network → List (List Change) → List Event → Type 0
 AreFewFor net rounds events = length events ≤ sum_by length rounds + 2 * length rounds + switch_count net + 1
 
 -- the update of a stage
-abbrev pub update_in : Stage → Update
+abbrev pub update_in : Stage → Rollout
 update_in stage = record { net = stage.net.now; old = rules_of_all stage.old.now; rounds = stage.rounds.now }

@@ -5,7 +5,7 @@ ghost use Rattle.std.specs.Prelude.{◌≡◌, ℕ, ◌<◌, true, false, length
 ghost use Rattle.topology.specs.Networks.{switch_count, IsEntry};
 ghost use Rattle.flow_rules.specs.Tables.{rules_of_all};
 ghost use Rattle.dest_classes.specs.Classes.{IsClass, class_count};
-ghost use Rattle.update_model.specs.Mixtures.{Update, AreGoodRounds, AreClearRounds};
+ghost use Rattle.update_model.specs.Mixtures.{Rollout, AreGoodRounds, AreClearRounds};
 ghost use Rattle.check_reasons.specs.Touched.{touches};
 ghost use Rattle.counter_run.specs.Showing.{update_in};
 ghost use Rattle.counter_run.specs.Explaining.{ClassBreaks, NoneBreaks, IsExplained, HasFewEvents};
@@ -118,7 +118,7 @@ pub fn explain(
     requires duties { duties.now.classes ≡ classes.now }
     requires good { AreGoodRounds (record { net = net.now; old = rules_of_all old.now; rounds = rounds.now }) }
     requires clear { AreClearRounds (record { net = net.now; old = rules_of_all old.now; rounds = rounds.now }) }
-    ensures answer { IfOk result (λ found. let u : Update = record { net = net.now; old = rules_of_all old.now; rounds = rounds.now } in IsExplained u classes.now duties.now.demands found) }
+    ensures answer { IfOk result (λ found. let u : Rollout = record { net = net.now; old = rules_of_all old.now; rounds = rounds.now } in IsExplained u classes.now duties.now.demands found) }
     ensures few { IfOk result (λ found. HasFewEvents net.now rounds.now found) }
 {
     let mut tables = old.copy()?;

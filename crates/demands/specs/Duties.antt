@@ -1,6 +1,7 @@
 -- Demands, and the duties of an entry and an address: the chains of waypoints, and whether the packet must arrive.
 use Rattle.std.specs.Prelude.{ℕ, ◌==◌, ◌&&◌, not, Bool, true, false, cond, nat_lt, List, [], ◌∷◌, map, filter, Option, Some, None}
 use Rattle.std.specs.List.{list_any}
+use Rattle.std.specs.Option.{option_map_or}
 use Rattle.net_base.specs.Blocks.{Block, in_block}
 use Rattle.net_base.specs.Places.{stop_of}
 use Rattle.net_base.specs.declared.ids.Place.{Place}
@@ -29,14 +30,9 @@ pub record PacketDuties : Type 0 where
   pub chains : List (List SwitchId)
   pub arrive : Bool
 
--- any host port, or this one
-abbrev pub admits_host : Option Stop → Stop → Bool
-admits_host None host = true
-admits_host (Some s) host = stop_eq s host
-
--- whether a demand covers an entry and an address
+-- whether a demand covers an entry and an address: its host port, if it names one, its VLAN test and its prefix do
 abbrev pub demand_covers : DemandView → Place → ℕ → Bool
-demand_covers d entry dst = admits_host d.from (stop_of entry) && admits_vlan d.vlan entry.vlan && in_block d.dst dst
+demand_covers d entry dst = option_map_or (λ s. stop_eq s (stop_of entry)) d.from true && admits_vlan d.vlan entry.vlan && in_block d.dst dst
 
 -- the demands that cover an entry and an address
 abbrev pub demands_on : List DemandView → Place → ℕ → List DemandView

@@ -23,9 +23,9 @@ switches_of stops = map (λ s. s.switch) stops
 -- a trace that meets the demands on its entry and address: no switch twice; where the packet left, it met the waypoints of each demand that covers
 -- it, in their order and each where its name stands first; and where one of these demands says deliver, no switch dropped the packet
 pub record MeetsDemands (demands : List DemandView) (entry : Place) (dst : ℕ) (trace : Trace) : Type 0 where
-  pub distinct : IsDistinct (switches_of trace.stops)
+  pub distinct : IsDistinct (map (λ s. s.switch) trace.stops)
   pub chains : (d : DemandView) → IsIn d demands → IsTrue (demand_covers d entry dst)
-      → (s : SwitchId) (port : Port) (vlan : Vlan) → trace.ended ≡ Left s port vlan → IsSubsequence (first_of_each d.through) (switches_of trace.stops)
+      → (s : SwitchId) (port : Port) (vlan : Vlan) → trace.ended ≡ Left s port vlan → IsSubsequence (first_of_each d.through) (map (λ s. s.switch) trace.stops)
   pub arrives : (d : DemandView) → IsIn d demands → IsTrue (demand_covers d entry dst) → IsTrue d.deliver → (s : SwitchId) → trace.ended ≢ Dropped s
 
 -- a packet that left met each chain in order

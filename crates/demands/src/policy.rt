@@ -1,9 +1,10 @@
 // Policies as lists of demands, and what a demand covers.
-ghost use Rattle.std.specs.Prelude.{◌≡◌, ◌<◌, ◌≤◌, ◌++◌, ◌∷◌, [], Some, length, map, option_map, slice_get, IfOk, if◌then◌else◌, is_ok};
+ghost use Rattle.std.specs.Prelude.{◌≡◌, ◌<◌, ◌≤◌, ◌++◌, ◌∷◌, [], Some, true, length, map, option_map, slice_get, IfOk, if◌then◌else◌, is_ok};
 ghost use Rattle.std.specs.List.{AllByRecursion};
 ghost use Rattle.net_base.specs.Members.{IsIn};
 ghost use Rattle.demands.specs.Covers.{is_covered};
-ghost use Rattle.demands.specs.Duties.{admits_host};
+ghost use Rattle.std.specs.Option.{option_map_or};
+ghost use Rattle.topology.specs.Networks.{stop_eq};
 ghost use Rattle.net_base.specs.Places.{stop_of};
 
 use crate::{Cover, Demand, Demands};
@@ -13,7 +14,7 @@ use std::alloc::{AllocFailed, Global};
 
 /// Whether any host port is admitted, or this one.
 fn admits_host(from: Option<Stop>, host: Stop) -> bool
-    ensures { result ≡ admits_host from host }
+    ensures { result ≡ option_map_or (λ s. stop_eq s host) from true }
 {
     match from {
         None => true,

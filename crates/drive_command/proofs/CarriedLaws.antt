@@ -3,7 +3,7 @@ use Rattle.std.proofs.Common.{◌≡◌, ℕ, ◌+◌, ◌*◌, ◌≤◌, List,
 use Rattle.std.specs.Prelude.{sum_by}
 use Rattle.std.specs.List.{AllByRecursion}
 use Rattle.topology.specs.Networks.{Network, IsNetwork}
-use Rattle.update_model.specs.Mixtures.{Update, AreGoodRounds}
+use Rattle.update_model.specs.Mixtures.{Rollout, AreGoodRounds}
 use Rattle.update_model.specs.declared.Change.{Change}
 use Rattle.schedule_replay.specs.Schedules.{schedule_in}
 use Rattle.driver_input.specs.declared.inputs.InputLine.{InputLine}
@@ -16,7 +16,7 @@ use Rattle.drive_command.specs.Reports.{front_lines, report_text}
 use Rattle.drive_command.proofs.LogLaws.{log_short, log_lines}
 use Rattle.drive_command.proofs.ReportLaws.{report_read}
 
-module _ (u : Update) (good : AreGoodRounds u) where
+module _ (u : Rollout) (good : AreGoodRounds u) where
   carried_after : (calls : List Call) → AreDrivable u.net u.rounds → AllByRecursion (IsCall u.net) calls → CarriesOut u (driver_after u.net u.rounds calls)
   carried_after calls drivable ok =
       let log = log_is_run u.net u.rounds calls drivable ok in

@@ -1,4 +1,5 @@
 -- What a run of `drive` says of the files of a source that tells.
+use Rattle.certificates.specs.Updates.{rollout}
 use Rattle.std.proofs.Common.{◌≡◌, ◌≢◌, ◌⊎◌, ◌↔◌, ℕ, ◌<◌, ◌≤◌, List, ◌∷◌, Some, Ok, Err, refl, sym, ap, ◌∙◌, subst, inl, inr, arith}
 use Rattle.std.specs.declared.option.Option.{Option}
 use Rattle.std.specs.Io.KnownBytes.{Appends}
@@ -51,10 +52,10 @@ module _ (m : DriveMeaning) (answer : Answer) where
   WhyNot = SaysWhyNot (check_count m.check) Good (IsRefusedLine (task_in m.check) m.check.plan.evidence) answer
 
   abbrev Report : Type 0
-  Report = SaysReport (task_in m.check).update m.inputs answer
+  Report = SaysReport (rollout (task_in m.check)) m.inputs answer
 
   abbrev Refused : Type 0
-  Refused = SaysRefusedStart (task_in m.check).update m.inputs answer
+  Refused = SaysRefusedStart (rollout (task_in m.check)) m.inputs answer
 
   done_says : IsDriveAnswer m answer → answer.status ≡ status.Done → SaysDriven m answer × Report
   done_says (inl v) is = absurd (let e = status_of answer _ _ v.answer_is in cc)
@@ -88,7 +89,7 @@ module _ (m : DriveMeaning) (answer : Answer) where
     | inr stop ↦ absurd (let e = status_of answer _ _ stop.answer_is in cc)
   ]
 
-  drivable_says : IsDriveAnswer m answer → check_count m.check ≤ most_classes → Good → IsDriven (task_in m.check).update m.inputs answer
+  drivable_says : IsDriveAnswer m answer → check_count m.check ≤ most_classes → Good → IsDriven (rollout (task_in m.check)) m.inputs answer
   drivable_says (inl v) few good = absurd (omega (arith, few, v.many))
   drivable_says (inr (inl v)) few good = v.driven
   drivable_says (inr (inr v)) few good = absurd (v.fails good)

@@ -4,7 +4,7 @@ use Rattle.std.specs.Prelude.{sum_by}
 use Rattle.std.specs.List.{AllByRecursion}
 use Rattle.std.proofs.lemmas.List.Sums.{sum_by-cons}
 use Rattle.topology.specs.Networks.{IsNetwork}
-use Rattle.update_model.specs.Mixtures.{Update, AreGoodRounds}
+use Rattle.update_model.specs.Mixtures.{Rollout, AreGoodRounds}
 use Rattle.update_model.specs.Runs.{IsRun, AreEnabled}
 use Rattle.update_model.specs.States.{State, first_state, state_after_event}
 use Rattle.update_model.specs.declared.Change.{Change}
@@ -18,7 +18,7 @@ use Rattle.schedule_replay.specs.EventTexts.{HasLine}
 use Rattle.schedule_replay.proofs.RunLines.{AreShort, lines_of_run}
 use Rattle.update_driver.specs.Laws.{IsOfUpdate}
 
-module _ (u : Update) (good : AreGoodRounds u) where
+module _ (u : Rollout) (good : AreGoodRounds u) where
   -- each event of the update lowers what is left of its rounds
   short_from : (st : State) (events : List Event) → Sound u st → AllByRecursion IsOfUpdate events → AreEnabled u.net u.rounds st events → length events ≤ rounds_left st.phase st.pending u.rounds
   short_from st [] sound own enabled = omega arith
@@ -60,5 +60,5 @@ each_short (round ∷ rounds) few =
     (omega arith, each_short rounds (omega arith))
 
 -- each event of a log has a line
-pub log_lines : (u : Update) → IsNetwork u.net → sum_by length u.rounds ≤ 2200000 → (log : List Event) → IsRun u log → length log ≤ 4000000 → AllByRecursion (HasLine u.net) log
+pub log_lines : (u : Rollout) → IsNetwork u.net → sum_by length u.rounds ≤ 2200000 → (log : List Event) → IsRun u log → length log ≤ 4000000 → AllByRecursion (HasLine u.net) log
 log_lines u keeps few log run short = lines_of_run u.net keeps u.rounds (each_short u.rounds few) (first_state u.old) log (omega arith) run

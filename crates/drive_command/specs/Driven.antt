@@ -1,11 +1,12 @@
 -- What the files of `drive` mean, and what is said of them.
+use Rattle.certificates.specs.Updates.{rollout}
 use Rattle.std.specs.Prelude.{◌≡◌, ◌⊎◌, ℕ, ◌<◌, ◌≤◌, List, Option, None, Ok, Err}
 use Rattle.std.specs.Io.KnownBytes.{Appends}
 use Rattle.std.specs.List.{AllByRecursion}
 use Rattle.net_base.specs.Outside.{Files}
 use Rattle.net_base.specs.declared.ids.SwitchId.{SwitchId}
 use Rattle.topology.specs.Networks.{Network, switch_count}
-use Rattle.update_model.specs.Mixtures.{Update}
+use Rattle.update_model.specs.Mixtures.{Rollout}
 use Rattle.update_model.specs.Runs.{IsRun}
 use Rattle.certificates.specs.Certified.{IsCertified}
 use Rattle.schedule_replay.specs.Schedules.{schedule_in, numbered}
@@ -58,14 +59,14 @@ drive_dialogue names =
 -- The driver carries the update out as far as it is. Its log is a run of the update, without packets. To a switch it sent HELLO, and
 -- then replies to echo requests and the messages of the rounds that were begun, all of them, in their order and with their xids.
 -- While no round is running no barrier is outstanding: no round was begun before every barrier of the round before was answered.
-pub record CarriesOut (u : Update) (d : DriverState) : Type 0 where
+pub record CarriesOut (u : Rollout) (d : DriverState) : Type 0 where
   pub run : IsRun u d.log
   pub no_packets : AllByRecursion IsOfUpdate d.log
   pub sends : (s : SwitchId) → s.0 < switch_count u.net → SendsOnly u.net u.rounds d s
   pub waits : WaitsForBarriers d
 
 -- the text is the report on the driver that was made with the rounds and given all inputs; read as a schedule, it is the log
-pub record IsReport (u : Update) (inputs : List InputLine) (text : List ℕ) : Type 0 where
+pub record IsReport (u : Rollout) (inputs : List InputLine) (text : List ℕ) : Type 0 where
   pub driver : DriverState
   pub driven : driven_by u.net u.rounds inputs ≡ Ok driver
   pub carries_out : CarriesOut u driver
@@ -74,26 +75,26 @@ pub record IsReport (u : Update) (inputs : List InputLine) (text : List ℕ) : T
   pub means : schedule_in u.net text ≡ Ok (numbered first driver.log)
 
 -- the driver is given all inputs, and the answer is the report on it
-pub record SaysReport (u : Update) (inputs : List InputLine) (answer : Answer) : Type 0 where
+pub record SaysReport (u : Rollout) (inputs : List InputLine) (answer : Answer) : Type 0 where
   pub text : List ℕ
   pub report : IsReport u inputs text
   pub answer_is : answer ≡ record { status = status.Done; text = text }
 
 -- a start is refused, and the answer names the line of the first one
-pub record SaysRefusedStart (u : Update) (inputs : List InputLine) (answer : Answer) : Type 0 where
+pub record SaysRefusedStart (u : Rollout) (inputs : List InputLine) (answer : Answer) : Type 0 where
   pub line : ℕ
   pub refused : driven_by u.net u.rounds inputs ≡ Err (NotARun line)
   pub answer_is : answer ≡ record { status = status.NotARun; text = not_a_run_line line }
 
 -- the answer on inputs of a plan that is certified
-abbrev pub IsDriven : Update → List InputLine → Answer → Type 0
+abbrev pub IsDriven : Rollout → List InputLine → Answer → Type 0
 IsDriven u inputs answer = SaysReport u inputs answer ⊎ SaysRefusedStart u inputs answer
 
 -- the plan is certified, over few enough classes, and the answer is that on the inputs
 pub record SaysDriven (m : DriveMeaning) (answer : Answer) : Type 0 where
   pub few : check_count m.check ≤ most_classes
   pub certified : IsCertified (task_in m.check) m.check.plan.evidence
-  pub driven : IsDriven (task_in m.check).update m.inputs answer
+  pub driven : IsDriven (rollout (task_in m.check)) m.inputs answer
 
 -- the answer of `drive`: too many classes; over a certified plan, what its driver does with the inputs; or why the plan isn't certified
 abbrev pub IsDriveAnswer : DriveMeaning → Answer → Type 0
@@ -142,7 +143,7 @@ pub record FilesMakeTooMany (files : Files) (names : DriveNames) : Type 0 where
 -- a report was written
 pub record WritesReport (m : DriveMeaning) (old new : Option (List ℕ)) : Type 0 where
   pub text : List ℕ
-  pub report : IsReport (task_in m.check).update m.inputs text
+  pub report : IsReport (rollout (task_in m.check)) m.inputs text
   pub written : Appends old new text
 
 -- the line that was written names the line of the first start that is refused

@@ -1,4 +1,5 @@
 // What is said of a plan and its inputs: too many classes, what the driver does, or the first reason why the plan isn't certified.
+ghost use Rattle.certificates.specs.Updates.{rollout, task_for};
 ghost use Rattle.std.specs.Prelude.{◌≡◌, ◌≤◌, List, Ok, IfOk};
 ghost use Rattle.flow_rules.specs.Tables.{rules_of_all};
 ghost use Rattle.path_walk.specs.UserConfigs.{IsUserConfig};
@@ -7,7 +8,7 @@ ghost use Rattle.certificates.specs.Valid.{IsValidPlan};
 ghost use Rattle.certificates.specs.Certified.{IsCertified, classes_for};
 ghost use Rattle.plan_checker.specs.Fits.{Fits};
 ghost use Rattle.driver_input.specs.Inputs.{AreInputs};
-ghost use Rattle.command_base.specs.Updates.{meaning_of, task_for};
+ghost use Rattle.command_base.specs.Updates.{meaning_of};
 ghost use Rattle.command_base.specs.Replies.{answer_of};
 ghost use Rattle.driver_input.specs.declared.inputs.InputLine.{InputLine};
 ghost use Rattle.drive_command.specs.Driving.{driven_by};
@@ -39,7 +40,7 @@ fn report_reply(
     requires net { driver.now.net ≡ files.now.net }
     requires rounds { driver.now.rounds ≡ plan.now.rounds }
     ensures { IfOk result (λ r. (inputs : List InputLine) → driven_by files.now.net plan.now.rounds inputs ≡ Ok driver.now.state
-        → SaysReport (task_for (meaning_of files.now) plan.now).update inputs (answer_of r)) }
+        → SaysReport (rollout (task_for (meaning_of files.now) plan.now)) inputs (answer_of r)) }
 {
     certified_begins_safely(&files.net, &files.old, &files.new, &files.demands, plan);
     files.net.keeps_rules();
@@ -62,7 +63,7 @@ fn driven_reply(
     requires valid { IsValidPlan files.now.net plan.now }
     requires inputs { AreInputs files.now.net inputs.now }
     requires certified { IsCertified (task_for (meaning_of files.now) plan.now) plan.now.evidence }
-    ensures { IfOk result (λ r. IsDriven (task_for (meaning_of files.now) plan.now).update inputs.now (answer_of r)) }
+    ensures { IfOk result (λ r. IsDriven (rollout (task_for (meaning_of files.now) plan.now)) inputs.now (answer_of r)) }
 {
     let mut driver = Driver::make(alloc, &files.net, &plan.rounds)?;
     match give_all(&mut driver, inputs.list()) {

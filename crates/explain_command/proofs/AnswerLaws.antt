@@ -1,4 +1,5 @@
 -- The answers on plans whose mixed walks aren't looked at.
+use Rattle.certificates.specs.Updates.{rollout}
 use Rattle.std.proofs.Common.{◌≡◌, ◌≤◌, refl, inl, inr}
 use Rattle.std.specs.Prelude.{Option, None}
 use Rattle.dest_classes.specs.declared.Class.{Class}
@@ -27,11 +28,11 @@ module _ (m : CheckMeaning) (answer : Answer) (few : check_count m ≤ most_clas
         answer_is = is;
       }))
 
-  pub round_answer : EndsAreGood (task_in m) → IsFirstRoundReason (task_in m).update reason → answer ≡ record { status = status.Refused; text = refused_line m.update.net None reason } → IsExplainAnswer m answer
+  pub round_answer : EndsAreGood (task_in m) → IsFirstRoundReason (rollout (task_in m)) reason → answer ≡ record { status = status.Refused; text = refused_line m.update.net None reason } → IsExplainAnswer m answer
   round_answer ends first is =
       inr (inr (record {
         few = few;
-        fails = λ can. reason_unsound (task_in m).update reason first.holds can.good can.clear;
+        fails = λ can. reason_unsound (rollout (task_in m)) reason first.holds can.good can.clear;
         line = refused_line m.update.net None reason;
         is_why = inr (inl (record { ends = ends; reason = reason; first = first; line_is = refl }));
         answer_is = is;

@@ -2,10 +2,10 @@
 use Rattle.std.proofs.Common.{◌≡◌, ℕ, ◌<◌, List, length, subst}
 use Rattle.dest_classes.specs.Classes.{ClassList}
 use Rattle.demands.specs.Duties.{DemandView}
-use Rattle.update_model.specs.Mixtures.{Update}
+use Rattle.update_model.specs.Mixtures.{Rollout}
 use Rattle.counter_run.specs.Explaining.{NoneBreaks}
 
-pub none_of : (u : Update) (demands asked : List DemandView) (classes list : ClassList)
+pub none_of : (u : Rollout) (demands asked : List DemandView) (classes list : ClassList)
     → demands ≡ asked → classes ≡ list → ((k : ℕ) → k < length u.rounds → NoneBreaks u classes demands k) → (k : ℕ) → k < length u.rounds → NoneBreaks u list asked k
 none_of u demands asked classes list demands_are classes_are none k within =
     subst (λ (c : ClassList). NoneBreaks u c asked k) classes_are

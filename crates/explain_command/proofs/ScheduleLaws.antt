@@ -6,7 +6,8 @@ use Rattle.update_model.specs.Runs.{IsRun, state_after_run}
 use Rattle.update_model.specs.declared.Change.{Change}
 use Rattle.update_model.specs.declared.Event.{Event}
 use Rattle.update_model.specs.declared.Event.TheVariants as event
-use Rattle.certificates.specs.Certified.{Task, classes_for}
+use Rattle.certificates.specs.Updates.{Task, rollout}
+use Rattle.certificates.specs.Certified.{classes_for}
 use Rattle.schedule_replay.specs.EventTexts.{schedule_text}
 use Rattle.schedule_replay.specs.Schedules.{schedule_in, numbered, events_of}
 use Rattle.counter_run.specs.Explaining.{IsFirstBreakingRun}
@@ -24,7 +25,7 @@ events_numbered : (n : ℕ) (events : List Event) → events_of (numbered n even
 events_numbered n [] = refl
 events_numbered n (e ∷ events) = ap (λ (es : List Event). e ∷ es) (events_numbered (suc n) events)
 
-pub breaking_of : (t : Task) (events : List Event) → IsFirstBreakingRun t.update (classes_for t) t.demands events → (text : List ℕ) → text ≡ schedule_text t.update.net events
+pub breaking_of : (t : Task) (events : List Event) → IsFirstBreakingRun (rollout t) (classes_for t) t.update.demands events → (text : List ℕ) → text ≡ schedule_text t.update.net events
     → schedule_in t.update.net text ≡ Ok (numbered 1 events) → IsBreakingSchedule t text
 breaking_of t events first text text_is means =
     let same = sym (events_numbered 1 events) in
@@ -33,9 +34,9 @@ breaking_of t events first text text_is means =
       first = first;
       text_is = text_is;
       means = means;
-      replayed = subst (λ (es : List Event). IsRun t.update es) same first.shown.run;
+      replayed = subst (λ (es : List Event). IsRun (rollout t) es) same first.shown.run;
       packet = first.shown.packet;
-      only = subst (λ (es : List Event). (state_after_run t.update es).packets ≡ first.shown.packet ∷ []) same first.shown.only;
+      only = subst (λ (es : List Event). (state_after_run (rollout t) es).packets ≡ first.shown.packet ∷ []) same first.shown.only;
       broken = first.shown.bad;
     }
 
@@ -47,5 +48,5 @@ starts (round ∷ rounds) rest = (_, refl)
 -- so the schedule begins with the letter s
 pub begins_so : (t : Task) (text : List ℕ) → IsBreakingSchedule t text → first_byte text ≡ 115
 begins_so t text b =
-    let (more, is) = starts (take b.first.round t.update.rounds) _ in
+    let (more, is) = starts (take b.first.round t.rounds) _ in
     ap first_byte (b.text_is ∙ ap (schedule_text t.update.net) (b.first.shown.events_are ∙ is))

@@ -8,7 +8,8 @@ use Rattle.update_model.specs.Mixtures.{AreGoodRounds, AreClearRounds}
 use Rattle.update_model.specs.Runs.{IsRun, state_after_run}
 use Rattle.update_model.specs.declared.Event.{Event}
 use Rattle.update_model.specs.declared.Packet.{Packet}
-use Rattle.certificates.specs.Certified.{Task, classes_for, is_two_phase}
+use Rattle.certificates.specs.Updates.{Task, rollout}
+use Rattle.certificates.specs.Certified.{classes_for, is_two_phase}
 use Rattle.certificates.specs.declared.Evidence.{Evidence}
 use Rattle.check_reasons.specs.declared.reason.Reason.{Reason}
 use Rattle.round_faults.specs.Sound.{IsFirstRoundReason}
@@ -33,38 +34,38 @@ nothing_line = codes "no run: every mixed walk is good\n"
 
 -- no class breaks in any round
 abbrev pub NothingBreaks : Task → Type 0
-NothingBreaks t = (k : ℕ) → k < length t.update.rounds → NoneBreaks t.update (classes_for t) t.demands k
+NothingBreaks t = (k : ℕ) → k < length t.rounds → NoneBreaks (rollout t) (classes_for t) t.update.demands k
 
 -- some class breaks in some round
 pub record SomethingBreaks (t : Task) : Type 0 where
   pub round : ℕ
-  pub within : round < length t.update.rounds
+  pub within : round < length t.rounds
   pub number : ℕ
   pub class : Class
   pub is_class : IsClass (classes_for t) number class
-  pub breaks : ClassBreaks t.update t.demands round class
+  pub breaks : ClassBreaks (rollout t) t.update.demands round class
 
 -- a plan whose mixed walks are looked at: both configurations have good paths, each round is good and clear, and the plan is ordered
 pub record IsExplainable (t : Task) (evidence : Evidence) : Type 0 where
   pub ends : EndsAreGood t
-  pub good : AreGoodRounds t.update
-  pub clear : AreClearRounds t.update
+  pub good : AreGoodRounds (rollout t)
+  pub clear : AreClearRounds (rollout t)
   pub ordered : is_two_phase evidence ≡ false
 
 -- the text is the schedule of a run in which a packet breaks its duties
 pub record IsBreakingSchedule (t : Task) (text : List ℕ) : Type 0 where
   pub events : List Event
   -- the run is of the first round in which a class breaks, for the first such class there
-  pub first : IsFirstBreakingRun t.update (classes_for t) t.demands events
+  pub first : IsFirstBreakingRun (rollout t) (classes_for t) t.update.demands events
   -- the text is its events, a line each; read as a schedule it means these events
   pub text_is : text ≡ schedule_text t.update.net events
   pub means : schedule_in t.update.net text ≡ Ok (numbered 1 events)
   -- what is read can be replayed whole
-  pub replayed : IsRun t.update (events_of (numbered 1 events))
+  pub replayed : IsRun (rollout t) (events_of (numbered 1 events))
   -- there is one packet in the end, whose trace isn't good for its duties
   pub packet : Packet
-  pub only : (state_after_run t.update (events_of (numbered 1 events))).packets ≡ packet ∷ []
-  pub broken : ¬ HasGoodTrace t.demands packet
+  pub only : (state_after_run (rollout t) (events_of (numbered 1 events))).packets ≡ packet ∷ []
+  pub broken : ¬ HasGoodTrace t.update.demands packet
 
 -- the text says that no class breaks in any round
 pub record SaysNothingBreaks (t : Task) (text : List ℕ) : Type 0 where
@@ -84,14 +85,14 @@ pub record SaysEndBreaks (t : Task) (evidence : Evidence) (line : List ℕ) : Ty
 pub record SaysUnsoundRound (t : Task) (line : List ℕ) : Type 0 where
   pub ends : EndsAreGood t
   pub reason : Reason
-  pub first : IsFirstRoundReason t.update reason
+  pub first : IsFirstRoundReason (rollout t) reason
   pub line_is : line ≡ refused_line t.update.net None reason
 
 -- configurations and rounds are good, but it is a two-phase plan
 pub record SaysTwoPhase (t : Task) (evidence : Evidence) (line : List ℕ) : Type 0 where
   pub ends : EndsAreGood t
-  pub good : AreGoodRounds t.update
-  pub clear : AreClearRounds t.update
+  pub good : AreGoodRounds (rollout t)
+  pub clear : AreClearRounds (rollout t)
   pub two_phase : is_two_phase evidence ≡ true
   pub line_is : line ≡ two_phase_line
 

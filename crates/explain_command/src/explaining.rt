@@ -1,4 +1,5 @@
 // The schedule of a run that breaks the duties of a class, or that there is none.
+ghost use Rattle.certificates.specs.Updates.{rollout, task_for};
 ghost use Rattle.std.specs.Prelude.{IfOk};
 ghost use Rattle.path_walk.specs.UserConfigs.{IsUserConfig};
 ghost use Rattle.flow_rules.specs.Tables.{rules_of_all};
@@ -8,7 +9,7 @@ ghost use Rattle.plan_checker.specs.Fits.{Fits};
 ghost use Rattle.update_model.specs.Mixtures.{AreGoodRounds, AreClearRounds};
 ghost use Rattle.counter_run.specs.Explaining.{IsFirstBreakingRun};
 ghost use Rattle.counter_run.specs.Showing.{AreFewFor};
-ghost use Rattle.command_base.specs.Updates.{meaning_of, task_for};
+ghost use Rattle.command_base.specs.Updates.{meaning_of};
 ghost use Rattle.explain_command.specs.Explained.{IsBreakingSchedule, IsExplanation};
 
 use certificates::Plan;
@@ -28,7 +29,7 @@ fn breaking_schedule(
     events: &Events,
 ) -> Result<Vec<u8>, Memory>
     requires valid { IsValidPlan files.now.net plan.now }
-    requires first { let t = task_for (meaning_of files.now) plan.now in IsFirstBreakingRun t.update (classes_for t) t.demands events.now }
+    requires first { let t = task_for (meaning_of files.now) plan.now in IsFirstBreakingRun (rollout t) (classes_for t) t.update.demands events.now }
     requires few { AreFewFor files.now.net plan.now.rounds events.now }
     ensures { IfOk result (λ text. IsBreakingSchedule (task_for (meaning_of files.now) plan.now) text.items) }
 {
@@ -47,8 +48,8 @@ pub fn explanation(
     requires old { IsUserConfig files.now.net (rules_of_all files.now.old) }
     requires valid { IsValidPlan files.now.net plan.now }
     requires fits { Fits (task_for (meaning_of files.now) plan.now) room.now }
-    requires good { AreGoodRounds (task_for (meaning_of files.now) plan.now).update }
-    requires clear { AreClearRounds (task_for (meaning_of files.now) plan.now).update }
+    requires good { AreGoodRounds (rollout (task_for (meaning_of files.now) plan.now)) }
+    requires clear { AreClearRounds (rollout (task_for (meaning_of files.now) plan.now)) }
     ensures { IfOk result (λ text. IsExplanation (task_for (meaning_of files.now) plan.now) text.items) }
 {
     let (classes, duties) = (room.classes(), room.duties());

@@ -1,9 +1,10 @@
 // The first round that isn't good and clear.
+ghost use Rattle.certificates.specs.Updates.{rollout, task_for};
 ghost use Rattle.std.specs.Prelude.{IfOk, IfNone, IfSome};
 ghost use Rattle.certificates.specs.Valid.{IsValidPlan};
 ghost use Rattle.update_model.specs.Mixtures.{AreGoodRounds, AreClearRounds};
 ghost use Rattle.round_faults.specs.Sound.{IsFirstRoundReason};
-ghost use Rattle.command_base.specs.Updates.{meaning_of, task_for};
+ghost use Rattle.command_base.specs.Updates.{meaning_of};
 
 use certificates::Plan;
 use command_base::UpdateFiles;
@@ -19,9 +20,9 @@ pub fn round_reason(
     plan: &Plan,
 ) -> Result<Option<Reason>, Memory>
     requires valid { IsValidPlan files.now.net plan.now }
-    ensures good { IfOk result (λ found. IfNone found (AreGoodRounds (task_for (meaning_of files.now) plan.now).update)) }
-    ensures clear { IfOk result (λ found. IfNone found (AreClearRounds (task_for (meaning_of files.now) plan.now).update)) }
-    ensures some { IfOk result (λ found. IfSome found (IsFirstRoundReason (task_for (meaning_of files.now) plan.now).update)) }
+    ensures good { IfOk result (λ found. IfNone found (AreGoodRounds (rollout (task_for (meaning_of files.now) plan.now)))) }
+    ensures clear { IfOk result (λ found. IfNone found (AreClearRounds (rollout (task_for (meaning_of files.now) plan.now)))) }
+    ensures some { IfOk result (λ found. IfSome found (IsFirstRoundReason (rollout (task_for (meaning_of files.now) plan.now)))) }
 {
     match sound_rounds(alloc, &files.net, &files.old, &plan.rounds) {
         Ok(()) => Ok(None),

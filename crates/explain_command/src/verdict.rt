@@ -1,5 +1,6 @@
 // What is said of the plan that is explained: too many classes, why its mixed walks aren't looked at, a run that breaks the duties of a
 // class, or that there is none.
+ghost use Rattle.certificates.specs.Updates.{rollout, task_for};
 ghost use Rattle.std.specs.Prelude.{◌≤◌, IfOk};
 ghost use Rattle.flow_rules.specs.Tables.{rules_of_all};
 ghost use Rattle.path_walk.specs.UserConfigs.{IsUserConfig};
@@ -9,7 +10,7 @@ ghost use Rattle.certificates.specs.Certified.{classes_for};
 ghost use Rattle.update_model.specs.Mixtures.{AreGoodRounds, AreClearRounds};
 ghost use Rattle.plan_checker.specs.Fits.{Fits};
 ghost use Rattle.plan_checker.specs.Checking.{EndsAreGood};
-ghost use Rattle.command_base.specs.Updates.{meaning_of, task_for};
+ghost use Rattle.command_base.specs.Updates.{meaning_of};
 ghost use Rattle.command_base.specs.Replies.{answer_of};
 ghost use Rattle.explain_command.specs.Explained.{IsExplainAnswer};
 
@@ -35,8 +36,8 @@ fn judge_walks(
     requires fits { Fits (task_for (meaning_of files.now) plan.now) room.now }
     requires few { class_count (classes_for (task_for (meaning_of files.now) plan.now)) ≤ 8192 }
     requires ends { EndsAreGood (task_for (meaning_of files.now) plan.now) }
-    requires good { AreGoodRounds (task_for (meaning_of files.now) plan.now).update }
-    requires clear { AreClearRounds (task_for (meaning_of files.now) plan.now).update }
+    requires good { AreGoodRounds (rollout (task_for (meaning_of files.now) plan.now)) }
+    requires clear { AreClearRounds (rollout (task_for (meaning_of files.now) plan.now)) }
     ensures { IfOk result (λ r. IsExplainAnswer (record { update = meaning_of files.now; plan = plan.now }) (answer_of r)) }
 {
     match &plan.evidence {

@@ -1,6 +1,6 @@
 -- Which packets a pattern covers, and when two patterns are the same.
 use Rattle.std.specs.Prelude.{ℕ, ◌==◌, ◌&&◌, Bool, true, false, Option, Some, None}
-use Rattle.std.specs.Option.{option_eq}
+use Rattle.std.specs.Option.{option_eq, option_map_or}
 use Rattle.net_base.specs.Blocks.{in_block}
 use Rattle.net_base.specs.declared.ids.Port.{Port}
 use Rattle.net_base.specs.declared.ids.Vlan.{Vlan}
@@ -18,20 +18,18 @@ pub record Header : Type 0 where
 
 -- any port, or the packet's ingress port
 abbrev pub admits_port : Option Port → Port → Bool
-admits_port None port = true
-admits_port (Some p) port = p.0 == port.0
+admits_port in_port port = option_map_or (λ p. p.0 == port.0) in_port true
 
 -- any VLAN, no tag, or the packet's id
 abbrev pub admits_vlan : VlanTest → Vlan → Bool
 admits_vlan test.Any v = true
 admits_vlan test.Untagged vlan.Untagged = true
-admits_vlan test.Untagged (vlan.Id id) = false
-admits_vlan (test.Id n) vlan.Untagged = false
 admits_vlan (test.Id n) (vlan.Id id) = n == id
+admits_vlan _ _ = false
 
 -- whether a pattern covers a packet: each of its three parts does
 abbrev pub covers : Pattern → Header → Bool
-covers p h = admits_port p.in_port h.port && admits_vlan p.vlan h.vlan && in_block p.dst h.dst
+covers p h = option_map_or (λ q. q.0 == h.port.0) p.in_port true && admits_vlan p.vlan h.vlan && in_block p.dst h.dst
 
 -- whether two VLAN tests are the same
 abbrev pub vlan_test_eq : VlanTest → VlanTest → Bool

@@ -27,7 +27,7 @@ use Rattle.path_walk.specs.declared.Outcome.TheVariants.{Discard, Leave, Go}
 use Rattle.path_walk.proofs.PathLaws.{lookup_each}
 use Rattle.dest_classes.proofs.MapLaws.{few_in_all}
 use Rattle.update_model.specs.Changes.{changes_at, round_after, settled_tables}
-use Rattle.update_model.specs.Mixtures.{Update, IsMixture, MayHold, MayGo, IsOnMixedWalk}
+use Rattle.update_model.specs.Mixtures.{Rollout, IsMixture, MayHold, MayGo, IsOnMixedWalk}
 use Rattle.update_model.specs.declared.Change.{Change}
 use Rattle.update_model.proofs.HeldLaws.{each_held, EachRuleOf}
 use Rattle.certificates.specs.Certified.{KeepsVlan}
@@ -60,10 +60,10 @@ each_firsts P zero (round ∷ rounds) all = (all 0 (omega arith), tt)
 each_firsts P (suc k) (round ∷ rounds) all = (all 0 (omega arith), each_firsts P k rounds (λ j le. all (suc j) (omega arith)))
 
 -- what holds of the rules of the old tables and of the rounds up to one holds of those of its mixtures
-held_up_to : (P : Rule → Type 0) (u : Update) (k : ℕ) (s : SwitchId) (mixed : List Rule) → AllByRecursion (AllByRecursion P) u.old
+held_up_to : (P : Rule → Type 0) (u : Rollout) (k : ℕ) (s : SwitchId) (mixed : List Rule) → AllByRecursion (AllByRecursion P) u.old
     → ((j : ℕ) → j ≤ k → EachRuleOf P (round_after j u.rounds)) → MayHold u k s mixed → AllByRecursion P mixed
 held_up_to P u k s mixed old rounds held =
-    let few : Update = record u { rounds = firsts k u.rounds } in
+    let few : Rollout = record u { rounds = firsts k u.rounds } in
     each_held P few k s mixed old (each_firsts (EachRuleOf P) k u.rounds rounds)
     (subst (λ (tables : List (List Rule)). IsMixture (rules_at tables s) (changes_at s (round_after k (firsts k u.rounds))) mixed) (sym (settled_firsts k u.rounds u.old))
     (subst (λ (round : List Change). IsMixture (rules_at (settled_tables u.rounds k u.old) s) (changes_at s round) mixed) (sym (round_firsts k u.rounds)) held))
@@ -171,7 +171,7 @@ places_within net entry is within p (inr i) =
     let h = each_at (IsWithin net) (ends_of net.links) stop (each_last (IsWithin net) net.hosts (ends_of net.links) is.ports) j in
     subst (λ (x : Place). x.switch.0 < switch_count net) (sym e) h.0
 
-module _ (u : Update) (k dst : ℕ) (entry : Place) (keeps_old : TablesKeepVlans u.old) (keeps : KeepVlansUpTo u k) where
+module _ (u : Rollout) (k dst : ℕ) (entry : Place) (keeps_old : TablesKeepVlans u.old) (keeps : KeepVlansUpTo u k) where
   goes_at : (place next : Place) → MayGo u k dst place next → IsAtLink u.net place.vlan next
   goes_at place next goes =
       let all : AllByRecursion KeepsRule goes.mixed = held_up_to KeepsRule u k place.switch goes.mixed keeps_old keeps goes.held in

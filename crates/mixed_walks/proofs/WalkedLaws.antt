@@ -15,7 +15,7 @@ use Rattle.flow_rules.specs.declared.rules.Rule.{Rule}
 use Rattle.path_walk.specs.declared.Outcome.{Outcome}
 use Rattle.path_walk.specs.declared.Outcome.TheVariants.{Discard, Leave, Go}
 use Rattle.update_model.specs.Changes.{changes_at, round_after}
-use Rattle.update_model.specs.Mixtures.{Update, tables_before, MayBe, IsPossible, MayGo, IsOnMixedWalk}
+use Rattle.update_model.specs.Mixtures.{Rollout, tables_before, MayBe, IsPossible, MayGo, IsOnMixedWalk}
 use Rattle.update_model.specs.declared.Change.{Change}
 use Rattle.round_mix.specs.Prepared.{MixedState, IsPrepared}
 use Rattle.round_mix.specs.Found.{AreAllOutcomes}
@@ -43,11 +43,11 @@ get_read (y ∷ xs) zero x lt e = ap Some (sym e)
 get_read (y ∷ xs) (suc n) x lt e = get_read xs n x (omega arith) e
 
 -- the switch of a place is loaded
-pub loaded_at : (u : Update) (k : ℕ) (mixes : List MixedState) → AreLoaded u k mixes → (s : SwitchId) (mixed : MixedState) → s.0 < length mixes → mixed ≡ get_or mixes s.0 mixed → IsLoaded u k s mixed
+pub loaded_at : (u : Rollout) (k : ℕ) (mixes : List MixedState) → AreLoaded u k mixes → (s : SwitchId) (mixed : MixedState) → s.0 < length mixes → mixed ≡ get_or mixes s.0 mixed → IsLoaded u k s mixed
 loaded_at u k mixes loaded s mixed lt e = loaded.each s mixed (get_read mixes s.0 mixed lt e)
 
 -- what was found are the possible outcomes of the place
-pub all_possible : (u : Update) (k dst : ℕ) (place : Place) (net : Network) → net ≡ u.net → (mixed : MixedState) → IsLoaded u k place.switch mixed → (list : List Outcome)
+pub all_possible : (u : Rollout) (k dst : ℕ) (place : Place) (net : Network) → net ≡ u.net → (mixed : MixedState) → IsLoaded u k place.switch mixed → (list : List Outcome)
     → ((table : List Rule) (changes : List Change) → IsSomeAnd mixed.prepared (IsPrepared table changes) → AreAllOutcomes net table changes place dst list)
     → (found : List Outcome) → found ≡ list → (o : Outcome) → IsIn o found ↔ IsPossible u k dst place o
 all_possible u k dst place net same mixed loaded list exact found is o =
@@ -57,7 +57,7 @@ all_possible u k dst place net same mixed loaded list exact found is o =
     subst (λ (xs : List Outcome). IsIn o xs ↔ IsPossible u k dst place o) (sym is)
     (subst (λ (n : Network). IsIn o list ↔ MayBe n table changes place dst o) same all)
 
-module _ (u : Update) (k dst : ℕ) (entry : Place) where
+module _ (u : Rollout) (k dst : ℕ) (entry : Place) where
   -- at the entry
   pub walked_none : (noted : WalkState) → ((p : Place) → IsIn p noted.places ↔ (p ≡ entry)) → IsDistinct noted.places → (noted.steps ≡ []) × (noted.leaving ≡ []) × (noted.dropping ≡ [])
       → IsWalkedTo u k dst entry 0 noted

@@ -7,7 +7,7 @@ use Rattle.net_base.specs.declared.ids.Vlan.{Vlan}
 use Rattle.net_base.specs.declared.ids.Place.{Place}
 use Rattle.path_walk.specs.declared.Outcome.{Outcome}
 use Rattle.path_walk.specs.declared.Outcome.TheVariants.{Discard, Leave, Go}
-use Rattle.update_model.specs.Mixtures.{Update, IsPossible, MayGo, IsOnMixedWalk}
+use Rattle.update_model.specs.Mixtures.{Rollout, IsPossible, MayGo, IsOnMixedWalk}
 use Rattle.acyclic_numbering.specs.Heights.{IsEdge}
 use Rattle.mixed_walks.specs.Walks.{WalkState}
 
@@ -31,7 +31,7 @@ pub record AreFew (places : List Place) (found : List Outcome) : Type 0 where
   pub led_to : (p : Place) → IsIn (Go p) found → IsIn p ends
 
 -- a packet may go from one of the places, at the one switch, to the other switch
-pub record GoesAt (u : Update) (k dst : ℕ) (places : List Place) (s t : SwitchId) : Type 0 where
+pub record GoesAt (u : Rollout) (k dst : ℕ) (places : List Place) (s t : SwitchId) : Type 0 where
   pub place : Place
   pub next : Place
   pub among : IsIn place places
@@ -40,7 +40,7 @@ pub record GoesAt (u : Update) (k dst : ℕ) (places : List Place) (s t : Switch
   pub to_is : next.switch ≡ t
 
 -- a packet may leave at one of the places, at the switch
-pub record LeavesAt (u : Update) (k dst : ℕ) (places : List Place) (s : SwitchId) : Type 0 where
+pub record LeavesAt (u : Rollout) (k dst : ℕ) (places : List Place) (s : SwitchId) : Type 0 where
   pub place : Place
   pub port : Port
   pub vlan : Vlan
@@ -49,14 +49,14 @@ pub record LeavesAt (u : Update) (k dst : ℕ) (places : List Place) (s : Switch
   pub at_is : place.switch ≡ s
 
 -- a packet may be discarded at one of the places, at the switch
-pub record DiscardsAt (u : Update) (k dst : ℕ) (places : List Place) (s : SwitchId) : Type 0 where
+pub record DiscardsAt (u : Rollout) (k dst : ℕ) (places : List Place) (s : SwitchId) : Type 0 where
   pub place : Place
   pub among : IsIn place places
   pub drops : IsPossible u k dst place Discard
   pub at_is : place.switch ≡ s
 
 -- the places are on mixed walks, and what may happen at the first of them, so many, is noted
-pub record IsWalkedTo (u : Update) (k dst : ℕ) (entry : Place) (next : ℕ) (noted : WalkState) : Type 0 where
+pub record IsWalkedTo (u : Rollout) (k dst : ℕ) (entry : Place) (next : ℕ) (noted : WalkState) : Type 0 where
   pub begins : IsIn entry noted.places
   pub once : IsDistinct noted.places
   pub on_walk : (p : Place) → IsIn p noted.places → IsOnMixedWalk u k dst entry p

@@ -7,7 +7,7 @@ use Rattle.net_base.specs.declared.ids.Place.{Place}
 use Rattle.topology.specs.Networks.{Network, switch_count}
 use Rattle.flow_rules.specs.declared.rules.Rule.{Rule}
 use Rattle.update_model.specs.Changes.{rule_of, round_after}
-use Rattle.update_model.specs.Mixtures.{Update, IsOnMixedWalk}
+use Rattle.update_model.specs.Mixtures.{Rollout, IsOnMixedWalk}
 use Rattle.round_mix.specs.Prepared.{MixedState}
 use Rattle.acyclic_numbering.specs.Heights.{IsEdge}
 use Rattle.acyclic_numbering.specs.declared.Edge.{Edge}
@@ -28,7 +28,7 @@ abbrev pub switches_of : List Place → List SwitchId
 switches_of places = map (λ p. p.switch) places
 
 -- the rounds up to round k neither set nor strip
-abbrev pub KeepVlansUpTo : Update → ℕ → Type 0
+abbrev pub KeepVlansUpTo : Rollout → ℕ → Type 0
 KeepVlansUpTo u k = (j : ℕ) → j ≤ k → AllByRecursion (λ c. KeepsVlan (rule_of c).action) (round_after j u.rounds)
 
 -- no rule of the tables sets or strips
@@ -36,7 +36,7 @@ abbrev pub TablesKeepVlans : List (List Rule) → Type 0
 TablesKeepVlans tables = AllByRecursion (AllByRecursion (λ r. KeepsVlan r.action)) tables
 
 -- the switches of the network are prepared for round k of the update, in which no old rule and no change up to there sets or strips
-pub record IsRoundOf (net : Network) (mixes : List MixedState) (u : Update) (k : ℕ) : Type 0 where
+pub record IsRoundOf (net : Network) (mixes : List MixedState) (u : Rollout) (k : ℕ) : Type 0 where
   pub net_is : u.net ≡ net
   pub loaded : AreLoaded u k mixes
   pub keeps_old : TablesKeepVlans u.old
@@ -44,7 +44,7 @@ pub record IsRoundOf (net : Network) (mixes : List MixedState) (u : Update) (k :
 
 -- what is noted are the places of the mixed walks of an entry, their steps, and where a packet on them may leave or be
 -- discarded; all of it at switches of the network
-pub record IsWalked (u : Update) (k dst : ℕ) (entry : Place) (noted : WalkState) : Type 0 where
+pub record IsWalked (u : Rollout) (k dst : ℕ) (entry : Place) (noted : WalkState) : Type 0 where
   pub places : (p : Place) → IsIn p noted.places ↔ IsOnMixedWalk u k dst entry p
   pub steps : (s t : SwitchId) → IsEdge noted.steps s t ↔ IsMixedStep u k dst entry s t
   pub leaving : (s : SwitchId) → IsIn s noted.leaving ↔ MayLeave u k dst entry s

@@ -3,7 +3,7 @@ ghost use Rattle.std.specs.Prelude.{◌≡◌, ◌↔◌, ℕ, ◌+◌, ◌<◌,
 ghost use Rattle.net_base.specs.Members.{IsIn};
 ghost use Rattle.net_base.specs.declared.ids.SwitchId.{SwitchId};
 ghost use Rattle.topology.specs.Networks.{switch_count};
-ghost use Rattle.update_model.specs.Mixtures.{Update};
+ghost use Rattle.update_model.specs.Mixtures.{Rollout};
 ghost use Rattle.mixed_walks.specs.Walks.{switches_of, IsRoundOf, IsWalked};
 ghost use Rattle.mixed_walks.specs.Walking.{IsWalkedTo};
 
@@ -85,7 +85,7 @@ impl WalkRoom {
     /// Begins at the entry of a class.
     fn start(&mut self, net: &Net, class: Class)
         requires { class.entry.switch.0 < switch_count net.now }
-        ensures { (u : Update) (k : ℕ) → IsWalkedTo u k class.first class.entry 0 self.new }
+        ensures { (u : Rollout) (k : ℕ) → IsWalkedTo u k class.first class.entry 0 self.new }
     {
         net.keeps_rules();
         self.noted.start(class.entry);
@@ -93,11 +93,11 @@ impl WalkRoom {
 
     /// Notes the possible outcomes of the next place.
     fn expand(&mut self, net: &Net, mixes: &[Mixed], class: Class, next: usize)
-        requires round { (u : Update) × (k : ℕ) × IsRoundOf net.now mixes.now u k }
+        requires round { (u : Rollout) × (k : ℕ) × IsRoundOf net.now mixes.now u k }
         requires entry { class.entry.switch.0 < switch_count net.now }
-        requires so_far { (u : Update) (k : ℕ) → IsRoundOf net.now mixes.now u k → IsWalkedTo u k class.first class.entry next self.old }
+        requires so_far { (u : Rollout) (k : ℕ) → IsRoundOf net.now mixes.now u k → IsWalkedTo u k class.first class.entry next self.old }
         requires more { next < length self.old.places }
-        ensures { (u : Update) (k : ℕ) → IsRoundOf net.now mixes.now u k → IsWalkedTo u k class.first class.entry (next + 1) self.new }
+        ensures { (u : Rollout) (k : ℕ) → IsRoundOf net.now mixes.now u k → IsWalkedTo u k class.first class.entry (next + 1) self.new }
     {
         net.keeps_rules();
         let place = self.noted.place(next);
@@ -112,9 +112,9 @@ impl WalkRoom {
     ///
     /// No old rule of the update and no change up to the round may set or strip a tag: packets keep their entry's VLAN.
     pub fn walk(&mut self, net: &Net, mixes: &[Mixed], class: Class)
-        requires round { (u : Update) × (k : ℕ) × IsRoundOf net.now mixes.now u k }
+        requires round { (u : Rollout) × (k : ℕ) × IsRoundOf net.now mixes.now u k }
         requires entry { class.entry.switch.0 < switch_count net.now }
-        ensures { (u : Update) (k : ℕ) → IsRoundOf net.now mixes.now u k → IsWalked u k class.first class.entry self.new }
+        ensures { (u : Rollout) (k : ℕ) → IsRoundOf net.now mixes.now u k → IsWalked u k class.first class.entry self.new }
     {
         net.keeps_rules();
         self.start(net, class);

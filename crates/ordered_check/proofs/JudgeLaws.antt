@@ -14,7 +14,8 @@ use Rattle.dest_classes.specs.declared.Class.{Class}
 use Rattle.demands.specs.Duties.{PacketDuties}
 use Rattle.certificates.specs.Steps.{IsMixedStep, MayLeave}
 use Rattle.certificates.specs.Ordered.{Position, positions, OrderedCertificate}
-use Rattle.certificates.specs.Certified.{Task, classes_for}
+use Rattle.certificates.specs.Updates.{Task, rollout}
+use Rattle.certificates.specs.Certified.{classes_for}
 use Rattle.certificates.specs.Valid.{IsChain, IsPickBefore}
 use Rattle.certificates.specs.declared.OrderedEvidence.{OrderedEvidence}
 use Rattle.check_reasons.specs.Ranks.{IsBefore, rank_of}
@@ -114,8 +115,8 @@ pub record IsJudging (t : Task) (e : OrderedEvidence) (k n : ℕ) (class : Class
   pub in_order : IsChain IsPickBefore e.picks
   pub is : IsClass (classes_for t) n class
   pub force : IsInForce e k n numbers sets
-  pub few : k < length t.update.rounds
-  pub walked : IsWalked t.update k class.first class.entry noted
+  pub few : k < length t.rounds
+  pub walked : IsWalked (rollout t) k class.first class.entry noted
 
 module _ (t : Task) (e : OrderedEvidence) (k n : ℕ) (class : Class) (numbers : List ℕ) (sets : List (List ℕ)) where
   abbrev duties : PacketDuties
@@ -123,10 +124,10 @@ module _ (t : Task) (e : OrderedEvidence) (k n : ℕ) (class : Class) (numbers :
 
   -- what is wrong with the class, with the reason that says so and the position
   data IsFault : ℕ → Reason → Type 0 where
-    goes_up : (s : SwitchId) → HasBadStep t.update k class.first class.entry numbers s → IsFault 0 (NotLower (suc k) n s)
-    drops_at : (s : SwitchId) → IsTrue duties.arrive → DropsAt t.update k class.first class.entry s → IsFault 0 (MayDrop (suc k) n s)
+    goes_up : (s : SwitchId) → HasBadStep (rollout t) k class.first class.entry numbers s → IsFault 0 (NotLower (suc k) n s)
+    drops_at : (s : SwitchId) → IsTrue duties.arrive → DropsAt (rollout t) k class.first class.entry s → IsFault 0 (MayDrop (suc k) n s)
     other_count : length sets ≢ together duties.chains → IsFault 0 (NoBefore (suc k) n)
-    goes_round : (i : ℕ) (s : SwitchId) (p : Position) → slice_get (positions duties.chains sets) i ≡ Some p → IsBypassed t.update k class.first class.entry p s
+    goes_round : (i : ℕ) (s : SwitchId) (p : Position) → slice_get (positions duties.chains sets) i ≡ Some p → IsBypassed (rollout t) k class.first class.entry p s
         → IsFault i (Bypass (suc k) n p.waypoint s)
 
   -- what is said of round k and class n is said of theirs
@@ -144,11 +145,11 @@ module _ (t : Task) (e : OrderedEvidence) (k n : ℕ) (class : Class) (numbers :
         let round : suc j ≡ suc k = at.round in
         let same : j ≡ k = omega arith in
         at_class (λ x y. IsFault 0 (NotLower (suc x) y s)) j m same at.class
-        (goes_up s (carried (classes_for t) e in_order k n class numbers sets is force (λ x cl ns vs. HasBadStep t.update x cl.first cl.entry ns s) j m other xs us same at.class judged.is forced bad))
+        (goes_up s (carried (classes_for t) e in_order k n class numbers sets is force (λ x cl ns vs. HasBadStep (rollout t) x cl.first cl.entry ns s) j m other xs us same at.class judged.is forced bad))
     fault_of i r (may_drop j m other s judged arrive drops) at =
         let round : suc j ≡ suc k = at.round in
         let same : j ≡ k = omega arith in
-        let both = carried_class (classes_for t) e in_order k n class numbers sets is force (λ x cl. IsTrue (class_duties t cl).arrive × DropsAt t.update x cl.first cl.entry s) j m other same at.class judged.is (arrive, drops) in
+        let both = carried_class (classes_for t) e in_order k n class numbers sets is force (λ x cl. IsTrue (class_duties t cl).arrive × DropsAt (rollout t) x cl.first cl.entry s) j m other same at.class judged.is (arrive, drops) in
         at_class (λ x y. IsFault 0 (MayDrop (suc x) y s)) j m same at.class (drops_at s both.0 both.1)
     fault_of i r (no_before j m other xs us judged forced differ) at =
         let round : suc j ≡ suc k = at.round in
@@ -159,7 +160,7 @@ module _ (t : Task) (e : OrderedEvidence) (k n : ℕ) (class : Class) (numbers :
         let round : suc j ≡ suc k = at.round in
         let same : j ≡ k = omega arith in
         let both = carried (classes_for t) e in_order k n class numbers sets is force
-        (λ y cl ns vs. (slice_get (positions (class_duties t cl).chains vs) x ≡ Some p) × IsBypassed t.update y cl.first cl.entry p s) j m other xs us same at.class judged.is forced (stands, bypassed) in
+        (λ y cl ns vs. (slice_get (positions (class_duties t cl).chains vs) x ≡ Some p) × IsBypassed (rollout t) y cl.first cl.entry p s) j m other xs us same at.class judged.is forced (stands, bypassed) in
         at_class (λ y z. IsFault x (Bypass (suc y) z p.waypoint s)) j m same at.class (goes_round x s p both.0 both.1)
 
   module _ (noted : WalkState) (j : IsJudging t e k n class numbers sets noted) where
@@ -171,10 +172,10 @@ module _ (t : Task) (e : OrderedEvidence) (k n : ℕ) (class : Class) (numbers :
     judged : IsJudged t k n class
     judged = record { within = j.few; is = j.is }
 
-    edge_up : (s : SwitchId) → HasBadStep t.update k class.first class.entry numbers s → HasEdgeUp noted.steps numbers s
+    edge_up : (s : SwitchId) → HasBadStep (rollout t) k class.first class.entry numbers s → HasEdgeUp noted.steps numbers s
     edge_up s bad = (bad.next, (j.walked.steps s bad.next).1 bad.step, bad.not_lower)
 
-    step_up : (s : SwitchId) → HasEdgeUp noted.steps numbers s → HasBadStep t.update k class.first class.entry numbers s
+    step_up : (s : SwitchId) → HasEdgeUp noted.steps numbers s → HasBadStep (rollout t) k class.first class.entry numbers s
     step_up s up = record { next = up.0; step = (j.walked.steps s up.0).0 up.1; not_lower = up.2 }
 
     abbrev pub NoUp : Type 0
@@ -186,15 +187,15 @@ module _ (t : Task) (e : OrderedEvidence) (k n : ℕ) (class : Class) (numbers :
     abbrev pub around : Position → SwitchId → Type 0
     around = IsWayRound class.entry.switch (IsEdge noted.steps) (λ s. IsIn s noted.leaving)
 
-    no_drop : NoDrop → (s : SwitchId) → IsTrue duties.arrive → ¬ DropsAt t.update k class.first class.entry s
+    no_drop : NoDrop → (s : SwitchId) → IsTrue duties.arrive → ¬ DropsAt (rollout t) k class.first class.entry s
     no_drop none s arrive drops = none s (arrive, (j.walked.dropping s).1 drops)
 
-    bypass_of : (p : Position) (s : SwitchId) → around p s → IsBypassed t.update k class.first class.entry p s
-    bypass_of = way_along class.entry.switch (IsEdge noted.steps) (IsMixedStep t.update k class.first class.entry) (λ s. IsIn s noted.leaving) (MayLeave t.update k class.first class.entry)
+    bypass_of : (p : Position) (s : SwitchId) → around p s → IsBypassed (rollout t) k class.first class.entry p s
+    bypass_of = way_along class.entry.switch (IsEdge noted.steps) (IsMixedStep (rollout t) k class.first class.entry) (λ s. IsIn s noted.leaving) (MayLeave (rollout t) k class.first class.entry)
         (λ a b edge. (j.walked.steps a b).0 edge) (λ a i. (j.walked.leaving a).0 i)
 
-    way_of : (p : Position) (s : SwitchId) → IsBypassed t.update k class.first class.entry p s → around p s
-    way_of = way_along class.entry.switch (IsMixedStep t.update k class.first class.entry) (IsEdge noted.steps) (MayLeave t.update k class.first class.entry) (λ s. IsIn s noted.leaving)
+    way_of : (p : Position) (s : SwitchId) → IsBypassed (rollout t) k class.first class.entry p s → around p s
+    way_of = way_along class.entry.switch (IsMixedStep (rollout t) k class.first class.entry) (IsEdge noted.steps) (MayLeave (rollout t) k class.first class.entry) (λ s. IsIn s noted.leaving)
         (λ a b step. (j.walked.steps a b).1 step) (λ a leave. (j.walked.leaving a).1 leave)
 
     module _ (s : SwitchId) (least : IsLeastOf (HasEdgeUp noted.steps numbers) (Some s)) where
@@ -261,7 +262,7 @@ module _ (t : Task) (e : OrderedEvidence) (k n : ℕ) (class : Class) (numbers :
                 (record { round = refl; number = omega arith; class = refl }) none_before_way
 
           -- where nothing is wrong, the class has its certificate
-          pub certificate_of : AreGuardedBelow around (positions duties.chains sets) (length sets) → OrderedCertificate t.update e k n class.first class.entry (class_duties t class)
+          pub certificate_of : AreGuardedBelow around (positions duties.chains sets) (length sets) → OrderedCertificate (rollout t) e k n class.first class.entry (class_duties t class)
           certificate_of guarded = record {
             pick = j.force.pick;
             numbers = numbers;
@@ -279,7 +280,7 @@ module _ (t : Task) (e : OrderedEvidence) (k n : ℕ) (class : Class) (numbers :
               guarded = record {
                 count = same_count;
                 guards =
-                    guards_of class.entry.switch (IsMixedStep t.update k class.first class.entry) (MayLeave t.update k class.first class.entry) (positions duties.chains sets)
+                    guards_of class.entry.switch (IsMixedStep (rollout t) k class.first class.entry) (MayLeave (rollout t) k class.first class.entry) (positions duties.chains sets)
                     (λ i p s at bypassed.
                     let within = slice_get_within (positions duties.chains sets) i p at in
                     let all = length_positions duties.chains sets (omega arith) in
@@ -290,7 +291,7 @@ module _ (t : Task) (e : OrderedEvidence) (k n : ℕ) (class : Class) (numbers :
 
 -- a class that has its certificate gives no reason
 pub certified_gives_none : (t : Task) (e : OrderedEvidence) (k n : ℕ) (class : Class) → IsChain IsPickBefore e.picks → IsClass (classes_for t) n class
-    → OrderedCertificate t.update e k n class.first class.entry (class_duties t class) → (i : ℕ) (r : Reason) → IsOrderedReason t e i r → ¬ IsOfClasses k (λ m. m ≡ n) r
+    → OrderedCertificate (rollout t) e k n class.first class.entry (class_duties t class) → (i : ℕ) (r : Reason) → IsOrderedReason t e i r → ¬ IsOfClasses k (λ m. m ≡ n) r
 certified_gives_none t e k n class in_order is cert i r h at =
     let force : IsInForce e k n cert.numbers cert.sets = record { pick = cert.pick; in_force = cert.in_force; meant = cert.meant } in
     no_fault i r (fault_of t e k n class cert.numbers cert.sets in_order is force i r h at)
@@ -300,4 +301,4 @@ certified_gives_none t e k n class in_order is cert i r h at =
     no_fault i r (drops_at s arrive drops) = cert.safe.arrives arrive (record { place = drops.place; on_walk = drops.on_walk; drops = drops.drops })
     no_fault i r (other_count differ) = differ cert.safe.guarded.count
     no_fault i r (goes_round x s p stands bypassed) =
-        all_guarded class.entry.switch (IsMixedStep t.update k class.first class.entry) (MayLeave t.update k class.first class.entry) (positions (class_duties t class).chains cert.sets) cert.safe.guarded.guards x p s stands bypassed
+        all_guarded class.entry.switch (IsMixedStep (rollout t) k class.first class.entry) (MayLeave (rollout t) k class.first class.entry) (positions (class_duties t class).chains cert.sets) cert.safe.guarded.guards x p s stands bypassed

@@ -11,9 +11,10 @@ use Rattle.net_base.proofs.MemberLaws.{in_map, in_append_left, in_append_right, 
 use Rattle.net_base.proofs.NameLaws.{same_switch}
 use Rattle.dest_classes.specs.Classes.{ClassList, class_count, IsClass}
 use Rattle.dest_classes.specs.declared.Class.{Class}
-use Rattle.update_model.specs.Mixtures.{Update}
+use Rattle.update_model.specs.Mixtures.{Rollout}
 use Rattle.certificates.specs.Ordered.{OrderedCertificate}
-use Rattle.certificates.specs.Certified.{Task, classes_for}
+use Rattle.certificates.specs.Updates.{Task, rollout}
+use Rattle.certificates.specs.Certified.{classes_for}
 use Rattle.certificates.specs.Valid.{IsChain, IsPickBefore}
 use Rattle.certificates.specs.declared.OrderedEvidence.{OrderedEvidence}
 use Rattle.check_reasons.specs.Reasons.{class_duties}
@@ -61,7 +62,7 @@ marks_more marks xs x near are = record {
 }
 
 -- the marks of the switches that were walked hold the walks
-pub walks_marked : (u : Update) (k : ℕ) (class : Class) (noted : WalkState) (switches : List SwitchId) (marks : List Bool) → IsWalked u k class.first class.entry noted
+pub walks_marked : (u : Rollout) (k : ℕ) (class : Class) (noted : WalkState) (switches : List SwitchId) (marks : List Bool) → IsWalked u k class.first class.entry noted
     → ((s : SwitchId) → IsIn s switches ↔ IsIn s (switches_of noted.places)) → ((s : SwitchId) → IsTrue (is_marked marks s) ↔ IsIn s switches) → HoldsWalks u k class marks
 walks_marked u k class noted switches marks walked seen marked place on =
     (marked place.switch).1 ((seen place.switch).1 (in_map (λ (p : Place). p.switch) place noted.places ((walked.places place).1 on)))
@@ -107,7 +108,7 @@ module _ (t : Task) (e : OrderedEvidence) (k : ℕ) where
   -- the marks of the classes below this number hold their walks of round k
   abbrev AreWalkedBelow : ℕ → OrderedState → Type 0
   AreWalkedBelow below state =
-      (n : ℕ) (class : Class) (marks : List Bool) → n < below → slice_get state.classes n ≡ Some class → slice_get state.came n ≡ Some marks → HoldsWalks t.update k class marks
+      (n : ℕ) (class : Class) (marks : List Bool) → n < below → slice_get state.classes n ≡ Some class → slice_get state.came n ≡ Some marks → HoldsWalks (rollout t) k class marks
 
   -- the classes below this number were judged in round k: what was found of them, and what is kept
   pub record AreJudged (below : ℕ) (found : Option Reason) (old new : OrderedState) : Type 0 where
@@ -130,13 +131,13 @@ module _ (t : Task) (e : OrderedEvidence) (k : ℕ) where
 
   -- what judging a class leaves
   pub record IsJudgedOne (n : ℕ) (reason : Option Reason) (mid new : OrderedState) : Type 0 where
-    pub none : (class : Class) → slice_get mid.classes n ≡ Some class → IfNone reason (OrderedCertificate t.update e k n class.first class.entry (class_duties t class))
+    pub none : (class : Class) → slice_get mid.classes n ≡ Some class → IfNone reason (OrderedCertificate (rollout t) e k n class.first class.entry (class_duties t class))
     pub some : IfSome reason (IsFirstOfClass t e k n)
     pub picks : new.picks ≡ mid.picks
     pub classes : new.classes ≡ mid.classes
     pub count : length new.came ≡ length mid.came
     pub others : (m : ℕ) → m ≢ n → slice_get new.came m ≡ slice_get mid.came m
-    pub walks : IfNone reason ((class : Class) (marks : List Bool) → slice_get new.classes n ≡ Some class → slice_get new.came n ≡ Some marks → HoldsWalks t.update k class marks)
+    pub walks : IfNone reason ((class : Class) (marks : List Bool) → slice_get new.classes n ≡ Some class → slice_get new.came n ≡ Some marks → HoldsWalks (rollout t) k class marks)
 
   pub judged_more : (n : ℕ) (found reason : Option Reason) (old mid new : OrderedState) → IsChain IsPickBefore e.picks → AreClasses (classes_for t) old.classes → n < class_count (classes_for t)
       → AreJudged n found old mid → IsJudgedOne n reason mid new → AreJudged (n + 1) (first_of found reason) old new
@@ -150,7 +151,7 @@ module _ (t : Task) (e : OrderedEvidence) (k : ℕ) where
         count = one.count ∙ so.count;
         later = λ m le. one.others m (λ same. omega arith) ∙ so.later m (omega arith);
         walked = none_more found reason (AreWalkedBelow n mid)
-            ((class : Class) (marks : List Bool) → slice_get new.classes n ≡ Some class → slice_get new.came n ≡ Some marks → HoldsWalks t.update k class marks) (AreWalkedBelow (n + 1) new) so.walked one.walks
+            ((class : Class) (marks : List Bool) → slice_get new.classes n ≡ Some class → slice_get new.came n ≡ Some marks → HoldsWalks (rollout t) k class marks) (AreWalkedBelow (n + 1) new) so.walked one.walks
             (λ below this m other marks lt is came.
             elim (cases_lt m n) [
               | inl less ↦ below m other marks less (ap (λ (cs : List Class). slice_get cs m) (sym one.classes) ∙ is) (sym (one.others m (λ same. omega arith)) ∙ came)
@@ -169,14 +170,14 @@ module _ (t : Task) (e : OrderedEvidence) (k : ℕ) where
       came = judged.count ∙ room.came;
     }
 
-    pub still_before : WalksStand t.update k old → (class : Class) (marks : List Bool) → slice_get new.classes below ≡ Some class → slice_get new.came below ≡ Some marks → HoldsWalksBefore t.update k class marks
+    pub still_before : WalksStand (rollout t) k old → (class : Class) (marks : List Bool) → slice_get new.classes below ≡ Some class → slice_get new.came below ≡ Some marks → HoldsWalksBefore (rollout t) k class marks
     still_before stand class marks is came =
         stand below class marks (ap (λ (cs : List Class). slice_get cs below) (sym judged.classes) ∙ is) (sym (judged.later below (omega arith)) ∙ came)
 
   -- after all classes
-  pub walks_after : (found : Option Reason) (old new : OrderedState) → HasClassRoom (classes_for t) old → AreJudged (class_count (classes_for t)) found old new → IfNone found (WalksStand t.update (suc k) new)
+  pub walks_after : (found : Option Reason) (old new : OrderedState) → HasClassRoom (classes_for t) old → AreJudged (class_count (classes_for t)) found old new → IfNone found (WalksStand (rollout t) (suc k) new)
   walks_after found old new room judged =
-      none_then found (AreWalkedBelow (class_count (classes_for t)) new) (WalksStand t.update (suc k) new) judged.walked
+      none_then found (AreWalkedBelow (class_count (classes_for t)) new) (WalksStand (rollout t) (suc k) new) judged.walked
       (λ below n class marks is came.
       let within = slice_get_within new.classes n class is in
       let count = ap (λ (cs : List Class). length cs) judged.classes ∙ room.classes_are.count in

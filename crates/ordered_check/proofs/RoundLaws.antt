@@ -5,7 +5,8 @@ use Rattle.dest_classes.specs.Classes.{IsClass, class_count}
 use Rattle.dest_classes.specs.declared.Class.{Class}
 use Rattle.dest_classes.proofs.MapLaws.{class_is, number_fits}
 use Rattle.certificates.specs.Ordered.{OrderedCertificate}
-use Rattle.certificates.specs.Certified.{Task, classes_for}
+use Rattle.certificates.specs.Updates.{Task, rollout}
+use Rattle.certificates.specs.Certified.{classes_for}
 use Rattle.certificates.specs.Valid.{IsChain, IsPickBefore}
 use Rattle.certificates.specs.declared.OrderedEvidence.{OrderedEvidence}
 use Rattle.certificates.specs.declared.Evidence.TheVariants.{Ordered}
@@ -53,7 +54,7 @@ module _ (t : Task) (e : OrderedEvidence) where
   -- ---- class by class
 
   -- where no pick is in force, that is the first reason of the class
-  pub no_numbering_first : (k n : ℕ) (class : Class) → IsClass (classes_for t) n class → k < length t.update.rounds → IsKeptPick e.picks (suc k) n None → IsFirstOfClass t e k n (NoNumbering (suc k) n)
+  pub no_numbering_first : (k n : ℕ) (class : Class) → IsClass (classes_for t) n class → k < length t.rounds → IsKeptPick e.picks (suc k) n None → IsFirstOfClass t e k n (NoNumbering (suc k) n)
   no_numbering_first k n class is few none = record {
     position = 0;
     holds = no_numbering k n class (record { within = few; is = is }) (λ pick force. none pick force.stands force.of_class force.begun);
@@ -63,15 +64,15 @@ module _ (t : Task) (e : OrderedEvidence) where
 
   module _ (in_order : IsChain IsPickBefore e.picks) (k n : ℕ) (class : Class) (is : IsClass (classes_for t) n class) where
     -- the certificates of the classes so far, and of the next
-    certified_more : IsFoundBelow t e k n None → OrderedCertificate t.update e k n class.first class.entry (class_duties t class) → IsFoundBelow t e k (n + 1) None
+    certified_more : IsFoundBelow t e k n None → OrderedCertificate (rollout t) e k n class.first class.entry (class_duties t class) → IsFoundBelow t e k (n + 1) None
     certified_more so_far cert m other lt was =
         elim (cases_lt m n) [
           | inl less ↦ so_far m other less was
           | inr ge ↦
               let here : m ≡ n = omega arith in
               let same : class ≡ other = class_is (classes_for t) n class other is (subst (λ x. IsClass (classes_for t) x other) here was) in
-              subst (λ x. OrderedCertificate t.update e k x other.first other.entry (class_duties t other)) (sym here)
-              (subst (λ (c : Class). OrderedCertificate t.update e k n c.first c.entry (class_duties t c)) same cert)
+              subst (λ x. OrderedCertificate (rollout t) e k x other.first other.entry (class_duties t other)) (sym here)
+              (subst (λ (c : Class). OrderedCertificate (rollout t) e k n c.first c.entry (class_duties t c)) same cert)
         ]
 
     -- a reason of the classes so far and of the next
@@ -84,7 +85,7 @@ module _ (t : Task) (e : OrderedEvidence) where
         ]
 
     -- the first reason so far stays where the next class has its certificate
-    first_stays : (reason : Reason) → IsFirstAmong t e k (λ m. m < n) reason → OrderedCertificate t.update e k n class.first class.entry (class_duties t class) → IsFirstAmong t e k (λ m. m < n + 1) reason
+    first_stays : (reason : Reason) → IsFirstAmong t e k (λ m. m < n) reason → OrderedCertificate (rollout t) e k n class.first class.entry (class_duties t class) → IsFirstAmong t e k (λ m. m < n + 1) reason
     first_stays reason f cert = record {
       position = f.position;
       holds = f.holds;
@@ -151,7 +152,7 @@ module _ (t : Task) (e : OrderedEvidence) where
       }
 
     -- what was found of the classes so far and of the next
-    pub found_more : (found reason : Option Reason) → IsFoundBelow t e k n found → IfNone reason (OrderedCertificate t.update e k n class.first class.entry (class_duties t class)) → IfSome reason (IsFirstOfClass t e k n)
+    pub found_more : (found reason : Option Reason) → IsFoundBelow t e k n found → IfNone reason (OrderedCertificate (rollout t) e k n class.first class.entry (class_duties t class)) → IfSome reason (IsFirstOfClass t e k n)
         → IsFoundBelow t e k (n + 1) (first_of found reason)
     found_more None None so_far cert first = certified_more so_far cert
     found_more None (Some reason) so_far cert first = first_comes reason so_far first

@@ -20,10 +20,11 @@ use Rattle.dest_classes.specs.Classes.{IsClass}
 use Rattle.dest_classes.specs.declared.Class.{Class}
 use Rattle.demands.specs.Duties.{PacketDuties}
 use Rattle.update_model.specs.Changes.{switch_of, rule_of, changes_at, round_after, IsGoodRound}
-use Rattle.update_model.specs.Mixtures.{Update, tables_before, MayHold, IsPossible, IsOnMixedWalk}
+use Rattle.update_model.specs.Mixtures.{Rollout, tables_before, MayHold, IsPossible, IsOnMixedWalk}
 use Rattle.update_model.specs.declared.Change.{Change}
 use Rattle.certificates.specs.Ordered.{IsSafe, IsPickInForce, IsMeant, OrderedCertificate}
-use Rattle.certificates.specs.Certified.{Task, classes_for}
+use Rattle.certificates.specs.Updates.{Task, rollout}
+use Rattle.certificates.specs.Certified.{classes_for}
 use Rattle.certificates.specs.Valid.{IsValidOrdered, IsValidPick}
 use Rattle.certificates.specs.declared.OrderedPick.{OrderedPick}
 use Rattle.certificates.specs.declared.OrderedEvidence.{OrderedEvidence}
@@ -63,7 +64,7 @@ misses c class marks place vlan marked here off =
 
 -- ---- a round whose changes aren't met on the walks of the round before
 
-module _ (u : Update) (k : ℕ) (class : Class) (marks : List Bool) (less : suc k < length u.rounds) (good_before : IsGoodRound (tables_before u k) (round_after k u.rounds))
+module _ (u : Rollout) (k : ℕ) (class : Class) (marks : List Bool) (less : suc k < length u.rounds) (good_before : IsGoodRound (tables_before u k) (round_after k u.rounds))
     (good : IsGoodRound (tables_before u (suc k)) (round_after (suc k) u.rounds)) (clear : (s : SwitchId) (mixed : List Rule) → MayHold u (suc k) s mixed → IsClear mixed)
     (keeps_old : TablesKeepVlans u.old) (keeps : KeepVlansUpTo u k) (held : HoldsWalks u k class marks) (off : touches_walk (round_after (suc k) u.rounds) class marks ≡ false) where
   none_covers : (place : Place) → IsOnMixedWalk u k class.first class.entry place → NoneCovers u (suc k) class.first place
@@ -84,7 +85,7 @@ module _ (u : Update) (k : ℕ) (class : Class) (marks : List Bool) (less : suc 
   walks_still place on = held place (was_on_walk u u k (suc k) class.first class.entry was place on)
 
 -- what keeps a class safe in a round keeps it safe in the next, where all that is possible was possible
-pub still_safe : (u : Update) (k dst : ℕ) (entry : Place) → ((place : Place) (found : Outcome) → IsPossible u (suc k) dst place found → IsPossible u k dst place found)
+pub still_safe : (u : Rollout) (k dst : ℕ) (entry : Place) → ((place : Place) (found : Outcome) → IsPossible u (suc k) dst place found → IsPossible u k dst place found)
     → (duties : PacketDuties) (numbers : List ℕ) (sets : List (List ℕ)) → IsSafe u k dst entry duties numbers sets → IsSafe u (suc k) dst entry duties numbers sets
 still_safe u k dst entry was_there = was_safe u u k (suc k) dst entry (λ place on. was_there place)
 
@@ -100,24 +101,24 @@ force_before picks round n pick force begun = record {
 }
 
 -- the rounds up to one neither set nor strip
-pub rounds_keep : (t : Task) (e : OrderedEvidence) (k : ℕ) → RoundsPass t (Ordered e) k → ChangesPass t (Ordered e) k → KeepVlansUpTo t.update k
+pub rounds_keep : (t : Task) (e : OrderedEvidence) (k : ℕ) → RoundsPass t (Ordered e) k → ChangesPass t (Ordered e) k → KeepVlansUpTo (rollout t) k
 rounds_keep t e k before pass j le =
     elim (cases_lt j k) [
       | inl less ↦ (before j less).0.keeps
-      | inr ge ↦ let same : k ≡ j = omega arith in subst (λ i. RoundKeepsVlans (Ordered e) (round_after i t.update.rounds)) same pass.keeps
+      | inr ge ↦ let same : k ≡ j = omega arith in subst (λ i. RoundKeepsVlans (Ordered e) (round_after i t.rounds)) same pass.keeps
     ]
 
 pub certificate_stands : (t : Task) (e : OrderedEvidence) (k n : ℕ) (class : Class) (pick : OrderedPick) (marks : List Bool) → IsUserConfig t.update.net t.update.old
-    → IsValidOrdered t.update.net (length t.update.rounds) e → k < length t.update.rounds → RoundsPass t (Ordered e) k → ChangesPass t (Ordered e) k → IsClass (classes_for t) n class
-    → IsPickInForce e.picks (suc k) n pick → pick.round ≤ k → HoldsWalksBefore t.update k class marks → touches_walk (round_after k t.update.rounds) class marks ≡ false
-    → OrderedCertificate t.update e k n class.first class.entry (class_duties t class) × HoldsWalks t.update k class marks
+    → IsValidOrdered t.update.net (length t.rounds) e → k < length t.rounds → RoundsPass t (Ordered e) k → ChangesPass t (Ordered e) k → IsClass (classes_for t) n class
+    → IsPickInForce e.picks (suc k) n pick → pick.round ≤ k → HoldsWalksBefore (rollout t) k class marks → touches_walk (round_after k t.rounds) class marks ≡ false
+    → OrderedCertificate (rollout t) e k n class.first class.entry (class_duties t class) × HoldsWalks (rollout t) k class marks
 certificate_stands t e zero n class pick marks user valid within before pass is force begun held off =
-    absurd (let first = (each_at (IsValidPick (length t.update.rounds) (length e.uses)) e.picks pick valid.picks force.stands).0 in omega arith)
+    absurd (let first = (each_at (IsValidPick (length t.rounds) (length e.uses)) e.picks pick valid.picks force.stands).0 in omega arith)
 certificate_stands t e (suc k) n class pick marks user valid within before pass is force begun held off =
     let (changes, classes) = before k (omega arith) in
     let cert = classes n class is in
     let same : cert.pick ≡ pick = one_in_force e.picks valid.ascending (suc k) n cert.pick pick cert.in_force (force_before e.picks (suc k) n pick force begun) in
-    let keeps : KeepVlansUpTo t.update k = rounds_keep t e k (λ j less. before j (omega arith)) changes in
+    let keeps : KeepVlansUpTo (rollout t) k = rounds_keep t e k (λ j less. before j (omega arith)) changes in
     let keeps_old = tables_keep t.update.net t.update.old user in (
       record {
         pick = pick;
@@ -125,15 +126,15 @@ certificate_stands t e (suc k) n class pick marks user valid within before pass 
         sets = cert.sets;
         in_force = force;
         meant = subst (λ (p : OrderedPick). IsMeant e p cert.numbers cert.sets) same cert.meant;
-        safe = safe_still t.update k class marks within changes.good pass.good pass.clear keeps_old keeps held off (class_duties t class) cert.numbers cert.sets cert.safe;
+        safe = safe_still (rollout t) k class marks within changes.good pass.good pass.clear keeps_old keeps held off (class_duties t class) cert.numbers cert.sets cert.safe;
       },
-      walks_still t.update k class marks within changes.good pass.good pass.clear keeps_old keeps held off,
+      walks_still (rollout t) k class marks within changes.good pass.good pass.clear keeps_old keeps held off,
     )
 
 -- the same for what is kept of the pick in force
 pub class_stands : (t : Task) (e : OrderedEvidence) (k n : ℕ) (class : Class) (in_force : Option OrderedPick) (marks : List Bool) → IsUserConfig t.update.net t.update.old
-    → IsValidOrdered t.update.net (length t.update.rounds) e → k < length t.update.rounds → RoundsPass t (Ordered e) k → ChangesPass t (Ordered e) k → IsClass (classes_for t) n class
-    → IsKeptPick e.picks (suc k) n in_force → IsSomeAnd in_force (λ pick. pick.round ≤ k) → HoldsWalksBefore t.update k class marks → touches_walk (round_after k t.update.rounds) class marks ≡ false
-    → OrderedCertificate t.update e k n class.first class.entry (class_duties t class) × HoldsWalks t.update k class marks
+    → IsValidOrdered t.update.net (length t.rounds) e → k < length t.rounds → RoundsPass t (Ordered e) k → ChangesPass t (Ordered e) k → IsClass (classes_for t) n class
+    → IsKeptPick e.picks (suc k) n in_force → IsSomeAnd in_force (λ pick. pick.round ≤ k) → HoldsWalksBefore (rollout t) k class marks → touches_walk (round_after k t.rounds) class marks ≡ false
+    → OrderedCertificate (rollout t) e k n class.first class.entry (class_duties t class) × HoldsWalks (rollout t) k class marks
 class_stands t e k n class None marks user valid within before pass is kept begun held off = absurd begun
 class_stands t e k n class (Some pick) marks user valid within before pass is kept begun held off = certificate_stands t e k n class pick marks user valid within before pass is kept begun held off

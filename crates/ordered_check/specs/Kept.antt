@@ -7,7 +7,7 @@ use Rattle.net_base.specs.declared.ids.Place.{Place}
 use Rattle.dest_classes.specs.Classes.{ClassList, class_count, IsClass}
 use Rattle.dest_classes.specs.declared.Class.{Class}
 use Rattle.update_model.specs.Changes.{switch_of}
-use Rattle.update_model.specs.Mixtures.{Update, IsOnMixedWalk}
+use Rattle.update_model.specs.Mixtures.{Rollout, IsOnMixedWalk}
 use Rattle.update_model.specs.declared.Change.{Change}
 use Rattle.check_reasons.specs.Touched.{may_cover}
 use Rattle.ordered_check.specs.Picks.{PicksState, HasPickRoom}
@@ -34,16 +34,16 @@ pub record HasClassRoom (classes : ClassList) (state : OrderedState) : Type 0 wh
   pub came : length state.came ≡ class_count classes
 
 -- each switch that a mixed walk of the class comes to in round k is marked
-abbrev pub HoldsWalks : Update → ℕ → Class → List Bool → Type 0
+abbrev pub HoldsWalks : Rollout → ℕ → Class → List Bool → Type 0
 HoldsWalks u k class marks = (place : Place) → IsOnMixedWalk u k class.first class.entry place → IsTrue (is_marked marks place.switch)
 
 -- the same for the round before round k; before the first round nothing is asked for
-abbrev pub HoldsWalksBefore : Update → ℕ → Class → List Bool → Type 0
+abbrev pub HoldsWalksBefore : Rollout → ℕ → Class → List Bool → Type 0
 HoldsWalksBefore u zero class marks = Unit {0}
 HoldsWalksBefore u (suc k) class marks = HoldsWalks u k class marks
 
 -- the marks of each class hold its walks of the round before round k
-abbrev pub WalksStand : Update → ℕ → OrderedState → Type 0
+abbrev pub WalksStand : Rollout → ℕ → OrderedState → Type 0
 WalksStand u k state =
     (n : ℕ) (class : Class) (marks : List Bool) → slice_get state.classes n ≡ Some class → slice_get state.came n ≡ Some marks → HoldsWalksBefore u k class marks
 

@@ -1,4 +1,5 @@
 // One class of a round of an ordered plan.
+ghost use Rattle.certificates.specs.Updates.{rollout};
 ghost use Rattle.std.specs.Prelude.{◌<◌, suc, length, IsTrue, IfSome, IfNone};
 ghost use Rattle.net_base.specs.Members.{IsIn};
 ghost use Rattle.topology.specs.Networks.{switch_count};
@@ -43,12 +44,12 @@ pub(crate) fn first_of_class(
     pick: OrderedPick,
 ) -> Option<Reason>
     requires class { IsNumbered (classes_for of.now.task) numbered }
-    requires round { k < length of.now.task.update.rounds }
+    requires round { k < length of.now.task.rounds }
     requires in_force { IsPickInForce of.now.evidence.picks (suc k) numbered.number pick }
-    requires walked { IsWalked of.now.task.update k numbered.class.first numbered.class.entry walk.now }
+    requires walked { IsWalked (rollout of.now.task) k numbered.class.first numbered.class.entry walk.now }
     requires entry { numbered.class.entry.switch.0 < switch_count of.now.task.update.net }
-    ensures none { IfNone result (OrderedCertificate of.now.task.update of.now.evidence k numbered.number numbered.class.first numbered.class.entry
-        (duties_of of.now.task.demands numbered.class.entry numbered.class.first)) }
+    ensures none { IfNone result (OrderedCertificate (rollout of.now.task) of.now.evidence k numbered.number numbered.class.first numbered.class.entry
+        (duties_of of.now.task.update.demands numbered.class.entry numbered.class.first)) }
     ensures some { IfSome result (IsFirstOfClass of.now.task of.now.evidence k numbered.number) }
 {
     of.keeps_valid();

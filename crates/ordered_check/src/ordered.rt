@@ -1,4 +1,5 @@
 // The classes of the rounds of an ordered plan.
+ghost use Rattle.certificates.specs.Updates.{rollout};
 ghost use Rattle.std.specs.Prelude.{◌≡◌, ◌≢◌, ◌↔◌, ℕ, ◌<◌, ◌≤◌, suc, true, false, List, Bool, length, All, IsTrue, IsSomeAnd, slice_get, Some, IfOk, IfSome, IfNone};
 ghost use Rattle.net_base.specs.Members.{IsIn};
 ghost use Rattle.net_base.specs.declared.ids.SwitchId.{SwitchId};
@@ -131,7 +132,7 @@ fn is_unchanged(
 fn walk_class(walk: &mut WalkRoom, of: &OrderedCase, round: &PreparedRound, numbered: NumberedClass)
     requires class { IsNumbered (classes_for of.now.task) numbered }
     requires round { IsRound of.now.task of.now.evidence round.now.number round.now.changes.now round.now.mixes.now }
-    ensures { IsWalked of.now.task.update round.now.number numbered.class.first numbered.class.entry walk.new }
+    ensures { IsWalked (rollout of.now.task) round.now.number numbered.class.first numbered.class.entry walk.new }
 {
     of.keeps_valid();
     let case = of.case;
@@ -152,7 +153,7 @@ fn judge_class(
     requires in_force { IsKeptPick of.now.evidence.picks (suc round.now.number) numbered.number in_force }
     ensures none { IfNone result (HasCertificate of.now.task (Ordered of.now.evidence) round.now.number numbered.number numbered.class) }
     ensures some { IfSome result (IsFirstOfClass of.now.task of.now.evidence round.now.number numbered.number) }
-    ensures walked { IfNone result (IsWalked of.now.task.update round.now.number numbered.class.first numbered.class.entry walk.new) }
+    ensures walked { IfNone result (IsWalked (rollout of.now.task) round.now.number numbered.class.first numbered.class.entry walk.new) }
 {
     of.keeps_valid();
     let Some(pick) = in_force else {
@@ -182,7 +183,7 @@ impl OrderedRoom {
     pub fn start(&mut self, of: &OrderedCase)
         requires { HasClassRoom (classes_for of.now.task) self.old }
         ensures stands { PicksStand of.now.evidence.picks 0 self.new.picks }
-        ensures walks { WalksStand of.now.task.update 0 self.new }
+        ensures walks { WalksStand (rollout of.now.task) 0 self.new }
         ensures room { HasClassRoom (classes_for of.now.task) self.new }
     {
         of.keeps_valid();
@@ -201,7 +202,7 @@ impl OrderedRoom {
         requires stands { PicksStand of.now.evidence.picks (suc round.now.number) self.old.picks }
         requires room { HasClassRoom (classes_for of.now.task) self.old }
         requires walks { (class : Class) (marks : List Bool) → slice_get self.old.classes number ≡ Some class → slice_get self.old.came number ≡ Some marks
-            → HoldsWalksBefore of.now.task.update round.now.number class marks }
+            → HoldsWalksBefore (rollout of.now.task) round.now.number class marks }
         ensures none { (class : Class) → slice_get self.old.classes number ≡ Some class
             → IfNone result (HasCertificate of.now.task (Ordered of.now.evidence) round.now.number number class) }
         ensures some { IfSome result (IsFirstOfClass of.now.task of.now.evidence round.now.number number) }
@@ -210,7 +211,7 @@ impl OrderedRoom {
         ensures count { length self.new.came ≡ length self.old.came }
         ensures others { (n : ℕ) → n ≢ number → slice_get self.new.came n ≡ slice_get self.old.came n }
         ensures walks { IfNone result ((class : Class) (marks : List Bool) → slice_get self.new.classes number ≡ Some class → slice_get self.new.came number ≡ Some marks
-            → HoldsWalks of.now.task.update round.now.number class marks) }
+            → HoldsWalks (rollout of.now.task) round.now.number class marks) }
     {
         of.keeps_valid();
         let place = number as usize;
@@ -231,11 +232,11 @@ impl OrderedRoom {
         requires round { IsRound of.now.task of.now.evidence round.now.number round.now.changes.now round.now.mixes.now }
         requires stands { PicksStand of.now.evidence.picks (suc round.now.number) self.old.picks }
         requires room { HasClassRoom (classes_for of.now.task) self.old }
-        requires walks { WalksStand of.now.task.update round.now.number self.old }
+        requires walks { WalksStand (rollout of.now.task) round.now.number self.old }
         ensures found { IsFoundBelow of.now.task of.now.evidence round.now.number (class_count (classes_for of.now.task)) result }
         ensures picks { self.new.picks ≡ self.old.picks }
         ensures room { HasClassRoom (classes_for of.now.task) self.new }
-        ensures walks { IfNone result (WalksStand of.now.task.update (suc round.now.number) self.new) }
+        ensures walks { IfNone result (WalksStand (rollout of.now.task) (suc round.now.number) self.new) }
     {
         of.keeps_valid();
         let mut found = None;
@@ -251,17 +252,17 @@ impl OrderedRoom {
     /// where a change of the round is at a switch that its walk of then came to, its prefix holds the class's address, and
     /// its VLAN test admits the VLAN of the class's entry; or the round has more than 64 changes.
     pub fn judge_round(&mut self, of: &OrderedCase, mixes: &[Mixed], k: usize) -> Option<Reason>
-        requires round { k < length of.now.task.update.rounds }
-        requires loaded { AreLoaded of.now.task.update k mixes.now }
+        requires round { k < length of.now.task.rounds }
+        requires loaded { AreLoaded (rollout of.now.task) k mixes.now }
         requires before { RoundsPass of.now.task (Ordered of.now.evidence) k }
         requires pass { ChangesPass of.now.task (Ordered of.now.evidence) k }
         requires stands { PicksStand of.now.evidence.picks k self.old.picks }
-        requires walks { WalksStand of.now.task.update k self.old }
+        requires walks { WalksStand (rollout of.now.task) k self.old }
         requires room { HasClassRoom (classes_for of.now.task) self.old }
         ensures none { IfNone result (ClassesPass of.now.task (Ordered of.now.evidence) k) }
         ensures some { IfSome result (IsFirstFrom of.now.task (Ordered of.now.evidence) (classes_start k)) }
         ensures stands { PicksStand of.now.evidence.picks (suc k) self.new.picks }
-        ensures walks { IfNone result (WalksStand of.now.task.update (suc k) self.new) }
+        ensures walks { IfNone result (WalksStand (rollout of.now.task) (suc k) self.new) }
         ensures room { HasClassRoom (classes_for of.now.task) self.new }
     {
         of.keeps_valid();

@@ -5,9 +5,9 @@ use Rattle.net_base.specs.Places.{stop_of}
 use Rattle.net_base.specs.declared.ids.Place.{Place}
 use Rattle.net_base.specs.declared.ids.Stop.{Stop}
 use Rattle.topology.specs.Networks.{Network}
-use Rattle.flow_rules.specs.Tables.{rules_at}
+use Rattle.flow_rules.specs.Tables.{rules_at, lookup}
 use Rattle.flow_rules.specs.declared.rules.Rule.{Rule}
-use Rattle.path_walk.specs.Outcomes.{outcome}
+use Rattle.path_walk.specs.Outcomes.{acted}
 use Rattle.path_walk.specs.declared.Outcome.{Outcome}
 use Rattle.path_walk.specs.declared.Outcome.TheVariants.{Discard, Leave, Go}
 use Rattle.path_walk.specs.declared.Ended.{Ended}
@@ -26,7 +26,7 @@ ended_by place (Go next) = UnderWay
 
 -- the outcome at a place, in the tables of all switches
 abbrev pub outcome_in : Network → List (List Rule) → Place → ℕ → Outcome
-outcome_in net tables place dst = outcome net (rules_at tables place.switch) place dst
+outcome_in net tables place dst = acted net place (lookup (record { port = place.port; vlan = place.vlan; dst = dst }) (rules_at tables place.switch))
 
 -- the tables send a packet to the address from the one place to the next
 abbrev pub Forwards : Network → List (List Rule) → ℕ → Place → Place → Type 0
@@ -35,14 +35,13 @@ Forwards net tables dst place next = outcome_in net tables place dst ≡ Go next
 -- a trace that ended: the packet left or was dropped
 abbrev pub IsEnd : Ended → Type 0
 IsEnd UnderWay = ⊥
-IsEnd (Left switch port vlan) = Unit {0}
-IsEnd (Dropped switch) = Unit {0}
 IsEnd Lost = ⊥
+IsEnd _ = Unit {0}
 
 -- the path of an entry and an address in the tables: outcomes followed until one leaves or discards
 pub record IsPath (net : Network) (tables : List (List Rule)) (entry : Place) (dst : ℕ) (trace : Trace) : Type 0 where
   pub rest : List Place
-  pub walk : IsWalk (Forwards net tables dst) entry rest
+  pub walk : IsWalk (λ place next. outcome_in net tables place dst ≡ Go next) entry rest
   pub stops : trace.stops ≡ map stop_of (entry ∷ rest)
   pub ended : trace.ended ≡ ended_by (end_of entry rest) (outcome_in net tables (end_of entry rest) dst)
   pub ends : IsEnd trace.ended

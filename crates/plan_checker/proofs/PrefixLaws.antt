@@ -14,7 +14,8 @@ use Rattle.dest_classes.specs.Classes.{classes_of}
 use Rattle.topology.specs.Networks.{Network}
 use Rattle.update_model.specs.Changes.{rule_of, round_blocks, round_after}
 use Rattle.update_model.specs.declared.Change.{Change}
-use Rattle.certificates.specs.Certified.{Task, blocks_of, classes_for}
+use Rattle.certificates.specs.Updates.{Task}
+use Rattle.certificates.specs.Certified.{blocks_of, classes_for}
 
 -- the prefixes of some tables and of one more
 pub blocks_next : (tables : List TableState) (n : ℕ) (t : TableState) → slice_get tables n ≡ Some t
@@ -39,9 +40,9 @@ each_there [] blocks there = tt
 each_there (d ∷ demands) blocks there = (there d.dst (inl refl), each_there demands blocks (λ b i. there b (inr i)))
 
 -- the demands' prefixes are among those of an update
-pub covered : (t : Task) → AreCovered t.demands (classes_for t)
+pub covered : (t : Task) → AreCovered t.update.demands (classes_for t)
 covered t =
-    let tables = table_blocks t.update.old ++ table_blocks t.new in
-    let demanded = map (λ (d : DemandView). d.dst) t.demands in
-    each_there t.demands (blocks_of t.update.old t.new t.demands t.update.rounds)
-    (λ b i. in_append_left b (tables ++ demanded) (round_blocks t.update.rounds) (in_append_right b tables demanded i))
+    let tables = table_blocks t.update.old ++ table_blocks t.update.new in
+    let demanded = map (λ (d : DemandView). d.dst) t.update.demands in
+    each_there t.update.demands (blocks_of t.update.old t.update.new t.update.demands t.rounds)
+    (λ b i. in_append_left b (tables ++ demanded) (round_blocks t.rounds) (in_append_right b tables demanded i))

@@ -27,13 +27,14 @@ use Rattle.topology.specs.Networks.{Network}
 use Rattle.config_check.specs.declared.Breaks.{Breaks}
 use Rattle.topology.specs.Networks.{capacity_of}
 use Rattle.update_model.specs.Changes.{switch_of, rule_of, Applies, entry_named, round_after, changes_at, settled_tables, tables_after, IsGoodRound}
-use Rattle.update_model.specs.Mixtures.{Update, tables_before, need_of, is_insert}
+use Rattle.update_model.specs.Mixtures.{Rollout, tables_before, need_of, is_insert}
 use Rattle.update_model.specs.declared.Change.{Change}
 use Rattle.update_model.proofs.ChangeLaws.{length-tables_after}
 use Rattle.certificates.specs.Ordered.{IsMeant, IsSafe, Position, positions, IsPickInForce}
 use Rattle.waypoint_evidence.specs.Befores.{Holds, IsFirst, IsGuard}
 use Rattle.certificates.specs.Steps.{IsMixedStep, MayLeave, MayDrop}
-use Rattle.certificates.specs.Certified.{Task, KeepsVlan, classes_for}
+use Rattle.certificates.specs.Updates.{Task, rollout}
+use Rattle.certificates.specs.Certified.{KeepsVlan, classes_for}
 use Rattle.certificates.specs.TwoPhase.{TwoPhaseCertificate, tables_of, Agrees, carrying, outcome_carrying}
 use Rattle.certificates.specs.Valid.{IsChain, IsPickBefore}
 use Rattle.certificates.specs.declared.OrderedPick.{OrderedPick}
@@ -62,7 +63,7 @@ within_rounds rounds k c i =
       | inr past ↦ absurd (subst (λ round. IsIn c round) (get_or_past rounds k [] past) i)
     ]
 
-module _ (u : Update) (k : ℕ) (good : IsGoodRound (tables_before u k) (round_after k u.rounds)) where
+module _ (u : Rollout) (k : ℕ) (good : IsGoodRound (tables_before u k) (round_after k u.rounds)) where
   named_once : (i j : ℕ) (c d : Change) → slice_get (round_after k u.rounds) i ≡ Some c → slice_get (round_after k u.rounds) j ≡ Some d → entry_named d ≡ entry_named c → i ≡ j
   named_once i j c d at other same =
       let names = map entry_named (round_after k u.rounds) in
@@ -83,7 +84,7 @@ length-settled [] k tables = refl
 length-settled (round ∷ rounds) zero tables = refl
 length-settled (round ∷ rounds) (suc k) tables = length-settled rounds k (tables_after round tables) ∙ length-tables_after round tables
 
-module _ (u : Update) (k : ℕ) (count : length u.old ≡ switch_count u.net) (good : IsGoodRound (tables_before u k) (round_after k u.rounds)) (s : SwitchId) (past : switch_count u.net ≤ s.0) where
+module _ (u : Rollout) (k : ℕ) (count : length u.old ≡ switch_count u.net) (good : IsGoodRound (tables_before u k) (round_after k u.rounds)) (s : SwitchId) (past : switch_count u.net ≤ s.0) where
   none_there : changes_at s (round_after k u.rounds) ≡ []
   none_there =
       empty_from_none (changes_at s (round_after k u.rounds)) (λ c i.
@@ -102,47 +103,47 @@ module _ (u : Update) (k : ℕ) (count : length u.old ≡ switch_count u.net) (g
       ∙ ap (λ cs. 0 + length (filter is_insert cs)) none_there
 
 module _ (t : Task) (evidence : Evidence) (k : ℕ) (pass : ChangesPass t evidence k) where
-  pub unclear_refuted : (s : SwitchId) → ¬ IsUnclear t.update k s
+  pub unclear_refuted : (s : SwitchId) → ¬ IsUnclear (rollout t) k s
   unclear_refuted s h = h.unclear (pass.clear s h.mixed h.held)
 
-  pub need_fits : length t.update.old ≡ switch_count t.update.net → (s : SwitchId) → need_of t.update k s ≤ capacity_of t.update.net s
+  pub need_fits : length t.update.old ≡ switch_count t.update.net → (s : SwitchId) → need_of (rollout t) k s ≤ capacity_of t.update.net s
   need_fits count s =
       elim (cases_lt s.0 (switch_count t.update.net)) [
         | inl less ↦ pass.fits s less
-        | inr past ↦ (let e = need_past t.update k count pass.good s past in omega arith)
+        | inr past ↦ (let e = need_past (rollout t) k count pass.good s past in omega arith)
       ]
 
-pub rewrite_refuted : (t : Task) (e : OrderedEvidence) (k : ℕ) → ChangesPass t (Ordered e) k → (s : SwitchId) → ¬ HasRewrite t.update k s
-rewrite_refuted t e k pass s h = h.rewrites (each_at (λ c. KeepsVlan (rule_of c).action) (round_after k t.update.rounds) h.change pass.keeps h.stands)
+pub rewrite_refuted : (t : Task) (e : OrderedEvidence) (k : ℕ) → ChangesPass t (Ordered e) k → (s : SwitchId) → ¬ HasRewrite (rollout t) k s
+rewrite_refuted t e k pass s h = h.rewrites (each_at (λ c. KeepsVlan (rule_of c).action) (round_after k t.rounds) h.change pass.keeps h.stands)
 
 -- the certificate of a class, at what is in force
 module _ (t : Task) (e : OrderedEvidence) (chain : IsChain IsPickBefore e.picks) (k : ℕ) (pass : ClassesPass t (Ordered e) k) (n : ℕ) (class : Class) (is : IsClass (classes_for t) n class) where
-  pub safe_at : (numbers : List ℕ) (sets : List (List ℕ)) → IsInForce e k n numbers sets → IsSafe t.update k class.first class.entry (class_duties t class) numbers sets
+  pub safe_at : (numbers : List ℕ) (sets : List (List ℕ)) → IsInForce e k n numbers sets → IsSafe (rollout t) k class.first class.entry (class_duties t class) numbers sets
   safe_at numbers sets force =
       let cert = pass n class is in
       let picks = one_pick e.picks chain (suc k) n cert.pick force.pick cert.in_force force.in_force in
       let one = one_meaning e force.pick cert.numbers numbers cert.sets sets (subst (λ p. IsMeant e p cert.numbers cert.sets) picks cert.meant) force.meant in
-      subst (λ xs. IsSafe t.update k class.first class.entry (class_duties t class) numbers xs) one.1
-      (subst (λ xs. IsSafe t.update k class.first class.entry (class_duties t class) xs cert.sets) one.0 cert.safe)
+      subst (λ xs. IsSafe (rollout t) k class.first class.entry (class_duties t class) numbers xs) one.1
+      (subst (λ xs. IsSafe (rollout t) k class.first class.entry (class_duties t class) xs cert.sets) one.0 cert.safe)
 
-  pub bad_step_refuted : (numbers : List ℕ) (sets : List (List ℕ)) → IsInForce e k n numbers sets → (s : SwitchId) → ¬ HasBadStep t.update k class.first class.entry numbers s
+  pub bad_step_refuted : (numbers : List ℕ) (sets : List (List ℕ)) → IsInForce e k n numbers sets → (s : SwitchId) → ¬ HasBadStep (rollout t) k class.first class.entry numbers s
   bad_step_refuted numbers sets force s bad = bad.not_lower ((safe_at numbers sets force).falls s bad.next bad.step)
 
   pub no_pick_refuted : ¬ ((pick : OrderedPick) → ¬ IsPickInForce e.picks (suc k) n pick)
   no_pick_refuted none = let cert = pass n class is in none cert.pick cert.in_force
 
-  pub drop_refuted : IsTrue (class_duties t class).arrive → (s : SwitchId) → ¬ DropsAt t.update k class.first class.entry s
+  pub drop_refuted : IsTrue (class_duties t class).arrive → (s : SwitchId) → ¬ DropsAt (rollout t) k class.first class.entry s
   drop_refuted arrive s drops = (pass n class is).safe.arrives arrive (record { place = drops.place; on_walk = drops.on_walk; drops = drops.drops })
 
   pub count_refuted : (numbers : List ℕ) (sets : List (List ℕ)) → IsInForce e k n numbers sets → ¬ (length sets ≢ length (flat_map (λ chain. chain) (class_duties t class).chains))
   count_refuted numbers sets force differ = differ (safe_at numbers sets force).guarded.count
 
   pub bypass_refuted : (numbers : List ℕ) (sets : List (List ℕ)) → IsInForce e k n numbers sets → (i : ℕ) (p : Position) → slice_get (positions (class_duties t class).chains sets) i ≡ Some p
-      → (s : SwitchId) → ¬ IsBypassed t.update k class.first class.entry p s
+      → (s : SwitchId) → ¬ IsBypassed (rollout t) k class.first class.entry p s
   bypass_refuted numbers sets force i p at s bypassed =
-      let edge = IsMixedStep t.update k class.first class.entry in
+      let edge = IsMixedStep (rollout t) k class.first class.entry in
       let all = positions (class_duties t class).chains sets in
-      let guard = each_at (λ q. IsGuard class.entry.switch (IsMixedStep t.update k class.first class.entry) (MayLeave t.update k class.first class.entry) q.waypoint q.earlier q.set)
+      let guard = each_at (λ q. IsGuard class.entry.switch (IsMixedStep (rollout t) k class.first class.entry) (MayLeave (rollout t) k class.first class.entry) q.waypoint q.earlier q.set)
       all p (safe_at numbers sets force).guarded.guards (in_from_get all i p at) in
       elim bypassed [
         | inl (here, begins_not) ↦ begins_not (subst (λ x. Holds p.set x ⊎ (IsFirst p.earlier × (x ≡ p.waypoint))) (sym here) guard.before.begins)
@@ -167,12 +168,12 @@ module _ (t : Task) (e : TwoPhaseEvidence) (chain : IsChain (λ p q. p.round < q
   mixed_entry_refuted labels force mixed =
       let (version, agrees) = (pass n class is).agrees mixed.found mixed.possible in
       mixed.agrees_not version
-      (subst (λ ls. Agrees t.update.net (tables_of t.update t.new version) ls version class.first class.entry mixed.found) (one_table labels force) agrees)
+      (subst (λ ls. Agrees t.update.net (tables_of (rollout t) t.update.new version) ls version class.first class.entry mixed.found) (one_table labels force) agrees)
 
   pub stray_refuted : (labels : List Label) → IsTableInForce t e k labels → (s : SwitchId) → ¬ StraysAt t k class labels s
   stray_refuted labels force s stray =
       let (found, possible, differs) = stray.strays in
-      let tables = tables_of t.update t.new stray.version in
-      let agrees = subst (λ ls. Agrees t.update.net (tables_of t.update t.new stray.version) ls stray.version class.first class.entry (Go stray.next)) (sym (one_table labels force)) stray.agrees in
+      let tables = tables_of (rollout t) t.update.new stray.version in
+      let agrees = subst (λ ls. Agrees t.update.net (tables_of (rollout t) t.update.new stray.version) ls stray.version class.first class.entry (Go stray.next)) (sym (one_table labels force)) stray.agrees in
       let keeps = (pass n class is).keeps (Go stray.next) stray.possible stray.version agrees stray.first stray.next refl stray.goes in
       differs (keeps (end_of stray.first stray.rest) (stray.rest, stray.walk, refl) found possible)

@@ -11,7 +11,8 @@ use Rattle.demands.specs.Good.{HasGoodPaths}
 use Rattle.update_model.specs.Changes.{rule_of, round_after}
 use Rattle.update_model.specs.Mixtures.{need_of}
 use Rattle.update_model.specs.declared.Change.{Change}
-use Rattle.certificates.specs.Certified.{Task, IsCertified, KeepsVlan, KeepsVlans, classes_for}
+use Rattle.certificates.specs.Updates.{Task, rollout}
+use Rattle.certificates.specs.Certified.{IsCertified, KeepsVlan, KeepsVlans, classes_for}
 use Rattle.certificates.specs.Valid.{IsChain, IsPickBefore, IsValidEvidence}
 use Rattle.certificates.specs.declared.OrderedEvidence.{OrderedEvidence}
 use Rattle.certificates.specs.declared.TwoPhaseEvidence.{TwoPhaseEvidence}
@@ -41,27 +42,27 @@ picks_ascend net rounds changes (TwoPhase e) valid = valid.ascending
 
 -- the part of the check that a reason belongs to, with what does not hold there
 pub data IsStaged (t : Task) (e : Evidence) : ℕ → Reason → Type 0 where
-  AtOld : (breaks : Breaks) → ¬ HasGoodPaths t.update.net t.update.old t.demands (classes_for t) → IsStaged t e 0 (EndBreaks false breaks)
-  AtNew : (breaks : Breaks) → ¬ HasGoodPaths t.update.net t.new t.demands (classes_for t) → IsStaged t e 0 (EndBreaks true breaks)
-  InChanges : (i : ℕ) (r : Reason) (k : ℕ) → stage_of r ≡ 2 → round_of r ≡ suc k → k < length t.update.rounds → ¬ ChangesPass t e k → IsStaged t e i r
-  InClasses : (i : ℕ) (r : Reason) (k : ℕ) → stage_of r ≡ 2 → round_of r ≡ suc k → least_class_number ≤ number_of r → k < length t.update.rounds → ¬ ClassesPass t e k → IsStaged t e i r
+  AtOld : (breaks : Breaks) → ¬ HasGoodPaths t.update.net t.update.old t.update.demands (classes_for t) → IsStaged t e 0 (EndBreaks false breaks)
+  AtNew : (breaks : Breaks) → ¬ HasGoodPaths t.update.net t.update.new t.update.demands (classes_for t) → IsStaged t e 0 (EndBreaks true breaks)
+  InChanges : (i : ℕ) (r : Reason) (k : ℕ) → stage_of r ≡ 2 → round_of r ≡ suc k → k < length t.rounds → ¬ ChangesPass t e k → IsStaged t e i r
+  InClasses : (i : ℕ) (r : Reason) (k : ℕ) → stage_of r ≡ 2 → round_of r ≡ suc k → least_class_number ≤ number_of r → k < length t.rounds → ¬ ClassesPass t e k → IsStaged t e i r
   AtLast : (s : SwitchId) → ¬ EndsAtNew t → IsStaged t e 0 (WrongEnd s)
 
 module _ (t : Task) (count : length t.update.old ≡ switch_count t.update.net) where
   common_staged : (e : Evidence) (i : ℕ) (r : Reason) → IsCommonReason t i r → IsStaged t e i r
-  common_staged e i r (old_breaks breaks first) = AtOld breaks (break_refuted t.update.net t.update.old t.demands (classes_for t) breaks first)
-  common_staged e i r (new_breaks breaks first) = AtNew breaks (break_refuted t.update.net t.new t.demands (classes_for t) breaks first)
+  common_staged e i r (old_breaks breaks first) = AtOld breaks (break_refuted t.update.net t.update.old t.update.demands (classes_for t) breaks first)
+  common_staged e i r (new_breaks breaks first) = AtNew breaks (break_refuted t.update.net t.update.new t.update.demands (classes_for t) breaks first)
   common_staged e i r (bad_change k c s bad) =
-      InChanges 0 (BadChange (suc k) s c) k refl refl (within_rounds t.update.rounds k bad.change (in_from_get (round_after k t.update.rounds) c bad.change bad.is))
-      (λ pass. bad_change_refuted t.update k pass.good c s bad)
+      InChanges 0 (BadChange (suc k) s c) k refl refl (within_rounds t.rounds k bad.change (in_from_get (round_after k t.rounds) c bad.change bad.is))
+      (λ pass. bad_change_refuted (rollout t) k pass.good c s bad)
   common_staged e i r (ambiguous k s within unclear) = InChanges 0 (Ambiguous (suc k) s) k refl refl within (λ pass. unclear_refuted t e k pass s unclear)
   common_staged e i r (over_capacity k s within over) =
-      InChanges 0 (OverCapacity (suc k) s (need_of t.update k s)) k refl refl within (λ pass. let fits = need_fits t e k pass count s in omega arith)
+      InChanges 0 (OverCapacity (suc k) s (need_of (rollout t) k s)) k refl refl within (λ pass. let fits = need_fits t e k pass count s in omega arith)
   common_staged e i r (wrong_end s differ) = AtLast s (λ ends. differ (ends s))
 
   ordered_staged : (e : OrderedEvidence) → IsChain IsPickBefore e.picks → (i : ℕ) (r : Reason) → IsOrderedReason t e i r → IsStaged t (Ordered e) i r
   ordered_staged e chain i r (rewrites k s has) =
-      InChanges 0 (Rewrites (suc k) s) k refl refl (within_rounds t.update.rounds k has.change has.stands) (λ pass. rewrite_refuted t e k pass s has)
+      InChanges 0 (Rewrites (suc k) s) k refl refl (within_rounds t.rounds k has.change has.stands) (λ pass. rewrite_refuted t e k pass s has)
   ordered_staged e chain i r (no_numbering k n class judged none) =
       InClasses 0 (NoNumbering (suc k) n) k refl refl (omega arith) judged.within (λ pass. no_pick_refuted t e chain k pass n class judged.is none)
   ordered_staged e chain i r (not_lower k n class numbers sets s judged force bad) =
@@ -104,12 +105,12 @@ keeps_round (Ordered e) rounds k keeps = each_get_or (AllByRecursion (λ c. Keep
 keeps_round (TwoPhase e) rounds k keeps = tt
 
 -- the changes of each round of a certified plan pass
-changes_pass : (t : Task) (e : Evidence) → IsCertified t e → (k : ℕ) → k < length t.update.rounds → ChangesPass t e k
+changes_pass : (t : Task) (e : Evidence) → IsCertified t e → (k : ℕ) → k < length t.rounds → ChangesPass t e k
 changes_pass t e certified k within = record {
   good = certified.good k within;
   clear = certified.clear k within;
   fits = λ s here. certified.fits k s within here;
-  keeps = keeps_round e t.update.rounds k certified.keeps;
+  keeps = keeps_round e t.rounds k certified.keeps;
 }
 
 -- one round more passes
@@ -121,14 +122,14 @@ rounds_more t e k rounds changes classes j less =
     ]
 
 -- a plan is certified where everything passes
-pub all_passed : (t : Task) (e : Evidence) → EndsAreGood t → RoundsPass t e (length t.update.rounds) → EndsAtNew t → IsCertified t e
+pub all_passed : (t : Task) (e : Evidence) → EndsAreGood t → RoundsPass t e (length t.rounds) → EndsAtNew t → IsCertified t e
 all_passed t e ends rounds last = record {
   old_good = ends.old_good;
   new_good = ends.new_good;
   good = λ k within. (rounds k within).0.good;
   clear = λ k within. (rounds k within).0.clear;
   fits = λ k s within here. (rounds k within).0.fits s here;
-  keeps = keeps_all e t.update.rounds (λ k within. (rounds k within).0.keeps);
+  keeps = keeps_all e t.rounds (λ k within. (rounds k within).0.keeps);
   certificates = λ k n class within is. (rounds k within).1 n class is;
   ends = last;
 }
@@ -150,7 +151,7 @@ module _ (t : Task) (e : Evidence) (count : length t.update.old ≡ switch_count
   old_ruled breaks i r (InClasses x q j stage round number within bad) b = omega arith
   old_ruled breaks i r (AtLast s bad) b = omega arith
 
-  new_ruled : HasGoodPaths t.update.net t.update.old t.demands (classes_for t) → (breaks : Breaks) (i : ℕ) (r : Reason) → IsStaged t e i r → ¬ IsBefore (rank_of i r) (rank_of 0 (EndBreaks true breaks))
+  new_ruled : HasGoodPaths t.update.net t.update.old t.update.demands (classes_for t) → (breaks : Breaks) (i : ℕ) (r : Reason) → IsStaged t e i r → ¬ IsBefore (rank_of i r) (rank_of 0 (EndBreaks true breaks))
   new_ruled good breaks i r (AtOld other bad) b = bad good
   new_ruled good breaks i r (AtNew other bad) b = omega arith
   new_ruled good breaks i r (InChanges x q j stage round within bad) b = omega arith
@@ -158,12 +159,12 @@ module _ (t : Task) (e : Evidence) (count : length t.update.old ≡ switch_count
   new_ruled good breaks i r (AtLast s bad) b = omega arith
 
   -- a first break of the old configuration is the first reason
-  pub old_first : (breaks : Breaks) → IsFirstBreak t.update.net t.update.old t.demands (classes_for t) breaks → IsFirstReason t e (EndBreaks false breaks)
+  pub old_first : (breaks : Breaks) → IsFirstBreak t.update.net t.update.old t.update.demands (classes_for t) breaks → IsFirstReason t e (EndBreaks false breaks)
   old_first breaks first = record { position = 0; holds = inl (old_breaks breaks first); first = λ i r h. old_ruled breaks i r (staged t count e ascend i r h) }
 
   -- and one of the new configuration, where the old one is good
-  pub new_first : HasGoodPaths t.update.net t.update.old t.demands (classes_for t)
-      → (breaks : Breaks) → IsFirstBreak t.update.net t.new t.demands (classes_for t) breaks → IsFirstReason t e (EndBreaks true breaks)
+  pub new_first : HasGoodPaths t.update.net t.update.old t.update.demands (classes_for t)
+      → (breaks : Breaks) → IsFirstBreak t.update.net t.update.new t.update.demands (classes_for t) breaks → IsFirstReason t e (EndBreaks true breaks)
   new_first good breaks first = record { position = 0; holds = inl (new_breaks breaks first); first = λ i r h. new_ruled good breaks i r (staged t count e ascend i r h) }
 
   module _ (ends : EndsAreGood t) (k : ℕ) (rounds : RoundsPass t e k) where
@@ -193,7 +194,7 @@ module _ (t : Task) (e : Evidence) (count : length t.update.old ≡ switch_count
     pub none_before_classes : ChangesPass t e k → NoneBefore t e (classes_start k)
     none_before_classes pass i r h = classes_ruled pass i r (staged t count e ascend i r h)
 
-  module _ (ends : EndsAreGood t) (rounds : RoundsPass t e (length t.update.rounds)) where
+  module _ (ends : EndsAreGood t) (rounds : RoundsPass t e (length t.rounds)) where
     last_ruled : (i : ℕ) (r : Reason) → IsStaged t e i r → ¬ IsBefore (rank_of i r) end_start
     last_ruled i r (AtOld other bad) b = bad ends.old_good
     last_ruled i r (AtNew other bad) b = bad ends.new_good
@@ -220,7 +221,7 @@ module _ (t : Task) (e : Evidence) (count : length t.update.old ≡ switch_count
 -- what every case keeps
 module _ (c : CaseView) (checked : IsChecked c) where
   pub case_ascends : PicksAscend c.evidence
-  case_ascends = picks_ascend c.task.update.net (length c.task.update.rounds) (sum_by length c.task.update.rounds) c.evidence checked.valid.evidence
+  case_ascends = picks_ascend c.task.update.net (length c.task.rounds) (sum_by length c.task.rounds) c.evidence checked.valid.evidence
 
   abbrev pub case_count : length c.task.update.old ≡ switch_count c.task.update.net
   case_count = checked.old_user.count

@@ -6,7 +6,8 @@ use Rattle.flow_rules.specs.Tables.{rules_at}
 use Rattle.path_walk.specs.UserConfigs.{IsUserConfig}
 use Rattle.demands.specs.Good.{HasGoodPaths}
 use Rattle.update_model.specs.Mixtures.{tables_before}
-use Rattle.certificates.specs.Certified.{Task, classes_for}
+use Rattle.certificates.specs.Updates.{Task, rollout}
+use Rattle.certificates.specs.Certified.{classes_for}
 use Rattle.certificates.specs.Valid.{IsValidPlan}
 use Rattle.certificates.specs.declared.Evidence.{Evidence}
 use Rattle.certificates.specs.declared.Evidence.TheVariants.{Ordered, TwoPhase}
@@ -27,20 +28,20 @@ IfRefused (Refused reason) P = P reason
 
 -- both configurations have good paths
 pub record EndsAreGood (t : Task) : Type 0 where
-  pub old_good : HasGoodPaths t.update.net t.update.old t.demands (classes_for t)
-  pub new_good : HasGoodPaths t.update.net t.new t.demands (classes_for t)
+  pub old_good : HasGoodPaths t.update.net t.update.old t.update.demands (classes_for t)
+  pub new_good : HasGoodPaths t.update.net t.update.new t.update.demands (classes_for t)
 
 -- the tables after the last round are the new ones
 abbrev pub EndsAtNew : Task → Type 0
-EndsAtNew t = (s : SwitchId) → IsSameSet (rules_at (tables_before t.update (length t.update.rounds)) s) (rules_at t.new s)
+EndsAtNew t = (s : SwitchId) → IsSameSet (rules_at (tables_before (rollout t) (length t.rounds)) s) (rules_at t.update.new s)
 
 -- what is kept of the picks, and of the walks of an ordered plan, stands before round k
 abbrev pub EvidenceStands : Task → Evidence → ℕ → RoomView → Type 0
-EvidenceStands t (Ordered e) k room = PicksStand e.picks k room.ordered.picks × WalksStand t.update k room.ordered
+EvidenceStands t (Ordered e) k room = PicksStand e.picks k room.ordered.picks × WalksStand (rollout t) k room.ordered
 EvidenceStands t (TwoPhase e) k room = LabelsStand t.update.net e k room.two_phase
 
 -- the rooms fit the case and stand before round k
 pub record IsReady (c : CaseView) (k : ℕ) (room : RoomView) : Type 0 where
   pub fits : Fits c.task room
-  pub tables : StandsBefore c.task.update k room.present
+  pub tables : StandsBefore (rollout c.task) k room.present
   pub evidence : EvidenceStands c.task c.evidence k room

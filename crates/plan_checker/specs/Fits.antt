@@ -6,7 +6,8 @@ use Rattle.dest_classes.specs.Classes.{ClassList, class_count}
 use Rattle.dest_classes.specs.declared.ClassFault.{ClassFault}
 use Rattle.dest_classes.specs.declared.ClassFault.TheVariants as class
 use Rattle.demands.specs.Duties.{ClassDuties}
-use Rattle.certificates.specs.Certified.{Task, classes_for}
+use Rattle.certificates.specs.Updates.{Task}
+use Rattle.certificates.specs.Certified.{classes_for}
 use Rattle.round_tables.specs.Present.{PresentState, HasRoom}
 use Rattle.ordered_check.specs.Kept.{OrderedState, HasClassRoom}
 use Rattle.two_phase_check.specs.declared.labels.LabelsInForce.{LabelsInForce}
@@ -25,8 +26,8 @@ pub record RoomView : Type 0 where
 -- the classes are those of the update, the duties are made of its demands and these classes, and the rooms suffice for its rounds
 pub record Fits (t : Task) (room : RoomView) : Type 0 where
   pub classes : room.classes ≡ classes_for t
-  pub duties : room.duties ≡ record { demands = t.demands; classes = room.classes }
-  pub present : HasRoom t.update.net t.update.rounds room.present
+  pub duties : room.duties ≡ record { demands = t.update.demands; classes = room.classes }
+  pub present : HasRoom t.update.net t.rounds room.present
   pub ordered : HasClassRoom (classes_for t) room.ordered
   pub path : room.path.switches ≡ switch_count t.update.net
 

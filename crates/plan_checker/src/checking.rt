@@ -1,4 +1,5 @@
 // Whether a plan is certified, and otherwise the first reason why not.
+ghost use Rattle.certificates.specs.Updates.{rollout};
 ghost use Rattle.std.specs.Prelude.{◌≡◌, ◌↔◌, suc, ◌<◌, length, IfSome, IfNone, if◌then◌else◌};
 ghost use Rattle.topology.specs.Networks.{switch_count};
 ghost use Rattle.flow_rules.specs.Tables.{rules_of_all};
@@ -7,7 +8,7 @@ ghost use Rattle.demands.specs.Good.{HasGoodPaths};
 ghost use Rattle.config_check.specs.Broken.{IsFirstBreak};
 ghost use Rattle.certificates.specs.Certified.{IsCertified, classes_for, is_two_phase};
 ghost use Rattle.certificates.specs.Consistent.{IsConsistent};
-ghost use Rattle.certificates.specs.Laws.{task_of};
+ghost use Rattle.certificates.specs.Laws.{task_of, update_of};
 ghost use Rattle.certificates.specs.Valid.{IsValidPlan};
 ghost use Rattle.plan_checker.specs.Checking.{EndsAreGood, EvidenceStands, IsReady, IfRefused};
 ghost use Rattle.plan_checker.specs.Fits.{Fits};
@@ -28,7 +29,7 @@ use topology::Net;
 
 /// The new or the old configuration.
 fn config_of<'a>(case: &Case<'a>, new: bool) -> &'a Config
-    ensures rules { rules_of_all result.now ≡ (if new then case.now.task.new else case.now.task.update.old) }
+    ensures rules { rules_of_all result.now ≡ (if new then case.now.task.update.new else case.now.task.update.old) }
     ensures count { length result.now ≡ switch_count case.now.task.update.net }
 {
     if new { case.new } else { case.old }
@@ -37,8 +38,8 @@ fn config_of<'a>(case: &Case<'a>, new: bool) -> &'a Config
 /// How the first class that has no good path in the new or the old configuration breaks its duties.
 fn end_breaks(case: &Case, new: bool, room: &mut CheckRoom) -> Option<Breaks>
     requires { Fits case.now.task room.old }
-    ensures none { IfNone result (HasGoodPaths case.now.task.update.net (if new then case.now.task.new else case.now.task.update.old) case.now.task.demands (classes_for case.now.task)) }
-    ensures some { IfSome result (IsFirstBreak case.now.task.update.net (if new then case.now.task.new else case.now.task.update.old) case.now.task.demands (classes_for case.now.task)) }
+    ensures none { IfNone result (HasGoodPaths case.now.task.update.net (if new then case.now.task.update.new else case.now.task.update.old) case.now.task.update.demands (classes_for case.now.task)) }
+    ensures some { IfSome result (IsFirstBreak case.now.task.update.net (if new then case.now.task.update.new else case.now.task.update.old) case.now.task.update.demands (classes_for case.now.task)) }
     ensures fits { Fits case.now.task room.new }
 {
     let config = config_of(case, new);
@@ -73,10 +74,10 @@ pub fn end_reason(case: &Case, room: &mut CheckRoom) -> Option<Reason>
 
 /// The first reason of the classes of round k, from 0, if there is one.
 fn classes_reason(case: &Case, k: usize, room: &mut CheckRoom) -> Option<Reason>
-    requires within { k < length case.now.task.update.rounds }
+    requires within { k < length case.now.task.rounds }
     requires fits { Fits case.now.task room.old }
     requires evidence { EvidenceStands case.now.task case.now.evidence k room.old }
-    requires loaded { AreLoaded case.now.task.update k room.old.present.mixes }
+    requires loaded { AreLoaded (rollout case.now.task) k room.old.present.mixes }
     requires ends { EndsAreGood case.now.task }
     requires before { RoundsPass case.now.task case.now.evidence k }
     requires pass { ChangesPass case.now.task case.now.evidence k }
@@ -104,7 +105,7 @@ fn classes_reason(case: &Case, k: usize, room: &mut CheckRoom) -> Option<Reason>
 
 /// The first reason of round k, from 0, if there is one.
 fn round_reason(case: &Case, k: usize, room: &mut CheckRoom) -> Option<Reason>
-    requires within { k < length case.now.task.update.rounds }
+    requires within { k < length case.now.task.rounds }
     requires ready { IsReady case.now k room.old }
     requires ends { EndsAreGood case.now.task }
     requires before { RoundsPass case.now.task case.now.evidence k }
@@ -147,7 +148,7 @@ fn start(case: &Case, room: &mut CheckRoom)
 fn rounds_reason(case: &Case, room: &mut CheckRoom) -> Option<Reason>
     requires fits { Fits case.now.task room.old }
     requires ends { EndsAreGood case.now.task }
-    ensures none { IfNone result (RoundsPass case.now.task case.now.evidence (length case.now.task.update.rounds) × IsReady case.now (length case.now.task.update.rounds) room.new) }
+    ensures none { IfNone result (RoundsPass case.now.task case.now.evidence (length case.now.task.rounds) × IsReady case.now (length case.now.task.rounds) room.new) }
     ensures some { IfSome result (IsFirstReason case.now.task case.now.evidence) }
     ensures fits { Fits case.now.task room.new }
 {
@@ -192,7 +193,7 @@ pub fn check(
     requires plan { IsValidPlan net.now plan.now }
     requires room { Fits (task_of net.now old.now new.now demands.now plan.now) room.old }
     ensures accepted { (result ≡ Verdict.Accepted) ↔ IsCertified (task_of net.now old.now new.now demands.now plan.now) plan.now.evidence }
-    ensures consistent { result ≡ Verdict.Accepted → IsConsistent (task_of net.now old.now new.now demands.now plan.now) (is_two_phase plan.now.evidence) }
+    ensures consistent { result ≡ Verdict.Accepted → IsConsistent (update_of net.now old.now new.now demands.now) plan.now.rounds (is_two_phase plan.now.evidence) }
     ensures refused { IfRefused result (IsFirstReason (task_of net.now old.now new.now demands.now plan.now) plan.now.evidence) }
     ensures fits { Fits (task_of net.now old.now new.now demands.now plan.now) room.new }
 {

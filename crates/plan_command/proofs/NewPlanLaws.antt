@@ -27,7 +27,7 @@ use Rattle.command_base.specs.declared.status.Status.TheVariants as status
 use Rattle.check_command.specs.ReasonLines.{refused_line}
 use Rattle.command_base.specs.Answers.{Answer}
 use Rattle.command_base.specs.Judgements.{SaysWhyNot, most_classes}
-use Rattle.command_base.specs.Updates.{UpdateMeaning, task_for}
+use Rattle.certificates.specs.Updates.{Update, task_for}
 use Rattle.plan_command.specs.Planned.{update_classes, update_count, bare_task, SaysOrdered, EndsAreGood, IsFirstEndBreak, IsEndLine}
 
 -- two facts of a value, the second under a premise
@@ -35,7 +35,7 @@ pub both_ok : {A E : Type 0} (r : Result A E) (P Q R : A → Type 0) (T : Type 0
 both_ok (Ok x) P Q R T f p q = f x p q
 both_ok (Err e) P Q R T f p q = tt
 
-module _ (u : UpdateMeaning) where
+module _ (u : Update) where
   pub end_law : (new : Bool) (break : Breaks) (class : Class) (answer : Answer) → update_count u ≤ most_classes → ¬ EndsAreGood u → IsFirstEndBreak u new break → IsClass (update_classes u) break.class class
       → answer ≡ record { status = status.Refused; text = refused_line u.net (Some class) (EndBreaks new break) } → SaysWhyNot (update_count u) (EndsAreGood u) (IsEndLine u) answer
   end_law new break class answer few broken first is_class is = record {
@@ -58,9 +58,9 @@ module _ (u : UpdateMeaning) where
 
   -- a tree update, for the duties that were made
   pub tree_for : (duties : ClassDuties) (classes : ClassList) → duties ≡ record { demands = u.demands; classes = classes } → IsTreeUpdate (bare_task u)
-      → IsTreeUpdate (record { update = record { net = u.net; old = u.old; rounds = [] }; new = u.new; demands = duties.demands })
+      → IsTreeUpdate (record { update = record { net = u.net; old = u.old; new = u.new; demands = duties.demands }; rounds = [] })
   tree_for duties classes made tree =
-      subst (λ (d : ClassDuties). IsTreeUpdate (record { update = record { net = u.net; old = u.old; rounds = [] }; new = u.new; demands = d.demands })) (sym made) tree
+      subst (λ (d : ClassDuties). IsTreeUpdate (record { update = record { net = u.net; old = u.old; new = u.new; demands = d.demands }; rounds = [] })) (sym made) tree
 
   -- the plan of two phases after a search that was stuck
   module _ (p : Plan) (rounds : List (List Change)) (plan_is : p ≡ two_phase_plan u.net u.old u.new rounds) where

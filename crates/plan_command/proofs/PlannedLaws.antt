@@ -29,7 +29,7 @@ use Rattle.plan_command.specs.NoPlanLines.{too_few_lines, too_small_lines}
 use Rattle.command_base.specs.Names.{UpdateNames}
 use Rattle.command_base.specs.Answers.{Answer}
 use Rattle.command_base.specs.Judgements.{SaysTooMany, SaysWhyNot, most_classes}
-use Rattle.command_base.specs.Updates.{UpdateMeaning, task_for}
+use Rattle.certificates.specs.Updates.{Update, task_for}
 use Rattle.plan_command.specs.Planned.{update_classes, update_count, update_aim, bare_task, EndsAreGood, IsEndLine, SaysNewPlan, SaysTooFew, SaysTooSmall, SaysSearched, SaysPlanned, IsPlanned}
 use Rattle.command_base.specs.Readings.{reading_update}
 use Rattle.command_base.specs.Runs.{IsSettled, Answered}
@@ -43,11 +43,11 @@ use Rattle.command_base.proofs.RunLaws.{settled_done, settled_refused, settled_b
 use Rattle.plan_command.specs.Promise.{PlanPromise}
 
 -- both ends of an update of destination trees are good
-tree_ends : (u : UpdateMeaning) → IsTreeUpdate (bare_task u) → EndsAreGood u
+tree_ends : (u : Update) → IsTreeUpdate (bare_task u) → EndsAreGood u
 tree_ends u tree = record { old_good = tree.old_good; new_good = tree.new_good }
 
 -- what is said of an update, in each of its statuses
-module _ (u : UpdateMeaning) (answer : Answer) where
+module _ (u : Update) (answer : Answer) where
   done_searched : SaysSearched u answer → answer.status ≡ status.Done → SaysNewPlan u answer
   done_searched (inl v) is = v
   done_searched (inr (inl v)) is = absurd (let e = status_of answer _ _ v.answer_is in cc)
@@ -141,7 +141,7 @@ count_same a b same =
 read_beside : {A E : Type 0} (files others : Files) (kind : FileKind) (meaning : List ℕ → Result A E) (name : List ℕ) (value : A) → others name ≡ files name → IsReadAs files kind meaning name value → IsReadAs others kind meaning name value
 read_beside files others kind meaning name value same read = record { bytes = read.bytes; held = same ∙ read.held; within = read.within; means = read.means }
 
-update_beside : (files others : Files) (names : UpdateNames) (plan text : List ℕ) (u : UpdateMeaning) → HoldBeside files others names plan text → FilesMeanUpdate files names u → FilesMeanUpdate others names u
+update_beside : (files others : Files) (names : UpdateNames) (plan text : List ℕ) (u : Update) → HoldBeside files others names plan text → FilesMeanUpdate files names u → FilesMeanUpdate others names u
 update_beside files others names plan text u beside mean = record {
   topology_is = read_beside files others kind.Topology _ names.topology u.net beside.topology mean.topology_is;
   old_is = read_beside files others kind.Old _ names.old u.old beside.old mean.old_is;
@@ -159,10 +159,10 @@ IsOneStuck = (aim : Aim) (old : List (List Rule)) (changes others : List Change)
 
 -- of a settled run of `plan` over a source that tells
 module _ (files : Files) (names : UpdateNames) (old new : Option (List ℕ)) (result : Status) (a : Answered IsPlanned files (reading_update names) old new result) where
-  said : (u : UpdateMeaning) → FilesMeanUpdate files names u → IsPlanned u a.answer
+  said : (u : Update) → FilesMeanUpdate files names u → IsPlanned u a.answer
   said u mean = said_over IsPlanned files (reading_update names) a.answer u a.over (means_update files names u mean)
 
-  meant : (s : Status) → s ≢ status.BadFile → result ≡ s → (u : UpdateMeaning) × FilesMeanUpdate files names u
+  meant : (s : Status) → s ≢ status.BadFile → result ≡ s → (u : Update) × FilesMeanUpdate files names u
   meant s other is = elim (over_splits IsPlanned files (reading_update names) a.answer a.over) [
     | inl bad ↦ absurd (other (sym is ∙ sym a.status_is ∙ status_of a.answer _ _ bad.is))
     | inr (u, means, says) ↦ (u, update_means files names u means)
@@ -172,7 +172,7 @@ module _ (files : Files) (names : UpdateNames) (old new : Option (List ℕ)) (re
   has : (s : Status) → result ≡ s → a.answer.status ≡ s
   has s is = a.status_is ∙ is
 
-  planned : (u : UpdateMeaning) → FilesMeanUpdate files names u → result ≢ status.BadFile → result ≢ status.Refused → SaysPlanned u a.answer
+  planned : (u : Update) → FilesMeanUpdate files names u → result ≢ status.BadFile → result ≢ status.Refused → SaysPlanned u a.answer
   planned u mean other broken = planned_says u a.answer (said u mean) (λ e. other (sym a.status_is ∙ e)) (λ e. broken (sym a.status_is ∙ e))
 
   wrote : (text : List ℕ) → a.answer.text ≡ text → Appends old new text
@@ -189,7 +189,7 @@ module _ (files : Files) (names : UpdateNames) (old new : Option (List ℕ)) (re
         sym a.status_is ∙ status_of a.answer _ _ says.answer_is,
   )
 
-  pub first_break : result ≡ status.Refused → (u : UpdateMeaning) → FilesMeanUpdate files names u → NamesFirstEndBreak u old new
+  pub first_break : result ≡ status.Refused → (u : Update) → FilesMeanUpdate files names u → NamesFirstEndBreak u old new
   first_break is u mean =
       let says = refused_says u a.answer (said u mean) (has status.Refused is) in
       record { line = says.line; names = says.is_why; written = wrote says.line (text_of a.answer _ _ says.answer_is) }
@@ -213,7 +213,7 @@ module _ (files : Files) (names : UpdateNames) (old new : Option (List ℕ)) (re
   ]
 
   -- on an update of destination trees the answer is an ordered plan
-  pub tree : (u : UpdateMeaning) → FilesMeanTrees files names u → (result ≡ status.Done) × WritesOrderedPlan u old new
+  pub tree : (u : Update) → FilesMeanTrees files names u → (result ≡ status.Done) × WritesOrderedPlan u old new
   tree u trees =
       let says = good_says u a.answer (said u trees.mean) trees.few (tree_ends u trees.tree) in
       let v = says.tree trees.tree in (
@@ -222,21 +222,21 @@ module _ (files : Files) (names : UpdateNames) (old new : Option (List ℕ)) (re
       )
 
   -- the answer is a new plan
-  new_plan : result ≡ status.Done → (u : UpdateMeaning) → FilesMeanUpdate files names u → SaysNewPlan u a.answer
+  new_plan : result ≡ status.Done → (u : Update) → FilesMeanUpdate files names u → SaysNewPlan u a.answer
   new_plan is u mean = done_searched u a.answer (planned u mean (λ e. cc) (λ e. cc)).searched (has status.Done is)
 
-  pub writes : result ≡ status.Done → (u : UpdateMeaning) → FilesMeanUpdate files names u → WritesNewPlan u old new
+  pub writes : result ≡ status.Done → (u : Update) → FilesMeanUpdate files names u → WritesNewPlan u old new
   writes is u mean =
       let v = new_plan is u mean in
       record { plan = v.plan; is_new = v.is_new; means = v.says.means; written = wrote (plan_text u.net v.plan) (text_of a.answer _ _ v.says.answer_is) }
 
   -- what was written is the text of the new plan
-  text_is : (before : List ℕ) → old ≡ Some before → (u : UpdateMeaning) (v : SaysNewPlan u a.answer) (text : List ℕ) → Appends old new text → text ≡ plan_text u.net v.plan
+  text_is : (before : List ℕ) → old ≡ Some before → (u : Update) (v : SaysNewPlan u a.answer) (text : List ℕ) → Appends old new text → text ≡ plan_text u.net v.plan
   text_is before told u v text there =
       texts_same before new text (plan_text u.net v.plan) (subst (λ o. Appends o new text) told there)
       (subst (λ o. Appends o new (plan_text u.net v.plan)) told (wrote (plan_text u.net v.plan) (text_of a.answer _ _ v.says.answer_is)))
 
-  pub keeps : (before : List ℕ) → old ≡ Some before → result ≡ status.Done → (u : UpdateMeaning) (p : Plan) → FilesMeanUpdate files names u → WritesPlan u.net p old new → KeepsConsistent u p
+  pub keeps : (before : List ℕ) → old ≡ Some before → result ≡ status.Done → (u : Update) (p : Plan) → FilesMeanUpdate files names u → WritesPlan u.net p old new → KeepsConsistent u p
   keeps before told is u p mean writes =
       let v = new_plan is u mean in
       let same = text_is before told u v writes.text writes.written in
@@ -261,20 +261,20 @@ module _ (files : Files) (names : UpdateNames) (old new : Option (List ℕ)) (re
       }
 
   -- what is said where the ends are good
-  of_good : (u : UpdateMeaning) → FilesMeanGoodEnds files names u → SaysPlanned u a.answer
+  of_good : (u : Update) → FilesMeanGoodEnds files names u → SaysPlanned u a.answer
   of_good u good = good_says u a.answer (said u good.mean) good.few good.good
 
-  good_ends : (u : UpdateMeaning) → FilesMeanUpdate files names u → SaysPlanned u a.answer → FilesMeanGoodEnds files names u
+  good_ends : (u : Update) → FilesMeanUpdate files names u → SaysPlanned u a.answer → FilesMeanGoodEnds files names u
   good_ends u mean says = record { mean = mean; few = says.few; good = says.good }
 
-  has_plan : (u : UpdateMeaning) → SaysNewPlan u a.answer → HasPlan u
+  has_plan : (u : Update) → SaysNewPlan u a.answer → HasPlan u
   has_plan u v = elim v.is_new [
     | inl ordered ↦ inl (record { changes = ordered.changes; ends = ordered.searched.ends })
     | inr two ↦ inr (record { changes = two.stuck.changes; ends = two.stuck.ends }, two.fits)
   ]
 
   module _ (apart : AreApart) where
-    done_at : (u : UpdateMeaning) → HasPlan u → SaysSearched u a.answer → a.answer.status ≡ status.Done
+    done_at : (u : Update) → HasPlan u → SaysSearched u a.answer → a.answer.status ≡ status.Done
     done_at u plan (inl v) = status_of a.answer _ _ v.says.answer_is
     done_at u (inl ordered) (inr (inl v)) = absurd (apart (update_aim u) u.old ordered.changes v.stuck.changes ordered.ends v.stuck.ends)
     done_at u (inl ordered) (inr (inr v)) = absurd (apart (update_aim u) u.old ordered.changes v.stuck.changes ordered.ends v.stuck.ends)
@@ -291,7 +291,7 @@ module _ (files : Files) (names : UpdateNames) (old new : Option (List ℕ)) (re
     )
 
     -- a new plan is none of a stuck search without room or tags
-    few_at : (u : UpdateMeaning) → IsStuck u → length (available_tags u.net) < length u.net.vlans → SaysSearched u a.answer → SaysTooFew u a.answer
+    few_at : (u : Update) → IsStuck u → length (available_tags u.net) < length u.net.vlans → SaysSearched u a.answer → SaysTooFew u a.answer
     few_at u stuck fewer (inl v) = elim v.is_new [
       | inl ordered ↦ absurd (apart (update_aim u) u.old ordered.changes stuck.changes ordered.searched.ends stuck.ends)
       | inr two ↦ absurd (let tags = two.fits.tags in omega (arith, tags, fewer))
@@ -299,7 +299,7 @@ module _ (files : Files) (names : UpdateNames) (old new : Option (List ℕ)) (re
     few_at u stuck fewer (inr (inl v)) = v
     few_at u stuck fewer (inr (inr v)) = absurd (let tags = v.small.tags in omega (arith, tags, fewer))
 
-    small_at : (u : UpdateMeaning) (s : SwitchId) (need capacity : ℕ) → IsStuck u → IsFirstTooSmall u.net u.old u.new s need capacity → SaysSearched u a.answer → SaysTooSmall u a.answer
+    small_at : (u : Update) (s : SwitchId) (need capacity : ℕ) → IsStuck u → IsFirstTooSmall u.net u.old u.new s need capacity → SaysSearched u a.answer → SaysTooSmall u a.answer
     small_at u s need capacity stuck small (inl v) = elim v.is_new [
       | inl ordered ↦ absurd (apart (update_aim u) u.old ordered.changes stuck.changes ordered.searched.ends stuck.ends)
       | inr two ↦ absurd (let n = small.need_is in let c = small.capacity_is in let over = small.over in let room = two.fits.room s small.within in omega (arith, n, c, over, room))

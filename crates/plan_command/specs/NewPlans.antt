@@ -18,59 +18,59 @@ use Rattle.two_phase.specs.Laws.{FitsTwoPhase}
 use Rattle.two_phase.specs.Plans.{IsFirstTooSmall}
 use Rattle.command_base.specs.Names.{UpdateNames}
 use Rattle.command_base.specs.Judgements.{most_classes}
-use Rattle.command_base.specs.Updates.{UpdateMeaning, task_for}
+use Rattle.certificates.specs.Updates.{Update, task_for}
 use Rattle.command_base.specs.Updates.{FilesMeanUpdate}
 use Rattle.plan_command.specs.Planned.{update_count, update_aim, bare_task, EndsAreGood, IsEndLine, IsNewPlan}
 
 -- the files mean this update, there are few enough classes, and both ends are good
-pub record FilesMeanGoodEnds (files : Files) (names : UpdateNames) (u : UpdateMeaning) : Type 0 where
+pub record FilesMeanGoodEnds (files : Files) (names : UpdateNames) (u : Update) : Type 0 where
   pub mean : FilesMeanUpdate files names u
   pub few : update_count u ≤ most_classes
   pub good : EndsAreGood u
 
 -- the files mean this update of destination trees, and there are few enough classes
-pub record FilesMeanTrees (files : Files) (names : UpdateNames) (u : UpdateMeaning) : Type 0 where
+pub record FilesMeanTrees (files : Files) (names : UpdateNames) (u : Update) : Type 0 where
   pub mean : FilesMeanUpdate files names u
   pub few : update_count u ≤ most_classes
   pub tree : IsTreeUpdate (bare_task u)
 
 -- the search of the update ends ordered
-pub record IsOrdered (u : UpdateMeaning) : Type 0 where
+pub record IsOrdered (u : Update) : Type 0 where
   pub changes : List Change
   pub ends : EndsOrdered (update_aim u) u.old changes
 
 -- the search of the update ends stuck
-pub record IsStuck (u : UpdateMeaning) : Type 0 where
+pub record IsStuck (u : Update) : Type 0 where
   pub changes : List Change
   pub ends : EndsStuck (update_aim u) u.old changes
 
 -- the search ends ordered, or it ends stuck and the plan of two phases fits
-abbrev pub HasPlan : UpdateMeaning → Type 0
+abbrev pub HasPlan : Update → Type 0
 HasPlan u = IsOrdered u ⊎ (IsStuck u × FitsTwoPhase u.net u.old u.new)
 
 -- the files mean an update with good ends that has a plan
 pub record FilesHavePlan (files : Files) (names : UpdateNames) : Type 0 where
-  pub update : UpdateMeaning
+  pub update : Update
   pub mean : FilesMeanGoodEnds files names update
   pub planned : HasPlan update
 
 -- the files are read, there are few enough classes, and an end isn't good
 pub record FilesBreakAnEnd (files : Files) (names : UpdateNames) : Type 0 where
-  pub update : UpdateMeaning
+  pub update : Update
   pub mean : FilesMeanUpdate files names update
   pub few : update_count update ≤ most_classes
   pub broken : ¬ EndsAreGood update
 
 -- the files mean an update with good ends whose search ends stuck, and there are too few tags
 pub record FilesLackTags (files : Files) (names : UpdateNames) : Type 0 where
-  pub update : UpdateMeaning
+  pub update : Update
   pub mean : FilesMeanGoodEnds files names update
   pub stuck : IsStuck update
   pub fewer : length (available_tags update.net) < length update.net.vlans
 
 -- the files mean an update with good ends whose search ends stuck, there are enough tags, and a switch is too small
 pub record FilesLackRoom (files : Files) (names : UpdateNames) : Type 0 where
-  pub update : UpdateMeaning
+  pub update : Update
   pub mean : FilesMeanGoodEnds files names update
   pub stuck : IsStuck update
   pub switch : SwitchId
@@ -80,19 +80,19 @@ pub record FilesLackRoom (files : Files) (names : UpdateNames) : Type 0 where
 
 -- the files are read, and there are too many classes
 pub record UpdateMakesTooMany (files : Files) (names : UpdateNames) : Type 0 where
-  pub update : UpdateMeaning
+  pub update : Update
   pub mean : FilesMeanUpdate files names update
   pub many : most_classes < update_count update
 
 -- the text of a new plan was written, and reading it gives this plan
-pub record WritesNewPlan (u : UpdateMeaning) (old new : Option (List ℕ)) : Type 0 where
+pub record WritesNewPlan (u : Update) (old new : Option (List ℕ)) : Type 0 where
   pub plan : Plan
   pub is_new : IsNewPlan u plan
   pub means : plan_in u.net (plan_text u.net plan) ≡ Ok plan
   pub written : Appends old new (plan_text u.net plan)
 
 -- the text of an ordered plan was written: that of the search, with one round for each rule that is replaced; reading it gives this plan
-pub record WritesOrderedPlan (u : UpdateMeaning) (old new : Option (List ℕ)) : Type 0 where
+pub record WritesOrderedPlan (u : Update) (old new : Option (List ℕ)) : Type 0 where
   pub plan : Plan
   pub searched : IsPlanOf (update_aim u) u.old plan
   pub count : length plan.rounds ≡ length (remaining u.old u.new)
@@ -100,12 +100,12 @@ pub record WritesOrderedPlan (u : UpdateMeaning) (old new : Option (List ℕ)) :
   pub written : Appends old new (plan_text u.net plan)
 
 -- the plan is certified, and keeps every packet of every run consistent
-pub record KeepsConsistent (u : UpdateMeaning) (p : Plan) : Type 0 where
+pub record KeepsConsistent (u : Update) (p : Plan) : Type 0 where
   pub certified : IsCertified (task_for u p) p.evidence
-  pub consistent : IsConsistent (task_for u p) (is_two_phase p.evidence)
+  pub consistent : IsConsistent u p.rounds (is_two_phase p.evidence)
 
 -- the line that was written names the first break of an end
-pub record NamesFirstEndBreak (u : UpdateMeaning) (old new : Option (List ℕ)) : Type 0 where
+pub record NamesFirstEndBreak (u : Update) (old new : Option (List ℕ)) : Type 0 where
   pub line : List ℕ
   pub names : IsEndLine u line
   pub written : Appends old new line

@@ -8,7 +8,8 @@ use Rattle.config_check.specs.declared.Breaks.{Breaks}
 use Rattle.config_check.specs.Broken.{IsFirstBreak}
 use Rattle.update_model.specs.declared.Change.{Change}
 use Rattle.update_model.specs.Remaining.{remaining}
-use Rattle.certificates.specs.Certified.{Task, IsCertified, classes_for, is_two_phase}
+use Rattle.certificates.specs.Updates.{Task, Update, task_for}
+use Rattle.certificates.specs.Certified.{IsCertified, classes_for, is_two_phase}
 use Rattle.certificates.specs.Consistent.{IsConsistent}
 use Rattle.certificates.specs.Trees.{IsTreeUpdate}
 use Rattle.certificates.specs.declared.Plan.{Plan}
@@ -23,37 +24,36 @@ use Rattle.plan_command.specs.NoPlanLines.{too_few_lines, too_small_lines}
 use Rattle.check_command.specs.ReasonLines.{refused_line}
 use Rattle.command_base.specs.Answers.{Answer}
 use Rattle.command_base.specs.Judgements.{SaysTooMany, SaysWhyNot, most_classes}
-use Rattle.command_base.specs.Updates.{UpdateMeaning, task_for}
 use Rattle.upgrade_command.specs.Texts.{SaysPlan}
 
 -- the classes of an update: those of the prefixes of both configurations and of the demands
-abbrev pub update_classes : UpdateMeaning → ClassList
+abbrev pub update_classes : Update → ClassList
 update_classes u = classes_before u.net u.old u.new u.demands
 
 -- how many they are
-abbrev pub update_count : UpdateMeaning → ℕ
+abbrev pub update_count : Update → ℕ
 update_count u = class_count (update_classes u)
 
 -- what the search of an update is for
-abbrev pub update_aim : UpdateMeaning → Aim
+abbrev pub update_aim : Update → Aim
 update_aim u = aim_of u.net u.old u.new u.demands
 
 -- the update without rounds
-abbrev pub bare_task : UpdateMeaning → Task
-bare_task u = record { update = record { net = u.net; old = u.old; rounds = [] }; new = u.new; demands = u.demands }
+abbrev pub bare_task : Update → Task
+bare_task u = record { update = u; rounds = [] }
 
 -- both configurations have good paths for all classes of the update
-pub record EndsAreGood (u : UpdateMeaning) : Type 0 where
+pub record EndsAreGood (u : Update) : Type 0 where
   pub old_good : HasGoodPaths u.net u.old u.demands (update_classes u)
   pub new_good : HasGoodPaths u.net u.new u.demands (update_classes u)
 
 -- the first break of the old configuration, or of the new one where the old one is good
-pub record IsFirstEndBreak (u : UpdateMeaning) (new : Bool) (break : Breaks) : Type 0 where
+pub record IsFirstEndBreak (u : Update) (new : Bool) (break : Breaks) : Type 0 where
   pub first : IsFirstBreak u.net (if new then u.new else u.old) u.demands (update_classes u) break
   pub old_good : IsTrue new → HasGoodPaths u.net u.old u.demands (update_classes u)
 
 -- the line names the first break
-pub record IsEndLine (u : UpdateMeaning) (line : List ℕ) : Type 0 where
+pub record IsEndLine (u : Update) (line : List ℕ) : Type 0 where
   pub new : Bool
   pub break : Breaks
   pub first : IsFirstEndBreak u new break
@@ -62,34 +62,34 @@ pub record IsEndLine (u : UpdateMeaning) (line : List ℕ) : Type 0 where
   pub line_is : line ≡ refused_line u.net (Some class) (EndBreaks new break)
 
 -- the search ended stuck, and the plan is that of two phases with the rounds of the search as those that were tried
-pub record IsTwoPhasePlan (u : UpdateMeaning) (p : Plan) : Type 0 where
+pub record IsTwoPhasePlan (u : Update) (p : Plan) : Type 0 where
   pub rounds : List (List Change)
   pub stuck : AreStuck (update_aim u) u.old rounds
   pub fits : FitsTwoPhase u.net u.old u.new
   pub plan_is : p ≡ two_phase_plan u.net u.old u.new rounds
 
 -- the plan of a search that ended ordered, or of two phases
-abbrev pub IsNewPlan : UpdateMeaning → Plan → Type 0
+abbrev pub IsNewPlan : Update → Plan → Type 0
 IsNewPlan u p = IsPlanOf (update_aim u) u.old p ⊎ IsTwoPhasePlan u p
 
 -- the answer is the text of a new plan, which is certified and keeps every packet of every run consistent
-pub record SaysNewPlan (u : UpdateMeaning) (answer : Answer) : Type 0 where
+pub record SaysNewPlan (u : Update) (answer : Answer) : Type 0 where
   pub plan : Plan
   pub is_new : IsNewPlan u plan
   pub says : SaysPlan u.net plan answer
   pub certified : IsCertified (task_for u plan) plan.evidence
-  pub consistent : IsConsistent (task_for u plan) (is_two_phase plan.evidence)
+  pub consistent : IsConsistent u plan.rounds (is_two_phase plan.evidence)
   pub classes : HasSameClasses (classes_for (task_for u plan)) (update_classes u)
 
 -- the answer is the text of an ordered plan: that of the search, with one round for each rule that is replaced
-pub record SaysOrdered (u : UpdateMeaning) (answer : Answer) : Type 0 where
+pub record SaysOrdered (u : Update) (answer : Answer) : Type 0 where
   pub plan : Plan
   pub searched : IsPlanOf (update_aim u) u.old plan
   pub says : SaysPlan u.net plan answer
   pub count : length plan.rounds ≡ length (remaining u.old u.new)
 
 -- the search ended stuck, and there are too few tags
-pub record SaysTooFew (u : UpdateMeaning) (answer : Answer) : Type 0 where
+pub record SaysTooFew (u : Update) (answer : Answer) : Type 0 where
   pub rounds : List (List Change)
   pub stuck : AreStuck (update_aim u) u.old rounds
   pub need : ℕ
@@ -98,7 +98,7 @@ pub record SaysTooFew (u : UpdateMeaning) (answer : Answer) : Type 0 where
   pub answer_is : answer ≡ record { status = status.TooFewTags; text = too_few_lines u.net need has rounds }
 
 -- the search ended stuck, there are enough tags, and a switch is too small
-pub record SaysTooSmall (u : UpdateMeaning) (answer : Answer) : Type 0 where
+pub record SaysTooSmall (u : Update) (answer : Answer) : Type 0 where
   pub rounds : List (List Change)
   pub stuck : AreStuck (update_aim u) u.old rounds
   pub switch : SwitchId
@@ -108,17 +108,17 @@ pub record SaysTooSmall (u : UpdateMeaning) (answer : Answer) : Type 0 where
   pub answer_is : answer ≡ record { status = status.TooSmall; text = too_small_lines u.net switch need capacity rounds }
 
 -- what the search leads to: a new plan, or why there is none
-abbrev pub SaysSearched : UpdateMeaning → Answer → Type 0
+abbrev pub SaysSearched : Update → Answer → Type 0
 SaysSearched u answer = SaysNewPlan u answer ⊎ (SaysTooFew u answer ⊎ SaysTooSmall u answer)
 
 -- there are few enough classes, both ends are good, and the answer is what the search leads to; on an update of destination trees
 -- that is an ordered plan
-pub record SaysPlanned (u : UpdateMeaning) (answer : Answer) : Type 0 where
+pub record SaysPlanned (u : Update) (answer : Answer) : Type 0 where
   pub few : update_count u ≤ most_classes
   pub good : EndsAreGood u
   pub searched : SaysSearched u answer
   pub tree : IsTreeUpdate (bare_task u) → SaysOrdered u answer
 
 -- the answer on an update: too many classes, an end that isn't good, or what the search leads to
-abbrev pub IsPlanned : UpdateMeaning → Answer → Type 0
+abbrev pub IsPlanned : Update → Answer → Type 0
 IsPlanned u answer = SaysTooMany (update_count u) answer ⊎ (SaysWhyNot (update_count u) (EndsAreGood u) (IsEndLine u) answer ⊎ SaysPlanned u answer)

@@ -11,7 +11,8 @@ use Rattle.command_base.specs.declared.kinds.FileKind.TheVariants as kind
 use Rattle.command_base.specs.Kinds.{limit_of}
 use Rattle.command_base.specs.Lines.{classes_line}
 use Rattle.command_base.specs.Names.{UpdateNames}
-use Rattle.command_base.specs.Updates.{UpdateMeaning, FilesMeanUpdate, WritesPlan}
+use Rattle.certificates.specs.Updates.{Update}
+use Rattle.command_base.specs.Updates.{FilesMeanUpdate, WritesPlan}
 use Rattle.command_base.specs.Runs.{IsSettled}
 use Rattle.check_command.specs.Checks.{FilesAreCertified}
 use Rattle.plan_command.specs.NoPlanLines as lines
@@ -25,18 +26,18 @@ pub record PlanPromise (files : Files) (names : UpdateNames) (old new : Option (
   pub done : IsSettled result → ((result ≡ status.Done) ↔ FilesHavePlan files names)
   -- Then the text of the plan was written: the one of the search, or that of two phases with the rounds of the search as those that
   -- were tried. Reading it gives this plan.
-  pub writes : (u : UpdateMeaning) → FilesMeanUpdate files names u → result ≡ status.Done → WritesNewPlan u old new
+  pub writes : (u : Update) → FilesMeanUpdate files names u → result ≡ status.Done → WritesNewPlan u old new
   -- The plan that was written is certified, and so it keeps each packet's trace good in every state of every run.
-  pub keeps : (before : List ℕ) (u : UpdateMeaning) (p : Plan) → old ≡ Some before → result ≡ status.Done → FilesMeanUpdate files names u → WritesPlan u.net p old new → KeepsConsistent u p
+  pub keeps : (before : List ℕ) (u : Update) (p : Plan) → old ≡ Some before → result ≡ status.Done → FilesMeanUpdate files names u → WritesPlan u.net p old new → KeepsConsistent u p
   -- Where what was written has no more bytes than a plan may have, `check` over the same files and this text says Done.
   pub checked : (others : Files) (before plan text : List ℕ) → old ≡ Some before → result ≡ status.Done → Appends old new text
       → length text ≤ limit_of kind.Plan → HoldBeside files others names plan text → FilesAreCertified others (record { update = names; plan = plan })
   -- On an update of destination trees it says Done and writes an ordered plan, with one round for each rule that is replaced: never two
   -- phases, too few tags or a switch that is too small.
-  pub tree : IsSettled result → (u : UpdateMeaning) → FilesMeanTrees files names u → (result ≡ status.Done) × WritesOrderedPlan u old new
+  pub tree : IsSettled result → (u : Update) → FilesMeanTrees files names u → (result ≡ status.Done) × WritesOrderedPlan u old new
   -- Refused comes exactly where an end isn't good; the line names the first break.
   pub refused : IsSettled result → ((result ≡ status.Refused) ↔ FilesBreakAnEnd files names)
-  pub first : (u : UpdateMeaning) → FilesMeanUpdate files names u → result ≡ status.Refused → NamesFirstEndBreak u old new
+  pub first : (u : Update) → FilesMeanUpdate files names u → result ≡ status.Refused → NamesFirstEndBreak u old new
   -- Too few tags, and a switch that is too small, come exactly where the search ended stuck; the lines have the numbers and the
   -- rounds of the search.
   pub too_few : IsSettled result → ((result ≡ status.TooFewTags) ↔ FilesLackTags files names)

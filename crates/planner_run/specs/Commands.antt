@@ -7,7 +7,8 @@ use Rattle.command_base.specs.Dialogues.{Dialogue, Ends, and_then}
 use Rattle.command_base.specs.Names as base
 use Rattle.command_base.specs.Names.{UpdateNames, PlanNames}
 use Rattle.command_base.specs.Readings.{reading_update, reading_plan_files}
-use Rattle.command_base.specs.Updates.{UpdateMeaning, PlanMeaning}
+use Rattle.certificates.specs.Updates.{Update}
+use Rattle.command_base.specs.Updates.{PlanMeaning}
 use Rattle.config_command.specs.Names as config
 use Rattle.config_command.specs.Configs.{ConfigMeaning, config_dialogue, IsConfigAnswer}
 use Rattle.check_command.specs.Names as check
@@ -78,7 +79,7 @@ seen (command.Sample size) = Sample size.switches
 pub data Ending : Type 0 where
   OfConfig : ConfigMeaning → Ending
   OfCheck : CheckMeaning → Ending
-  OfPlan : UpdateMeaning → Ending
+  OfPlan : Update → Ending
   OfUpgrade : PlanMeaning → Ending
   OfEmit : PlanMeaning → Ending
   OfReplay : ReplayMeaning → Ending

@@ -6,7 +6,7 @@ use Rattle.topology.specs.Networks.{Network}
 use Rattle.topology.specs.Topology.{network_in}
 use Rattle.flow_rules.specs.declared.rules.Rule.{Rule}
 use Rattle.config_files.specs.Configuration.{configuration_in}
-use Rattle.update_model.specs.Mixtures.{Update}
+use Rattle.update_model.specs.Mixtures.{Rollout}
 use Rattle.update_model.specs.Runs.{IsRun, state_after_run}
 use Rattle.update_model.specs.States.{first_state}
 use Rattle.update_model.specs.Worlds.{WorldState}
@@ -49,7 +49,7 @@ replay_dialogue names =
     and_then (reading_schedule net names.schedule) (λ schedule. Ends (record { net = net; old = old; plan = plan; schedule = schedule })))))
 
 -- the old tables and the rounds of the plan
-abbrev pub update_in : ReplayMeaning → Update
+abbrev pub update_in : ReplayMeaning → Rollout
 update_in m = record { net = m.net; old = m.old; rounds = m.plan.rounds }
 
 -- the network before the first event

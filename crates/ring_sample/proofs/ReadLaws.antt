@@ -20,9 +20,9 @@ module _ (n : ℕ) (some : 4 ≤ n) (net : Network) (old new : List (List Rule))
       (subst (λ (t : List (List Rule)). P net t (ring_tables n 3) (ring_demands n)) (sym old_is)
       (subst (λ (x : Network). P x (ring_tables n 2) (ring_tables n 3) (ring_demands n)) (sym net_is) there)))
 
-  pub read_tree : IsNetwork net → IsTreeUpdate (record { update = record { net = net; old = old; rounds = [] }; new = new; demands = demands })
+  pub read_tree : IsNetwork net → IsTreeUpdate (record { update = record { net = net; old = old; new = new; demands = demands }; rounds = [] })
   read_tree kept =
-      moved (λ (x : Network) (o w : List (List Rule)) (d : List DemandView). IsTreeUpdate (record { update = record { net = x; old = o; rounds = [] }; new = w; demands = d }))
+      moved (λ (x : Network) (o w : List (List Rule)) (d : List DemandView). IsTreeUpdate (record { update = record { net = x; old = o; new = w; demands = d }; rounds = [] }))
       (ring_tree n some (subst IsNetwork net_is kept))
 
   pub read_classes : class_count (classes_before net old new demands) ≡ 6 * n

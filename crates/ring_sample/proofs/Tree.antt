@@ -22,7 +22,8 @@ use Rattle.dest_classes.specs.Classes.{IsClass, boundaries, class_count}
 use Rattle.dest_classes.specs.declared.Class.{Class}
 use Rattle.demands.specs.Duties.{DemandView}
 use Rattle.demands.specs.Good.{HasGoodPath, HasGoodPaths}
-use Rattle.certificates.specs.Certified.{Task, classes_for, blocks_of}
+use Rattle.certificates.specs.Updates.{Task}
+use Rattle.certificates.specs.Certified.{classes_for, blocks_of}
 use Rattle.certificates.specs.Trees.{IsTreeUpdate, MatchesPrefixAlone, AreApart, LeavesOrStays}
 use Rattle.plan_classes.specs.SameClasses.{every_address}
 use Rattle.plan_classes.proofs.BoundaryLaws.{same_boundaries}
@@ -99,7 +100,7 @@ apart_or_same a b i k =
 module _ (n : ℕ) where
   -- the update of the ring, without rounds
   abbrev pub ring_task : Task
-  ring_task = record { update = record { net = ring_network n; old = ring_tables n 2; rounds = [] }; new = ring_tables n 3; demands = ring_demands n }
+  ring_task = record { update = record { net = ring_network n; old = ring_tables n 2; new = ring_tables n 3; demands = ring_demands n }; rounds = [] }
 
   abbrev prefixes : List Block
   prefixes = blocks_of (ring_tables n 2) (ring_tables n 3) (ring_demands n) []

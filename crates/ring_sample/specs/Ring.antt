@@ -12,7 +12,7 @@ use Rattle.flow_rules.specs.declared.rules.Rewrite.TheVariants.{Keep}
 use Rattle.flow_rules.specs.declared.rules.Action.TheVariants.{Out}
 use Rattle.flow_rules.specs.declared.rules.Rule.{Rule}
 use Rattle.demands.specs.Duties.{DemandView}
-use Rattle.command_base.specs.Updates.{UpdateMeaning}
+use Rattle.certificates.specs.Updates.{Update}
 
 -- the numbers below n, ascending
 abbrev pub below : ℕ → List ℕ
@@ -85,5 +85,5 @@ ring_demands n = flat_map (λ i. map (ring_demand i) (others i)) (below n)
 -- ---- the update
 
 -- packets go out of port 2 before, and out of port 3 after
-abbrev pub ring_update : ℕ → UpdateMeaning
+abbrev pub ring_update : ℕ → Update
 ring_update n = record { net = ring_network n; old = ring_tables n 2; new = ring_tables n 3; demands = ring_demands n }

@@ -64,7 +64,7 @@ pub fn ring_update(alloc: Global, size: RingSize) -> Result<UpdateFiles, Memory>
     ensures meaning { IfOk result (λ u. meaning_of u ≡ the_ring size.switches) }
 
     // It is an update of destination trees, with six classes for each switch, and 4 * (n - 1) rules of it differ.
-    ensures tree { IfOk result (λ u. IsTreeUpdate (record { update = record { net = u.net; old = rules_of_all u.old; rounds = [] }; new = rules_of_all u.new; demands = u.demands })) }
+    ensures tree { IfOk result (λ u. IsTreeUpdate (record { update = meaning_of u; rounds = [] })) }
     ensures classes { IfOk result (λ u. class_count (classes_before u.net (rules_of_all u.old) (rules_of_all u.new) u.demands) ≡ 6 * size.switches) }
     ensures differ { IfOk result (λ u. length (remaining (rules_of_all u.old) (rules_of_all u.new)) ≡ 4 * (size.switches - 1)) }
     ensures old_user { IfOk result (λ u. IsUserConfig u.net (rules_of_all u.old)) }

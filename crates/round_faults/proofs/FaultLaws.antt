@@ -4,7 +4,7 @@ use Rattle.std.proofs.lemmas.Bool.{cases_lt, cases_eq}
 use Rattle.std.proofs.lemmas.Option.{slice_get_within}
 use Rattle.net_base.specs.declared.ids.SwitchId.{SwitchId}
 use Rattle.update_model.specs.Changes.{switch_of, round_after, IsGoodRound}
-use Rattle.update_model.specs.Mixtures.{Update, tables_before}
+use Rattle.update_model.specs.Mixtures.{Rollout, tables_before}
 use Rattle.check_reasons.specs.Ranks.{IsBefore, rank_of}
 use Rattle.check_reasons.specs.Reasons.{IsBadChange, IsUnclear}
 use Rattle.check_reasons.specs.declared.reason.Reason.{Reason}
@@ -15,7 +15,7 @@ use Rattle.round_faults.specs.Sound.{IsRoundReason, IsFirstRoundReason, bad_chan
 use Rattle.round_faults.specs.Finding.{IsSound, IsLeastBad, IsFirstUnclear, IsFirstOf}
 use Rattle.round_faults.proofs.BadLaws.{round_no_bad}
 
-module _ (u : Update) (k : ℕ) (less : k < length u.rounds) (below : (j : ℕ) → j < k → IsSound (tables_before u j) (round_after j u.rounds)) where
+module _ (u : Rollout) (k : ℕ) (less : k < length u.rounds) (below : (j : ℕ) → j < k → IsSound (tables_before u j) (round_after j u.rounds)) where
   no_bad_below : (j i : ℕ) (o : SwitchId) → j < k → ¬ IsBadChange u j i o
   no_bad_below j i o earlier bad = round_no_bad (tables_before u j) (round_after j u.rounds) i bad.change (below j earlier).good bad.is bad.bad
 

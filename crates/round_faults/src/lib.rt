@@ -4,7 +4,7 @@
 ghost use Rattle.std.specs.Prelude.{◌≡◌, ◌+◌, ◌<◌, ◌^◌, [], ℕ, length, IfErr, OnOk};
 ghost use Rattle.flow_rules.specs.Tables.{rules_of_all};
 ghost use Rattle.update_model.specs.Changes.{round_after, tables_after, IsGoodRound};
-ghost use Rattle.update_model.specs.Mixtures.{Update, AreGoodRounds, AreClearRounds};
+ghost use Rattle.update_model.specs.Mixtures.{Rollout, AreGoodRounds, AreClearRounds};
 ghost use Rattle.round_faults.specs.Finding.{AreClearOr, IsSound, IsFirstOf};
 ghost use Rattle.round_faults.specs.Sound.{IsFault};
 
@@ -110,7 +110,7 @@ pub fn sound_rounds(
     requires few_changes { (k : ℕ) → length (round_after k rounds.now) < 2 ^ 32 }
     ensures good { OnOk result (AreGoodRounds (record { net = net.now; old = rules_of_all old.now; rounds = rounds.now })) }
     ensures clear { OnOk result (AreClearRounds (record { net = net.now; old = rules_of_all old.now; rounds = rounds.now })) }
-    ensures err { IfErr result (λ fault. let u : Update = record { net = net.now; old = rules_of_all old.now; rounds = rounds.now } in IsFault u fault) }
+    ensures err { IfErr result (λ fault. let u : Rollout = record { net = net.now; old = rules_of_all old.now; rounds = rounds.now } in IsFault u fault) }
 {
     let _ = net;
     let mut tables = old.copy()?;

@@ -5,7 +5,7 @@ use Rattle.topology.specs.Networks.{Network}
 use Rattle.flow_rules.specs.Tables.{rules_at}
 use Rattle.flow_rules.specs.declared.rules.Rule.{Rule}
 use Rattle.update_model.specs.Changes.{changes_at}
-use Rattle.update_model.specs.Mixtures.{Update}
+use Rattle.update_model.specs.Mixtures.{Rollout}
 use Rattle.update_model.specs.declared.Change.{Change}
 use Rattle.round_mix.specs.Prepared.{AreClear}
 
@@ -16,7 +16,7 @@ pub record RoundView : Type 0 where
   pub round : List Change
 
 -- the update that has this round alone
-abbrev pub alone : RoundView → Update
+abbrev pub alone : RoundView → Rollout
 alone r = record { net = r.net; old = r.tables; rounds = r.round ∷ [] }
 
 -- each mixture of each switch is clear

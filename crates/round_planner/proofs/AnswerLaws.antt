@@ -6,7 +6,8 @@ use Rattle.path_walk.specs.UserConfigs.{IsUserConfig}
 use Rattle.dest_classes.specs.Classes.{class_count}
 use Rattle.demands.specs.Good.{HasGoodPaths}
 use Rattle.update_model.specs.Remaining.{remaining}
-use Rattle.certificates.specs.Certified.{Task, classes_for, IsCertified}
+use Rattle.certificates.specs.Updates.{Task}
+use Rattle.certificates.specs.Certified.{classes_for, IsCertified}
 use Rattle.certificates.specs.Trees.{IsTreeUpdate}
 use Rattle.certificates.specs.Valid.{IsValidPlan}
 use Rattle.certificates.specs.declared.Plan.{Plan}
@@ -27,7 +28,7 @@ module _ (aim : Aim) (old : List (List Rule)) (classes_are : aim.classes ≡ cla
   answer_tried true (changes, at, ends) = tt
   answer_tried false (changes, at, ends) = rounds_tried aim old classes_are net old_user new_user s changes at
 
-  pub answer_tree : (none : Bool) → IsEnded aim old s none → IsTreeUpdate (record { update = record { net = aim.net; old = old; rounds = [] }; new = aim.new; demands = aim.demands }) → IsNotStuck (answer_by s none)
+  pub answer_tree : (none : Bool) → IsEnded aim old s none → IsTreeUpdate (record { update = record { net = aim.net; old = old; new = aim.new; demands = aim.demands }; rounds = [] }) → IsNotStuck (answer_by s none)
   answer_tree true (changes, at, ends) tree = tt
   answer_tree false (changes, at, ends) tree = absurd (tree_not_stuck aim old classes_are net old_user new_user s changes at tree ends)
 
@@ -38,7 +39,7 @@ module _ (aim : Aim) (old : List (List Rule)) (classes_are : aim.classes ≡ cla
 
     module _ (no_classes : MakeNoClasses aim.net old aim.new) (old_good : HasGoodPaths aim.net old aim.demands aim.classes) (new_good : HasGoodPaths aim.net aim.new aim.demands aim.classes) where
       abbrev pub task_of_plan : Plan → Task
-      task_of_plan p = record { update = record { net = aim.net; old = old; rounds = p.rounds }; new = aim.new; demands = aim.demands }
+      task_of_plan p = record { update = record { net = aim.net; old = old; new = aim.new; demands = aim.demands }; rounds = p.rounds }
 
       pub answer_certified : (none : Bool) → IsEnded aim old s none → OfPlan (λ p. IsCertified (task_of_plan p) p.evidence) (answer_by s none)
       answer_certified true (changes, at, ends) = now_certified aim old classes_are net old_user new_user s changes at ends stored no_classes old_good new_good

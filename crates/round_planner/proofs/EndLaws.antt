@@ -19,7 +19,7 @@ use Rattle.dest_classes.specs.Classes.{IsClass}
 use Rattle.dest_classes.specs.declared.Class.{Class}
 use Rattle.demands.specs.Good.{HasGoodPaths}
 use Rattle.update_model.specs.Changes.{switch_of, rule_of, Applies, tables_after, tables_after_change, round_after, settled_tables, round_blocks, IsGoodRound}
-use Rattle.update_model.specs.Mixtures.{Update, tables_before, AreGoodRounds, AreClearRounds, need_of}
+use Rattle.update_model.specs.Mixtures.{Rollout, tables_before, AreGoodRounds, AreClearRounds, need_of}
 use Rattle.update_model.specs.Ranges.{IsPlanChange}
 use Rattle.update_model.specs.Remaining.{rule_with, difference, changes_between, keys_in_order, remaining}
 use Rattle.update_model.specs.declared.Change.{Change}
@@ -30,7 +30,8 @@ use Rattle.update_model.proofs.RemainingLaws.{rule_is, rule_told}
 use Rattle.update_model.proofs.RoundLaws.{settled_start}
 use Rattle.certificates.proofs.TreeTables.{unique_in_table}
 use Rattle.flow_rules.proofs.TableLaws.{action_eq-true}
-use Rattle.certificates.specs.Certified.{Task, classes_for, KeepsVlan, IsCertified}
+use Rattle.certificates.specs.Updates.{Task}
+use Rattle.certificates.specs.Certified.{classes_for, KeepsVlan, IsCertified}
 use Rattle.certificates.specs.Valid.{IsValidPick, IsValidPlan}
 use Rattle.certificates.specs.declared.Evidence.TheVariants.{Ordered}
 use Rattle.certificates.specs.declared.OrderedPick.{OrderedPick}
@@ -155,7 +156,7 @@ module _ (aim : Aim) (old : List (List Rule)) (new_user : IsUserConfig aim.net a
 
 module _ (aim : Aim) (old : List (List Rule)) (net : IsNetwork aim.net) (old_user : IsUserConfig aim.net old) (new_user : IsUserConfig aim.net aim.new)
     (changes : List Change) (found : AreFirstQualifying aim old changes) where
-  abbrev u : Update
+  abbrev u : Rollout
   u = update_by aim old changes
 
   pub found_user : AreUserTables aim old (tables_after changes old)
@@ -292,7 +293,7 @@ module _ (aim : Aim) (old : List (List Rule)) (net : IsNetwork aim.net) (old_use
     module _ (classes_are : aim.classes ≡ classes_before aim.net old aim.new aim.demands) (no_classes : MakeNoClasses aim.net old aim.new)
         (old_good : HasGoodPaths aim.net old aim.demands aim.classes) (new_good : HasGoodPaths aim.net aim.new aim.demands aim.classes) (none : remaining (tables_after changes old) aim.new ≡ []) where
       abbrev pub task : Task
-      task = record { update = u; new = aim.new; demands = aim.demands }
+      task = record { update = record { net = aim.net; old = old; new = aim.new; demands = aim.demands }; rounds = u.rounds }
 
       pub plan_classes : HasSameClasses (classes_for task) aim.classes
       plan_classes = subst (HasSameClasses (classes_for task)) (sym classes_are) (no_classes aim.demands u.rounds no_prefix)

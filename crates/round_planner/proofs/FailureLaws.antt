@@ -15,7 +15,7 @@ use Rattle.path_walk.specs.Outcomes.{header_at}
 use Rattle.path_walk.specs.declared.Outcome.{Outcome}
 use Rattle.dest_classes.specs.declared.Class.{Class}
 use Rattle.update_model.specs.Changes.{switch_of, rule_of, rules_after_change, tables_after_change, tables_after, changes_at, round_after}
-use Rattle.update_model.specs.Mixtures.{Update, IsMixture, MayHold, IsPossible, IsOnMixedWalk, need_of, entries_needed}
+use Rattle.update_model.specs.Mixtures.{Rollout, IsMixture, MayHold, IsPossible, IsOnMixedWalk, need_of, entries_needed}
 use Rattle.update_model.specs.declared.Change.{Change}
 use Rattle.update_model.specs.declared.Change.TheVariants.{Insert, Delete, Replace}
 use Rattle.update_model.proofs.ChangeLaws.{rules_at-after_change}
@@ -92,7 +92,7 @@ no_room net t tables c settled are none there =
 -- ---- a class that is not safe
 
 module _ (aim : Aim) (tables : List (List Rule)) (c : Change) (keeps_rules : TablesKeepVlans tables) (keeps : KeepsVlan (rule_of c).action) (class : Class) where
-  abbrev u : Update
+  abbrev u : Rollout
   u = single aim.net tables c
 
   keep_rounds : (j : ℕ) → AllByRecursion (λ d. KeepsVlan (rule_of d).action) (round_after j u.rounds)
@@ -100,7 +100,7 @@ module _ (aim : Aim) (tables : List (List Rule)) (c : Change) (keeps_rules : Tab
   keep_rounds (suc j) = tt
 
   module _ (d : Change) (within : (switch_of d).0 < length tables) (apart : IsApart aim tables c class d) where
-    abbrev v : Update
+    abbrev v : Rollout
     v = single aim.net (tables_after_change d tables) c
 
     -- the same rules cover a packet of the class where its mixed walks come to

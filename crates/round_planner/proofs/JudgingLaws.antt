@@ -16,7 +16,7 @@ use Rattle.dest_classes.specs.Classes.{IsClass, class_count}
 use Rattle.dest_classes.specs.declared.Class.{Class}
 use Rattle.dest_classes.proofs.MapLaws.{class_exists}
 use Rattle.update_model.specs.Changes.{rule_of, round_after}
-use Rattle.update_model.specs.Mixtures.{Update, MayGo, IsOnMixedWalk}
+use Rattle.update_model.specs.Mixtures.{Rollout, MayGo, IsOnMixedWalk}
 use Rattle.certificates.specs.Steps.{IsMixedStep}
 use Rattle.mixed_walks.specs.Walks.{WalkState, IsWalked}
 use Rattle.update_model.specs.declared.Change.{Change}
@@ -49,7 +49,7 @@ some_round (p ∷ picks) =
       (omega arith, each_weaker (λ (q : OrderedPick). q.round ≤ round) (λ (q : OrderedPick). q.round ≤ p.round + round) (λ q le. omega arith) picks all),
     )
 
-module _ (aim : Aim) (u : Update) (e : OrderedEvidence) (k n : ℕ) (class : Class) where
+module _ (aim : Aim) (u : Rollout) (e : OrderedEvidence) (k n : ℕ) (class : Class) where
   -- a class without a pick has no certificate
   pub not_without_pick : ((pick : OrderedPick) → IsIn pick e.picks → pick.class ≢ n) → ¬ IsCertifiedClass aim u e k n class
   not_without_pick none h = none h.pick h.in_force.stands h.in_force.of_class
@@ -69,7 +69,7 @@ module _ (aim : Aim) (u : Update) (e : OrderedEvidence) (k n : ℕ) (class : Cla
 
 -- ---- a class that the change of a round doesn't cover
 
-module _ (aim : Aim) (u : Update) (e : OrderedEvidence) (k : ℕ) (c : Change) (next : IsNextRound aim u e k c) where
+module _ (aim : Aim) (u : Rollout) (e : OrderedEvidence) (k : ℕ) (c : Change) (next : IsNextRound aim u e k c) where
   pub picks_up_to : AllByRecursion (λ p. p.round ≤ suc k) e.picks
   picks_up_to = each_weaker (λ (p : OrderedPick). (0 < p.round) × (p.round ≤ k)) (λ (p : OrderedPick). p.round ≤ suc k) (λ p h. let le = h.1 in omega arith) e.picks next.picks
 
@@ -134,7 +134,7 @@ means_use e pick numbers sets meant number use_ numbering is use_is numbering_is
 below_or_last : (n m : ℕ) → n < m + 1 → (n < m) ⊎ (n ≡ m)
 below_or_last n m less = elim (cases_lt n m) [ inl below ↦ inl below | inr above ↦ inr (omega arith) ]
 
-module _ (aim : Aim) (u : Update) (e : OrderedEvidence) (k : ℕ) where
+module _ (aim : Aim) (u : Rollout) (e : OrderedEvidence) (k : ℕ) where
   pub safe_none : AreSafeBelow aim u e k 0 []
   safe_none = record { each = λ n class less is. absurd (omega arith); within = tt; ascending = tt }
 
@@ -199,7 +199,7 @@ module _ (aim : Aim) (u : Update) (e : OrderedEvidence) (k : ℕ) where
 
 -- ---- the switches that mixed walks come to
 
-module _ (u : Update) (k dst : ℕ) (entry : Place) (noted : WalkState) (walked : IsWalked u k dst entry noted) where
+module _ (u : Rollout) (k dst : ℕ) (entry : Place) (noted : WalkState) (walked : IsWalked u k dst entry noted) where
   -- they are the entry's and the ends of the steps
   pub visits_all : (marks : List Bool) → IsVisited marks entry.switch → AllByRecursion (λ (e : Edge). IsVisited marks e.to) noted.steps
       → (place : Place) → IsOnMixedWalk u k dst entry place → IsVisited marks place.switch

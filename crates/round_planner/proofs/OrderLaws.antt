@@ -7,7 +7,8 @@ use Rattle.dest_classes.specs.Classes.{ClassList}
 use Rattle.demands.specs.Good.{HasGoodPaths}
 use Rattle.update_model.specs.Remaining.{remaining}
 use Rattle.update_model.specs.declared.Change.{Change}
-use Rattle.certificates.specs.Certified.{Task, classes_for, IsCertified}
+use Rattle.certificates.specs.Updates.{Task}
+use Rattle.certificates.specs.Certified.{classes_for, IsCertified}
 use Rattle.certificates.specs.Trees.{IsTreeUpdate}
 use Rattle.certificates.specs.Valid.{IsValidPlan}
 use Rattle.certificates.specs.declared.Evidence.TheVariants.{Ordered}
@@ -50,7 +51,7 @@ module _ (aim : Aim) (old : List (List Rule)) (classes_are : aim.classes ≡ cla
 
         module _ (no_classes : MakeNoClasses aim.net old aim.new) (old_good : HasGoodPaths aim.net old aim.demands aim.classes) (new_good : HasGoodPaths aim.net aim.new aim.demands aim.classes) where
           abbrev pub task_by : Plan → Task
-          task_by p = record { update = record { net = aim.net; old = old; rounds = p.rounds }; new = aim.new; demands = aim.demands }
+          task_by p = record { update = record { net = aim.net; old = old; new = aim.new; demands = aim.demands }; rounds = p.rounds }
 
           pub now_certified : IsCertified (task_by plan_now) plan_now.evidence
           now_certified =
@@ -77,7 +78,7 @@ module _ (aim : Aim) (old : List (List Rule)) (classes_are : aim.classes ≡ cla
 
     -- the task of no rounds
     abbrev pub no_rounds : Task
-    no_rounds = record { update = record { net = aim.net; old = old; rounds = [] }; new = aim.new; demands = aim.demands }
+    no_rounds = record { update = record { net = aim.net; old = old; new = aim.new; demands = aim.demands }; rounds = [] }
 
     pub tree_not_stuck : IsTreeUpdate no_rounds → ¬ EndsStuck aim old changes
     tree_not_stuck tree = not_stuck no_rounds tree net old_user new_user aim.classes (subst (HasSameClasses aim.classes) classes_are (record { hosts = refl; vlans = refl; atoms = refl })) changes

@@ -12,7 +12,7 @@ use Rattle.path_walk.specs.declared.Outcome.TheVariants.{Discard, Leave, Go}
 use Rattle.dest_classes.specs.declared.Class.{Class}
 use Rattle.demands.specs.Duties.{PacketDuties}
 use Rattle.update_model.specs.Changes.{changes_at, round_after, settled_tables, tables_after}
-use Rattle.update_model.specs.Mixtures.{Update, tables_before, MayHold, IsMixture, MayBe, IsPossible, MayGo, IsOnMixedWalk, entries_needed, need_of}
+use Rattle.update_model.specs.Mixtures.{Rollout, tables_before, MayHold, IsMixture, MayBe, IsPossible, MayGo, IsOnMixedWalk, entries_needed, need_of}
 use Rattle.update_model.specs.declared.Change.{Change}
 use Rattle.update_model.proofs.RoundLaws.{settled_start}
 use Rattle.acyclic_numbering.specs.Heights.{number_of, IsHeight}
@@ -26,15 +26,15 @@ use Rattle.round_planner.specs.Search.{Aim, update_by, single_rounds}
 -- ---- what may happen
 
 -- the same network, the same tables before the rounds, and the same changes
-pub record IsSameRound (u : Update) (k : ℕ) (v : Update) (j : ℕ) : Type 0 where
+pub record IsSameRound (u : Rollout) (k : ℕ) (v : Rollout) (j : ℕ) : Type 0 where
   pub net : u.net ≡ v.net
   pub tables : tables_before u k ≡ tables_before v j
   pub round : round_after k u.rounds ≡ round_after j v.rounds
 
-pub same_back : (u : Update) (k : ℕ) (v : Update) (j : ℕ) → IsSameRound u k v j → IsSameRound v j u k
+pub same_back : (u : Rollout) (k : ℕ) (v : Rollout) (j : ℕ) → IsSameRound u k v j → IsSameRound v j u k
 same_back u k v j same = record { net = sym same.net; tables = sym same.tables; round = sym same.round }
 
-module _ (u : Update) (k : ℕ) (v : Update) (j : ℕ) (same : IsSameRound u k v j) where
+module _ (u : Rollout) (k : ℕ) (v : Rollout) (j : ℕ) (same : IsSameRound u k v j) where
   pub held_same : (s : SwitchId) (mixed : List Rule) → MayHold u k s mixed → MayHold v j s mixed
   held_same s mixed h =
       subst (λ ts. IsMixture (rules_at ts s) (changes_at s (round_after j v.rounds)) mixed) same.tables
@@ -101,7 +101,7 @@ least_as edge other there back start waypoint earlier set h = record {
 
 -- ---- evidence
 
-module _ (u : Update) (k : ℕ) (v : Update) (j : ℕ) (same : IsSameRound u k v j) where
+module _ (u : Rollout) (k : ℕ) (v : Rollout) (j : ℕ) (same : IsSameRound u k v j) where
   module _ (dst : ℕ) (entry : Place) where
     there : (s t : SwitchId) → IsMixedStep u k dst entry s t → IsMixedStep v j dst entry s t
     there s t = step_same u k v j same dst entry s t

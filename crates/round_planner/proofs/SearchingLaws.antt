@@ -12,7 +12,7 @@ use Rattle.path_walk.specs.UserConfigs.{IsUserConfig}
 use Rattle.dest_classes.specs.Classes.{IsClass, class_count}
 use Rattle.dest_classes.specs.declared.Class.{Class}
 use Rattle.update_model.specs.Changes.{switch_of, rule_of, Applies, IsGoodRound, tables_after, tables_after_change, changes_at, round_after, with_change}
-use Rattle.update_model.specs.Mixtures.{Update, tables_before}
+use Rattle.update_model.specs.Mixtures.{Rollout, tables_before}
 use Rattle.update_model.specs.Remaining.{remaining}
 use Rattle.update_model.specs.declared.Change.{Change}
 use Rattle.round_mix.specs.Prepared.{MixedState, IsPrepared}
@@ -44,7 +44,7 @@ use Rattle.dest_classes.proofs.MapLaws.{number_fits}
 
 -- ---- prepared switches and rounds
 
-loaded_as : (u v : Update) (k j : ℕ) → IsSameRound u k v j → (mixes : List MixedState) → AreLoaded u k mixes → AreLoaded v j mixes
+loaded_as : (u v : Rollout) (k j : ℕ) → IsSameRound u k v j → (mixes : List MixedState) → AreLoaded u k mixes → AreLoaded v j mixes
 loaded_as u v k j same mixes h = record { count = h.count ∙ ap switch_count same.net; each = each }
   where
     prepared_as : (s : SwitchId) (marks : List MarkedRule) → IsPrepared (rules_at (tables_before u k) s) (changes_at s (round_after k u.rounds)) marks
@@ -65,7 +65,7 @@ round_keeps (d ∷ cs) all (suc j) = round_keeps cs all.1 j
 
 module _ (aim : Aim) (old : List (List Rule)) (old_user : IsUserConfig aim.net old) (new_user : IsUserConfig aim.net aim.new) (changes : List Change) (c : Change) (e : OrderedEvidence)
     (stands : Stands aim old changes e) (remains : IsIn c (remaining (tables_after changes old) aim.new)) where
-  abbrev pub next : Update
+  abbrev pub next : Rollout
   next = update_by aim old (changes ++ c ∷ [])
 
   user : AreUserTables aim old (tables_after changes old)

@@ -12,7 +12,7 @@ use Rattle.dest_classes.specs.declared.Class.{Class}
 use Rattle.dest_classes.proofs.MapLaws.{number_fits, class_exists}
 use Rattle.demands.specs.Duties.{PacketDuties}
 use Rattle.update_model.specs.Changes.{tables_after, tables_after_change}
-use Rattle.update_model.specs.Mixtures.{Update}
+use Rattle.update_model.specs.Mixtures.{Rollout}
 use Rattle.update_model.specs.Remaining.{remaining}
 use Rattle.update_model.specs.declared.Change.{Change}
 use Rattle.certificates.specs.Ordered.{IsMeant, OrderedCertificate}
@@ -46,7 +46,7 @@ length_more changes c = length_rounds (changes ++ c ∷ []) ∙ length-append ch
 -- ---- certificates by other evidence
 
 -- a certificate holds by other evidence in which the picks of the class that have begun are the same and mean the same
-certificate_by : (u v : Update) (k : ℕ) → IsSameRound u k v k → (a b : OrderedEvidence) (n dst : ℕ) (entry : Place) (duties : PacketDuties)
+certificate_by : (u v : Rollout) (k : ℕ) → IsSameRound u k v k → (a b : OrderedEvidence) (n dst : ℕ) (entry : Place) (duties : PacketDuties)
     → ((p : OrderedPick) → IsIn p a.picks → IsIn p b.picks)
     → ((p : OrderedPick) → IsIn p b.picks → p.class ≡ n → p.round ≤ suc k → IsIn p a.picks)
     → ((p : OrderedPick) (numbers : List ℕ) (sets : List (List ℕ)) → IsIn p a.picks → IsMeant a p numbers sets → IsMeant b p numbers sets)
@@ -65,7 +65,7 @@ certificate_by u v k same a b n dst entry duties there back meaning h = record {
   safe = safe_same u k v k same dst entry duties h.numbers h.sets h.safe;
 }
 
-same_self : (u : Update) (k : ℕ) → IsSameRound u k u k
+same_self : (u : Rollout) (k : ℕ) → IsSameRound u k u k
 same_self u k = record { net = refl; tables = refl; round = refl }
 
 -- ---- picks up to a round
@@ -140,10 +140,10 @@ module _ (aim : Aim) (old : List (List Rule)) (changes : List Change) (c : Chang
     (stands : Stands aim old changes e) (first : IsFirstQualifying aim (tables_after changes old) (remaining (tables_after changes old) aim.new) c)
     (stored_old : IsStored e) (safe : AreSafeBelow aim (update_by aim old (changes ++ c ∷ [])) e (length changes) (class_count aim.classes) found)
     (added : AreWithPicks e (suc (length changes)) found more) (stored : IsStored more) where
-  abbrev now : Update
+  abbrev now : Rollout
   now = update_by aim old changes
 
-  abbrev next : Update
+  abbrev next : Rollout
   next = update_by aim old (changes ++ c ∷ [])
 
   abbrev last : ℕ

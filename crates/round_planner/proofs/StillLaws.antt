@@ -18,7 +18,7 @@ use Rattle.path_walk.specs.declared.Outcome.{Outcome}
 use Rattle.dest_classes.specs.declared.Class.{Class}
 use Rattle.demands.specs.Duties.{PacketDuties}
 use Rattle.update_model.specs.Changes.{switch_of, rule_of, changes_at, round_after, IsGoodRound}
-use Rattle.update_model.specs.Mixtures.{Update, IsPossible, IsOnMixedWalk, tables_before}
+use Rattle.update_model.specs.Mixtures.{Rollout, IsPossible, IsOnMixedWalk, tables_before}
 use Rattle.update_model.specs.declared.Change.{Change}
 use Rattle.update_model.proofs.OneRoundLaws.{next_tables}
 use Rattle.certificates.specs.Ordered.{IsSafe}
@@ -29,7 +29,7 @@ use Rattle.round_planner.proofs.CoveringLaws.{possible_alone}
 use Rattle.check_reasons.proofs.SameWalks.{was_on_walk, was_safe}
 
 -- each place of a mixed walk has the VLAN of the entry
-module _ (u : Update) (k dst : ℕ) (entry : Place) (keeps_rules : TablesKeepVlans u.old) (keeps : KeepVlansUpTo u k) where
+module _ (u : Rollout) (k dst : ℕ) (entry : Place) (keeps_rules : TablesKeepVlans u.old) (keeps : KeepVlansUpTo u k) where
   abbrev place_at : Stop → Place
   place_at stop = record { switch = stop.switch; port = stop.port; vlan = entry.vlan }
 
@@ -52,7 +52,7 @@ not_covered c class place vlan_is off =
           absurd (off (subst (λ (x : Vlan). IsTrue (admits_vlan p.vlan x)) vlan_is vlan, prefix))
     ]
 
-module _ (u : Update) (k : ℕ) (class : Class) (c : Change) (less : k < length u.rounds) (good : IsGoodRound (tables_before u k) (round_after k u.rounds)) (round_is : round_after (suc k) u.rounds ≡ c ∷ [])
+module _ (u : Rollout) (k : ℕ) (class : Class) (c : Change) (less : k < length u.rounds) (good : IsGoodRound (tables_before u k) (round_after k u.rounds)) (round_is : round_after (suc k) u.rounds ≡ c ∷ [])
     (keeps_rules : TablesKeepVlans u.old) (keeps : KeepVlansUpTo u k) (apart : (place : Place) → IsOnMixedWalk u k class.first class.entry place → place.switch ≡ switch_of c → ¬ CoversClass c class) where
   none_covers : (place : Place) → IsOnMixedWalk u k class.first class.entry place
       → AllByRecursion (λ d. covers (rule_of d).key.pattern (header_at place class.first) ≡ false) (changes_at place.switch (round_after (suc k) u.rounds))

@@ -18,7 +18,8 @@ use Rattle.update_model.specs.Remaining.{remaining, changes_between}
 use Rattle.update_model.specs.declared.Change.{Change}
 use Rattle.update_model.specs.declared.Change.TheVariants.{Replace}
 use Rattle.update_model.proofs.ChangeLaws.{rules_at-after}
-use Rattle.certificates.specs.Certified.{Task, classes_for}
+use Rattle.certificates.specs.Updates.{Task}
+use Rattle.certificates.specs.Certified.{classes_for}
 use Rattle.update_model.specs.Mixtures.{is_insert}
 use Rattle.certificates.specs.Ordered.{IsSafe}
 use Rattle.certificates.specs.Trees.{IsTreeUpdate, IsRemainingReplace}
@@ -46,9 +47,9 @@ replaced_length s next (q ∷ rules) = ap suc (replaced_length s next rules)
 
 -- what the search of an update is for, with a list of classes
 abbrev aim_for : Task → ClassList → Aim
-aim_for t classes = record { net = t.update.net; new = t.new; demands = t.demands; classes = classes }
+aim_for t classes = record { net = t.update.net; new = t.update.new; demands = t.update.demands; classes = classes }
 
-module _ (t : Task) (tree : IsTreeUpdate t) (is_net : IsNetwork t.update.net) (old_user : IsUserConfig t.update.net t.update.old) (new_user : IsUserConfig t.update.net t.new)
+module _ (t : Task) (tree : IsTreeUpdate t) (is_net : IsNetwork t.update.net) (old_user : IsUserConfig t.update.net t.update.old) (new_user : IsUserConfig t.update.net t.update.new)
     (classes : ClassList) (same : HasSameClasses classes (classes_for t)) where
   abbrev Fit : List (List Rule) → Type 0
   Fit tables = AllFit t tree old_user.distinct new_user.distinct tables
@@ -56,25 +57,25 @@ module _ (t : Task) (tree : IsTreeUpdate t) (is_net : IsNetwork t.update.net) (o
   -- what holds of the tables while the search goes on
   record Progress (tables : List (List Rule)) : Type 0 where
     fit : Fit tables
-    fine : (n : ℕ) (class : Class) → IsClass (classes_for t) n class → FinePath (λ p. outcome_in t.update.net tables p class.first) (duties_of t.demands class.entry class.first).arrive class.entry
+    fine : (n : ℕ) (class : Class) → IsClass (classes_for t) n class → FinePath (λ p. outcome_in t.update.net tables p class.first) (duties_of t.update.demands class.entry class.first).arrive class.entry
     sizes : (s : SwitchId) → length (rules_at tables s) ≡ length (rules_at t.update.old s)
 
   start : Progress t.update.old
   start = record {
     fit = λ s. record { keys = tree.same_keys s; unique = unique_in_table (rules_at t.update.old s) (old_user.distinct s) };
-    fine = λ n class is. fine_from_good t.update.net t.update.old t.demands class.entry class.first (tree.old_good n class is);
+    fine = λ n class is. fine_from_good t.update.net t.update.old t.update.demands class.entry class.first (tree.old_good n class is);
     sizes = λ s. refl;
   }
 
   module _ (tables : List (List Rule)) (p : Progress tables) where
     -- the changes that remain are the remaining replaces
-    remaining_replace : (d : Change) → IsIn d (remaining tables t.new) → IsRemainingReplace t tables d
+    remaining_replace : (d : Change) → IsIn d (remaining tables t.update.new) → IsRemainingReplace t tables d
     remaining_replace d i =
-        let (n, j, _, _) = in_from_changes 0 tables t.new d i in
+        let (n, j, _, _) = in_from_changes 0 tables t.update.new d i in
         let s = switch_at n in
-        let here : IsIn d (changes_between s (rules_at tables s) (rules_at t.new s)) =
-        subst (λ m. IsIn d (changes_between (switch_at m) (get_or tables n []) (get_or t.new n []))) (let e : 0 + n ≡ n = omega arith in e) j in
-        let h = differing s (rules_at tables s) (rules_at t.new s) (p.fit s) (new_fit t tree old_user.distinct new_user.distinct s) d here in
+        let here : IsIn d (changes_between s (rules_at tables s) (rules_at t.update.new s)) =
+        subst (λ m. IsIn d (changes_between (switch_at m) (get_or tables n []) (get_or t.update.new n []))) (let e : 0 + n ≡ n = omega arith in e) j in
+        let h = differing s (rules_at tables s) (rules_at t.update.new s) (p.fit s) (new_fit t tree old_user.distinct new_user.distinct s) d here in
         record { switch = s; now = h.rule; next = h.next; is = h.is; stands = h.stands; wanted = h.wanted; same_key = h.same_key; differs = h.differs }
 
     module _ (c : Change) (r : IsRemainingReplace t tables c) where
@@ -84,18 +85,18 @@ module _ (t : Task) (tree : IsTreeUpdate t) (is_net : IsNetwork t.update.net) (o
       in_tables : s.0 < length tables
       in_tables = within r.now tables s.0 r.stands
 
-      in_new : s.0 < length t.new
-      in_new = within r.next t.new s.0 r.wanted
+      in_new : s.0 < length t.update.new
+      in_new = within r.next t.update.new s.0 r.wanted
 
-      remains : IsIn c (remaining tables t.new)
+      remains : IsIn c (remaining tables t.update.new)
       remains =
-          subst (λ d. IsIn d (remaining tables t.new)) (sym r.is)
-          (in_changes 0 tables t.new (Replace s r.next) s.0 in_tables in_new
-          (subst (λ m. IsIn (Replace s r.next) (changes_between (switch_at m) (get_or tables s.0 []) (get_or t.new s.0 []))) (let e : s.0 ≡ 0 + s.0 = omega arith in e)
-          (differing_in s (rules_at tables s) (rules_at t.new s) (p.fit s) (new_fit t tree old_user.distinct new_user.distinct s) r.now r.next r.stands r.wanted r.same_key r.differs)))
+          subst (λ d. IsIn d (remaining tables t.update.new)) (sym r.is)
+          (in_changes 0 tables t.update.new (Replace s r.next) s.0 in_tables in_new
+          (subst (λ m. IsIn (Replace s r.next) (changes_between (switch_at m) (get_or tables s.0 []) (get_or t.update.new s.0 []))) (let e : s.0 ≡ 0 + s.0 = omega arith in e)
+          (differing_in s (rules_at tables s) (rules_at t.update.new s) (p.fit s) (new_fit t tree old_user.distinct new_user.distinct s) r.now r.next r.stands r.wanted r.same_key r.differs)))
 
       key_there : IsIn r.next.key (keys_of (rules_at tables s))
-      key_there = ((p.fit s).keys r.next.key).1 (in_map (λ x. x.key) r.next (rules_at t.new s) r.wanted)
+      key_there = ((p.fit s).keys r.next.key).1 (in_map (λ x. x.key) r.next (rules_at t.update.new s) r.wanted)
 
       -- the rules of each switch after the change
       rules_then : (x : SwitchId) → rules_at (tables_after_change c tables) x ≡ rules_after (changes_at x (Replace s r.next ∷ [])) (rules_at tables x)
@@ -118,10 +119,10 @@ module _ (t : Task) (tree : IsTreeUpdate t) (is_net : IsNetwork t.update.net) (o
       -- after a change that qualifies
       goes_on : Qualifies (aim_for t classes) tables c → Progress (tables_after_change c tables)
       goes_on q = record {
-        fit = λ x. subst (Fits (rules_at t.new x)) (sym (rules_then x)) (one_fits t tree old_user.distinct new_user.distinct x s r.next (rules_at tables x) r.wanted (p.fit x));
+        fit = λ x. subst (Fits (rules_at t.update.new x)) (sym (rules_then x)) (one_fits t tree old_user.distinct new_user.distinct x s r.next (rules_at tables x) r.wanted (p.fit x));
         fine = λ n class is.
             let keeps = q.safe n class (class_kept (classes_for t) classes (same_classes_back classes (classes_for t) same) n class is) in
-            fine_after_round (single t.update.net tables c) good_single 0 (omega arith) class.first class.entry (duties_of t.demands class.entry class.first).arrive keeps.numbers keeps.safe.falls keeps.safe.arrives;
+            fine_after_round (single t.update.net tables c) good_single 0 (omega arith) class.first class.entry (duties_of t.update.demands class.entry class.first).arrive keeps.numbers keeps.safe.falls keeps.safe.arrives;
         sizes = λ x. ap length (rules_then x) ∙ same_length x ∙ p.sizes x;
       }
 
@@ -132,7 +133,7 @@ module _ (t : Task) (tree : IsTreeUpdate t) (is_net : IsNetwork t.update.net) (o
 
       -- a remaining replace that keeps each class safe qualifies
       qualifies : ((n : ℕ) (class : Class) → IsClass (classes_for t) n class
-          → (numbers : List ℕ) × (sets : List (List ℕ)) × IsSafe (single t.update.net tables c) 0 class.first class.entry (duties_of t.demands class.entry class.first) numbers sets)
+          → (numbers : List ℕ) × (sets : List (List ℕ)) × IsSafe (single t.update.net tables c) 0 class.first class.entry (duties_of t.update.demands class.entry class.first) numbers sets)
           → Qualifies (aim_for t classes) tables c
       qualifies safe = record {
         stands = record {
@@ -148,7 +149,7 @@ module _ (t : Task) (tree : IsTreeUpdate t) (is_net : IsNetwork t.update.net) (o
       }
 
     -- where a change remains, one qualifies
-    some_qualifies : (d : Change) → IsIn d (remaining tables t.new) → (c : Change) × IsIn c (remaining tables t.new) × Qualifies (aim_for t classes) tables c
+    some_qualifies : (d : Change) → IsIn d (remaining tables t.update.new) → (c : Change) × IsIn c (remaining tables t.update.new) × Qualifies (aim_for t classes) tables c
     some_qualifies d i =
         let (c, r, safe) = some_replace_is_safe t tree old_user.distinct new_user.distinct is_net tables p.fit p.fine tables (λ x. (x ∷ []) ∷ []) 0 (λ x. refl) (λ x. refl) d (remaining_replace d i) in
         (c, remains c r, qualifies c r safe)
@@ -157,7 +158,7 @@ module _ (t : Task) (tree : IsTreeUpdate t) (is_net : IsNetwork t.update.net) (o
   along : (tables : List (List Rule)) → Progress tables → (changes : List Change) → AreFirstQualifying (aim_for t classes) tables changes → Progress (tables_after changes tables)
   along tables p [] found = p
   along tables p (c ∷ changes) found =
-      let r = remaining_replace tables p c (first_remains (aim_for t classes) tables (remaining tables t.new) c found.0) in
+      let r = remaining_replace tables p c (first_remains (aim_for t classes) tables (remaining tables t.update.new) c found.0) in
       along (tables_after_change c tables) (goes_on tables p c r found.0.qualifies) changes found.1
 
   some_in : (changes : List Change) → changes ≢ [] → (d : Change) × IsIn d changes
@@ -169,6 +170,6 @@ module _ (t : Task) (tree : IsTreeUpdate t) (is_net : IsNetwork t.update.net) (o
   not_stuck changes stuck =
       let now = tables_after changes t.update.old in
       let p = along t.update.old start changes stuck.found in
-      let (d, i) = some_in (remaining now t.new) stuck.some_remain in
+      let (d, i) = some_in (remaining now t.update.new) stuck.some_remain in
       let (c, j, q) = some_qualifies now p d i in
-      each_at (λ x. ¬ Qualifies (aim_for t classes) now x) (remaining now t.new) c stuck.none_qualifies j q
+      each_at (λ x. ¬ Qualifies (aim_for t classes) now x) (remaining now t.update.new) c stuck.none_qualifies j q

@@ -8,7 +8,7 @@ use Rattle.dest_classes.specs.Classes.{ClassList, IsClass}
 use Rattle.dest_classes.specs.declared.Class.{Class}
 use Rattle.demands.specs.Duties.{DemandView, PacketDuties, duties_of}
 use Rattle.update_model.specs.Changes.{tables_after_change, tables_after}
-use Rattle.update_model.specs.Mixtures.{Update}
+use Rattle.update_model.specs.Mixtures.{Rollout}
 use Rattle.update_model.specs.Remaining.{remaining}
 use Rattle.update_model.specs.declared.Change.{Change}
 use Rattle.certificates.specs.Ordered.{IsSafe, IsMeant, OrderedCertificate}
@@ -70,7 +70,7 @@ abbrev pub single_rounds : List Change → List (List Change)
 single_rounds changes = map (λ c. c ∷ []) changes
 
 -- the update by these changes, each as a round of its own
-abbrev pub update_by : Aim → List (List Rule) → List Change → Update
+abbrev pub update_by : Aim → List (List Rule) → List Change → Rollout
 update_by aim old changes = record { net = aim.net; old = old; rounds = single_rounds changes }
 
 -- the evidence with the picks of the rounds up to one alone
@@ -85,7 +85,7 @@ pub record HasPick (e : OrderedEvidence) (k n : ℕ) : Type 0 where
   pub class_is : pick.class ≡ n
 
 -- a pick means the heights and the least before sets of its round and class
-pub record IsLeastPick (aim : Aim) (u : Update) (e : OrderedEvidence) (pick : OrderedPick) : Type 0 where
+pub record IsLeastPick (aim : Aim) (u : Rollout) (e : OrderedEvidence) (pick : OrderedPick) : Type 0 where
   pub k : ℕ
   pub class : Class
   pub numbers : List ℕ
@@ -98,7 +98,7 @@ pub record IsLeastPick (aim : Aim) (u : Update) (e : OrderedEvidence) (pick : Or
 
 -- the evidence of the search: a new pick exactly where the one in force fails, with heights and least sets,
 -- each numbering, set and use once and in the order of first use
-pub record IsSearchEvidence (aim : Aim) (u : Update) (e : OrderedEvidence) : Type 0 where
+pub record IsSearchEvidence (aim : Aim) (u : Rollout) (e : OrderedEvidence) : Type 0 where
   pub picks : (k n : ℕ) (class : Class) → k < length u.rounds → IsClass aim.classes n class
       → HasPick e k n ↔ (¬ OrderedCertificate u (evidence_until k e) k n class.first class.entry (duties_in aim class))
   pub picked : (p : OrderedPick) → IsIn p e.picks → IsLeastPick aim u e p

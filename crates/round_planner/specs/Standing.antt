@@ -9,7 +9,7 @@ use Rattle.flow_rules.specs.declared.rules.Rule.{Rule}
 use Rattle.dest_classes.specs.Classes.{IsClass, class_count}
 use Rattle.dest_classes.specs.declared.Class.{Class}
 use Rattle.update_model.specs.Changes.{IsGoodRound, round_after}
-use Rattle.update_model.specs.Mixtures.{Update, MayHold, IsOnMixedWalk, tables_before}
+use Rattle.update_model.specs.Mixtures.{Rollout, MayHold, IsOnMixedWalk, tables_before}
 use Rattle.update_model.specs.declared.Change.{Change}
 use Rattle.certificates.specs.Ordered.{IsSafe, OrderedCertificate}
 use Rattle.certificates.specs.Valid.{IsChain, IsValidNumbering, IsValidBefore}
@@ -27,7 +27,7 @@ use Rattle.round_planner.specs.Failures.{IsVisited}
 use Rattle.round_planner.specs.Search.{Aim, duties_in, update_by, AreFirstQualifying, IsSearchEvidence}
 
 -- the class has its certificate in round k by the evidence so far
-abbrev pub IsCertifiedClass : Aim → Update → OrderedEvidence → ℕ → ℕ → Class → Type 0
+abbrev pub IsCertifiedClass : Aim → Rollout → OrderedEvidence → ℕ → ℕ → Class → Type 0
 IsCertifiedClass aim u e k n class = OrderedCertificate u e k n class.first class.entry (duties_in aim class)
 
 -- where the search stands after these changes: each is the first that qualified, the evidence is that of the search,
@@ -41,7 +41,7 @@ pub record Stands (aim : Aim) (old : List (List Rule)) (changes : List Change) (
 
 -- the change by itself is round k, which may be carried out; the picks so far are of the rounds before it, in which each class
 -- has its certificate
-pub record IsNextRound (aim : Aim) (u : Update) (e : OrderedEvidence) (k : ℕ) (c : Change) : Type 0 where
+pub record IsNextRound (aim : Aim) (u : Rollout) (e : OrderedEvidence) (k : ℕ) (c : Change) : Type 0 where
   pub within : k < length u.rounds
   pub round : round_after k u.rounds ≡ c ∷ []
   pub good : (j : ℕ) → j ≤ k → IsGoodRound (tables_before u j) (round_after j u.rounds)
@@ -54,18 +54,18 @@ abbrev pub HasPickOf : OrderedEvidence → ℕ → Type 0
 HasPickOf e n = (pick : OrderedPick) × IsIn pick e.picks × (pick.class ≡ n)
 
 -- no evidence keeps the class safe in round k, and each switch that its mixed walks come to is marked
-pub record IsUnsafe (aim : Aim) (u : Update) (k : ℕ) (f : UnsafeClass) : Type 0 where
+pub record IsUnsafe (aim : Aim) (u : Rollout) (k : ℕ) (f : UnsafeClass) : Type 0 where
   pub never : (numbers : List ℕ) (sets : List (List ℕ)) → ¬ IsSafe u k f.class.first f.class.entry (duties_in aim f.class) numbers sets
   pub visits : (place : Place) → IsOnMixedWalk u k f.class.first f.class.entry place → IsVisited f.visited place.switch
 
 -- what is found for a class in round k: the pick in force keeps it safe, or it fails and new evidence does, or nothing does
-abbrev pub IsJudged : Aim → Update → OrderedEvidence → ℕ → ℕ → Class → Judged → Type 0
+abbrev pub IsJudged : Aim → Rollout → OrderedEvidence → ℕ → ℕ → Class → Judged → Type 0
 IsJudged aim u e k n class Kept = IsCertifiedClass aim u e k n class
 IsJudged aim u e k n class (New evidence) = (¬ IsCertifiedClass aim u e k n class) × IsSafeEvidence u k class (duties_in aim class) evidence
 IsJudged aim u e k n class (Unsafe f) = (f.class ≡ class) × IsUnsafe aim u k f
 
 -- new evidence was found for class n
-pub record HasFound (aim : Aim) (u : Update) (k n : ℕ) (class : Class) (found : List Found) : Type 0 where
+pub record HasFound (aim : Aim) (u : Rollout) (k n : ℕ) (class : Class) (found : List Found) : Type 0 where
   pub new : Found
   pub stands : IsIn new found
   pub class_is : new.class ≡ n
@@ -77,20 +77,20 @@ HasNotFound n found = AllByRecursion (λ (f : Found). ¬ (f.class ≡ n)) found
 
 -- each class below a number is safe in round k: the pick in force keeps it safe and nothing new was found for it,
 -- or it fails and new evidence was found; what was found is of these classes, ascending
-pub record AreSafeBelow (aim : Aim) (u : Update) (e : OrderedEvidence) (k below : ℕ) (found : List Found) : Type 0 where
+pub record AreSafeBelow (aim : Aim) (u : Rollout) (e : OrderedEvidence) (k below : ℕ) (found : List Found) : Type 0 where
   pub each : (n : ℕ) (class : Class) → n < below → IsClass aim.classes n class
       → (IsCertifiedClass aim u e k n class × HasNotFound n found) ⊎ ((¬ IsCertifiedClass aim u e k n class) × HasFound aim u k n class found)
   pub within : AllByRecursion (λ (f : Found). f.class < below) found
   pub ascending : IsChain (λ (f g : Found). f.class < g.class) found
 
 -- one of the classes is not safe by any evidence
-pub record HasUnsafe (aim : Aim) (u : Update) (k : ℕ) (f : UnsafeClass) : Type 0 where
+pub record HasUnsafe (aim : Aim) (u : Rollout) (k : ℕ) (f : UnsafeClass) : Type 0 where
   pub number : ℕ
   pub is_class : IsClass aim.classes number f.class
   pub unsafe_ : IsUnsafe aim u k f
 
 -- what is found for all classes in round k
-abbrev pub AreJudged : Aim → Update → OrderedEvidence → ℕ → Verdict → Type 0
+abbrev pub AreJudged : Aim → Rollout → OrderedEvidence → ℕ → Verdict → Type 0
 AreJudged aim u e k (verdict.Safe found) = AreSafeBelow aim u e k (class_count aim.classes) found.items
 AreJudged aim u e k (verdict.Unsafe f) = HasUnsafe aim u k f
 

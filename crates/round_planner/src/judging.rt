@@ -6,7 +6,7 @@ ghost use Rattle.topology.specs.Networks.{switch_count};
 ghost use Rattle.dest_classes.specs.Classes.{class_count, IsClass};
 ghost use Rattle.dest_classes.specs.declared.Class.{Class};
 ghost use Rattle.update_model.specs.Changes.{rule_of};
-ghost use Rattle.update_model.specs.Mixtures.{Update};
+ghost use Rattle.update_model.specs.Mixtures.{Rollout};
 ghost use Rattle.certificates.specs.Ordered.{IsMeant, IsSafe};
 ghost use Rattle.certificates.specs.Valid.{IsValidNumbering, IsValidUse};
 ghost use Rattle.certificates.specs.declared.OrderedPick.{OrderedPick};
@@ -88,8 +88,8 @@ fn use_keeps(
     requires there { use_ < length evidence.now.uses }
     requires uses { AllByRecursion (IsValidUse (length evidence.now.numberings) (length evidence.now.befores)) evidence.now.uses }
     requires numberings { AllByRecursion (IsValidNumbering goal.now.net) evidence.now.numberings }
-    requires walked { (u : Update) × (k : ℕ) × (u.net ≡ goal.now.net) × IsWalked u k class.first class.entry walk.now }
-    ensures { (u : Update) (k : ℕ) (pick : OrderedPick) (numbers : List ℕ) (sets : List (List ℕ)) → u.net ≡ goal.now.net
+    requires walked { (u : Rollout) × (k : ℕ) × (u.net ≡ goal.now.net) × IsWalked u k class.first class.entry walk.now }
+    ensures { (u : Rollout) (k : ℕ) (pick : OrderedPick) (numbers : List ℕ) (sets : List (List ℕ)) → u.net ≡ goal.now.net
         → IsWalked u k class.first class.entry walk.now → pick.shared ≡ use_ → IsMeant evidence.now pick numbers sets
         → IsTrue result ↔ IsSafe u k class.first class.entry (duties_in goal.now class) numbers sets }
 {
@@ -113,8 +113,8 @@ fn is_kept(goal: &Goal, walk: &WalkRoom, store: &EvidenceStore, number: u32, cla
     requires entry { class.entry.switch.0 < switch_count goal.now.net }
     requires numberings { AllByRecursion (IsValidNumbering goal.now.net) store.now.evidence.numberings }
     requires classes { store.now.classes ≡ class_count goal.now.classes }
-    requires walked { (u : Update) × (k : ℕ) × (u.net ≡ goal.now.net) × IsWalked u k class.first class.entry walk.now }
-    ensures { (u : Update) (k : ℕ) → u.net ≡ goal.now.net → IsWalked u k class.first class.entry walk.now
+    requires walked { (u : Rollout) × (k : ℕ) × (u.net ≡ goal.now.net) × IsWalked u k class.first class.entry walk.now }
+    ensures { (u : Rollout) (k : ℕ) → u.net ≡ goal.now.net → IsWalked u k class.first class.entry walk.now
         → AllByRecursion (λ p. p.round ≤ suc k) store.now.evidence.picks
         → IsTrue result ↔ IsCertifiedClass goal.now u store.now.evidence k number class }
 {
@@ -148,10 +148,10 @@ fn judge_class(
     number: u32,
 ) -> Result<Judged, Memory>
     requires number { number < class_count goal.now.classes }
-    requires round { (u : Update) × (k : ℕ) × IsRoundOf goal.now.net tried.mixes.now u k }
+    requires round { (u : Rollout) × (k : ℕ) × IsRoundOf goal.now.net tried.mixes.now u k }
     requires numberings { AllByRecursion (IsValidNumbering goal.now.net) store.now.evidence.numberings }
     requires classes { store.now.classes ≡ class_count goal.now.classes }
-    ensures { IfOk result (λ judged. (u : Update) (k : ℕ) (class : Class) → IsRoundOf goal.now.net tried.entry.mixes.now u k → IsClass goal.now.classes number class
+    ensures { IfOk result (λ judged. (u : Rollout) (k : ℕ) (class : Class) → IsRoundOf goal.now.net tried.entry.mixes.now u k → IsClass goal.now.classes number class
         → IsNextRound goal.now u store.now.evidence k tried.entry.change.now → IsJudged goal.now u store.now.evidence k number class judged) }
 {
     goal.net.keeps_rules();
@@ -180,10 +180,10 @@ pub(crate) fn judge_all(
     tried: Tried,
     store: &EvidenceStore,
 ) -> Result<Verdict, Memory>
-    requires round { (u : Update) × (k : ℕ) × IsRoundOf goal.now.net tried.mixes.now u k }
+    requires round { (u : Rollout) × (k : ℕ) × IsRoundOf goal.now.net tried.mixes.now u k }
     requires numberings { AllByRecursion (IsValidNumbering goal.now.net) store.now.evidence.numberings }
     requires classes { store.now.classes ≡ class_count goal.now.classes }
-    ensures { IfOk result (λ verdict. (u : Update) (k : ℕ) → IsRoundOf goal.now.net tried.entry.mixes.now u k
+    ensures { IfOk result (λ verdict. (u : Rollout) (k : ℕ) → IsRoundOf goal.now.net tried.entry.mixes.now u k
         → IsNextRound goal.now u store.now.evidence k tried.entry.change.now → AreJudged goal.now u store.now.evidence k verdict) }
 {
     let mut found = Vec::new(alloc);

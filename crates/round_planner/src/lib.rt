@@ -73,7 +73,7 @@ pub fn order(
     ensures tried { IfOk result (OfStuck (MayBeTried net.now)) }
 
     // The search of an update of destination trees isn't stuck.
-    ensures tree { IsTreeUpdate (record { update = record { net = net.now; old = rules_of_all old.now; rounds = [] }; new = rules_of_all new.now; demands = duties.now.demands })
+    ensures tree { IsTreeUpdate (record { update = record { net = net.now; old = rules_of_all old.now; new = rules_of_all new.now; demands = duties.now.demands }; rounds = [] })
         → IfOk result IsNotStuck }
 {
     let goal = Goal {

@@ -20,7 +20,7 @@ use Rattle.update_model.specs.declared.Change.TheVariants.{Insert, Delete, Repla
 use Rattle.update_model.proofs.ChangeLaws.{applies_kept, IsWithin, rules_at-after_change, rules_at-after}
 use Rattle.update_model.proofs.MadeLaws.{same_entry}
 use Rattle.update_model.proofs.RoundLaws.{settled_next}
-use Rattle.certificates.specs.Certified.{Task}
+use Rattle.certificates.specs.Updates.{Task, rollout}
 use Rattle.certificates.specs.declared.Evidence.{Evidence}
 use Rattle.round_mix.specs.Prepared.{MixedState, IsPrepared}
 use Rattle.check_reasons.specs.Passed.{ChangesPass}
@@ -111,19 +111,19 @@ none_past n (c ∷ cs) s within past =
     let ne : (switch_of c).0 ≢ s.0 = omega (arith, within.0) in
     cond-false ((switch_of c).0 == s.0) (c ∷ changes_at s cs) (changes_at s cs) (ne_eqb _ _ ne) ∙ none_past n cs s within.1 past
 
-module _ (t : Task) (evidence : Evidence) (k : ℕ) (less : k < length t.update.rounds) (passed : ChangesPass t evidence k) where
-  good_within : AllByRecursion (IsWithin (length (tables_before t.update k))) (round_after k t.update.rounds)
-  good_within = each_weaker (Applies (tables_before t.update k)) (IsWithin (length (tables_before t.update k))) (λ c h. h.0) (round_after k t.update.rounds) passed.good.applies
+module _ (t : Task) (evidence : Evidence) (k : ℕ) (less : k < length t.rounds) (passed : ChangesPass t evidence k) where
+  good_within : AllByRecursion (IsWithin (length (tables_before (rollout t) k))) (round_after k t.rounds)
+  good_within = each_weaker (Applies (tables_before (rollout t) k)) (IsWithin (length (tables_before (rollout t) k))) (λ c h. h.0) (round_after k t.rounds) passed.good.applies
 
   -- the rules of a switch after the round
-  pub rules_next : (s : SwitchId) → rules_at (tables_before t.update (suc k)) s ≡ rules_after (changes_at s (round_after k t.update.rounds)) (rules_at (tables_before t.update k) s)
+  pub rules_next : (s : SwitchId) → rules_at (tables_before (rollout t) (suc k)) s ≡ rules_after (changes_at s (round_after k t.rounds)) (rules_at (tables_before (rollout t) k) s)
   rules_next s =
-      ap (λ (ts : List (List Rule)). rules_at ts s) (settled_next t.update.rounds k t.update.old less)
-      ∙ rules_at-after (round_after k t.update.rounds) (tables_before t.update k) s good_within
+      ap (λ (ts : List (List Rule)). rules_at ts s) (settled_next t.rounds k t.update.old less)
+      ∙ rules_at-after (round_after k t.rounds) (tables_before (rollout t) k) s good_within
 
   -- the tables have room for the round's inserts
-  pub have_room : (p : PresentState) → HasRoom t.update.net t.update.rounds p → rules_of_all p.tables ≡ tables_before t.update k → length (tables_before t.update k) ≡ switch_count t.update.net
-      → HaveRoom p.tables (round_after k t.update.rounds)
+  pub have_room : (p : PresentState) → HasRoom t.update.net t.rounds p → rules_of_all p.tables ≡ tables_before (rollout t) k → length (tables_before (rollout t) k) ≡ switch_count t.update.net
+      → HaveRoom p.tables (round_after k t.rounds)
   have_room p room tables len s =
       elim (cases_lt s.0 (switch_count t.update.net)) [
         | inl within ↦ (
@@ -132,37 +132,37 @@ module _ (t : Task) (evidence : Evidence) (k : ℕ) (less : k < length t.update.
             let same = ap length (sym (rules_in p.tables s) ∙ ap (λ (ts : List (List Rule)). rules_at ts s) tables) in
             omega arith)
         | inr past ↦ (
-            let none = none_past (length (tables_before t.update k)) (round_after k t.update.rounds) s good_within (omega arith) in
+            let none = none_past (length (tables_before (rollout t) k)) (round_after k t.rounds) s good_within (omega arith) in
             subst (λ (cs : List Change). insert_count cs ≤ (table_at p.tables s).spare) (sym none) (omega arith))
       ]
 
   -- a switch that isn't touched is prepared for its table after the round
-  untouched_next : (p : PresentState) → HasRoom t.update.net t.update.rounds p → StandsAt t.update k p → (s : SwitchId) → is_touched p.touched s ≡ false
-      → IsMixed (rules_at (tables_before t.update (suc k)) s) [] (mix_at p.mixes s)
+  untouched_next : (p : PresentState) → HasRoom t.update.net t.rounds p → StandsAt (rollout t) k p → (s : SwitchId) → is_touched p.touched s ≡ false
+      → IsMixed (rules_at (tables_before (rollout t) (suc k)) s) [] (mix_at p.mixes s)
   untouched_next p room stands s off =
       elim (cases_lt s.0 (length p.touched)) [
         | inl below ↦ (
-            let rules = rules_at (tables_before t.update k) s in
+            let rules = rules_at (tables_before (rollout t) k) s in
             let in_mixes : s.0 < length p.mixes = omega (arith, room.touched, room.mixes) in
             let loaded = stands.loaded.each s (mix_at p.mixes s) (slice_get-get_or p.mixes s.0 (record { prepared = None; room = 0 }) in_mixes) in
             let changed : IsPrepared rules [] loaded.marks = subst (λ (cs : List Change). IsPrepared rules cs loaded.marks) (stands.same s off) loaded.prepared in
-            let same : rules_at (tables_before t.update (suc k)) s ≡ rules = rules_next s ∙ ap (λ (cs : List Change). rules_after cs rules) (stands.same s off) in
+            let same : rules_at (tables_before (rollout t) (suc k)) s ≡ rules = rules_next s ∙ ap (λ (cs : List Change). rules_after cs rules) (stands.same s off) in
             subst (λ (rs : List Rule). IsMixed rs [] (mix_at p.mixes s)) (sym same) (subst (λ o. IsSomeAnd o (IsPrepared rules [])) (sym loaded.is) changed))
         | inr past ↦ absurd (both_ways (is_touched p.touched s) off (get_or_past p.touched s.0 true past))
       ]
 
   -- after the round its tables stand before the next
-  pub stands_next : (p q : PresentState) → HasRoom t.update.net t.update.rounds p → StandsAt t.update k p → q.mixes ≡ p.mixes → q.touched ≡ p.touched
-      → rules_of_all q.tables ≡ tables_after (round_after k t.update.rounds) (tables_before t.update k) → StandsBefore t.update (suc k) q
+  pub stands_next : (p q : PresentState) → HasRoom t.update.net t.rounds p → StandsAt (rollout t) k p → q.mixes ≡ p.mixes → q.touched ≡ p.touched
+      → rules_of_all q.tables ≡ tables_after (round_after k t.rounds) (tables_before (rollout t) k) → StandsBefore (rollout t) (suc k) q
   stands_next p q room stands mixes touched tables = record {
-    tables = tables ∙ sym (settled_next t.update.rounds k t.update.old less);
+    tables = tables ∙ sym (settled_next t.rounds k t.update.old less);
     fit = λ s within.
-        let few = rules_few (changes_at s (round_after k t.update.rounds)) (rules_at (tables_before t.update k) s) in
+        let few = rules_few (changes_at s (round_after k t.rounds)) (rules_at (tables_before (rollout t) k) s) in
         let fits = passed.fits s within in
         let same = ap length (rules_next s) in
         omega arith;
     same = λ s off.
-        subst (λ (ms : List MixedState). IsMixed (rules_at (tables_before t.update (suc k)) s) [] (mix_at ms s)) (sym mixes)
+        subst (λ (ms : List MixedState). IsMixed (rules_at (tables_before (rollout t) (suc k)) s) [] (mix_at ms s)) (sym mixes)
         (untouched_next p room stands s (subst (λ (bs : List Bool). is_touched bs s ≡ false) touched off));
   }
 

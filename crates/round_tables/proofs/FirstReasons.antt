@@ -5,7 +5,7 @@ use Rattle.net_base.specs.declared.ids.SwitchId.{SwitchId}
 use Rattle.topology.specs.Networks.{capacity_of}
 use Rattle.flow_rules.specs.Tables.{rules_at}
 use Rattle.update_model.specs.Mixtures.{tables_before, need_of}
-use Rattle.certificates.specs.Certified.{Task}
+use Rattle.certificates.specs.Updates.{Task, rollout}
 use Rattle.certificates.specs.declared.Evidence.{Evidence}
 use Rattle.certificates.specs.declared.Evidence.TheVariants.{Ordered, TwoPhase}
 use Rattle.check_reasons.specs.Ranks.{Rank, IsBefore, rank_of, least_class_number, round_start, end_start}
@@ -19,10 +19,10 @@ use Rattle.check_reasons.specs.declared.reason.Reason.TheVariants.{BadChange, Am
 module _ (t : Task) (evidence : Evidence) (k : ℕ) (place : Rank) where
   -- none of the reasons of the round's changes comes before the place
   pub record AreFirst : Type 0 where
-    pub changes : (s : SwitchId) (i : ℕ) → IsBadChange t.update k i s → ¬ IsBefore (rank_of 0 (BadChange (suc k) s i)) place
-    pub unclear : (s : SwitchId) → IsUnclear t.update k s → ¬ IsBefore (rank_of 0 (Ambiguous (suc k) s)) place
-    pub over : (s : SwitchId) → capacity_of t.update.net s < need_of t.update k s → ¬ IsBefore (rank_of 0 (OverCapacity (suc k) s (need_of t.update k s))) place
-    pub rewrites : (s : SwitchId) → HasRewrite t.update k s → IsOrdered evidence → ¬ IsBefore (rank_of 0 (Rewrites (suc k) s)) place
+    pub changes : (s : SwitchId) (i : ℕ) → IsBadChange (rollout t) k i s → ¬ IsBefore (rank_of 0 (BadChange (suc k) s i)) place
+    pub unclear : (s : SwitchId) → IsUnclear (rollout t) k s → ¬ IsBefore (rank_of 0 (Ambiguous (suc k) s)) place
+    pub over : (s : SwitchId) → capacity_of t.update.net s < need_of (rollout t) k s → ¬ IsBefore (rank_of 0 (OverCapacity (suc k) s (need_of (rollout t) k s))) place
+    pub rewrites : (s : SwitchId) → HasRewrite (rollout t) k s → IsOrdered evidence → ¬ IsBefore (rank_of 0 (Rewrites (suc k) s)) place
 
   -- what is said of a round and its place is said of round k
   at_round : (P : ℕ → Type 0) (place_in : ℕ → Reason) (j : ℕ) → suc j ≡ suc k → P j → IsBefore (rank_of 0 (place_in j)) place → P k × IsBefore (rank_of 0 (place_in k)) place
@@ -35,19 +35,19 @@ module _ (t : Task) (evidence : Evidence) (k : ℕ) (place : Rank) where
     common_in_round i r (old_breaks breaks bad) here before = absurd (let e : 0 ≡ 2 = here.stage in omega arith)
     common_in_round i r (new_breaks breaks bad) here before = absurd (let e : 1 ≡ 2 = here.stage in omega arith)
     common_in_round i r (bad_change j c s bad) here before =
-        let (b, less) = at_round (λ m. IsBadChange t.update m c s) (λ m. BadChange (suc m) s c) j here.round bad before in
+        let (b, less) = at_round (λ m. IsBadChange (rollout t) m c s) (λ m. BadChange (suc m) s c) j here.round bad before in
         first.changes s c b less
     common_in_round i r (ambiguous j s within bad) here before =
-        let (b, less) = at_round (λ m. IsUnclear t.update m s) (λ m. Ambiguous (suc m) s) j here.round bad before in
+        let (b, less) = at_round (λ m. IsUnclear (rollout t) m s) (λ m. Ambiguous (suc m) s) j here.round bad before in
         first.unclear s b less
     common_in_round i r (over_capacity j s within bad) here before =
-        let (b, less) = at_round (λ m. capacity_of t.update.net s < need_of t.update m s) (λ m. OverCapacity (suc m) s (need_of t.update m s)) j here.round bad before in
+        let (b, less) = at_round (λ m. capacity_of t.update.net s < need_of (rollout t) m s) (λ m. OverCapacity (suc m) s (need_of (rollout t) m s)) j here.round bad before in
         first.over s b less
     common_in_round i r (wrong_end s differ) here before = absurd (let e : 3 ≡ 2 = here.stage in omega arith)
 
     own_in_round : (any : Evidence) → (IsOrdered any → IsOrdered evidence) → (i : ℕ) (r : Reason) → IsOwnReason t any i r → IsInRound k 0 place.number (rank_of i r) → ¬ IsBefore (rank_of i r) place
     own_in_round (Ordered e) same i r (rewrites j s bad) here before =
-        let (b, less) = at_round (λ m. HasRewrite t.update m s) (λ m. Rewrites (suc m) s) j here.round bad before in
+        let (b, less) = at_round (λ m. HasRewrite (rollout t) m s) (λ m. Rewrites (suc m) s) j here.round bad before in
         first.rewrites s b (same tt) less
     own_in_round (Ordered e) same i r (no_numbering j n class judged none) here before = absurd (let high : 6 ≤ place.number = here.upto in omega arith)
     own_in_round (Ordered e) same i r (not_lower j n class numbers sets s judged force bad) here before = absurd (let high : 7 ≤ place.number = here.upto in omega arith)
@@ -67,7 +67,7 @@ module _ (t : Task) (evidence : Evidence) (k : ℕ) (place : Rank) where
 
 -- of the last tables' reasons none comes before the least switch
 pub first_at_end : (t : Task) (evidence : Evidence) (s : SwitchId)
-    → ((o : SwitchId) → o.0 < s.0 → IsSameSet (rules_at (tables_before t.update (length t.update.rounds)) o) (rules_at t.new o))
+    → ((o : SwitchId) → o.0 < s.0 → IsSameSet (rules_at (tables_before (rollout t) (length t.rounds)) o) (rules_at t.update.new o))
     → (i : ℕ) (r : Reason) → IsReason t evidence i r → ¬ IsBefore (rank_of i r) end_start → ¬ IsBefore (rank_of i r) (rank_of 0 (WrongEnd s))
 first_at_end t evidence s below i r h after before =
     let high = at_end (rank_of i r) after in

@@ -11,7 +11,7 @@ use Rattle.topology.specs.Networks.{Network, capacity_of}
 use Rattle.flow_rules.specs.Tables.{IsTable, rules_at, rules_of_all, TableState}
 use Rattle.flow_rules.specs.declared.rules.Rule.{Rule}
 use Rattle.update_model.specs.Changes.{switch_of, rule_of, Applies, AppliesTo, EntryName, entry_named, changes_at, round_after}
-use Rattle.update_model.specs.Mixtures.{Update, tables_before, entries_needed, is_insert}
+use Rattle.update_model.specs.Mixtures.{Rollout, tables_before, entries_needed, is_insert}
 use Rattle.update_model.specs.declared.Change.{Change}
 use Rattle.update_model.proofs.ChangeLaws.{key_named}
 use Rattle.update_model.proofs.MadeLaws.{same_entry}
@@ -22,7 +22,7 @@ use Rattle.round_mix.specs.declared.MarkedRule.{MarkedRule}
 use Rattle.round_mix.proofs.ClearLaws.{clear_from_free}
 use Rattle.round_mix.proofs.GoodLaws.{names_key_is}
 use Rattle.round_mix.proofs.MarkLaws.{all_mixed}
-use Rattle.certificates.specs.Certified.{Task}
+use Rattle.certificates.specs.Updates.{Task, rollout}
 use Rattle.certificates.specs.declared.Evidence.{Evidence}
 use Rattle.check_reasons.specs.Ranks.{IsBefore, rank_of, round_start}
 use Rattle.check_reasons.specs.Reasons.{IsBadChange, IsUnclear}
@@ -135,41 +135,41 @@ bad_from_first tables round s nth i change bad before at_is =
     ]
 
 -- a bad change of a round is at a switch of the tables
-bad_within : (u : Update) (k i : ℕ) (s : SwitchId) (n : ℕ) → AreWithin n (round_after k u.rounds) → IsBadChange u k i s → s.0 < n
+bad_within : (u : Rollout) (k i : ℕ) (s : SwitchId) (n : ℕ) → AreWithin n (round_after k u.rounds) → IsBadChange u k i s → s.0 < n
 bad_within u k i s n within bad =
     subst (λ (x : SwitchId). x.0 < n) bad.at_is (each_at (λ c. (switch_of c).0 < n) (round_after k u.rounds) bad.change within (in_from_get (round_after k u.rounds) i bad.change bad.is))
 
-module _ (t : Task) (evidence : Evidence) (k : ℕ) (s : SwitchId) (within : AreWithin (length (tables_before t.update k)) (round_after k t.update.rounds)) where
+module _ (t : Task) (evidence : Evidence) (k : ℕ) (s : SwitchId) (within : AreWithin (length (tables_before (rollout t) k)) (round_after k t.rounds)) where
   -- where the changes at a switch are good, none is bad
-  pub good_no_bad : (o : SwitchId) (i : ℕ) → AreGood (rules_at (tables_before t.update k) o) (changes_at o (round_after k t.update.rounds)) → ¬ IsBadChange t.update k i o
+  pub good_no_bad : (o : SwitchId) (i : ℕ) → AreGood (rules_at (tables_before (rollout t) k) o) (changes_at o (round_after k t.rounds)) → ¬ IsBadChange (rollout t) k i o
   good_no_bad o i good bad =
-      no_bad_in (tables_before t.update k) (round_after k t.update.rounds) o good (bad_within t.update k i o (length (tables_before t.update k)) within bad) i bad.change bad.is bad.at_is bad.bad
+      no_bad_in (tables_before (rollout t) k) (round_after k t.rounds) o good (bad_within (rollout t) k i o (length (tables_before (rollout t) k)) within bad) i bad.change bad.is bad.at_is bad.bad
 
-  module _ (nth i : ℕ) (first : IsFirstFault (tables_before t.update k) (round_after k t.update.rounds) s nth)
-      (is : slice_get (round_after k t.update.rounds) i ≡ slice_get (changes_at s (round_after k t.update.rounds)) nth)
-      (before : changes_at s (take i (round_after k t.update.rounds)) ≡ take nth (changes_at s (round_after k t.update.rounds))) where
+  module _ (nth i : ℕ) (first : IsFirstFault (tables_before (rollout t) k) (round_after k t.rounds) s nth)
+      (is : slice_get (round_after k t.rounds) i ≡ slice_get (changes_at s (round_after k t.rounds)) nth)
+      (before : changes_at s (take i (round_after k t.rounds)) ≡ take nth (changes_at s (round_after k t.rounds))) where
     switch_is : switch_of first.first.change ≡ s
     switch_is =
-        let there = in_from_get (changes_at s (round_after k t.update.rounds)) nth first.first.change first.first.at in
-        let pass = (in_from_filter (λ c. (switch_of c).0 == s.0) first.first.change (round_after k t.update.rounds) there).1 in
+        let there = in_from_get (changes_at s (round_after k t.rounds)) nth first.first.change first.first.at in
+        let pass = (in_from_filter (λ c. (switch_of c).0 == s.0) first.first.change (round_after k t.rounds) there).1 in
         ap (λ (n : ℕ). let x : SwitchId = record { 0 = n } in x) (eqb-true _ _ pass)
 
-    is_bad : IsBadChange t.update k i s
+    is_bad : IsBadChange (rollout t) k i s
     is_bad = record {
       change = first.first.change;
       is = is ∙ first.first.at;
       at_is = switch_is;
-      bad = bad_from_first (tables_before t.update k) (round_after k t.update.rounds) s nth i first.first.change first.first.bad before switch_is;
+      bad = bad_from_first (tables_before (rollout t) k) (round_after k t.rounds) s nth i first.first.change first.first.bad before switch_is;
     }
 
-    none_before : (o : SwitchId) (j : ℕ) → IsBadChange t.update k j o → (o.0 < s.0) ⊎ ((o.0 ≡ s.0) × (j < i)) → ⊥
+    none_before : (o : SwitchId) (j : ℕ) → IsBadChange (rollout t) k j o → (o.0 < s.0) ⊎ ((o.0 ≡ s.0) × (j < i)) → ⊥
     none_before o j bad (inl less) = good_no_bad o j (first.below o less) bad
     none_before o j bad (inr (same, less)) =
-        let tables = tables_before t.update k in
-        let round = round_after k t.update.rounds in
+        let tables = tables_before (rollout t) k in
+        let round = round_after k t.rounds in
         let e : o ≡ s = ap (λ (n : ℕ). let x : SwitchId = record { 0 = n } in x) same in
         let good : AreGood (rules_at tables s) (changes_at s (take i round)) = subst (AreGood (rules_at tables s)) (sym before) first.first.before in
-        let within_o = bad_within t.update k j o (length tables) within bad in
+        let within_o = bad_within (rollout t) k j o (length tables) within bad in
         no_bad_in tables (take i round) s good (subst (λ (x : SwitchId). x.0 < length tables) e within_o) j bad.change (get_take round i j less ∙ bad.is) (bad.at_is ∙ e)
         (elim bad.bad [
           | inl never ↦ inl never
@@ -193,11 +193,11 @@ module _ (t : Task) (evidence : Evidence) (k : ℕ) (s : SwitchId) (within : Are
         earlier o j before = elim (cases_lt o.0 s.0) [ inl less ↦ inl less | inr more ↦ inr (omega arith, omega arith) ]
 
   -- all rules together aren't clear where the round is ambiguous at a switch
-  unclear_there : (i j : ℕ) → IsTable (rules_at (tables_before t.update k) s)
-      → IsAmbiguous (rules_at (tables_before t.update k) s) (changes_at s (round_after k t.update.rounds)) i j → IsUnclear t.update k s
+  unclear_there : (i j : ℕ) → IsTable (rules_at (tables_before (rollout t) k) s)
+      → IsAmbiguous (rules_at (tables_before (rollout t) k) s) (changes_at s (round_after k t.rounds)) i j → IsUnclear (rollout t) k s
   unclear_there i j table ambiguous =
-      let rules = rules_at (tables_before t.update k) s in
-      let changes = changes_at s (round_after k t.update.rounds) in
+      let rules = rules_at (tables_before (rollout t) k) s in
+      let changes = changes_at s (round_after k t.rounds) in
       record {
         mixed = all_rules rules changes;
         held = all_mixed rules changes;
@@ -212,13 +212,13 @@ module _ (t : Task) (evidence : Evidence) (k : ℕ) (s : SwitchId) (within : Are
       }
 
   -- the first unclear switch is the first reason of the round where all changes are good
-  pub unclear_first : ((o : SwitchId) → o.0 < length (tables_before t.update k) → AreGood (rules_at (tables_before t.update k) o) (changes_at o (round_after k t.update.rounds)))
-      → k < length t.update.rounds → IsFirstUnclear (tables_before t.update k) (round_after k t.update.rounds) s → (round : ℕ) → round ≡ suc k → IsFirstFrom t evidence (round_start k) (Ambiguous round s)
+  pub unclear_first : ((o : SwitchId) → o.0 < length (tables_before (rollout t) k) → AreGood (rules_at (tables_before (rollout t) k) o) (changes_at o (round_after k t.rounds)))
+      → k < length t.rounds → IsFirstUnclear (tables_before (rollout t) k) (round_after k t.rounds) s → (round : ℕ) → round ≡ suc k → IsFirstFrom t evidence (round_start k) (Ambiguous round s)
   unclear_first good less unclear round number = subst (λ (n : ℕ). IsFirstFrom t evidence (round_start k) (Ambiguous n s)) (sym number) (record {
     position = 0;
     holds = inl (why.ambiguous k s less (unclear_there unclear.i unclear.j unclear.table unclear.ambiguous));
     first = first_in_round t evidence k (rank_of 0 (Ambiguous (suc k) s)) (omega arith) (record {
-      changes = λ o j bad before. good_no_bad o j (good o (bad_within t.update k j o (length (tables_before t.update k)) within bad)) bad;
+      changes = λ o j bad before. good_no_bad o j (good o (bad_within (rollout t) k j o (length (tables_before (rollout t) k)) within bad)) bad;
       unclear = λ o bad before. bad.unclear (unclear.below o (omega arith) bad.mixed bad.held);
       over = λ o bad before. omega arith;
       rewrites = λ o bad ordered before. omega arith;
@@ -306,17 +306,17 @@ empty_list true n (x ∷ xs) test len off = let e : n ≡ 0 = eqb-true n 0 (sym 
 empty_list false n (x ∷ xs) test len off = absurd (both_ways true off refl)
 
 -- the first unclear switch after all are prepared is the first reason of the round
-pub loaded_first : (t : Task) (evidence : Evidence) (k : ℕ) (q : PresentState) (count : ℕ) (cs : List Change) (s : SwitchId) → k < length t.update.rounds → AreWithin count cs
-    → cs ≡ round_after k t.update.rounds → rules_of_all q.tables ≡ tables_before t.update k → length (tables_before t.update k) ≡ count → IsLoadedTo cs count q (Some s)
+pub loaded_first : (t : Task) (evidence : Evidence) (k : ℕ) (q : PresentState) (count : ℕ) (cs : List Change) (s : SwitchId) → k < length t.rounds → AreWithin count cs
+    → cs ≡ round_after k t.rounds → rules_of_all q.tables ≡ tables_before (rollout t) k → length (tables_before (rollout t) k) ≡ count → IsLoadedTo cs count q (Some s)
     → (round : ℕ) → round ≡ suc k → IsFirstFrom t evidence (round_start k) (Ambiguous round s)
 loaded_first t evidence k q count cs s less within same tables len loaded round number =
-    let all : AreWithin (length (tables_before t.update k)) (round_after k t.update.rounds) =
-    subst (λ (n : ℕ). AreWithin n (round_after k t.update.rounds)) (sym len) (subst (AreWithin count) same within) in
+    let all : AreWithin (length (tables_before (rollout t) k)) (round_after k t.rounds) =
+    subst (λ (n : ℕ). AreWithin n (round_after k t.rounds)) (sym len) (subst (AreWithin count) same within) in
     unclear_first t evidence k s all
-    (λ o in_o. subst (λ (ts : List (List Rule)). AreGood (rules_at ts o) (changes_at o (round_after k t.update.rounds))) tables
+    (λ o in_o. subst (λ (ts : List (List Rule)). AreGood (rules_at ts o) (changes_at o (round_after k t.rounds))) tables
     (subst (λ (ds : List Change). AreGood (rules_there q o) (changes_at o ds)) same (loaded.good o (omega arith))))
     less
-    (subst (λ (ts : List (List Rule)). IsFirstUnclear ts (round_after k t.update.rounds) s) tables (subst (λ (ds : List Change). IsFirstUnclear (rules_of_all q.tables) ds s) same loaded.rest))
+    (subst (λ (ts : List (List Rule)). IsFirstUnclear ts (round_after k t.rounds) s) tables (subst (λ (ds : List Change). IsFirstUnclear (rules_of_all q.tables) ds s) same loaded.rest))
     round number
 
 -- where no room is lost, it is still enough

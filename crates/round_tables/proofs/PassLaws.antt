@@ -17,7 +17,8 @@ use Rattle.update_model.proofs.ChangeLaws.{key_named}
 use Rattle.round_mix.specs.Prepared.{MixedState, AreGood, AreClear, IsPrepared}
 use Rattle.round_mix.specs.declared.MarkedRule.{MarkedRule}
 use Rattle.round_mix.proofs.ClearLaws.{prepared_needed}
-use Rattle.certificates.specs.Certified.{Task, KeepsVlan}
+use Rattle.certificates.specs.Updates.{Task, rollout}
+use Rattle.certificates.specs.Certified.{KeepsVlan}
 use Rattle.certificates.specs.declared.OrderedEvidence.{OrderedEvidence}
 use Rattle.certificates.specs.declared.Evidence.{Evidence}
 use Rattle.certificates.specs.declared.Evidence.TheVariants.{Ordered, TwoPhase}
@@ -112,41 +113,41 @@ clear_none : AreClear [] []
 clear_none mixed held h a b in_a in_b over_a over_b same =
     absurd (subst (λ (cs : List Change). IsIn a (rules_after cs [])) (nothing_made held.made held.some) ((held.same a).0 in_a))
 
-module _ (t : Task) (evidence : Evidence) (k : ℕ) (p : PresentState) (round : List Change) (is : round ≡ round_after k t.update.rounds) (in_net : AreWithin (switch_count t.update.net) round)
-    (len : length (tables_before t.update k) ≡ switch_count t.update.net) (prepared : ArePrepared t.update k p) where
-  within : AreWithin (length (tables_before t.update k)) (round_after k t.update.rounds)
-  within = subst (λ (n : ℕ). AreWithin n (round_after k t.update.rounds)) (sym len) (subst (AreWithin (switch_count t.update.net)) is in_net)
+module _ (t : Task) (evidence : Evidence) (k : ℕ) (p : PresentState) (round : List Change) (is : round ≡ round_after k t.rounds) (in_net : AreWithin (switch_count t.update.net) round)
+    (len : length (tables_before (rollout t) k) ≡ switch_count t.update.net) (prepared : ArePrepared (rollout t) k p) where
+  within : AreWithin (length (tables_before (rollout t) k)) (round_after k t.rounds)
+  within = subst (λ (n : ℕ). AreWithin n (round_after k t.rounds)) (sym len) (subst (AreWithin (switch_count t.update.net)) is in_net)
 
-  rules_beyond : (s : SwitchId) → switch_count t.update.net ≤ s.0 → rules_at (tables_before t.update k) s ≡ []
-  rules_beyond s past = get_or_past (tables_before t.update k) s.0 [] (omega arith)
+  rules_beyond : (s : SwitchId) → switch_count t.update.net ≤ s.0 → rules_at (tables_before (rollout t) k) s ≡ []
+  rules_beyond s past = get_or_past (tables_before (rollout t) k) s.0 [] (omega arith)
 
-  changes_beyond : (s : SwitchId) → switch_count t.update.net ≤ s.0 → changes_at s (round_after k t.update.rounds) ≡ []
-  changes_beyond s past = none_past (length (tables_before t.update k)) (round_after k t.update.rounds) s within (omega arith)
+  changes_beyond : (s : SwitchId) → switch_count t.update.net ≤ s.0 → changes_at s (round_after k t.rounds) ≡ []
+  changes_beyond s past = none_past (length (tables_before (rollout t) k)) (round_after k t.rounds) s within (omega arith)
 
-  good_each : (s : SwitchId) → AreGood (rules_at (tables_before t.update k) s) (changes_at s (round_after k t.update.rounds))
+  good_each : (s : SwitchId) → AreGood (rules_at (tables_before (rollout t) k) s) (changes_at s (round_after k t.rounds))
   good_each s =
       elim (cases_lt s.0 (switch_count t.update.net)) [
-        | inl below ↦ good_mixed (rules_at (tables_before t.update k) s) (changes_at s (round_after k t.update.rounds)) (mix_at p.mixes s) (prepared.each s below)
-        | inr past ↦ subst (λ (rs : List Rule). AreGood rs (changes_at s (round_after k t.update.rounds))) (sym (rules_beyond s past))
+        | inl below ↦ good_mixed (rules_at (tables_before (rollout t) k) s) (changes_at s (round_after k t.rounds)) (mix_at p.mixes s) (prepared.each s below)
+        | inr past ↦ subst (λ (rs : List Rule). AreGood rs (changes_at s (round_after k t.rounds))) (sym (rules_beyond s past))
             (subst (AreGood []) (sym (changes_beyond s past)) good_none)
       ]
 
-  clear_each : (s : SwitchId) → AreClear (rules_at (tables_before t.update k) s) (changes_at s (round_after k t.update.rounds))
+  clear_each : (s : SwitchId) → AreClear (rules_at (tables_before (rollout t) k) s) (changes_at s (round_after k t.rounds))
   clear_each s =
       elim (cases_lt s.0 (switch_count t.update.net)) [
-        | inl below ↦ clear_mixed (rules_at (tables_before t.update k) s) (changes_at s (round_after k t.update.rounds)) (mix_at p.mixes s) (prepared.each s below)
-        | inr past ↦ subst (λ (rs : List Rule). AreClear rs (changes_at s (round_after k t.update.rounds))) (sym (rules_beyond s past))
+        | inl below ↦ clear_mixed (rules_at (tables_before (rollout t) k) s) (changes_at s (round_after k t.rounds)) (mix_at p.mixes s) (prepared.each s below)
+        | inr past ↦ subst (λ (rs : List Rule). AreClear rs (changes_at s (round_after k t.rounds))) (sym (rules_beyond s past))
             (subst (AreClear []) (sym (changes_beyond s past)) clear_none)
       ]
 
-  no_change : (s : SwitchId) (i : ℕ) → ¬ IsBadChange t.update k i s
+  no_change : (s : SwitchId) (i : ℕ) → ¬ IsBadChange (rollout t) k i s
   no_change s i bad = good_no_bad t evidence k s within s i (good_each s) bad
 
-  no_unclear : (s : SwitchId) → ¬ IsUnclear t.update k s
+  no_unclear : (s : SwitchId) → ¬ IsUnclear (rollout t) k s
   no_unclear s bad = bad.unclear (clear_each s bad.mixed bad.held)
 
   -- a switch that needs more than it has room for is one of the network
-  over_within : (s : SwitchId) → capacity_of t.update.net s < need_of t.update k s → s.0 < switch_count t.update.net
+  over_within : (s : SwitchId) → capacity_of t.update.net s < need_of (rollout t) k s → s.0 < switch_count t.update.net
   over_within s over =
       elim (cases_lt s.0 (switch_count t.update.net)) [
         | inl below ↦ below
@@ -157,14 +158,14 @@ module _ (t : Task) (evidence : Evidence) (k : ℕ) (p : PresentState) (round : 
       ]
 
   -- the first switch that lacks room
-  pub over_first : k < length t.update.rounds → (s : SwitchId) (need : ℕ) → IsFirstOver t.update k s need → (number : ℕ) → number ≡ suc k
+  pub over_first : k < length t.rounds → (s : SwitchId) (need : ℕ) → IsFirstOver (rollout t) k s need → (number : ℕ) → number ≡ suc k
       → IsFirstFrom t evidence (round_start k) (OverCapacity number s need)
   over_first less s need over number e =
       subst (λ (n : ℕ). IsFirstFrom t evidence (round_start k) (OverCapacity n s need)) (sym e)
       (subst (λ (m : ℕ). IsFirstFrom t evidence (round_start k) (OverCapacity (suc k) s m)) (sym over.is) (record {
         position = 0;
         holds = inl (why.over_capacity k s less (subst (λ (m : ℕ). capacity_of t.update.net s < m) over.is over.over));
-        first = first_in_round t evidence k (rank_of 0 (OverCapacity (suc k) s (need_of t.update k s))) (omega arith) (record {
+        first = first_in_round t evidence k (rank_of 0 (OverCapacity (suc k) s (need_of (rollout t) k s))) (omega arith) (record {
           changes = λ o i bad before. no_change o i bad;
           unclear = λ o bad before. no_unclear o bad;
           over = λ o more before. (let fits = over.below o (omega arith) in omega arith);
@@ -172,12 +173,12 @@ module _ (t : Task) (evidence : Evidence) (k : ℕ) (p : PresentState) (round : 
         }) refl refl;
       }))
 
-  module _ (fits : (s : SwitchId) → s.0 < switch_count t.update.net → need_of t.update k s ≤ capacity_of t.update.net s) where
-    none_over : (s : SwitchId) → ¬ (capacity_of t.update.net s < need_of t.update k s)
+  module _ (fits : (s : SwitchId) → s.0 < switch_count t.update.net → need_of (rollout t) k s ≤ capacity_of t.update.net s) where
+    none_over : (s : SwitchId) → ¬ (capacity_of t.update.net s < need_of (rollout t) k s)
     none_over s over = let room = fits s (over_within s over) in omega arith
 
     -- the first switch at which a change sets or strips
-    pub rewrite_first : (s : SwitchId) → IsOrdered evidence → IsFirstRewrite (round_after k t.update.rounds) s → (number : ℕ) → number ≡ suc k
+    pub rewrite_first : (s : SwitchId) → IsOrdered evidence → IsFirstRewrite (round_after k t.rounds) s → (number : ℕ) → number ≡ suc k
         → IsFirstFrom t evidence (round_start k) (Rewrites number s)
     rewrite_first s ordered found number e = subst (λ (n : ℕ). IsFirstFrom t evidence (round_start k) (Rewrites n s)) (sym e) (record {
       position = 0;
@@ -192,9 +193,9 @@ module _ (t : Task) (evidence : Evidence) (k : ℕ) (p : PresentState) (round : 
     })
 
     -- where there is none of these reasons either, the round's changes pass
-    pub changes_pass : RoundKeepsVlans evidence (round_after k t.update.rounds) → ChangesPass t evidence k
+    pub changes_pass : RoundKeepsVlans evidence (round_after k t.rounds) → ChangesPass t evidence k
     changes_pass keeps = record {
-      good = good_round (tables_before t.update k) (round_after k t.update.rounds) within good_each;
+      good = good_round (tables_before (rollout t) k) (round_after k t.rounds) within good_each;
       clear = λ s mixed held. clear_each s mixed held;
       fits = fits;
       keeps = keeps;
@@ -202,26 +203,26 @@ module _ (t : Task) (evidence : Evidence) (k : ℕ) (p : PresentState) (round : 
 
     module _ (count : length p.mixes ≡ switch_count t.update.net) (capacities : (s : SwitchId) → capacity_of t.update.net s ≤ 8192) where
       loaded_from : (s : SwitchId) (mixed : MixedState) → s.0 < switch_count t.update.net
-          → IsMixed (rules_at (tables_before t.update k) s) (changes_at s (round_after k t.update.rounds)) mixed → IsLoaded t.update k s mixed
+          → IsMixed (rules_at (tables_before (rollout t) k) s) (changes_at s (round_after k t.rounds)) mixed → IsLoaded (rollout t) k s mixed
       loaded_from s mixed below h = go mixed.prepared refl h
         where
-          go : (o : Option (List MarkedRule)) → mixed.prepared ≡ o → IsSomeAnd o (IsPrepared (rules_at (tables_before t.update k) s) (changes_at s (round_after k t.update.rounds))) → IsLoaded t.update k s mixed
+          go : (o : Option (List MarkedRule)) → mixed.prepared ≡ o → IsSomeAnd o (IsPrepared (rules_at (tables_before (rollout t) k) s) (changes_at s (round_after k t.rounds))) → IsLoaded (rollout t) k s mixed
           go None e g = absurd g
           go (Some marks) e g =
-              let needed = prepared_needed (rules_at (tables_before t.update k) s) (changes_at s (round_after k t.update.rounds)) marks g in
+              let needed = prepared_needed (rules_at (tables_before (rollout t) k) s) (changes_at s (round_after k t.rounds)) marks g in
               let room = fits s below in
               let most = capacities s in
               record { marks = marks; is = e; prepared = g; few = omega arith }
 
-      pub are_loaded : AreLoaded t.update k p.mixes
+      pub are_loaded : AreLoaded (rollout t) k p.mixes
       are_loaded = record {
         count = count;
         each = λ s mixed at.
             let below = slice_get_within p.mixes s.0 mixed at in
             let same : mix_at p.mixes s ≡ mixed = get_or_from_slice_get p.mixes s.0 mixed (record { prepared = None; room = 0 }) at in
             loaded_from s mixed (omega arith)
-            (subst (IsMixed (rules_at (tables_before t.update k) s) (changes_at s (round_after k t.update.rounds))) same (prepared.each s (omega arith)));
+            (subst (IsMixed (rules_at (tables_before (rollout t) k) s) (changes_at s (round_after k t.rounds))) same (prepared.each s (omega arith)));
       }
 
-      pub stands_at : StandsAt t.update k p
+      pub stands_at : StandsAt (rollout t) k p
       stands_at = record { tables = prepared.tables; loaded = are_loaded; same = prepared.same }

@@ -7,7 +7,7 @@ use Rattle.std.specs.List.{AllByRecursion}
 use Rattle.net_base.specs.Members.{IsIn}
 use Rattle.topology.specs.Networks.{switch_count, capacity_of}
 use Rattle.update_model.specs.Changes.{switch_of, rule_of, changes_at, round_after}
-use Rattle.update_model.specs.Mixtures.{Update, tables_before, need_of, is_insert}
+use Rattle.update_model.specs.Mixtures.{Rollout, tables_before, need_of, is_insert}
 use Rattle.update_model.specs.declared.Change.{Change}
 use Rattle.round_mix.specs.Faults.{IsFirstBad, IsAmbiguous}
 use Rattle.round_mix.specs.Prepared.{AreGood, AreClear}
@@ -65,7 +65,7 @@ AreCounted counts n rounds =
     (s : SwitchId) (k : ℕ) → s.0 < length counts → k < n → length (changes_at s (round_after k rounds)) ≤ slice_index_or counts s.0 0
 
 -- each switch is prepared for round k
-pub record ArePrepared (u : Update) (k : ℕ) (p : PresentState) : Type 0 where
+pub record ArePrepared (u : Rollout) (k : ℕ) (p : PresentState) : Type 0 where
   pub tables : rules_of_all p.tables ≡ tables_before u k
   pub each : (s : SwitchId) → s.0 < switch_count u.net → IsMixed (rules_at (tables_before u k) s) (changes_at s (round_after k u.rounds)) (mix_at p.mixes s)
   pub same : (s : SwitchId) → is_touched p.touched s ≡ false → changes_at s (round_after k u.rounds) ≡ []
@@ -75,7 +75,7 @@ abbrev pub AreWithin : ℕ → List Change → Type 0
 AreWithin n round = AllByRecursion (λ c. (switch_of c).0 < n) round
 
 -- the first switch that needs more entries in round k than it has room for
-pub record IsFirstOver (u : Update) (k : ℕ) (s : SwitchId) (need : ℕ) : Type 0 where
+pub record IsFirstOver (u : Rollout) (k : ℕ) (s : SwitchId) (need : ℕ) : Type 0 where
   pub within : s.0 < switch_count u.net
   pub is : need ≡ need_of u k s
   pub over : capacity_of u.net s < need

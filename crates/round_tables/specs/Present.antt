@@ -5,7 +5,7 @@ use Rattle.topology.specs.Networks.{Network, switch_count, capacity_of}
 use Rattle.flow_rules.specs.Tables.{TableState, rules_at, rules_of_all}
 use Rattle.flow_rules.specs.declared.rules.Rule.{Rule}
 use Rattle.update_model.specs.Changes.{changes_at, round_after}
-use Rattle.update_model.specs.Mixtures.{Update, tables_before}
+use Rattle.update_model.specs.Mixtures.{Rollout, tables_before}
 use Rattle.update_model.specs.declared.Change.{Change}
 use Rattle.round_mix.specs.Prepared.{MixedState, IsPrepared}
 use Rattle.check_reasons.specs.Loaded.{AreLoaded}
@@ -48,13 +48,13 @@ abbrev pub IsMixed : List Rule → List Change → MixedState → Type 0
 IsMixed rules changes mixed = IsSomeAnd mixed.prepared (IsPrepared rules changes)
 
 -- the tables are those before round k and fit, and each switch that isn't to be prepared anew is prepared for no changes of its table
-pub record StandsBefore (u : Update) (k : ℕ) (p : PresentState) : Type 0 where
+pub record StandsBefore (u : Rollout) (k : ℕ) (p : PresentState) : Type 0 where
   pub tables : rules_of_all p.tables ≡ tables_before u k
   pub fit : (s : SwitchId) → s.0 < switch_count u.net → length (rules_at (tables_before u k) s) ≤ capacity_of u.net s
   pub same : (s : SwitchId) → is_touched p.touched s ≡ false → IsMixed (rules_at (tables_before u k) s) [] (mix_at p.mixes s)
 
 -- the tables are those before round k, each switch is prepared for the round, and those that it changes are to be prepared anew
-pub record StandsAt (u : Update) (k : ℕ) (p : PresentState) : Type 0 where
+pub record StandsAt (u : Rollout) (k : ℕ) (p : PresentState) : Type 0 where
   pub tables : rules_of_all p.tables ≡ tables_before u k
   pub loaded : AreLoaded u k p.mixes
   pub same : (s : SwitchId) → is_touched p.touched s ≡ false → changes_at s (round_after k u.rounds) ≡ []

@@ -1,4 +1,5 @@
 // The comparison of the tables after the last round with the new ones.
+ghost use Rattle.certificates.specs.Updates.{rollout};
 ghost use Rattle.std.specs.Prelude.{◌≡◌, ◌↔◌, ℕ, ◌<◌, ◌^◌, length, IsTrue, IfNone, IfSome, MatchOption};
 ghost use Rattle.std.specs.List.{AllByRecursion};
 ghost use Rattle.net_base.specs.Members.{IsIn, IsSameSet};
@@ -59,8 +60,8 @@ fn first_difference(tables: &Config, others: &Config) -> Option<SwitchId>
 impl Present {
     /// The first switch whose table isn't the new one after the last round, as a reason.
     pub fn wrong_end(&self, case: &Case) -> Option<Reason>
-        requires { StandsBefore case.now.task.update (length case.now.task.update.rounds) self.now }
-        ensures none { IfNone result ((s : Switch) → IsSameSet (rules_at (tables_before case.now.task.update (length case.now.task.update.rounds)) s) (rules_at case.now.task.new s)) }
+        requires { StandsBefore (rollout case.now.task) (length case.now.task.rounds) self.now }
+        ensures none { IfNone result ((s : Switch) → IsSameSet (rules_at (tables_before (rollout case.now.task) (length case.now.task.rounds)) s) (rules_at case.now.task.update.new s)) }
         ensures some { IfSome result (IsFirstFrom case.now.task case.now.evidence end_start) }
     {
         case.net.keeps_rules();

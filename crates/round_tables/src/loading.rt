@@ -1,4 +1,5 @@
 // Each switch is prepared for a round, up to the first bad change.
+ghost use Rattle.certificates.specs.Updates.{rollout};
 ghost use Rattle.std.specs.Prelude.{◌≡◌, ◌≢◌, ℕ, suc, ◌+◌, ◌<◌, ◌≤◌, ◌^◌, [], true, false, None, Some, take, length, slice_get, vec_len, vec_capacity, IfOk, IfErr, OnOk, IfNone, IfSome};
 ghost use Rattle.net_base.specs.declared.ids.SwitchId.{SwitchId as Switch};
 ghost use Rattle.topology.specs.Networks.{switch_count};
@@ -20,8 +21,8 @@ use update_model::Change;
 
 /// The changes of round k.
 pub(crate) fn round_of<'a>(case: &'a Case, k: usize) -> &'a [Change]
-    requires { k < length case.now.task.update.rounds }
-    ensures value { result.now ≡ round_after k case.now.task.update.rounds }
+    requires { k < length case.now.task.rounds }
+    ensures value { result.now ≡ round_after k case.now.task.rounds }
     ensures within { AreWithin (switch_count case.now.task.update.net) result.now }
     ensures few { length result.now < 2 ^ 32 }
 {
@@ -30,7 +31,7 @@ pub(crate) fn round_of<'a>(case: &'a Case, k: usize) -> &'a [Change]
 
 /// The number of round k, from 1.
 pub(crate) fn round_number(case: &Case, k: usize) -> u32
-    requires { k < length case.now.task.update.rounds }
+    requires { k < length case.now.task.rounds }
     ensures { result ≡ suc k }
 {
     let rounds = case.plan.rounds.count();
@@ -193,11 +194,11 @@ impl Present {
 
     /// Touches the switches that round k changes.
     fn touch(&mut self, case: &Case, k: usize)
-        requires round { k < length case.now.task.update.rounds }
-        requires room { HasRoom case.now.task.update.net case.now.task.update.rounds self.old }
-        requires stands { StandsBefore case.now.task.update k self.old }
-        ensures can { CanLoad (round_after k case.now.task.update.rounds) self.new }
-        ensures settled { AreSettled (round_after k case.now.task.update.rounds) self.new }
+        requires round { k < length case.now.task.rounds }
+        requires room { HasRoom case.now.task.update.net case.now.task.rounds self.old }
+        requires stands { StandsBefore (rollout case.now.task) k self.old }
+        ensures can { CanLoad (round_after k case.now.task.rounds) self.new }
+        ensures settled { AreSettled (round_after k case.now.task.rounds) self.new }
         ensures keeps { Keeps self.old self.new }
     {
         mark(&mut self.touched, round_of(case, k));
@@ -206,9 +207,9 @@ impl Present {
 
 /// The bad change of round k that stands at a position among those of a switch, as a reason.
 fn bad_change(case: &Case, k: usize, switch: SwitchId, nth: usize) -> Reason
-    requires round { k < length case.now.task.update.rounds }
-    requires count { length (tables_before case.now.task.update k) ≡ switch_count case.now.task.update.net }
-    requires first { IsFirstFault (tables_before case.now.task.update k) (round_after k case.now.task.update.rounds) switch nth }
+    requires round { k < length case.now.task.rounds }
+    requires count { length (tables_before (rollout case.now.task) k) ≡ switch_count case.now.task.update.net }
+    requires first { IsFirstFault (tables_before (rollout case.now.task) k) (round_after k case.now.task.rounds) switch nth }
     ensures { IsFirstFrom case.now.task case.now.evidence (round_start k) result }
 {
     let change = number_of(round_of(case, k), switch, nth);
@@ -222,12 +223,12 @@ fn bad_change(case: &Case, k: usize, switch: SwitchId, nth: usize) -> Reason
 impl Present {
     /// Prepares all switches for round k, or finds the first bad change or unclear switch.
     pub(crate) fn load_mixes(&mut self, case: &Case, k: usize) -> Option<Reason>
-        requires round { k < length case.now.task.update.rounds }
-        requires room { HasRoom case.now.task.update.net case.now.task.update.rounds self.old }
-        requires stands { StandsBefore case.now.task.update k self.old }
-        ensures none { IfNone result (ArePrepared case.now.task.update k self.new) }
+        requires round { k < length case.now.task.rounds }
+        requires room { HasRoom case.now.task.update.net case.now.task.rounds self.old }
+        requires stands { StandsBefore (rollout case.now.task) k self.old }
+        ensures none { IfNone result (ArePrepared (rollout case.now.task) k self.new) }
         ensures some { IfSome result (IsFirstFrom case.now.task case.now.evidence (round_start k)) }
-        ensures room { HasRoom case.now.task.update.net case.now.task.update.rounds self.new }
+        ensures room { HasRoom case.now.task.update.net case.now.task.rounds self.new }
     {
         self.touch(case, k);
         match self.load_all(round_of(case, k), case.net.switches()) {

@@ -1,4 +1,5 @@
 // The tables before a round, and each switch prepared for it.
+ghost use Rattle.certificates.specs.Updates.{rollout};
 ghost use Rattle.std.specs.Prelude.{◌≡◌, ℕ, ◌+◌, ◌<◌, ◌≤◌, ◌^◌, ◌∷◌, [], true, length, vec_len, vec_capacity, slice_index_or, max, IfOk};
 ghost use Rattle.net_base.specs.declared.ids.SwitchId.{SwitchId as Switch};
 ghost use Rattle.topology.specs.Networks.{switch_count, capacity_of};
@@ -188,9 +189,9 @@ impl Present {
 
     /// The old tables, of which no switch is prepared.
     pub fn start(&mut self, case: &Case)
-        requires { HasRoom case.now.task.update.net case.now.task.update.rounds self.old }
-        ensures stands { StandsBefore case.now.task.update 0 self.new }
-        ensures room { HasRoom case.now.task.update.net case.now.task.update.rounds self.new }
+        requires { HasRoom case.now.task.update.net case.now.task.rounds self.old }
+        ensures stands { StandsBefore (rollout case.now.task) 0 self.new }
+        ensures room { HasRoom case.now.task.update.net case.now.task.rounds self.new }
     {
         case.net.keeps_rules();
         set_all(&mut self.touched);

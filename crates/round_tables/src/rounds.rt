@@ -1,4 +1,5 @@
 // What the changes of a round give a reason for, and the tables after them.
+ghost use Rattle.certificates.specs.Updates.{rollout};
 ghost use Rattle.std.specs.Prelude.{◌≡◌, ◌↔◌, ◌⊎◌, Some, suc, ◌<◌, ◌≤◌, List, [], ◌∷◌, ◌++◌, true, cond, ◌==◌, length, IsTrue, IfNone, IfSome};
 ghost use Rattle.net_base.specs.declared.ids.SwitchId.{SwitchId as Switch};
 ghost use Rattle.topology.specs.Networks.{switch_count, capacity_of};
@@ -100,20 +101,20 @@ fn keeps_capacities(case: &Case)
 impl Present {
     /// The entries that a switch needs in round k.
     fn need(&self, case: &Case, k: usize, switch: SwitchId) -> u64
-        requires prepared { ArePrepared case.now.task.update k self.now }
+        requires prepared { ArePrepared (rollout case.now.task) k self.now }
         requires count { length self.now.mixes ≡ switch_count case.now.task.update.net }
         requires within { switch.0 < switch_count case.now.task.update.net }
-        ensures { result ≡ need_of case.now.task.update k switch }
+        ensures { result ≡ need_of (rollout case.now.task) k switch }
     {
         self.mixes[switch.0 as usize].most_entries()
     }
 
     /// The first switch that needs more entries in round k than it has room for, with its need.
     fn first_over(&self, case: &Case, k: usize) -> Option<(SwitchId, u64)>
-        requires prepared { ArePrepared case.now.task.update k self.now }
+        requires prepared { ArePrepared (rollout case.now.task) k self.now }
         requires count { length self.now.mixes ≡ switch_count case.now.task.update.net }
-        ensures none { IfNone result ((s : Switch) → s.0 < switch_count case.now.task.update.net → need_of case.now.task.update k s ≤ capacity_of case.now.task.update.net s) }
-        ensures some { IfSome result (λ found. IsFirstOver case.now.task.update k found.0 found.1) }
+        ensures none { IfNone result ((s : Switch) → s.0 < switch_count case.now.task.update.net → need_of (rollout case.now.task) k s ≤ capacity_of case.now.task.update.net s) }
+        ensures some { IfSome result (λ found. IsFirstOver (rollout case.now.task) k found.0 found.1) }
     {
         for i in 0..switches(case) {
             let switch = SwitchId(i);
@@ -127,10 +128,10 @@ impl Present {
 
     /// Whether a switch lacks room in round k, or a change of an ordered plan sets or strips.
     fn late_reason(&self, case: &Case, k: usize) -> Option<Reason>
-        requires round { k < length case.now.task.update.rounds }
-        requires prepared { ArePrepared case.now.task.update k self.now }
-        requires room { HasRoom case.now.task.update.net case.now.task.update.rounds self.now }
-        ensures none { IfNone result (ChangesPass case.now.task case.now.evidence k × AreLoaded case.now.task.update k self.now.mixes × StandsAt case.now.task.update k self.now) }
+        requires round { k < length case.now.task.rounds }
+        requires prepared { ArePrepared (rollout case.now.task) k self.now }
+        requires room { HasRoom case.now.task.update.net case.now.task.rounds self.now }
+        ensures none { IfNone result (ChangesPass case.now.task case.now.evidence k × AreLoaded (rollout case.now.task) k self.now.mixes × StandsAt (rollout case.now.task) k self.now) }
         ensures some { IfSome result (IsFirstFrom case.now.task case.now.evidence (round_start k)) }
     {
         keeps_capacities(case);
@@ -154,12 +155,12 @@ impl Present {
     /// is prepared anew only where this round changes it or the one before did; each of these costs a look at the round's
     /// changes, beside what the preparation takes.
     pub fn load_round(&mut self, case: &Case, k: usize) -> Option<Reason>
-        requires round { k < length case.now.task.update.rounds }
-        requires room { HasRoom case.now.task.update.net case.now.task.update.rounds self.old }
-        requires stands { StandsBefore case.now.task.update k self.old }
-        ensures none { IfNone result (ChangesPass case.now.task case.now.evidence k × AreLoaded case.now.task.update k self.new.mixes × StandsAt case.now.task.update k self.new) }
+        requires round { k < length case.now.task.rounds }
+        requires room { HasRoom case.now.task.update.net case.now.task.rounds self.old }
+        requires stands { StandsBefore (rollout case.now.task) k self.old }
+        ensures none { IfNone result (ChangesPass case.now.task case.now.evidence k × AreLoaded (rollout case.now.task) k self.new.mixes × StandsAt (rollout case.now.task) k self.new) }
         ensures some { IfSome result (IsFirstFrom case.now.task case.now.evidence (round_start k)) }
-        ensures room { HasRoom case.now.task.update.net case.now.task.update.rounds self.new }
+        ensures room { HasRoom case.now.task.update.net case.now.task.rounds self.new }
     {
         match self.load_mixes(case, k) {
             Some(reason) => Some(reason),
@@ -206,12 +207,12 @@ fn change_all(tables: &mut Config, round: &[Change])
 impl Present {
     /// Makes the changes of round k. Each switch that it changes is to be prepared anew.
     pub fn apply_round(&mut self, case: &Case, k: usize)
-        requires round { k < length case.now.task.update.rounds }
-        requires room { HasRoom case.now.task.update.net case.now.task.update.rounds self.old }
+        requires round { k < length case.now.task.rounds }
+        requires room { HasRoom case.now.task.update.net case.now.task.rounds self.old }
         requires passed { ChangesPass case.now.task case.now.evidence k }
-        requires stands { StandsAt case.now.task.update k self.old }
-        ensures stands { StandsBefore case.now.task.update (suc k) self.new }
-        ensures room { HasRoom case.now.task.update.net case.now.task.update.rounds self.new }
+        requires stands { StandsAt (rollout case.now.task) k self.old }
+        ensures stands { StandsBefore (rollout case.now.task) (suc k) self.new }
+        ensures room { HasRoom case.now.task.update.net case.now.task.rounds self.new }
     {
         change_all(&mut self.tables, round_of(case, k));
     }

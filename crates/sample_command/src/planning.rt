@@ -11,7 +11,8 @@ ghost use Rattle.plan_classes.specs.SameClasses.{HasSameClasses};
 ghost use Rattle.round_planner.specs.Ends.{IsPlanOf};
 ghost use Rattle.plan_checker.specs.Fits.{Fits};
 ghost use Rattle.command_base.specs.Judgements.{most_classes};
-ghost use Rattle.command_base.specs.Updates.{meaning_of, task_for};
+ghost use Rattle.certificates.specs.Updates.{task_for};
+ghost use Rattle.command_base.specs.Updates.{meaning_of};
 ghost use Rattle.plan_command.specs.Planned.{update_classes, update_count, update_aim, bare_task};
 
 use certificates::Plan;

@@ -4,7 +4,7 @@ use Rattle.std.specs.Prelude.{slice_get, Some, None, ◌==◌}
 use Rattle.std.proofs.lemmas.Bool.{eqb-true, ne_eqb, false≢true}
 use Rattle.update_model.specs.declared.Phase.TheVariants.{Settled}
 use Rattle.topology.specs.Networks.{Network, IsNetwork}
-use Rattle.update_model.specs.Mixtures.{Update}
+use Rattle.update_model.specs.Mixtures.{Rollout}
 use Rattle.update_model.specs.States.{State, first_state, IsEnabled, state_after_event}
 use Rattle.update_model.specs.Runs.{AreEnabled, state_after}
 use Rattle.update_model.specs.Worlds.{WorldState, world_after}
@@ -29,7 +29,7 @@ pub left_push : (events : List Event) (entries : List Entry) (e : Event) → ent
 left_push [] entries e = refl
 left_push (x ∷ events) entries e = left_push events (entries_after x entries) e
 
-module _ (u : Update) (chooses : ℕ → ℕ → ℕ → Type 0) where
+module _ (u : Rollout) (chooses : ℕ → ℕ → ℕ → Type 0) where
   -- an event that is offered and named
   abbrev pub IsNamed : ℕ → State → List Entry → Event → Type 0
   IsNamed n st entries e = (offered : List Event) × (i : ℕ) × AreOffered u st entries offered × chooses n (length offered) i × (slice_get offered i ≡ Some e)
@@ -116,7 +116,7 @@ entries_kept net (event.Enter place dst) (x ∷ entries) h = h.1
 entries_kept net (event.Hop i) entries h = h
 entries_kept net (event.Lose i) entries h = h
 
-over_same : (u v : Update) (st : State) (es : List Entry) → u.rounds ≡ v.rounds → IsOver u st es → IsOver v st es
+over_same : (u v : Rollout) (st : State) (es : List Entry) → u.rounds ≡ v.rounds → IsOver u st es → IsOver v st es
 over_same u v st es e over = record { settled = over.settled ∙ ap (λ r. Settled (length r)) e; entered = over.entered; ended = over.ended }
 
 module _ (w : WorldState) (chooses : ℕ → ℕ → ℕ → Type 0) (entries : List Entry) (events : List Event) (after : WorldState) (rest : List Entry) (made : ℕ)
@@ -199,7 +199,7 @@ named_is : (offered : List Event) (i : ℕ) (e : Event) → i < length offered �
 named_is offered i e less is = slice_get_at offered i e less ∙ ap (λ x. Some x) (sym is)
 
 -- the named event is enabled
-pub named_enabled : (u : Update) (st : State) (rest : List Entry) (offered : List Event) (i n : ℕ) (e : Event) → AreOffered u st rest offered → n ≡ length offered → i < n → e ≡ get_or offered i e
+pub named_enabled : (u : Rollout) (st : State) (rest : List Entry) (offered : List Event) (i n : ℕ) (e : Event) → AreOffered u st rest offered → n ≡ length offered → i < n → e ≡ get_or offered i e
     → IsEnabled u.net u.rounds st e
 named_enabled u st rest offered i n e are count less is =
     let within : i < length offered = omega arith in

@@ -10,7 +10,7 @@ use Rattle.net_base.proofs.MemberLaws.{in_append_cases, in_append_left, in_appen
 use Rattle.topology.specs.Networks.{IsNetwork, switch_count}
 use Rattle.path_walk.specs.Paths.{outcome_in}
 use Rattle.update_model.specs.Changes.{round_after}
-use Rattle.update_model.specs.Mixtures.{Update, AreGoodRounds}
+use Rattle.update_model.specs.Mixtures.{Rollout, AreGoodRounds}
 use Rattle.update_model.specs.OneRound.{WalkedOneRound}
 use Rattle.update_model.specs.States.{State, first_state, IsUnderWay, IsEnabled, settled_count, entered, state_after_event}
 use Rattle.update_model.specs.Runs.{AreEnabled, state_after, state_after_run}
@@ -105,7 +105,7 @@ module _ (st : State) (entries : List Entry) where
       lose_next (e ∷ es) (inl f) = let g : event.Lose i ≡ event.Enter e.place e.dst = f in cc
       lose_next (e ∷ es) (inr h) = h
 
-module _ (u : Update) (valid : IsNetwork u.net) (good : AreGoodRounds u) where
+module _ (u : Rollout) (valid : IsNetwork u.net) (good : AreGoodRounds u) where
   -- a state of a run after which no packet visits a switch twice
   pub record Steady (st : State) : Type 0 where
     pub sound : Sound u st
@@ -253,7 +253,7 @@ module _ (u : Update) (valid : IsNetwork u.net) (good : AreGoodRounds u) where
         record { steady = rest.steady; valid_left = rest.valid_left; within = omega arith }
 
 -- a driven run from the beginning is never blocked, and is over once as many events as the full budget are made
-module _ (u : Update) (valid : IsNetwork u.net) (good : AreGoodRounds u) (once : AllVisitOnce u) (chooses : ℕ → ℕ → ℕ → Type 0) (entries : List Entry) (are : AreEntries u.net entries)
+module _ (u : Rollout) (valid : IsNetwork u.net) (good : AreGoodRounds u) (once : AllVisitOnce u) (chooses : ℕ → ℕ → ℕ → Type 0) (entries : List Entry) (are : AreEntries u.net entries)
     (events : List Event) (driven : IsDriven u chooses 0 (first_state u.old) entries events) where
   pub never_blocked : AreOffered u (state_after_run u events) (entries_left events entries) [] → IsOver u (state_after_run u events) (entries_left events entries)
   never_blocked none =

@@ -5,7 +5,7 @@ use Rattle.std.specs.List.{AllByRecursion}
 use Rattle.std.proofs.Math.Seq.{take-suc}
 use Rattle.std.proofs.lemmas.Bool.{true≢false, eqb-true, eq-eqb}
 use Rattle.net_base.proofs.MemberLaws.{map-push}
-use Rattle.update_model.specs.Mixtures.{Update}
+use Rattle.update_model.specs.Mixtures.{Rollout}
 use Rattle.update_model.specs.States.{State, IsEnabled, IsUnderWay, IsHopping, MaySettle}
 use Rattle.update_model.specs.declared.Event.{Event}
 use Rattle.update_model.specs.declared.Event.TheVariants as event
@@ -79,7 +79,7 @@ adds_if P e may old now same adds = (adds.0, change adds.0 adds.1, adds.2)
     change (y ∷ z ∷ ys) (inl h) = absurd h.2
     change (y ∷ ys) (inr h) = absurd h.1
 
-module _ (u : Update) (st : State) (entries : List Entry) (pending under_way : List ℕ) (kept : IsAgenda st pending under_way) (are : AreEntries u.net entries) where
+module _ (u : Rollout) (st : State) (entries : List Entry) (pending under_way : List ℕ) (kept : IsAgenda st pending under_way) (are : AreEntries u.net entries) where
   abbrev May : Event → Type 0
   May = IsEnabled u.net u.rounds st
 
@@ -237,7 +237,7 @@ settles st phase pending empty are phase_is running is = (
     nil_from (x ∷ xs) e = absurd (omega arith)
 
 -- the run is over where the last round is settled, nothing is to come and no number stands
-pub over_is : (u : Update) (st : State) (entries : List Entry) (under_way : List ℕ) (phase : Phase) (n : ℕ) (none : Bool) → under_way ≡ numbers_under_way st.packets → phase ≡ st.phase → n ≡ length u.rounds → phase ≡ Settled n
+pub over_is : (u : Rollout) (st : State) (entries : List Entry) (under_way : List ℕ) (phase : Phase) (n : ℕ) (none : Bool) → under_way ≡ numbers_under_way st.packets → phase ≡ st.phase → n ≡ length u.rounds → phase ≡ Settled n
     → IsTrue none ↔ ((entries ≡ []) × (under_way ≡ [])) → IsTrue none ↔ IsOver u st entries
 over_is u st entries under_way phase n none are phase_is count settled same = (
   λ h. record { settled = sym phase_is ∙ settled ∙ ap Settled count; entered = (same.0 h).0; ended = (none_under_way st.packets).0 (sym are ∙ (same.0 h).1) },

@@ -11,7 +11,7 @@ use Rattle.topology.specs.Networks.{Network}
 use Rattle.flow_rules.specs.Tables.{keys_of, rules_at}
 use Rattle.flow_rules.specs.declared.rules.Rule.{Rule}
 use Rattle.update_model.specs.Changes.{switch_of, AppliesTo, Applies, entry_named, changes_at, rules_after, tables_after, tables_after_change, round_after, settled_tables}
-use Rattle.update_model.specs.Mixtures.{Update, tables_before, AreGoodRounds}
+use Rattle.update_model.specs.Mixtures.{Rollout, tables_before, AreGoodRounds}
 use Rattle.update_model.specs.States.{State, settled_count, state_after_event}
 use Rattle.update_model.specs.declared.Change.{Change}
 use Rattle.update_model.specs.declared.Change.TheVariants.{Insert, Delete, Replace}
@@ -50,7 +50,7 @@ still_applies rules some applies distinct (Replace s r) h fresh =
     (in_map (λ q. q.key) x (rules_after some rules)
     (in_from_stands_all rules some x applies distinct (inl (j, λ i. fresh (subst (λ k. IsIn k (map key_named some)) (sym e) i)))))
 
-module _ (u : Update) (good : AreGoodRounds u) where
+module _ (u : Rollout) (good : AreGoodRounds u) where
   pub pending_applies : (k i : ℕ) (tables : List (List Rule)) (flags : List Bool) (c : Change) → k < length u.rounds
       → slice_get (round_after k u.rounds) i ≡ Some c → slice_get flags i ≡ Some true
       → ((s : SwitchId) → IsSameSet (rules_at tables s) (rules_after (changes_at s (made_of flags (round_after k u.rounds))) (rules_at (tables_before u k) s)))

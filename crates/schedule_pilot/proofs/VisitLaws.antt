@@ -10,7 +10,7 @@ use Rattle.flow_rules.specs.Tables.{lookup}
 use Rattle.flow_rules.specs.declared.rules.Rule.{Rule}
 use Rattle.path_walk.specs.Outcomes.{header_at, acted}
 use Rattle.path_walk.proofs.StayLaws.{go_within}
-use Rattle.update_model.specs.Mixtures.{Update, MayGo}
+use Rattle.update_model.specs.Mixtures.{Rollout, MayGo}
 
 -- the tables of switches 0 to n, each of them this one
 abbrev equal_tables : ℕ → List Rule → List (List Rule)
@@ -22,7 +22,7 @@ last_equal zero table = refl
 last_equal (suc n) table = last_equal n table
 
 -- each stop of a mixed walk is at a switch of the network
-pub walk_within : (u : Update) → IsNetwork u.net → (k dst : ℕ) (start : Place) (rest : List Place) → start.switch.0 < switch_count u.net → IsWalk (MayGo u k dst) start rest
+pub walk_within : (u : Rollout) → IsNetwork u.net → (k dst : ℕ) (start : Place) (rest : List Place) → start.switch.0 < switch_count u.net → IsWalk (MayGo u k dst) start rest
     → AllByRecursion (λ s. s.0 < switch_count u.net) (map (λ stop. stop.switch) (map stop_of (start ∷ rest)))
 walk_within u valid k dst start [] within walk = (within, tt)
 walk_within u valid k dst start (next ∷ rest) within walk =

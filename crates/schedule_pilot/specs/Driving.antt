@@ -1,6 +1,6 @@
 -- What a driven run is, how it ends, and when it is sure to be over.
 use Rattle.std.specs.Prelude.{◌≡◌, ◌↔◌, ◌==◌, Bool, cond, Option, Some, None, ℕ, ◌^◌, ◌<◌, ◌≤◌, List, [], length}
-use Rattle.update_model.specs.Mixtures.{Update, AreGoodRounds}
+use Rattle.update_model.specs.Mixtures.{Rollout, AreGoodRounds}
 use Rattle.update_model.specs.Runs.{state_after, AreEnabled}
 use Rattle.update_model.specs.States.{first_state}
 use Rattle.update_model.specs.Worlds.{WorldState}
@@ -16,7 +16,7 @@ abbrev pub IsPilot : (ℕ → ℕ → Type 0) → (ℕ → ℕ → ℕ → Type 
 IsPilot pre post = (n count : ℕ) → n < 2 ^ 64 → 1 ≤ count → count < 2 ^ 64 → pre n count × ((i : ℕ) → post n count i → i < count)
 
 -- the rounds of a world as an update of its present tables
-abbrev pub update_of : WorldState → Update
+abbrev pub update_of : WorldState → Rollout
 update_of w = record { net = w.net; old = w.state.tables; rounds = w.rounds }
 
 -- the world after events

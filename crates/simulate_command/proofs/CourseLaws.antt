@@ -14,7 +14,7 @@ use Rattle.net_base.proofs.MemberLaws.{each_at, in_append_left}
 use Rattle.topology.specs.Networks.{Network, IsNetwork, IsPortNumber, IsVlan, switch_count, used_ports}
 use Rattle.path_walk.specs.Paths.{outcome_in}
 use Rattle.update_model.specs.Changes.{round_after}
-use Rattle.update_model.specs.Mixtures.{Update}
+use Rattle.update_model.specs.Mixtures.{Rollout}
 use Rattle.update_model.specs.Runs.{AreEnabled, state_after}
 use Rattle.update_model.specs.States.{State, first_state, IsEnabled, settled_count, entered, hopped, lost, with_packet, state_after_event}
 use Rattle.update_model.specs.Worlds.{WorldState}
@@ -93,7 +93,7 @@ change_line round i change at few = let within : i < length round = slice_get_wi
 packet_line : (packets : List Packet) (i : ℕ) (p : Packet) → slice_get packets i ≡ Some p → length packets ≤ 4000000 → i < 2 ^ 32
 packet_line packets i p at few = let within : i < length packets = slice_get_within packets i p at in omega arith
 
-module _ (u : Update) (few : sum_by length u.rounds ≤ 2200000) where
+module _ (u : Rollout) (few : sum_by length u.rounds ≤ 2200000) where
   within : (k : ℕ) → length (round_after k u.rounds) ≤ 2200000
   within k = let round = round_within u.rounds k in omega arith
 

@@ -4,7 +4,8 @@ use Rattle.std.specs.Prelude.{Ok}
 use Rattle.dest_classes.specs.Classes.{ClassList}
 use Rattle.update_model.specs.Worlds.{WorldState}
 use Rattle.update_model.specs.declared.Event.{Event}
-use Rattle.certificates.specs.Certified.{Task, classes_for}
+use Rattle.certificates.specs.Updates.{Task, rollout}
+use Rattle.certificates.specs.Certified.{classes_for}
 use Rattle.schedule_pilot.specs.Driving.{IsRunFrom, IsOverAfter, update_of}
 use Rattle.schedule_pilot.specs.Ends.{AreEntries}
 use Rattle.schedule_pilot.specs.Laws.{world_begun}
@@ -15,7 +16,7 @@ use Rattle.schedule_replay.specs.Traces.{record_text}
 use Rattle.simulate_command.specs.Simulations.{Names, IsTraffic, IsRecord}
 use Rattle.simulate_command.proofs.TrafficLaws.{traffic_enters}
 
-module _ (t : Task) (classes : ClassList) (classes_is : classes ≡ classes_for t) (count : ℕ) (entries : List Entry) (traffic : IsTraffic classes count entries) (w : WorldState) (is : w ≡ world_begun t.update) where
+module _ (t : Task) (classes : ClassList) (classes_is : classes ≡ classes_for t) (count : ℕ) (entries : List Entry) (traffic : IsTraffic classes count entries) (w : WorldState) (is : w ≡ world_begun (rollout t)) where
   traffic_of : IsTraffic (classes_for t) count entries
   traffic_of = subst (λ (c : ClassList). IsTraffic c count entries) classes_is traffic
 

@@ -2,10 +2,11 @@
 use Rattle.std.specs.Prelude.{◌≡◌, ◌==◌, ℕ, ◌+◌, ◌*◌, ◌%◌, ◌^◌, ◌≤◌, List, length, slice_get, Some, Ok, if◌then◌else◌}
 use Rattle.dest_classes.specs.Classes.{ClassList, IsClass, class_count}
 use Rattle.dest_classes.specs.declared.Class.{Class}
-use Rattle.update_model.specs.Mixtures.{Update}
+use Rattle.update_model.specs.Mixtures.{Rollout}
 use Rattle.update_model.specs.Worlds.{WorldState}
 use Rattle.update_model.specs.declared.Event.{Event}
-use Rattle.certificates.specs.Certified.{Task, classes_for}
+use Rattle.certificates.specs.Updates.{Task, rollout}
+use Rattle.certificates.specs.Certified.{classes_for}
 use Rattle.schedule_pilot.specs.Driving.{IsRunFrom, IsOverAfter}
 use Rattle.schedule_pilot.specs.Laws.{world_begun}
 use Rattle.schedule_pilot.specs.Offered.{full_budget}
@@ -34,7 +35,7 @@ pub record IsTraffic (classes : ClassList) (count : ℕ) (entries : List Entry) 
 
 -- A run of the update's rounds from the old tables, driven by START over the packets, within the budget, that is over after its
 -- events. `after` is the network then.
-pub record IsRunToEnd (start : ℕ) (u : Update) (entries : List Entry) (events : List Event) (after : WorldState) : Type 0 where
+pub record IsRunToEnd (start : ℕ) (u : Rollout) (entries : List Entry) (events : List Event) (after : WorldState) : Type 0 where
   pub run : IsRunFrom (world_begun u) (Names start) entries events after
   pub within : length events ≤ full_budget u entries
   pub over : IsOverAfter (world_begun u) entries events
@@ -43,7 +44,7 @@ pub record IsRunToEnd (start : ℕ) (u : Update) (entries : List Entry) (events 
 pub record IsSimulation (start count : ℕ) (t : Task) (events : List Event) (after : WorldState) : Type 0 where
   pub entries : List Entry
   pub traffic : IsTraffic (classes_for t) count entries
-  pub course : IsRunToEnd start t.update entries events after
+  pub course : IsRunToEnd start (rollout t) entries events after
 
 -- The text is the record of a simulation: its events, a line each, and the traces of its packets as comments. Read as a schedule it
 -- means these events.

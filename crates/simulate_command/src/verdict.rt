@@ -6,7 +6,8 @@ ghost use Rattle.dest_classes.specs.Classes.{class_count};
 ghost use Rattle.certificates.specs.Valid.{IsValidPlan};
 ghost use Rattle.certificates.specs.Certified.{classes_for};
 ghost use Rattle.plan_checker.specs.Fits.{Fits};
-ghost use Rattle.command_base.specs.Updates.{meaning_of, task_for};
+ghost use Rattle.certificates.specs.Updates.{task_for};
+ghost use Rattle.command_base.specs.Updates.{meaning_of};
 ghost use Rattle.command_base.specs.Replies.{answer_of};
 ghost use Rattle.simulate_command.specs.Simulated.{IsSimulateAnswer};
 

@@ -5,13 +5,13 @@ use Rattle.topology.specs.Networks.{Network, switch_count, capacity_of}
 use Rattle.flow_rules.specs.Tables.{TableState, IsClear, rules_at, rules_of_all}
 use Rattle.flow_rules.specs.declared.rules.Rule.{Rule}
 use Rattle.update_model.specs.Changes.{Applies}
-use Rattle.update_model.specs.Mixtures.{Update, MayHold, need_of}
+use Rattle.update_model.specs.Mixtures.{Rollout, MayHold, need_of}
 use Rattle.update_model.specs.declared.Change.{Change}
 use Rattle.round_mix.specs.Prepared.{MixedState, IsPrepared}
 use Rattle.check_reasons.specs.Loaded.{AreLoaded}
 
 -- the update of one round of one change
-abbrev pub single : Network → List (List Rule) → Change → Update
+abbrev pub single : Network → List (List Rule) → Change → Rollout
 single net tables c = record { net = net; old = tables; rounds = (c ∷ []) ∷ [] }
 
 -- as a round of its own the change is clear in every mixture and within capacity at every switch

@@ -21,7 +21,7 @@ use Rattle.path_walk.specs.UserConfigs.{IsUserConfig}
 use Rattle.path_walk.specs.declared.Outcome.{Outcome}
 use Rattle.path_walk.specs.declared.Outcome.TheVariants.{Discard, Leave, Go}
 use Rattle.path_walk.proofs.PathLaws.{HasVlan, outcome_keeps, walk_keeps}
-use Rattle.update_model.specs.Mixtures.{Update, MayHold, IsPossible}
+use Rattle.update_model.specs.Mixtures.{Rollout, MayHold, IsPossible}
 use Rattle.certificates.specs.TwoPhase.{carrying, outcome_carrying, IsLabelled, tables_of, KeepsPath, IsLabelPickInForce, TwoPhaseCertificate}
 use Rattle.certificates.specs.declared.Label.{Label}
 use Rattle.certificates.specs.declared.TwoPhaseEvidence.{TwoPhaseEvidence}
@@ -33,7 +33,7 @@ use Rattle.two_phase.proofs.MaskLaws.{IsBanded, HasRaw, HasAll, HasNone, no_ingr
 use Rattle.two_phase.proofs.PlaceLaws.{stop_at, place_at, IsInner, goes_inner, entry_within, entry_host, tagged_outcome, entering_outcome, carries_own, user_lookup}
 use Rattle.two_phase.proofs.LabelLaws.{user_labelled, tag_labelled, label_cases, users_declared, pick_of, IsOfVersion, in_force, picked}
 
-module _ (u : Update) (new : List (List Rule)) (k : ℕ) where
+module _ (u : Rollout) (new : List (List Rule)) (k : ℕ) where
   -- something holds of each mixture at each switch
   abbrev pub OfMixtures : (SwitchId → List Rule → Type 0) → Type 0
   OfMixtures P = (s : SwitchId) → s.0 < switch_count u.net → (mixed : List Rule) → MayHold u k s mixed → P s mixed
@@ -56,7 +56,7 @@ module _ (u : Update) (new : List (List Rule)) (k : ℕ) where
     pub raws : IsRawVersion version ⊎ ((version ≡ true) × IsMasked)
     pub tagged : IsTaggedAll ⊎ HasNoIngress
 
-module _ (u : Update) (new : List (List Rule)) (k : ℕ) (net_is : IsNetwork u.net) (tags : IsTagging u.net) (old_user : IsUserConfig u.net u.old) (new_user : IsUserConfig u.net new)
+module _ (u : Rollout) (new : List (List Rule)) (k : ℕ) (net_is : IsNetwork u.net) (tags : IsTagging u.net) (old_user : IsUserConfig u.net u.old) (new_user : IsUserConfig u.net new)
     (version : Bool) (stage : IsStage u new k version) (dst : ℕ) (small : dst < 2 ^ 32) where
   user_of : (b : Bool) → IsUserConfig u.net (tables_of u new b)
   user_of true = new_user

@@ -11,7 +11,7 @@ use Rattle.path_walk.specs.UserConfigs.{IsUserConfig}
 use Rattle.dest_classes.specs.Classes.{classes_of, block_ends, boundaries, IsClass}
 use Rattle.dest_classes.specs.declared.Class.{Class}
 use Rattle.update_model.specs.Changes.{round_after}
-use Rattle.update_model.specs.Mixtures.{Update, tables_before}
+use Rattle.update_model.specs.Mixtures.{Rollout, tables_before}
 use Rattle.certificates.specs.Certified.{blocks_of}
 use Rattle.two_phase.specs.TwoPhasePlan.{two_phase_rounds}
 use Rattle.two_phase.specs.Laws.{two_phase_evidence, TwoPhasePlansAreCertified}
@@ -27,7 +27,7 @@ module _ (net : Network) (net_is : IsNetwork net) (old new : List (List Rule)) (
   pub two_phase_certified : TwoPhasePlansAreCertified net old new
   two_phase_certified fits demands tried old_good new_good =
       let tags = tagging net net_is fits.tags in
-      let u : Update = record { net = net; old = old; rounds = two_phase_rounds net old new } in
+      let u : Rollout = record { net = net; old = old; rounds = two_phase_rounds net old new } in
       let all = plan_sound net net_is tags old new old_user new_user fits.room in
       let at : (k : ℕ) → k < length u.rounds → IsSound net net_is tags old new old_user new_user k (tables_before u k) (round_after k u.rounds) =
       λ k less. sound_at net net_is tags old new old_user new_user fits.room u.rounds old 0 k k (omega arith) all less in

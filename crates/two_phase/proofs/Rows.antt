@@ -18,7 +18,7 @@ use Rattle.path_walk.specs.Paths.{outcome_in}
 use Rattle.path_walk.specs.declared.Outcome.TheVariants.{Discard, Leave, Go}
 use Rattle.dest_classes.specs.Classes.{boundaries, classes_of, class_count}
 use Rattle.demands.specs.Duties.{DemandView, duties_of}
-use Rattle.update_model.specs.Mixtures.{Update, IsPossible}
+use Rattle.update_model.specs.Mixtures.{Rollout, IsPossible}
 use Rattle.update_model.specs.declared.Change.{Change}
 use Rattle.update_model.specs.declared.Change.TheVariants.{Insert, Delete, Replace}
 use Rattle.certificates.specs.Certified.{blocks_of}
@@ -159,7 +159,7 @@ drop_eight = rule 50 None test.Any (record { base = 167772160; len = 8 }) action
 abbrev higher : Rule
 higher = rule 110 None test.Any P (action.Out (port 2) Keep)
 
-abbrev exchange : Update
+abbrev exchange : Rollout
 exchange = record { net = net_A; old = (drop_eight ∷ to 2 ∷ []) ∷ []; rounds = (Delete (sw 0) (to 2) ∷ Insert (sw 0) higher ∷ []) ∷ [] }
 
 may_drop : IsPossible exchange 0 167772160 (place 0 1) Discard

@@ -13,7 +13,7 @@ use Rattle.flow_rules.specs.declared.rules.Rewrite.TheVariants.{Keep}
 use Rattle.flow_rules.specs.declared.rules.Action.TheVariants as action
 use Rattle.flow_rules.specs.declared.rules.Rule.{Rule}
 use Rattle.path_walk.specs.declared.Ended.TheVariants.{UnderWay, Left, Dropped}
-use Rattle.update_model.specs.Mixtures.{Update}
+use Rattle.update_model.specs.Mixtures.{Rollout}
 use Rattle.update_model.specs.Runs.{IsRun, state_after_run}
 use Rattle.update_model.specs.declared.Change.TheVariants.{Replace}
 use Rattle.update_model.specs.declared.Phase.TheVariants.{Settled}
@@ -46,7 +46,7 @@ net_S = record {
   tags = None;
 }
 
-abbrev two_rounds : Update
+abbrev two_rounds : Rollout
 two_rounds = record {
   net = net_S;
   old = (to 2 ∷ []) ∷ (to 2 ∷ []) ∷ (to 2 ∷ []) ∷ (to 3 ∷ []) ∷ [];

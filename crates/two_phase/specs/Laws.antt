@@ -6,7 +6,8 @@ use Rattle.flow_rules.specs.declared.rules.Rule.{Rule}
 use Rattle.demands.specs.Duties.{DemandView}
 use Rattle.demands.specs.Good.{HasGoodPaths}
 use Rattle.update_model.specs.declared.Change.{Change}
-use Rattle.certificates.specs.Certified.{Task, classes_for, IsCertified}
+use Rattle.certificates.specs.Updates.{Task}
+use Rattle.certificates.specs.Certified.{classes_for, IsCertified}
 use Rattle.certificates.specs.declared.Evidence.TheVariants.{TwoPhase}
 use Rattle.certificates.specs.declared.TwoPhaseEvidence.{TwoPhaseEvidence}
 use Rattle.tag_allocator.specs.Tags.{available_tags}
@@ -15,9 +16,8 @@ use Rattle.two_phase.specs.TwoPhasePlan.{two_phase_rounds, label_tables, label_p
 -- the update by the two-phase plan under demands
 abbrev pub two_phase_task : Network → List (List Rule) → List (List Rule) → List DemandView → Task
 two_phase_task net old new demands = record {
-  update = record { net = net; old = old; rounds = two_phase_rounds net old new };
-  new = new;
-  demands = demands;
+  update = record { net = net; old = old; new = new; demands = demands };
+  rounds = two_phase_rounds net old new;
 }
 
 -- the evidence of the two-phase plan, with the rounds that were tried before

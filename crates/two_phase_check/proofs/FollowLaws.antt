@@ -21,7 +21,7 @@ use Rattle.dest_classes.specs.declared.Class.{Class}
 use Rattle.demands.specs.Duties.{DemandView}
 use Rattle.demands.specs.Good.{HasGoodPath, switches_of}
 use Rattle.update_model.specs.Mixtures.{IsPossible}
-use Rattle.certificates.specs.Certified.{Task}
+use Rattle.certificates.specs.Updates.{Task, rollout}
 use Rattle.certificates.specs.TwoPhase.{tables_of, KeepsOn, KeepsPath}
 use Rattle.certificates.specs.declared.Label.{Label}
 use Rattle.two_phase_check.specs.declared.two_phase.Follow.{Follow}
@@ -80,16 +80,16 @@ least_same P Q (Some s) to from p = record { holds = to s p.holds; least = λ r 
 module _ (t : Task) (k : ℕ) (class : Class) (labels : List Label) (found : Outcome) where
   stray_only : (version : Bool) (s r : SwitchId) → StraysBy t k class labels version found s → StraysBy t k class labels version found r → r ≡ s
   stray_only version s r a b =
-      let tables = tables_of t.update t.new version in
+      let tables = tables_of (rollout t) t.update.new version in
       let e : Go b.next ≡ Go a.next = sym b.is ∙ a.is in
       let next : b.next ≡ a.next = cc in
       let g : Go b.first ≡ Go a.first = sym b.goes ∙ a.goes in
       let first : b.first ≡ a.first = cc in
-      stray_one t.update k class.first tables a.first a.next.vlan s r a.stray
-      (subst (λ p. IsFirstStray t.update k class.first tables a.first p.vlan r) next (subst (λ p. IsFirstStray t.update k class.first tables p b.next.vlan r) first b.stray))
+      stray_one (rollout t) k class.first tables a.first a.next.vlan s r a.stray
+      (subst (λ p. IsFirstStray (rollout t) k class.first tables a.first p.vlan r) next (subst (λ p. IsFirstStray (rollout t) k class.first tables p b.next.vlan r) first b.stray))
 
-  stray_not : (version : Bool) (s : SwitchId) → KeepsOn t.update k class.first (tables_of t.update t.new version) class.entry found → ¬ StraysBy t k class labels version found s
-  stray_not version s keeps a = stray_none t.update k class.first (tables_of t.update t.new version) a.first a.next.vlan s a.stray (keeps a.first a.next a.is a.goes)
+  stray_not : (version : Bool) (s : SwitchId) → KeepsOn (rollout t) k class.first (tables_of (rollout t) t.update.new version) class.entry found → ¬ StraysBy t k class labels version found s
+  stray_not version s keeps a = stray_none (rollout t) k class.first (tables_of (rollout t) t.update.new version) a.first a.next.vlan s a.stray (keeps a.first a.next a.is a.goes)
 
   -- what an outcome tells of a version says where a packet may stray
   told_least : (version : Bool) (f : Follow) → Tells t k class labels version found f → IsLeastOf (StraysBy t k class labels version found) (astray_at f)
@@ -108,7 +108,7 @@ module _ (t : Task) (k : ℕ) (class : Class) (labels : List Label) (found : Out
   told_differs version (Astray s) tells e = absurd (let g : false ≡ true = e in cc)
 
   told_keeps : (version : Bool) (f : Follow) → Tells t k class labels version found f → astray_at f ≡ None → AgreesAt t class labels version found
-      → KeepsOn t.update k class.first (tables_of t.update t.new version) class.entry found
+      → KeepsOn (rollout t) k class.first (tables_of (rollout t) t.update.new version) class.entry found
   told_keeps version Differs tells e agrees = absurd (tells agrees)
   told_keeps version Keeps tells e agrees = tells.1
   told_keeps version (Astray s) tells e agrees = absurd (let g : Some s ≡ None = e in cc)
@@ -167,7 +167,7 @@ module _ (t : Task) (k : ℕ) (class : Class) (labels : List Label) (found : Out
     no_lesser (Some x) None e = absurd (let g : Some x ≡ None = e in cc)
     no_lesser (Some x) (Some y) e = absurd (let g : Some (if nat_lt y.0 x.0 then y else x) ≡ None = e in cc)
 
-    keeps_each : lesser (astray_at old) (astray_at new) ≡ None → (version : Bool) → AgreesAt t class labels version found → KeepsOn t.update k class.first (tables_of t.update t.new version) class.entry found
+    keeps_each : lesser (astray_at old) (astray_at new) ≡ None → (version : Bool) → AgreesAt t class labels version found → KeepsOn (rollout t) k class.first (tables_of (rollout t) t.update.new version) class.entry found
     keeps_each e true agrees = told_keeps true new new_told (no_lesser (astray_at old) (astray_at new) e).1 agrees
     keeps_each e false agrees = told_keeps false old old_told (no_lesser (astray_at old) (astray_at new) e).0 agrees
 
@@ -184,9 +184,9 @@ module _ (t : Task) (k : ℕ) (class : Class) (labels : List Label) (found : Out
 
 -- an outcome that goes on as the version's does, after which a packet keeps to the version's path
 pub tells_keeps : (t : Task) (k : ℕ) (class : Class) (labels : List Label) (version : Bool) (found : Outcome) (next first : Place) → found ≡ Go next
-    → outcome_in t.update.net (tables_of t.update t.new version) class.entry class.first ≡ Go first
-    → AgreesWith (outcome_in t.update.net (tables_of t.update t.new version) class.entry class.first) labels version class.entry.vlan found
-    → KeepsPath t.update k class.first (tables_of t.update t.new version) first next.vlan → Tells t k class labels version found Keeps
+    → outcome_in t.update.net (tables_of (rollout t) t.update.new version) class.entry class.first ≡ Go first
+    → AgreesWith (outcome_in t.update.net (tables_of (rollout t) t.update.new version) class.entry class.first) labels version class.entry.vlan found
+    → KeepsPath (rollout t) k class.first (tables_of (rollout t) t.update.new version) first next.vlan → Tells t k class labels version found Keeps
 tells_keeps t k class labels version found next first is goes agrees keeps = (
   record { tag = agrees.tag; same = agrees.same; labelled = agrees.labelled },
   λ other_first other_next other_is other_goes.
@@ -194,8 +194,8 @@ tells_keeps t k class labels version found next first is goes agrees keeps = (
       let same_next : next ≡ other_next = cc in
       let g : Go first ≡ Go other_first = sym goes ∙ other_goes in
       let same_first : first ≡ other_first = cc in
-      subst (λ p. KeepsPath t.update k class.first (tables_of t.update t.new version) other_first p.vlan) same_next
-      (subst (λ p. KeepsPath t.update k class.first (tables_of t.update t.new version) p next.vlan) same_first keeps),
+      subst (λ p. KeepsPath (rollout t) k class.first (tables_of (rollout t) t.update.new version) other_first p.vlan) same_next
+      (subst (λ p. KeepsPath (rollout t) k class.first (tables_of (rollout t) t.update.new version) p next.vlan) same_first keeps),
 )
 
 module _ (t : Task) (k : ℕ) (class : Class) (labels : List Label) where
@@ -258,7 +258,7 @@ module _ (t : Task) (k : ℕ) (class : Class) (labels : List Label) where
       subst (λ xs. IsLeastAmong xs (lesser a b)) (sym (take_more list i d within)) (among_push (take i list) (get_or list i d) a b so none some)
 
   -- of all possible outcomes
-  module _ (list : List Outcome) (all : AreAllFound t.update k class.first class.entry list) (o : Option SwitchId) (so : IsLeastAmong list o) where
+  module _ (list : List Outcome) (all : AreAllFound (rollout t) k class.first class.entry list) (o : Option SwitchId) (so : IsLeastAmong list o) where
     pub class_kept : IfNone o (KeepsVersions t k class labels)
     class_kept = kept o so
       where
@@ -274,7 +274,7 @@ module _ (t : Task) (k : ℕ) (class : Class) (labels : List Label) where
           first = a.first;
           rest = a.stray.rest;
           version = version;
-          possible = subst (λ f. IsPossible t.update k class.first class.entry f) a.is ((all found).0 i);
+          possible = subst (λ f. IsPossible (rollout t) k class.first class.entry f) a.is ((all found).0 i);
           agrees = subst (AgreesAt t class labels version) a.is a.agrees;
           goes = a.goes;
           walk = a.stray.walk;

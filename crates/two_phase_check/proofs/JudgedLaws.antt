@@ -9,7 +9,8 @@ use Rattle.topology.specs.Networks.{Network}
 use Rattle.path_walk.specs.declared.Outcome.TheVariants.{Go}
 use Rattle.dest_classes.specs.Classes.{IsClass}
 use Rattle.dest_classes.specs.declared.Class.{Class}
-use Rattle.certificates.specs.Certified.{Task, classes_for}
+use Rattle.certificates.specs.Updates.{Task}
+use Rattle.certificates.specs.Certified.{classes_for}
 use Rattle.certificates.specs.TwoPhase.{IsLabelPickInForce}
 use Rattle.certificates.specs.declared.Label.{Label}
 use Rattle.certificates.specs.declared.LabelPick.{LabelPick}
@@ -58,7 +59,7 @@ mixes_not t k class labels s keep (inr h) =
     let kept = keep (Go h.next) h.possible in
     h.strays.2 (kept.keeps h.version h.agrees h.first h.next refl h.goes (end_of h.first h.rest) (h.rest, h.walk, refl) h.strays.0 h.strays.1)
 
-module _ (t : Task) (e : TwoPhaseEvidence) (k : ℕ) (in_range : k < length t.update.rounds) where
+module _ (t : Task) (e : TwoPhaseEvidence) (k : ℕ) (in_range : k < length t.rounds) where
   -- no label table is in force
   pub bad_labels_first : (n : ℕ) (class : Class) → IsClass (classes_for t) n class → ((labels : List Label) → ¬ IsTableInForce t e k labels) → IsFirstFrom t (TwoPhase e) (classes_start k) (BadLabels (suc k))
   bad_labels_first n class is none = record {

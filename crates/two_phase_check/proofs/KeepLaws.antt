@@ -9,7 +9,7 @@ use Rattle.net_base.specs.declared.ids.Place.{Place}
 use Rattle.net_base.proofs.MemberLaws.{each_at}
 use Rattle.path_walk.specs.declared.Outcome.TheVariants.{Go}
 use Rattle.dest_classes.specs.Classes.{ClassList, class_count, atom_count}
-use Rattle.certificates.specs.Certified.{Task}
+use Rattle.certificates.specs.Updates.{Task}
 use Rattle.two_phase_check.specs.Kept.{KeepsFrom, AreKept, outcome_on, StaysOn, number_at}
 use Rattle.two_phase_check.specs.declared.keeping.Way.{Way}
 use Rattle.two_phase_check.specs.declared.keeping.KeptPlace.{KeptPlace}

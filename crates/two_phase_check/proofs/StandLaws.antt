@@ -10,8 +10,9 @@ use Rattle.flow_rules.specs.declared.rules.Rule.{Rule}
 use Rattle.path_walk.specs.declared.Outcome.{Outcome}
 use Rattle.dest_classes.specs.declared.Class.{Class}
 use Rattle.update_model.specs.Changes.{round_after, IsGoodRound}
-use Rattle.update_model.specs.Mixtures.{Update, tables_before, MayHold, IsPossible}
-use Rattle.certificates.specs.Certified.{Task, classes_for}
+use Rattle.update_model.specs.Mixtures.{Rollout, tables_before, MayHold, IsPossible}
+use Rattle.certificates.specs.Updates.{Task, rollout}
+use Rattle.certificates.specs.Certified.{classes_for}
 use Rattle.certificates.specs.TwoPhase.{carrying, tables_of, KeepsPath, KeepsOn, IsLabelPickInForce, TwoPhaseCertificate}
 use Rattle.certificates.specs.declared.Label.{Label}
 use Rattle.certificates.specs.declared.LabelPick.{LabelPick}
@@ -28,7 +29,7 @@ use Rattle.two_phase_check.proofs.JudgedLaws.{table_one}
 
 -- ---- the paths, where all that is possible was possible in the round before
 
-module _ (u : Update) (k dst : ℕ) (was : (place : Place) (found : Outcome) → IsPossible u (suc k) dst place found → IsPossible u k dst place found) where
+module _ (u : Rollout) (k dst : ℕ) (was : (place : Place) (found : Outcome) → IsPossible u (suc k) dst place found → IsPossible u k dst place found) where
   path_stands : (tables : List (List Rule)) (first : Place) (tag : Vlan) → KeepsPath u k dst tables first tag → KeepsPath u (suc k) dst tables first tag
   path_stands tables first tag keeps place reached found possible = keeps place reached found (was (carrying tag place) found possible)
 
@@ -58,24 +59,24 @@ table_before t e k labels force begun = record {
 -- ---- the certificate
 
 -- a class that no change of a round touches keeps the versions apart where it has the certificate of the round before, for the same labels
-pub certificate_stands : (t : Task) (e : TwoPhaseEvidence) (k : ℕ) (class : Class) (labels : List Label) → Rise e.picks → suc k < length t.update.rounds
-    → IsGoodRound (tables_before t.update k) (round_after k t.update.rounds) → IsGoodRound (tables_before t.update (suc k)) (round_after (suc k) t.update.rounds)
-    → ((s : SwitchId) (mixed : List Rule) → MayHold t.update (suc k) s mixed → IsClear mixed)
-    → TwoPhaseCertificate t.update t.new e k class.first class.entry → IsTableInForce t e k labels → StandsUntouched t (suc k) class labels
+pub certificate_stands : (t : Task) (e : TwoPhaseEvidence) (k : ℕ) (class : Class) (labels : List Label) → Rise e.picks → suc k < length t.rounds
+    → IsGoodRound (tables_before (rollout t) k) (round_after k t.rounds) → IsGoodRound (tables_before (rollout t) (suc k)) (round_after (suc k) t.rounds)
+    → ((s : SwitchId) (mixed : List Rule) → MayHold (rollout t) (suc k) s mixed → IsClear mixed)
+    → TwoPhaseCertificate (rollout t) t.update.new e k class.first class.entry → IsTableInForce t e k labels → StandsUntouched t (suc k) class labels
 certificate_stands t e k class labels rise within good_before good clear cert force off found possible =
-    let was = possible_before t.update k class.first within good_before good clear off in
-    let before : IsPossible t.update k class.first class.entry found = was class.entry found possible in
+    let was = possible_before (rollout t) k class.first within good_before good clear off in
+    let before : IsPossible (rollout t) k class.first class.entry found = was class.entry found possible in
     let cert_force : IsTableInForce t e k cert.labels = record { pick = cert.pick; in_force = cert.in_force; is = cert.table_is; declared = cert.declared } in
     let same : cert.labels ≡ labels = table_one t e k cert.labels labels rise cert_force force in
     record {
       agrees = subst (λ (ls : List Label). (version : Bool) × AgreesAt t class ls version found) same (cert.agrees found before);
       keeps = λ version agrees.
-          way_stands t.update k class.first was (tables_of t.update t.new version) class.entry found
+          way_stands (rollout t) k class.first was (tables_of (rollout t) t.update.new version) class.entry found
           (cert.keeps found before version (subst (λ (ls : List Label). AgreesAt t class ls version found) (sym same) agrees));
     }
 
 -- in a round that isn't the first and with which no pick begins, the classes that it doesn't touch keep the versions apart where the rounds before passed
-pub certificates_stand : (t : Task) (e : TwoPhaseEvidence) (k n : ℕ) (labels : List Label) → Rise e.picks → 0 < k → k < length t.update.rounds → RoundsPass t (TwoPhase e) k → ChangesPass t (TwoPhase e) k
+pub certificates_stand : (t : Task) (e : TwoPhaseEvidence) (k n : ℕ) (labels : List Label) → Rise e.picks → 0 < k → k < length t.rounds → RoundsPass t (TwoPhase e) k → ChangesPass t (TwoPhase e) k
     → IsTableInForce t e k labels → AreBegun e.picks (suc k) n → HaveBegun e.picks k n → StandUntouched t k (classes_for t) labels
 certificates_stand t e zero n labels rise some within before pass force begun so_far = absurd (omega arith)
 certificates_stand t e (suc k) n labels rise some within before pass force begun so_far =

@@ -22,13 +22,13 @@ use Rattle.certificates.specs.TwoPhase.{carrying, outcome_carrying, KeepsPath}
 use Rattle.check_reasons.specs.Reasons.{Strays}
 use Rattle.two_phase_check.specs.Agreements.{AreAllFound, HasOutcomeAlone, HasOtherOutcome, EndsSoon, IsFirstStray}
 use Rattle.update_model.specs.Changes.{changes_at, round_after}
-use Rattle.update_model.specs.Mixtures.{Update, tables_before}
+use Rattle.update_model.specs.Mixtures.{Rollout, tables_before}
 use Rattle.round_mix.specs.Prepared.{MixedState, IsPrepared}
 use Rattle.round_mix.specs.declared.MarkedRule.{MarkedRule}
 use Rattle.check_reasons.specs.Loaded.{AreLoaded}
 
 -- what is prepared of a switch
-module _ (u : Update) (k : ℕ) (mixes : List MixedState) (loaded : AreLoaded u k mixes) (s : SwitchId) (mixed : MixedState) (at : slice_get mixes s.0 ≡ Some mixed) where
+module _ (u : Rollout) (k : ℕ) (mixes : List MixedState) (loaded : AreLoaded u k mixes) (s : SwitchId) (mixed : MixedState) (at : slice_get mixes s.0 ≡ Some mixed) where
   pub prepared_some : IsSome mixed.prepared
   prepared_some = subst IsSome (sym (loaded.each s mixed at).is) refl
 
@@ -89,7 +89,7 @@ module _ (net : Network) (tables : List (List Rule)) (dst : ℕ) where
   pub goes_after : (place x : Place) (qs back rest : List Place) → IsWalk (Forwards net tables dst) place rest → rest ≡ qs ++ x ∷ back → outcome_in net tables (end_of place qs) dst ≡ Go x
   goes_after place x qs back rest walk is = (walk_after (Forwards net tables dst) place qs (x ∷ back) (subst (λ ps. IsWalk (Forwards net tables dst) place ps) is walk)).0
 
-module _ (u : Update) (k dst : ℕ) (tables : List (List Rule)) (first : Place) (tag : Vlan) where
+module _ (u : Rollout) (k dst : ℕ) (tables : List (List Rule)) (first : Place) (tag : Vlan) where
   -- a packet that carries the VLAN has the path's outcome alone
   abbrev pub Stays : Place → Type 0
   Stays place = HasOutcomeAlone u k dst (carrying tag place) (outcome_carrying tag (outcome_in u.net tables place dst))
@@ -171,7 +171,7 @@ module _ (u : Update) (k dst : ℕ) (tables : List (List Rule)) (first : Place) 
   stray_none s a keeps = a.strays.2 (keeps (end_of first a.rest) (a.rest, a.walk, refl) a.strays.0 a.strays.1)
 
 -- what is found in a list of all possible outcomes
-pub alone_by : (u : Update) (k dst : ℕ) (place : Place) (expected : Outcome) (list : List Outcome) (r : Bool) → AreAllFound u k dst place list
+pub alone_by : (u : Rollout) (k dst : ℕ) (place : Place) (expected : Outcome) (list : List Outcome) (r : Bool) → AreAllFound u k dst place list
     → MatchBool r (AllWithin (λ found. found ≡ expected) list 0 (length list)) ((i : ℕ) × (i < length list) × HoldsAt (λ found. found ≢ expected) list i)
     → MatchBool r (HasOutcomeAlone u k dst place expected) (HasOtherOutcome u k dst place expected)
 alone_by u k dst place expected list true all h =

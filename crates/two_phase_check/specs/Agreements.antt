@@ -11,8 +11,8 @@ use Rattle.path_walk.specs.Paths.{Forwards, outcome_in, ended_by, IsEnd}
 use Rattle.path_walk.specs.declared.Outcome.{Outcome}
 use Rattle.path_walk.specs.declared.Outcome.TheVariants.{Go}
 use Rattle.dest_classes.specs.declared.Class.{Class}
-use Rattle.update_model.specs.Mixtures.{Update, IsPossible}
-use Rattle.certificates.specs.Certified.{Task}
+use Rattle.update_model.specs.Mixtures.{Rollout, IsPossible}
+use Rattle.certificates.specs.Updates.{Task, rollout}
 use Rattle.certificates.specs.TwoPhase.{outcome_carrying, tables_of, IsLabelled, Agrees, KeepsOn}
 use Rattle.certificates.specs.declared.Label.{Label}
 use Rattle.two_phase_check.specs.declared.two_phase.Follow.{Follow}
@@ -33,15 +33,15 @@ pub record AgreesWith (expected : Outcome) (labels : List Label) (version : Bool
   pub labelled : IsLabelled labels version user found
 
 -- exactly the possible outcomes of a place
-abbrev pub AreAllFound : Update → ℕ → ℕ → Place → List Outcome → Type 0
+abbrev pub AreAllFound : Rollout → ℕ → ℕ → Place → List Outcome → Type 0
 AreAllFound u k dst place list = (found : Outcome) → IsIn found list ↔ IsPossible u k dst place found
 
 -- a packet at a place may have this outcome alone
-abbrev pub HasOutcomeAlone : Update → ℕ → ℕ → Place → Outcome → Type 0
+abbrev pub HasOutcomeAlone : Rollout → ℕ → ℕ → Place → Outcome → Type 0
 HasOutcomeAlone u k dst place expected = (found : Outcome) → IsPossible u k dst place found → found ≡ expected
 
 -- it may have another
-abbrev pub HasOtherOutcome : Update → ℕ → ℕ → Place → Outcome → Type 0
+abbrev pub HasOtherOutcome : Rollout → ℕ → ℕ → Place → Outcome → Type 0
 HasOtherOutcome u k dst place expected = (found : Outcome) × IsPossible u k dst place found × (found ≢ expected)
 
 -- the path of the tables from a place ends before as many steps as there are switches
@@ -52,7 +52,7 @@ pub record EndsSoon (net : Network) (tables : List (List Rule)) (dst : ℕ) (fir
   pub few : length rest < switch_count net
 
 -- the first place of the path where a packet that carries the VLAN may stray is at the switch
-pub record IsFirstStray (u : Update) (k dst : ℕ) (tables : List (List Rule)) (first : Place) (tag : Vlan) (s : SwitchId) : Type 0 where
+pub record IsFirstStray (u : Rollout) (k dst : ℕ) (tables : List (List Rule)) (first : Place) (tag : Vlan) (s : SwitchId) : Type 0 where
   pub rest : List Place
   pub walk : IsWalk (Forwards u.net tables dst) first rest
   pub strays : Strays u k dst tables tag (end_of first rest)
@@ -61,7 +61,7 @@ pub record IsFirstStray (u : Update) (k dst : ℕ) (tables : List (List Rule)) (
 
 -- an outcome of the entry agrees with a version
 abbrev pub AgreesAt : Task → Class → List Label → Bool → Outcome → Type 0
-AgreesAt t class labels version found = Agrees t.update.net (tables_of t.update t.new version) labels version class.first class.entry found
+AgreesAt t class labels version found = Agrees t.update.net (tables_of (rollout t) t.update.new version) labels version class.first class.entry found
 
 -- an outcome of the entry agrees with a version, and on the path after it a packet may stray first at the switch
 pub record StraysBy (t : Task) (k : ℕ) (class : Class) (labels : List Label) (version : Bool) (found : Outcome) (s : SwitchId) : Type 0 where
@@ -69,14 +69,14 @@ pub record StraysBy (t : Task) (k : ℕ) (class : Class) (labels : List Label) (
   pub first : Place
   pub is : found ≡ Go next
   pub agrees : AgreesAt t class labels version found
-  pub goes : outcome_in t.update.net (tables_of t.update t.new version) class.entry class.first ≡ Go first
-  pub stray : IsFirstStray t.update k class.first (tables_of t.update t.new version) first next.vlan s
+  pub goes : outcome_in t.update.net (tables_of (rollout t) t.update.new version) class.entry class.first ≡ Go first
+  pub stray : IsFirstStray (rollout t) k class.first (tables_of (rollout t) t.update.new version) first next.vlan s
 
 -- what an outcome of the entry tells of a version
 abbrev pub Tells : Task → ℕ → Class → List Label → Bool → Outcome → Follow → Type 0
 Tells t k class labels version found Differs = ¬ AgreesAt t class labels version found
 Tells t k class labels version found Keeps =
-    AgreesAt t class labels version found × KeepsOn t.update k class.first (tables_of t.update t.new version) class.entry found
+    AgreesAt t class labels version found × KeepsOn (rollout t) k class.first (tables_of (rollout t) t.update.new version) class.entry found
 Tells t k class labels version found (Astray s) = StraysBy t k class labels version found s
 
 -- the lesser of two switches, where there are two
@@ -107,7 +107,7 @@ MixesBy t k class labels found s =
 -- an outcome of the entry keeps to a version: it agrees with one, and after it a packet keeps to the path of each that it agrees with
 pub record IsKept (t : Task) (k : ℕ) (class : Class) (labels : List Label) (found : Outcome) : Type 0 where
   pub agrees : (version : Bool) × AgreesAt t class labels version found
-  pub keeps : (version : Bool) → AgreesAt t class labels version found → KeepsOn t.update k class.first (tables_of t.update t.new version) class.entry found
+  pub keeps : (version : Bool) → AgreesAt t class labels version found → KeepsOn (rollout t) k class.first (tables_of (rollout t) t.update.new version) class.entry found
 
 -- some of these outcomes mixes the versions at the switch
 abbrev pub MixesAmong : Task → ℕ → Class → List Label → List Outcome → SwitchId → Type 0
@@ -119,7 +119,7 @@ MixesAt t k class labels s = ((s ≡ class.entry.switch) × IsMixedAtEntry t k c
 
 -- each possible outcome of the entry keeps to a version
 abbrev pub KeepsVersions : Task → ℕ → Class → List Label → Type 0
-KeepsVersions t k class labels = (found : Outcome) → IsPossible t.update k class.first class.entry found → IsKept t k class labels found
+KeepsVersions t k class labels = (found : Outcome) → IsPossible (rollout t) k class.first class.entry found → IsKept t k class labels found
 
 -- the least switch of which a fact holds
 pub record IsLeastSwitch (P : SwitchId → Type 0) (s : SwitchId) : Type 0 where

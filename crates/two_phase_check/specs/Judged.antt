@@ -3,7 +3,7 @@ use Rattle.std.specs.Prelude.{◌≡◌, ℕ, ◌<◌, false, List}
 use Rattle.dest_classes.specs.Classes.{ClassList, IsClass}
 use Rattle.dest_classes.specs.declared.Class.{Class}
 use Rattle.update_model.specs.Changes.{round_after}
-use Rattle.certificates.specs.Certified.{Task}
+use Rattle.certificates.specs.Updates.{Task}
 use Rattle.certificates.specs.declared.Label.{Label}
 use Rattle.check_reasons.specs.Touched.{touches}
 use Rattle.two_phase_check.specs.Agreements.{MixesAt, KeepsVersions, IsLeastSwitch}
@@ -15,7 +15,7 @@ AllKeepVersions t k classes labels = (n : ℕ) (class : Class) → IsClass class
 
 -- where no change of the round covers its address, the class keeps the versions apart
 abbrev pub StandsUntouched : Task → ℕ → Class → List Label → Type 0
-StandsUntouched t k class labels = touches (round_after k t.update.rounds) class.first ≡ false → KeepsVersions t k class labels
+StandsUntouched t k class labels = touches (round_after k t.rounds) class.first ≡ false → KeepsVersions t k class labels
 
 -- and so does each class
 abbrev pub StandUntouched : Task → ℕ → ClassList → List Label → Type 0

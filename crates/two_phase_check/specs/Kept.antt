@@ -6,7 +6,7 @@ use Rattle.topology.specs.Networks.{switch_count}
 use Rattle.path_walk.specs.Paths.{outcome_in}
 use Rattle.path_walk.specs.declared.Outcome.{Outcome}
 use Rattle.path_walk.specs.declared.Outcome.TheVariants.{Go}
-use Rattle.certificates.specs.Certified.{Task}
+use Rattle.certificates.specs.Updates.{Task, rollout}
 use Rattle.certificates.specs.TwoPhase.{carrying, outcome_carrying, tables_of, KeepsPath}
 use Rattle.two_phase_check.specs.Agreements.{HasOutcomeAlone}
 use Rattle.two_phase_check.specs.declared.keeping.Way.{Way}
@@ -16,7 +16,7 @@ use Rattle.two_phase_check.specs.declared.keeping.Step.TheVariants.{Strays, Ends
 
 -- from the place on a packet keeps to the path of the way
 abbrev pub KeepsFrom : Task → ℕ → KeptPlace → Type 0
-KeepsFrom t k kept = KeepsPath t.update k kept.way.dst (tables_of t.update t.new kept.way.new) kept.place kept.way.tag
+KeepsFrom t k kept = KeepsPath (rollout t) k kept.way.dst (tables_of (rollout t) t.update.new kept.way.new) kept.place kept.way.tag
 
 -- each place that is known is such a place
 abbrev pub AreKept : Task → ℕ → List (Option KeptPlace) → Type 0
@@ -24,11 +24,11 @@ AreKept t k known = AllByRecursion (λ o. IfSome o (KeepsFrom t k)) known
 
 -- the outcome of the path of a way at a place
 abbrev pub outcome_on : Task → Way → Place → Outcome
-outcome_on t way place = outcome_in t.update.net (tables_of t.update t.new way.new) place way.dst
+outcome_on t way place = outcome_in t.update.net (tables_of (rollout t) t.update.new way.new) place way.dst
 
 -- a packet on the way may have the outcome of the path alone at the place
 abbrev pub StaysOn : Task → ℕ → Way → Place → Type 0
-StaysOn t k way place = HasOutcomeAlone t.update k way.dst (carrying way.tag place) (outcome_carrying way.tag (outcome_on t way place))
+StaysOn t k way place = HasOutcomeAlone (rollout t) k way.dst (carrying way.tag place) (outcome_carrying way.tag (outcome_on t way place))
 
 -- what the path of a way does at a place: nothing is told, or a packet stays on it and it ends, or goes on to a place of the network
 abbrev pub IsStepOf : Task → ℕ → Way → Place → Step → Type 0

@@ -1,7 +1,7 @@
 // Places from which a packet was found to keep to the path of a version, so that they aren't looked at again.
 ghost use Rattle.std.specs.Prelude.{◌≡◌, ℕ, ◌+◌, ◌<◌, true, None, length, replicate};
 ghost use Rattle.topology.specs.Networks.{switch_count};
-ghost use Rattle.certificates.specs.Certified.{Task};
+ghost use Rattle.certificates.specs.Updates.{Task};
 ghost use Rattle.two_phase_check.specs.Kept.{KeepsFrom, AreKept, IsStepOf};
 
 use crate::straying::{RoundCase, carry, outcome_at, stays, tables_of};

@@ -1,4 +1,5 @@
 // Where a packet may stray from a path in a round.
+ghost use Rattle.certificates.specs.Updates.{rollout};
 ghost use Rattle.std.specs.Prelude.{◌≡◌, ◌≢◌, ◌+◌, ◌<◌, ℕ, IfSome, IfNone, length};
 ghost use Rattle.std.specs.Bool.{MatchBool};
 ghost use Rattle.std.specs.List.{AllWithin, HoldsAt};
@@ -34,6 +35,7 @@ pub(crate) struct RoundCase<'a> {
 }
 
 impl<'a> Model for RoundCase<'a> {
+    ghost use Rattle.certificates.specs.Updates.{rollout};
     ghost use Rattle.two_phase_check.specs.Agreements.{RoundView};
     ghost use Rattle.check_reasons.specs.Loaded.{AreLoaded};
 
@@ -41,14 +43,14 @@ impl<'a> Model for RoundCase<'a> {
 
     ghost view = { λ r. record { task = r.case.now.task; number = r.number; labels = r.labels.now; stands = r.stands } };
 
-    ghost invariant = { λ r. AreLoaded r.case.now.task.update r.number r.mixes.now };
+    ghost invariant = { λ r. AreLoaded (rollout r.case.now.task) r.number r.mixes.now };
 }
 
 /// Puts the possible outcomes of a place into the room.
 pub(crate) fn find_outcomes(round: &RoundCase, place: Place, dst: u32, room: &mut Outcomes)
     requires switch { place.switch.0 < switch_count round.now.task.update.net }
     requires room { 8192 < length room.old.list + room.old.spare }
-    ensures all { AreAllFound round.now.task.update round.now.number dst place room.new.list }
+    ensures all { AreAllFound (rollout round.now.task) round.now.number dst place room.new.list }
     ensures room { 8192 < length room.new.list + room.new.spare }
 {
     let case = round.case;
@@ -64,7 +66,7 @@ fn are_all(list: &[Outcome], expected: Outcome) -> bool
 
 /// The tables of a version.
 pub(crate) fn tables_of<'a>(round: &RoundCase<'a>, new: bool) -> &'a Config
-    ensures rules { rules_of_all result.now ≡ tables_of round.now.task.update round.now.task.new new }
+    ensures rules { rules_of_all result.now ≡ tables_of (rollout round.now.task) round.now.task.update.new new }
     ensures count { length result.now ≡ switch_count round.now.task.update.net }
 {
     let case = round.case;
@@ -82,8 +84,8 @@ impl<'a> RoundCase<'a> {
 
     /// The changes of the round.
     pub(crate) fn changes(&self) -> &'a [Change]
-        requires { self.now.number < length self.now.task.update.rounds }
-        ensures { result.now ≡ round_after self.now.number self.now.task.update.rounds }
+        requires { self.now.number < length self.now.task.rounds }
+        ensures { result.now ≡ round_after self.now.number self.now.task.rounds }
     {
         let case = self.case;
         case.plan.rounds.round(self.number)
@@ -117,7 +119,7 @@ pub(crate) fn stays(
 ) -> bool
     requires switch { place.switch.0 < switch_count round.now.task.update.net }
     requires room { 8192 < length room.old.list + room.old.spare }
-    ensures exact { MatchBool result (HasOutcomeAlone round.now.task.update round.now.number dst place expected) (HasOtherOutcome round.now.task.update round.now.number dst place expected) }
+    ensures exact { MatchBool result (HasOutcomeAlone (rollout round.now.task) round.now.number dst place expected) (HasOtherOutcome (rollout round.now.task) round.now.number dst place expected) }
     ensures room { 8192 < length room.new.list + room.new.spare }
 {
     find_outcomes(round, place, dst, room);
@@ -160,8 +162,8 @@ pub(crate) fn first_stray(
     requires switch { first.switch.0 < switch_count round.now.task.update.net }
     requires soon { EndsSoon round.now.task.update.net (rules_of_all tables.now) dst first }
     requires room { 8192 < length room.old.list + room.old.spare }
-    ensures none { IfNone result (KeepsPath round.now.task.update round.now.number dst (rules_of_all tables.now) first tag) }
-    ensures some { IfSome result (IsFirstStray round.now.task.update round.now.number dst (rules_of_all tables.now) first tag) }
+    ensures none { IfNone result (KeepsPath (rollout round.now.task) round.now.number dst (rules_of_all tables.now) first tag) }
+    ensures some { IfSome result (IsFirstStray (rollout round.now.task) round.now.number dst (rules_of_all tables.now) first tag) }
     ensures room { 8192 < length room.new.list + room.new.spare }
 {
     let mut place = first;

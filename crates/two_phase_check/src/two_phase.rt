@@ -1,4 +1,5 @@
 // The classes of a round of a two-phase plan.
+ghost use Rattle.certificates.specs.Updates.{rollout};
 ghost use Rattle.std.specs.Prelude.{◌≡◌, suc, true, false, ◌+◌, ◌<◌, ◌≤◌, IfOk, IfSome, IfNone, length};
 ghost use Rattle.topology.specs.Networks.{Network, switch_count};
 ghost use Rattle.demands.specs.Good.{HasGoodPath, HasGoodPaths};
@@ -108,7 +109,7 @@ fn follow_version(
     known: &mut [Option<KeptPlace>],
 ) -> Follow
     requires entry { class.entry.switch.0 < switch_count round.now.task.update.net }
-    requires good { HasGoodPath round.now.task.update.net (tables_of round.now.task.update round.now.task.new version) round.now.task.demands class.entry class.first }
+    requires good { HasGoodPath round.now.task.update.net (tables_of (rollout round.now.task) round.now.task.update.new version) round.now.task.update.demands class.entry class.first }
     requires room { 8192 < length room.old.list + room.old.spare }
     requires known { AreKept round.now.task round.now.number known.old }
     ensures tells { Tells round.now.task round.now.number class round.now.labels version found result }
@@ -150,8 +151,8 @@ fn mixed_by(
     known: &mut [Option<KeptPlace>],
 ) -> Option<SwitchId>
     requires entry { class.entry.switch.0 < switch_count round.now.task.update.net }
-    requires old_good { HasGoodPath round.now.task.update.net round.now.task.update.old round.now.task.demands class.entry class.first }
-    requires new_good { HasGoodPath round.now.task.update.net round.now.task.new round.now.task.demands class.entry class.first }
+    requires old_good { HasGoodPath round.now.task.update.net round.now.task.update.old round.now.task.update.demands class.entry class.first }
+    requires new_good { HasGoodPath round.now.task.update.net round.now.task.update.new round.now.task.update.demands class.entry class.first }
     requires room { 8192 < length room.old.list + room.old.spare }
     requires known { AreKept round.now.task round.now.number known.old }
     ensures none { IfNone result (IsKept round.now.task round.now.number class round.now.labels found) }
@@ -174,8 +175,8 @@ fn least_mixed(
     known: &mut [Option<KeptPlace>],
 ) -> Option<SwitchId>
     requires entry { class.entry.switch.0 < switch_count round.now.task.update.net }
-    requires old_good { HasGoodPath round.now.task.update.net round.now.task.update.old round.now.task.demands class.entry class.first }
-    requires new_good { HasGoodPath round.now.task.update.net round.now.task.new round.now.task.demands class.entry class.first }
+    requires old_good { HasGoodPath round.now.task.update.net round.now.task.update.old round.now.task.update.demands class.entry class.first }
+    requires new_good { HasGoodPath round.now.task.update.net round.now.task.update.new round.now.task.update.demands class.entry class.first }
     requires entry_room { 8192 < length at_entry.old.list + at_entry.old.spare }
     requires path_room { 8192 < length on_path.old.list + on_path.old.spare }
     requires known { AreKept round.now.task round.now.number known.old }
@@ -211,10 +212,10 @@ fn judge_class(
     on_path: &mut Outcomes,
     known: &mut [Option<KeptPlace>],
 ) -> Option<SwitchId>
-    requires number { round.now.number < length round.now.task.update.rounds }
+    requires number { round.now.number < length round.now.task.rounds }
     requires entry { class.entry.switch.0 < switch_count round.now.task.update.net }
-    requires old_good { HasGoodPath round.now.task.update.net round.now.task.update.old round.now.task.demands class.entry class.first }
-    requires new_good { HasGoodPath round.now.task.update.net round.now.task.new round.now.task.demands class.entry class.first }
+    requires old_good { HasGoodPath round.now.task.update.net round.now.task.update.old round.now.task.update.demands class.entry class.first }
+    requires new_good { HasGoodPath round.now.task.update.net round.now.task.update.new round.now.task.update.demands class.entry class.first }
     requires stands { round.now.stands ≡ true → StandsUntouched round.now.task round.now.number class round.now.labels }
     requires entry_room { 8192 < length at_entry.old.list + at_entry.old.spare }
     requires path_room { 8192 < length on_path.old.list + on_path.old.spare }
@@ -239,10 +240,10 @@ fn first_mixed(
     on_path: &mut Outcomes,
     known: &mut [Option<KeptPlace>],
 ) -> Option<MixedClass>
-    requires number { round.now.number < length round.now.task.update.rounds }
+    requires number { round.now.number < length round.now.task.rounds }
     requires hosts { classes.now.hosts ≡ round.now.task.update.net.hosts }
-    requires old_good { HasGoodPaths round.now.task.update.net round.now.task.update.old round.now.task.demands classes.now }
-    requires new_good { HasGoodPaths round.now.task.update.net round.now.task.new round.now.task.demands classes.now }
+    requires old_good { HasGoodPaths round.now.task.update.net round.now.task.update.old round.now.task.update.demands classes.now }
+    requires new_good { HasGoodPaths round.now.task.update.net round.now.task.update.new round.now.task.update.demands classes.now }
     requires stands { round.now.stands ≡ true → StandUntouched round.now.task round.now.number classes.now round.now.labels }
     requires entry_room { 8192 < length at_entry.old.list + at_entry.old.spare }
     requires path_room { 8192 < length on_path.old.list + on_path.old.spare }
@@ -285,10 +286,10 @@ fn all_keep(
     on_path: &mut Outcomes,
     known: &mut [Option<KeptPlace>],
 ) -> bool
-    requires number { round.now.number < length round.now.task.update.rounds }
+    requires number { round.now.number < length round.now.task.rounds }
     requires hosts { classes.now.hosts ≡ round.now.task.update.net.hosts }
-    requires old_good { HasGoodPaths round.now.task.update.net round.now.task.update.old round.now.task.demands classes.now }
-    requires new_good { HasGoodPaths round.now.task.update.net round.now.task.new round.now.task.demands classes.now }
+    requires old_good { HasGoodPaths round.now.task.update.net round.now.task.update.old round.now.task.update.demands classes.now }
+    requires new_good { HasGoodPaths round.now.task.update.net round.now.task.update.new round.now.task.update.demands classes.now }
     requires stands { round.now.stands ≡ true → StandUntouched round.now.task round.now.number classes.now round.now.labels }
     requires entry_room { 8192 < length at_entry.old.list + at_entry.old.spare }
     requires path_room { 8192 < length on_path.old.list + on_path.old.spare }
@@ -318,10 +319,10 @@ fn judge_classes(
     on_path: &mut Outcomes,
     known: &mut [Option<KeptPlace>],
 ) -> Option<MixedClass>
-    requires number { round.now.number < length round.now.task.update.rounds }
+    requires number { round.now.number < length round.now.task.rounds }
     requires hosts { classes.now.hosts ≡ round.now.task.update.net.hosts }
-    requires old_good { HasGoodPaths round.now.task.update.net round.now.task.update.old round.now.task.demands classes.now }
-    requires new_good { HasGoodPaths round.now.task.update.net round.now.task.new round.now.task.demands classes.now }
+    requires old_good { HasGoodPaths round.now.task.update.net round.now.task.update.old round.now.task.update.demands classes.now }
+    requires new_good { HasGoodPaths round.now.task.update.net round.now.task.update.new round.now.task.update.demands classes.now }
     requires stands { round.now.stands ≡ true → StandUntouched round.now.task round.now.number classes.now round.now.labels }
     requires entry_room { 8192 < length at_entry.old.list + at_entry.old.spare }
     requires path_room { 8192 < length on_path.old.list + on_path.old.spare }
@@ -398,10 +399,10 @@ impl TwoPhaseRoom {
     ) -> Option<Reason>
         requires evidence { case.now.evidence ≡ TwoPhase evidence.now }
         requires classes { classes.now ≡ classes_for case.now.task }
-        requires loaded { AreLoaded case.now.task.update k mixes.now }
-        requires round { k < length case.now.task.update.rounds }
-        requires old_good { HasGoodPaths case.now.task.update.net case.now.task.update.old case.now.task.demands (classes_for case.now.task) }
-        requires new_good { HasGoodPaths case.now.task.update.net case.now.task.new case.now.task.demands (classes_for case.now.task) }
+        requires loaded { AreLoaded (rollout case.now.task) k mixes.now }
+        requires round { k < length case.now.task.rounds }
+        requires old_good { HasGoodPaths case.now.task.update.net case.now.task.update.old case.now.task.update.demands (classes_for case.now.task) }
+        requires new_good { HasGoodPaths case.now.task.update.net case.now.task.update.new case.now.task.update.demands (classes_for case.now.task) }
         requires before { RoundsPass case.now.task case.now.evidence k }
         requires pass { ChangesPass case.now.task case.now.evidence k }
         requires stands { LabelsStand case.now.task.update.net evidence.now k self.old }

@@ -10,7 +10,7 @@ use Rattle.net_base.proofs.MemberLaws.{each_append}
 use Rattle.topology.specs.Networks.{Network, switch_count}
 use Rattle.flow_rules.specs.declared.rules.Rule.{Rule}
 use Rattle.update_model.specs.Changes.{switch_of, round_after}
-use Rattle.update_model.specs.Mixtures.{Update, AreGoodRounds}
+use Rattle.update_model.specs.Mixtures.{Rollout, AreGoodRounds}
 use Rattle.update_model.specs.States.{State, first_state, IsEnabled, settled_count, settled, state_after_event}
 use Rattle.update_model.specs.Runs.{AreEnabled, state_after, IsRun, state_after_run}
 use Rattle.update_model.specs.Worlds.{running_round}
@@ -67,7 +67,7 @@ all_off (b ∷ flags) (c ∷ round) e h =
     ((let f : Some b ≡ Some false = h 0 c refl in cc), all_off flags round (omega arith) (λ i d at. h (suc i) d at))
 
 module _ (net : Network) (rounds : List (List Change)) (old : List (List Rule)) (good : AreGoodRounds (update_from net old rounds)) where
-  abbrev u : Update
+  abbrev u : Rollout
   u = update_from net old rounds
 
   -- what every state of a run of the log keeps

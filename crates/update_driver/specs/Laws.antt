@@ -4,7 +4,7 @@ use Rattle.std.specs.List.{AllByRecursion}
 use Rattle.net_base.specs.declared.ids.SwitchId.{SwitchId}
 use Rattle.topology.specs.Networks.{Network}
 use Rattle.flow_rules.specs.declared.rules.Rule.{Rule}
-use Rattle.update_model.specs.Mixtures.{Update, AreGoodRounds}
+use Rattle.update_model.specs.Mixtures.{Rollout, AreGoodRounds}
 use Rattle.update_model.specs.Runs.{IsRun}
 use Rattle.update_model.specs.declared.Change.{Change}
 use Rattle.update_model.specs.declared.Event.{Event}
@@ -19,7 +19,7 @@ use Rattle.switch_session.specs.Laws.{IsEchoRequest}
 use Rattle.update_driver.specs.Drivers.{DriverState, channel_at, none_outstanding}
 
 -- rounds over a network, from these tables on
-abbrev pub update_from : Network → List (List Rule) → List (List Change) → Update
+abbrev pub update_from : Network → List (List Rule) → List (List Change) → Rollout
 update_from net old rounds = record { net = net; old = old; rounds = rounds }
 
 -- an event of the update itself, and not of a packet

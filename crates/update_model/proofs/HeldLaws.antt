@@ -9,7 +9,7 @@ use Rattle.flow_rules.specs.Patterns.{key_eq}
 use Rattle.flow_rules.specs.Tables.{rules_at}
 use Rattle.flow_rules.specs.declared.rules.Rule.{Rule}
 use Rattle.update_model.specs.Changes.{switch_of, rule_of, changes_at, rules_after, rules_after_change, tables_after, tables_after_change, round_after, settled_tables}
-use Rattle.update_model.specs.Mixtures.{Update, MayHold}
+use Rattle.update_model.specs.Mixtures.{Rollout, MayHold}
 use Rattle.update_model.specs.declared.Change.{Change}
 use Rattle.update_model.specs.declared.Change.TheVariants.{Insert, Delete, Replace}
 use Rattle.update_model.proofs.MadeLaws.{each_some}
@@ -45,7 +45,7 @@ module _ (P : Rule → Type 0) where
   each_settled (round ∷ rounds) zero tables all these = all
   each_settled (round ∷ rounds) (suc k) tables all these = each_settled rounds k (tables_after round tables) (each_tables_after round tables all these.0) these.1
 
-  pub each_held : (u : Update) (k : ℕ) (s : SwitchId) (mixed : List Rule) → AllByRecursion (AllByRecursion P) u.old → AllByRecursion EachRuleOf u.rounds
+  pub each_held : (u : Rollout) (k : ℕ) (s : SwitchId) (mixed : List Rule) → AllByRecursion (AllByRecursion P) u.old → AllByRecursion EachRuleOf u.rounds
       → MayHold u k s mixed → AllByRecursion P mixed
   each_held u k s mixed all these held =
       let before : AllByRecursion P (rules_at (settled_tables u.rounds k u.old) s) = each_get_or (AllByRecursion P) (settled_tables u.rounds k u.old) s.0 [] (each_settled u.rounds k u.old all these) tt in

@@ -18,7 +18,7 @@ use Rattle.path_walk.specs.Paths.{outcome_in}
 use Rattle.path_walk.specs.declared.Outcome.{Outcome}
 use Rattle.path_walk.specs.declared.Outcome.TheVariants.{Discard, Leave, Go}
 use Rattle.update_model.specs.Changes.{Applies, IsGoodRound, changes_at, rules_after, tables_after_change, round_after}
-use Rattle.update_model.specs.Mixtures.{Update, tables_before, MayHold, IsPossible, MayGo, AreGoodRounds}
+use Rattle.update_model.specs.Mixtures.{Rollout, tables_before, MayHold, IsPossible, MayGo, AreGoodRounds}
 use Rattle.update_model.specs.OneRound.{WalkedOneRound, EndWasPossible}
 use Rattle.update_model.specs.States.{State, first_state, IsUnderWay, settled_count, IsEnabled, entered, hopped, lost, with_packet, settled, state_after_event}
 use Rattle.update_model.specs.Runs.{AreEnabled, state_after, IsRun, state_after_run}
@@ -39,7 +39,7 @@ InTime (Settled k) p = (p.born ≤ k) × (IsUnderWay p → k ≤ suc p.born)
 InTime (Running k) p = (suc p.born ≤ k) × (IsUnderWay p → k ≡ suc p.born)
 
 -- the tables are those before the next round, or what the changes that are made leave of them
-abbrev pub TablesAre : Update → Phase → List (List Rule) → List Bool → Type 0
+abbrev pub TablesAre : Rollout → Phase → List (List Rule) → List Bool → Type 0
 TablesAre u (Settled k) tables flags = (k ≤ length u.rounds) × ((s : SwitchId) → IsSameSet (rules_at tables s) (rules_at (tables_before u k) s))
 TablesAre u (Running zero) tables flags = ⊥
 TablesAre u (Running (suc k)) tables flags =
@@ -47,29 +47,29 @@ TablesAre u (Running (suc k)) tables flags =
     × ((s : SwitchId) → IsSameSet (rules_at tables s) (rules_after (changes_at s (made_of flags (round_after k u.rounds))) (rules_at (tables_before u k) s)))
 
 -- the packet entered at a host port with a declared VLAN, to an address, when no more rounds were settled than there are
-pub record IsAdmitted (u : Update) (p : Packet) : Type 0 where
+pub record IsAdmitted (u : Rollout) (p : Packet) : Type 0 where
   pub entry : IsEntry u.net p.entry
   pub dst : p.dst < 2 ^ 32
   pub born : p.born ≤ length u.rounds
 
 -- a packet that entered in time, was admitted, and walked through one round's mixtures
-abbrev pub IsSound : Update → Phase → Packet → Type 0
+abbrev pub IsSound : Rollout → Phase → Packet → Type 0
 IsSound u phase p = InTime phase p × WalkedOneRound u p × IsAdmitted u p
 
 -- what holds of every state of a run
-pub record Sound (u : Update) (st : State) : Type 0 where
+pub record Sound (u : Rollout) (st : State) : Type 0 where
   pub tables : TablesAre u st.phase st.tables st.pending
   pub packets : AllByRecursion (IsSound u st.phase) st.packets
 
 -- the tables after a round are what its changes leave
-pub next_tables : (u : Update) (k : ℕ) → k < length u.rounds → IsGoodRound (tables_before u k) (round_after k u.rounds) → (s : SwitchId)
+pub next_tables : (u : Rollout) (k : ℕ) → k < length u.rounds → IsGoodRound (tables_before u k) (round_after k u.rounds) → (s : SwitchId)
     → rules_at (tables_before u (suc k)) s ≡ rules_after (changes_at s (round_after k u.rounds)) (rules_at (tables_before u k) s)
 next_tables u k less good s =
     ap (λ t. rules_at t s) (settled_next u.rounds k u.old less)
     ∙ rules_at-after (round_after k u.rounds) (tables_before u k) s
     (each_weaker (Applies (tables_before u k)) (IsWithin (length (tables_before u k))) (λ c h. h.0) (round_after k u.rounds) good.applies)
 
-module _ (u : Update) (good : AreGoodRounds u) where
+module _ (u : Rollout) (good : AreGoodRounds u) where
   -- a packet under way finds a mixture of its round at each switch
   held_now : (phase : Phase) (tables : List (List Rule)) (flags : List Bool) → TablesAre u phase tables flags → (p : Packet) → InTime phase p → IsUnderWay p
       → (s : SwitchId) → MayHold u p.born s (rules_at tables s)

@@ -5,7 +5,7 @@ use Rattle.net_base.specs.Blocks.{Block}
 use Rattle.net_base.specs.Members.{IsIn, IsDistinct}
 use Rattle.net_base.specs.declared.ids.SwitchId.{SwitchId}
 use Rattle.flow_rules.specs.Patterns.{key_eq}
-use Rattle.flow_rules.specs.Tables.{keys_of, rules_at}
+use Rattle.flow_rules.specs.Tables.{rules_at}
 use Rattle.flow_rules.specs.declared.rules.Key.{Key}
 use Rattle.flow_rules.specs.declared.rules.Rule.{Rule}
 use Rattle.update_model.specs.declared.Change.{Change}
@@ -35,9 +35,9 @@ entry_named c = record { switch = switch_of c; key = (rule_of c).key }
 -- a change applies to the rules of its switch: an insert where its key is absent, a delete where its rule is present,
 -- a replace where its key is present
 abbrev pub AppliesTo : List Rule → Change → Type 0
-AppliesTo rules (Insert s r) = ¬ IsIn r.key (keys_of rules)
+AppliesTo rules (Insert s r) = ¬ IsIn r.key (map (λ q. q.key) rules)
 AppliesTo rules (Delete s r) = IsIn r rules
-AppliesTo rules (Replace s r) = IsIn r.key (keys_of rules)
+AppliesTo rules (Replace s r) = IsIn r.key (map (λ q. q.key) rules)
 
 -- a change applies to the tables: there is its switch, and it applies to the rules there
 abbrev pub Applies : List (List Rule) → Change → Type 0

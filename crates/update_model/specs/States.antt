@@ -1,5 +1,5 @@
 -- The state of a network while an update runs, and what each event does to it.
-use Rattle.std.specs.Prelude.{◌≡◌, ◌^◌, ℕ, zero, suc, ◌<◌, ◌≤◌, Bool, true, false, List, [], ◌∷◌, ◌++◌, length, replicate, slice_get, slice_set, Some}
+use Rattle.std.specs.Prelude.{◌≡◌, ◌^◌, ℕ, zero, suc, ◌<◌, ◌≤◌, Bool, true, false, List, [], ◌∷◌, ◌++◌, length, replicate, slice_get, slice_index_or, slice_set, Some}
 use Rattle.std.specs.Option.{option_map_or}
 use Rattle.std.specs.List.{AllByRecursion}
 use Rattle.net_base.specs.Places.{stop_of}
@@ -10,7 +10,7 @@ use Rattle.path_walk.specs.Paths.{ended_by, outcome_in}
 use Rattle.path_walk.specs.declared.Outcome.{Outcome}
 use Rattle.path_walk.specs.declared.Outcome.TheVariants.{Go}
 use Rattle.path_walk.specs.declared.Ended.TheVariants.{UnderWay, Lost}
-use Rattle.update_model.specs.Changes.{Applies, tables_after_change, round_after}
+use Rattle.update_model.specs.Changes.{Applies, tables_after_change}
 use Rattle.update_model.specs.declared.Change.{Change}
 use Rattle.update_model.specs.declared.Packet.{Packet}
 use Rattle.update_model.specs.declared.Phase.{Phase}
@@ -41,21 +41,21 @@ settled_count (Running (suc k)) = k
 
 -- there is packet i, and it is under way
 abbrev pub IsHopping : List Packet → ℕ → Type 0
-IsHopping packets i = (p : Packet) × (slice_get packets i ≡ Some p) × IsUnderWay p
+IsHopping packets i = (p : Packet) × (slice_get packets i ≡ Some p) × (p.ended ≡ UnderWay)
 
 -- a round may start: the last one is settled, there is one more, and no older packet is under way
 pub record MayStart (rounds : List (List Change)) (state : State) : Type 0 where
   pub k : ℕ
   pub settled : state.phase ≡ Settled k
   pub more : k < length rounds
-  pub none_older : AllByRecursion (λ p. IsUnderWay p → k ≤ p.born) state.packets
+  pub none_older : AllByRecursion (λ p. p.ended ≡ UnderWay → k ≤ p.born) state.packets
 
 -- change i of the running round may be made
 pub record MayChange (rounds : List (List Change)) (state : State) (i : ℕ) : Type 0 where
   pub k : ℕ
   pub running : state.phase ≡ Running (suc k)
   pub change : Change
-  pub is : slice_get (round_after k rounds) i ≡ Some change
+  pub is : slice_get (slice_index_or rounds k []) i ≡ Some change
   pub pending : slice_get state.pending i ≡ Some true
   pub applies : Applies state.tables change
 
@@ -98,17 +98,13 @@ settled (Running k) = Settled k
 
 -- the state after an event
 abbrev pub state_after_event : Network → List (List Change) → State → Event → State
-state_after_event net rounds a event.Start = record a {
-  phase = Running (suc (settled_count a.phase));
-  pending = replicate (length (round_after (settled_count a.phase) rounds)) true;
-}
-state_after_event net rounds a (event.Change i) = record a {
-  tables = option_map_or (λ c. tables_after_change c a.tables) (slice_get (round_after (settled_count a.phase) rounds) i) a.tables;
-  pending = slice_set a.pending i false;
-}
+state_after_event net rounds a event.Start =
+    record a { phase = Running (suc (settled_count a.phase)); pending = replicate (length (slice_index_or rounds (settled_count a.phase) [])) true }
+state_after_event net rounds a (event.Change i) =
+    record a { tables = option_map_or (λ c. tables_after_change c a.tables) (slice_get (slice_index_or rounds (settled_count a.phase) []) i) a.tables; pending = slice_set a.pending i false }
 state_after_event net rounds a event.Settle = record a { phase = settled a.phase }
 state_after_event net rounds a (event.Enter place dst) =
-    record a { packets = a.packets ++ entered place dst (settled_count a.phase) ∷ [] }
+    record a { packets = a.packets ++ record { entry = place; dst = dst; at = place; born = settled_count a.phase; visits = stop_of place ∷ []; ended = UnderWay } ∷ [] }
 state_after_event net rounds a (event.Hop i) =
     record a { packets = with_packet (λ p. hopped p (outcome_in net a.tables p.at p.dst)) i a.packets }
-state_after_event net rounds a (event.Lose i) = record a { packets = with_packet lost i a.packets }
+state_after_event net rounds a (event.Lose i) = record a { packets = with_packet (λ p. record p { ended = Lost }) i a.packets }

@@ -2,7 +2,7 @@ use Rattle.std.proofs.Common.{◌≡◌, ℕ, ◌<◌, List, length, sym, ◌∙
 use Rattle.flow_rules.specs.Tables.{rules_of_all}
 use Rattle.flow_rules.specs.declared.rules.Rule.{Rule}
 use Rattle.update_model.specs.Changes.{settled_tables, round_after, tables_after}
-use Rattle.update_model.specs.Mixtures.{Update}
+use Rattle.update_model.specs.Mixtures.{Rollout}
 use Rattle.update_model.specs.declared.Change.{Change}
 use Rattle.update_model.proofs.RoundLaws.{settled_next}
 use Rattle.std.specs.Prelude.{Option, IfNone}
@@ -14,7 +14,7 @@ pub loop-number-preserved : goal.loop-number-preserved
 loop-number-preserved c =
     let old = rules_of_all c.args.old.now in
     let rounds = c.args.rounds.now in
-    let u : Update = record { net = c.args.net.now; old = old; rounds = rounds } in
+    let u : Rollout = record { net = c.args.net.now; old = old; rounds = rounds } in
     let k = c.loop-number.number in
     let less : k < length rounds = (let test = c.loop-number-test.true in let n = c.count-number-end.ensures in omega arith) in
     record {

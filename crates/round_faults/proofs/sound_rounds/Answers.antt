@@ -7,7 +7,7 @@ use Rattle.flow_rules.specs.declared.rules.Rule.{Rule}
 use Rattle.update_model.specs.Changes.{settled_tables, round_after, tables_after}
 use Rattle.update_model.specs.declared.Change.{Change}
 use Rattle.update_model.proofs.RoundLaws.{settled_start, settled_next}
-use Rattle.update_model.specs.Mixtures.{Update}
+use Rattle.update_model.specs.Mixtures.{Rollout}
 use Rattle.round_faults.specs.Finding.{IsSound, IsFirstOf}
 use Rattle.round_faults.specs.Sound.{IsFault}
 use Rattle.round_faults.proofs.FaultLaws.{fault_from_first}
@@ -50,7 +50,7 @@ pub returns-in_err-check_round-clause-err : goal.returns-in_err-check_round-clau
 returns-in_err-check_round-clause-err c =
     let old = rules_of_all c.args.old.now in
     let rounds = c.args.rounds.now in
-    let u : Update = record { net = c.args.net.now; old = old; rounds = rounds } in
+    let u : Rollout = record { net = c.args.net.now; old = old; rounds = rounds } in
     let k = c.loop-k.k in
     let less : k < length rounds = (let test = c.loop-k-test.true in let n = c.count-k-end.ensures in omega arith) in
     let first : IfErr c.check_round.result (λ f. IsFirstOf (settled_tables rounds k old) (round_after k rounds) k f) =

@@ -1,4 +1,5 @@
-use Rattle.command_base.specs.Updates.{meaning_of, task_for}
+use Rattle.certificates.specs.Updates.{task_for}
+use Rattle.command_base.specs.Updates.{meaning_of}
 use Rattle.explain_command.proofs.CountLaws.{each_short}
 use Rattle.explain_command.proofs.ScheduleLaws.{both, breaking_of}
 use Rattle.explain_command.proofs.explaining.breaking_schedule.Goals as goal

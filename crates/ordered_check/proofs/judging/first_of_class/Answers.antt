@@ -15,7 +15,8 @@ use Rattle.dest_classes.specs.declared.Class.{Class}
 use Rattle.dest_classes.proofs.MapLaws.{number_fits}
 use Rattle.demands.specs.Duties.{ClassDuties, DemandView, duties_of}
 use Rattle.certificates.specs.Ordered.{positions, IsPickInForce, OrderedCertificate}
-use Rattle.certificates.specs.Certified.{Task, classes_for}
+use Rattle.certificates.specs.Updates.{Task, rollout}
+use Rattle.certificates.specs.Certified.{classes_for}
 use Rattle.certificates.specs.Valid.{IsValidOrdered, IsValidUse, IsValidPick, IsValidNumbering}
 use Rattle.certificates.specs.declared.OrderedEvidence.{OrderedEvidence}
 use Rattle.certificates.specs.declared.OrderedPick.{OrderedPick}
@@ -46,13 +47,13 @@ module _ (net : Network) (rounds : ℕ) (e : OrderedEvidence) (valid : IsValidOr
 
 -- ---- a class that is judged
 
-setting : (t : Task) (e : OrderedEvidence) (k n : ℕ) (pick : OrderedPick) (class : Class) (numbers : List ℕ) (shared : Shared) (noted : WalkState) → IsValidOrdered t.update.net (length t.update.rounds) e
-    → IsClass (classes_for t) n class → k < length t.update.rounds → IsPickInForce e.picks (suc k) n pick → IsWalked t.update k class.first class.entry noted → slice_get e.uses pick.shared ≡ Some shared
+setting : (t : Task) (e : OrderedEvidence) (k n : ℕ) (pick : OrderedPick) (class : Class) (numbers : List ℕ) (shared : Shared) (noted : WalkState) → IsValidOrdered t.update.net (length t.rounds) e
+    → IsClass (classes_for t) n class → k < length t.rounds → IsPickInForce e.picks (suc k) n pick → IsWalked (rollout t) k class.first class.entry noted → slice_get e.uses pick.shared ≡ Some shared
     → slice_get e.numberings shared.numbering ≡ Some numbers → IsJudging t e k n class numbers (sets_of e.befores shared.befores) noted
 setting t e k n pick class numbers shared noted valid is few force walked shared_is numbers_are = record {
   in_order = valid.ascending;
   is = is;
-  force = in_force_from_pick e k n pick shared numbers force shared_is numbers_are (valid_use t.update.net (length t.update.rounds) e valid pick.shared shared shared_is).2;
+  force = in_force_from_pick e k n pick shared numbers force shared_is numbers_are (valid_use t.update.net (length t.rounds) e valid pick.shared shared shared_is).2;
   few = few;
   walked = walked;
 }
@@ -72,7 +73,7 @@ carry P a a' b b' c c' d d' e e' p q r s u h =
     subst (λ x. P a' b' c' d' x) u (subst (λ x. P a' b' c' x e) s (subst (λ x. P a' b' x d e) r (subst (λ x. P a' x c d e) q (subst (λ x. P x b c d e) p h))))
 
 -- the number of sets
-counted : (t : Task) (befores : List (List ℕ)) (class : Class) (indices named : List ℕ) (demands : List DemandView) → indices ≡ named → demands ≡ t.demands
+counted : (t : Task) (befores : List (List ℕ)) (class : Class) (indices named : List ℕ) (demands : List DemandView) → indices ≡ named → demands ≡ t.update.demands
     → (length (sets_of befores named) ≡ together (class_duties t class).chains → length indices ≡ together (duties_of demands class.entry class.first).chains)
     × (length indices ≡ together (duties_of demands class.entry class.first).chains → length (sets_of befores named) ≡ together (class_duties t class).chains)
 counted t befores class indices named demands is same =
@@ -84,17 +85,17 @@ counted t befores class indices named demands is same =
     )
 
 pub shared-shared-requires : goal.shared-shared-requires
-shared-shared-requires c = use_within c.args.of.now.task.update.net (length c.args.of.now.task.update.rounds) c.args.of.now.evidence c.keeps_valid.ensures.valid (suc c.args.k) c.args.numbered.number c.args.pick c.requires.in_force
+shared-shared-requires c = use_within c.args.of.now.task.update.net (length c.args.of.now.task.rounds) c.args.of.now.evidence c.keeps_valid.ensures.valid (suc c.args.k) c.args.numbered.number c.args.pick c.requires.in_force
 
 pub numbering-numbering-requires : goal.numbering-numbering-requires
 numbering-numbering-requires c =
-    (valid_use c.args.of.now.task.update.net (length c.args.of.now.task.update.rounds) c.args.of.now.evidence c.keeps_valid.ensures.valid c.args.pick.shared c.shared-shared.result.now c.shared-shared.ensures).0
+    (valid_use c.args.of.now.task.update.net (length c.args.of.now.task.rounds) c.args.of.now.evidence c.keeps_valid.ensures.valid c.args.pick.shared c.shared-shared.result.now c.shared-shared.ensures).0
 
 pub least_not_lower-requires : goal.least_not_lower-requires
 least_not_lower-requires c =
     let net = c.args.of.now.task.update.net in
     let numbers = c.numbering-numbering.result.now in
-    let count = numbering_length net (length c.args.of.now.task.update.rounds) c.args.of.now.evidence c.keeps_valid.ensures.valid c.shared-shared.result.now.numbering numbers c.numbering-numbering.ensures in
+    let count = numbering_length net (length c.args.of.now.task.rounds) c.args.of.now.evidence c.keeps_valid.ensures.valid c.shared-shared.result.now.numbering numbers c.numbering-numbering.ensures in
     All-from_recursion (λ (e : Edge). (e.from.0 < length numbers) × (e.to.0 < length numbers)) c.steps-steps.result.now
     (each_weaker (λ (e : Edge). (e.from.0 < switch_count net) × (e.to.0 < switch_count net)) (λ (e : Edge). (e.from.0 < length numbers) × (e.to.0 < length numbers))
     (λ e h. let a = h.0 in let b = h.1 in (omega arith, omega arith)) c.steps-steps.result.now
@@ -115,13 +116,13 @@ returns-in-Some-clause-some c =
     (subst (λ (es : List Edge). IsLeastOf (HasEdgeUp es numbers) (Some c.in-Some.switch)) c.steps-steps.ensures c.in-Some.ensures))
 
 pub least_drop-requires-clause-number : goal.least_drop-requires-clause-number
-least_drop-requires-clause-number c = class_counted (classes_for c.args.of.now.task) c.class_duties-duties.result.now c.args.of.now.task.demands c.args.numbered.number c.args.numbered.class c.class_duties-duties.ensures c.requires.class
+least_drop-requires-clause-number c = class_counted (classes_for c.args.of.now.task) c.class_duties-duties.result.now c.args.of.now.task.update.demands c.args.numbered.number c.args.numbered.class c.class_duties-duties.ensures c.requires.class
 
 pub has_positions-requires-clause-number : goal.has_positions-requires-clause-number
-has_positions-requires-clause-number c = class_counted (classes_for c.args.of.now.task) c.class_duties-duties.result.now c.args.of.now.task.demands c.args.numbered.number c.args.numbered.class c.class_duties-duties.ensures c.requires.class
+has_positions-requires-clause-number c = class_counted (classes_for c.args.of.now.task) c.class_duties-duties.result.now c.args.of.now.task.update.demands c.args.numbered.number c.args.numbered.class c.class_duties-duties.ensures c.requires.class
 
 pub first_way_round-requires-clause-number : goal.first_way_round-requires-clause-number
-first_way_round-requires-clause-number c = class_counted (classes_for c.args.of.now.task) c.class_duties-duties.result.now c.args.of.now.task.demands c.args.numbered.number c.args.numbered.class c.class_duties-duties.ensures c.requires.class
+first_way_round-requires-clause-number c = class_counted (classes_for c.args.of.now.task) c.class_duties-duties.result.now c.args.of.now.task.update.demands c.args.numbered.number c.args.numbered.class c.class_duties-duties.ensures c.requires.class
 
 pub returns-in-Some-least_drop-clause-some : goal.returns-in-Some-least_drop-clause-some
 returns-in-Some-least_drop-clause-some c =
@@ -136,7 +137,7 @@ returns-in-Some-least_drop-clause-some c =
     let j = setting t e c.args.k n c.args.pick class numbers shared noted c.keeps_valid.ensures.valid c.requires.class c.requires.round c.requires.in_force c.requires.walked c.shared-shared.ensures
     c.numbering-numbering.ensures in
     let falls = subst (λ (es : List Edge). (x : SwitchId) → ¬ HasEdgeUp es numbers x) c.steps-steps.ensures c.in_default.ensures in
-    let demands : c.class_duties-duties.result.now.demands ≡ t.demands = ap (λ (d : ClassDuties). d.demands) c.class_duties-duties.ensures in
+    let demands : c.class_duties-duties.result.now.demands ≡ t.update.demands = ap (λ (d : ClassDuties). d.demands) c.class_duties-duties.ensures in
     let least = subst (λ (ds : List DemandView). IsLeastOf (λ x. IsTrue (duties_of ds class.entry class.first).arrive × IsIn x noted.dropping) (Some s)) demands
     (subst (λ (xs : List SwitchId). IsLeastOf (λ x. IsTrue (duties_of c.class_duties-duties.result.now.demands class.entry class.first).arrive × IsIn x xs) (Some s)) c.dropping.ensures c.in-Some-least_drop.ensures) in
     at_round (λ r. IsFirstOfClass t e c.args.k n (MayDrop r n s)) c.args.k
@@ -154,7 +155,7 @@ returns-then-not-has_positions-clause-some c =
     let j = setting t e c.args.k n c.args.pick class numbers shared noted c.keeps_valid.ensures.valid c.requires.class c.requires.round c.requires.in_force c.requires.walked c.shared-shared.ensures
     c.numbering-numbering.ensures in
     let falls = subst (λ (es : List Edge). (x : SwitchId) → ¬ HasEdgeUp es numbers x) c.steps-steps.ensures c.in_default.ensures in
-    let demands : c.class_duties-duties.result.now.demands ≡ t.demands = ap (λ (d : ClassDuties). d.demands) c.class_duties-duties.ensures in
+    let demands : c.class_duties-duties.result.now.demands ≡ t.update.demands = ap (λ (d : ClassDuties). d.demands) c.class_duties-duties.ensures in
     let arrives = subst (λ (ds : List DemandView). (x : SwitchId) → ¬ (IsTrue (duties_of ds class.entry class.first).arrive × IsIn x noted.dropping)) demands
     (subst (λ (xs : List SwitchId). (x : SwitchId) → ¬ (IsTrue (duties_of c.class_duties-duties.result.now.demands class.entry class.first).arrive × IsIn x xs)) c.dropping.ensures c.in_default-least_drop.ensures) in
     let count = counted t e.befores class c.list-indices.result.now shared.befores c.class_duties-duties.result.now.demands c.list-indices.ensures demands in
@@ -165,7 +166,7 @@ returns-then-not-has_positions-clause-some c =
 pub first_way_round-requires-clause-indices : goal.first_way_round-requires-clause-indices
 first_way_round-requires-clause-indices c =
     let e = c.args.of.now.evidence in
-    let valid = valid_use c.args.of.now.task.update.net (length c.args.of.now.task.update.rounds) e c.keeps_valid.ensures.valid c.args.pick.shared c.shared-shared.result.now c.shared-shared.ensures in
+    let valid = valid_use c.args.of.now.task.update.net (length c.args.of.now.task.rounds) e c.keeps_valid.ensures.valid c.args.pick.shared c.shared-shared.result.now c.shared-shared.ensures in
     All-from_recursion (λ (i : ℕ). i < length c.befores-befores.result.now) c.list-indices.result.now
     (subst (λ (bs : List (List ℕ)). AllByRecursion (λ (i : ℕ). i < length bs) c.list-indices.result.now) (sym c.befores-befores.ensures)
     (subst (AllByRecursion (λ (i : ℕ). i < length e.befores)) (sym c.list-indices.ensures) valid.2))
@@ -203,13 +204,13 @@ returns-in_err-way-clause-none c =
     let j = setting t e c.args.k n c.args.pick class numbers shared noted c.keeps_valid.ensures.valid c.requires.class c.requires.round c.requires.in_force c.requires.walked c.shared-shared.ensures
     c.numbering-numbering.ensures in
     let falls = subst (λ (es : List Edge). (x : SwitchId) → ¬ HasEdgeUp es numbers x) c.steps-steps.ensures c.in_default.ensures in
-    let demands : c.class_duties-duties.result.now.demands ≡ t.demands = ap (λ (d : ClassDuties). d.demands) c.class_duties-duties.ensures in
+    let demands : c.class_duties-duties.result.now.demands ≡ t.update.demands = ap (λ (d : ClassDuties). d.demands) c.class_duties-duties.ensures in
     let arrives = subst (λ (ds : List DemandView). (x : SwitchId) → ¬ (IsTrue (duties_of ds class.entry class.first).arrive × IsIn x noted.dropping)) demands
     (subst (λ (xs : List SwitchId). (x : SwitchId) → ¬ (IsTrue (duties_of c.class_duties-duties.result.now.demands class.entry class.first).arrive × IsIn x xs)) c.dropping.ensures c.in_default-least_drop.ensures) in
     let count = (counted t e.befores class c.list-indices.result.now shared.befores c.class_duties-duties.result.now.demands c.list-indices.ensures demands).1 (c.has_positions.ensures.0 c.if-not-has_positions.false) in
-    let guarded = guarded_there class c.steps-steps.result.now noted.steps c.leaving.result.now noted.leaving c.class_duties-duties.result.now.demands t.demands c.befores-befores.result.now e.befores c.list-indices.result.now shared.befores
+    let guarded = guarded_there class c.steps-steps.result.now noted.steps c.leaving.result.now noted.leaving c.class_duties-duties.result.now.demands t.update.demands c.befores-befores.result.now e.befores c.list-indices.result.now shared.befores
     c.steps-steps.ensures c.leaving.ensures demands c.befores-befores.ensures c.list-indices.ensures c.in_err-way.ensures.none in
-    none_holds c.from_residual.result (OrderedCertificate t.update e c.args.k n class.first class.entry (class_duties t class))
+    none_holds c.from_residual.result (OrderedCertificate (rollout t) e c.args.k n class.first class.entry (class_duties t class))
     (certificate_of t e c.args.k n class numbers (sets_of e.befores shared.befores) noted j falls arrives count guarded)
 
 pub returns-clause-some : goal.returns-clause-some
@@ -225,11 +226,11 @@ returns-clause-some c =
     let j = setting t e c.args.k n c.args.pick class numbers shared noted c.keeps_valid.ensures.valid c.requires.class c.requires.round c.requires.in_force c.requires.walked c.shared-shared.ensures
     c.numbering-numbering.ensures in
     let falls = subst (λ (es : List Edge). (x : SwitchId) → ¬ HasEdgeUp es numbers x) c.steps-steps.ensures c.in_default.ensures in
-    let demands : c.class_duties-duties.result.now.demands ≡ t.demands = ap (λ (d : ClassDuties). d.demands) c.class_duties-duties.ensures in
+    let demands : c.class_duties-duties.result.now.demands ≡ t.update.demands = ap (λ (d : ClassDuties). d.demands) c.class_duties-duties.ensures in
     let arrives = subst (λ (ds : List DemandView). (x : SwitchId) → ¬ (IsTrue (duties_of ds class.entry class.first).arrive × IsIn x noted.dropping)) demands
     (subst (λ (xs : List SwitchId). (x : SwitchId) → ¬ (IsTrue (duties_of c.class_duties-duties.result.now.demands class.entry class.first).arrive × IsIn x xs)) c.dropping.ensures c.in_default-least_drop.ensures) in
     let count = (counted t e.befores class c.list-indices.result.now shared.befores c.class_duties-duties.result.now.demands c.list-indices.ensures demands).1 (c.has_positions.ensures.0 c.if-not-has_positions.false) in
-    let first = first_there class c.steps-steps.result.now noted.steps c.leaving.result.now noted.leaving c.class_duties-duties.result.now.demands t.demands c.befores-befores.result.now e.befores c.list-indices.result.now shared.befores
+    let first = first_there class c.steps-steps.result.now noted.steps c.leaving.result.now noted.leaving c.class_duties-duties.result.now.demands t.update.demands c.befores-befores.result.now e.befores c.list-indices.result.now shared.befores
     c.steps-steps.ensures c.leaving.ensures demands c.befores-befores.ensures c.list-indices.ensures way c.in_ok-way.ensures.some in
     at_round (λ r. IsFirstOfClass t e c.args.k n (Bypass r n way.waypoint way.switch)) c.args.k
     (bypass_first t e c.args.k n class numbers (sets_of e.befores shared.befores) noted j falls arrives count way first)

@@ -1,6 +1,7 @@
+use Rattle.certificates.specs.Updates.{rollout}
 use Rattle.std.proofs.Common.{◌≡◌, ℕ, ◌<◌, refl, sym, ◌∙◌, ap, subst}
 use Rattle.topology.specs.Networks.{Network, switch_count}
-use Rattle.update_model.specs.Mixtures.{Update}
+use Rattle.update_model.specs.Mixtures.{Rollout}
 use Rattle.round_mix.specs.Prepared.{MixedState}
 use Rattle.std.specs.Prelude.{List}
 use Rattle.certificates.specs.Certified.{classes_for}
@@ -13,7 +14,7 @@ use Rattle.ordered_check.specs.Cases.{OrderedView}
 use Rattle.ordered_check.proofs.StandLaws.{rounds_keep}
 use Rattle.ordered_check.proofs.ordered.walk_class.Goals as goal
 
-round_of : (net : Network) (mixes : List MixedState) (u : Update) (k : ℕ) → net ≡ u.net → TablesKeepVlans u.old → AreLoaded u k mixes → KeepVlansUpTo u k → IsRoundOf net mixes u k
+round_of : (net : Network) (mixes : List MixedState) (u : Rollout) (k : ℕ) → net ≡ u.net → TablesKeepVlans u.old → AreLoaded u k mixes → KeepVlansUpTo u k → IsRoundOf net mixes u k
 round_of net mixes u k net_is keeps_old loaded keeps = record { net_is = sym net_is; loaded = loaded; keeps_old = keeps_old; keeps = keeps }
 
 pub walk-requires-clause-round : goal.walk-requires-clause-round
@@ -22,9 +23,9 @@ walk-requires-clause-round c =
     let k = c.args.round.now.number in
     let net_is = ap (λ (v : CaseView). v.task.update.net) c.case.view_is ∙ ap (λ (v : OrderedView). v.task.update.net) c.of.view_is in
     let round = c.requires.round in (
-      t.update,
+      (rollout t),
       k,
-      round_of c.case.inside.net.now c.args.round.now.mixes.now t.update k net_is (tables_keep t.update.net t.update.old c.keeps_valid.ensures.old_user) round.loaded (rounds_keep t c.args.of.now.evidence k round.before round.pass),
+      round_of c.case.inside.net.now c.args.round.now.mixes.now (rollout t) k net_is (tables_keep t.update.net t.update.old c.keeps_valid.ensures.old_user) round.loaded (rounds_keep t c.args.of.now.evidence k round.before round.pass),
     )
 
 pub walk-requires-clause-entry : goal.walk-requires-clause-entry
@@ -40,5 +41,5 @@ returns c =
     let k = c.args.round.now.number in
     let net_is = ap (λ (v : CaseView). v.task.update.net) c.case.view_is ∙ ap (λ (v : OrderedView). v.task.update.net) c.of.view_is in
     let round = c.requires.round in
-    c.walk.ensures t.update k
-    (round_of c.case.inside.net.now c.args.round.now.mixes.now t.update k net_is (tables_keep t.update.net t.update.old c.keeps_valid.ensures.old_user) round.loaded (rounds_keep t c.args.of.now.evidence k round.before round.pass))
+    c.walk.ensures (rollout t) k
+    (round_of c.case.inside.net.now c.args.round.now.mixes.now (rollout t) k net_is (tables_keep t.update.net t.update.old c.keeps_valid.ensures.old_user) round.loaded (rounds_keep t c.args.of.now.evidence k round.before round.pass))

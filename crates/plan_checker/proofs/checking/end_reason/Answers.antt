@@ -11,7 +11,7 @@ returns-in-Some-clause-some c =
 pub returns-in-Some-clause-fails : goal.returns-in-Some-clause-fails
 returns-in-Some-clause-fails c = λ ends.
     let t = c.args.case.now.task in
-    break_refuted t.update.net t.update.old t.demands (classes_for t) c.in-Some.breaks c.in-Some.ensures.some ends.old_good
+    break_refuted t.update.net t.update.old t.update.demands (classes_for t) c.in-Some.breaks c.in-Some.ensures.some ends.old_good
 
 pub returns-in-Some-end_breaks-clause-some : goal.returns-in-Some-end_breaks-clause-some
 returns-in-Some-end_breaks-clause-some c =
@@ -22,4 +22,4 @@ returns-in-Some-end_breaks-clause-some c =
 pub returns-in-Some-end_breaks-clause-fails : goal.returns-in-Some-end_breaks-clause-fails
 returns-in-Some-end_breaks-clause-fails c = λ ends.
     let t = c.args.case.now.task in
-    break_refuted t.update.net t.new t.demands (classes_for t) c.in-Some-end_breaks.breaks c.in-Some-end_breaks.ensures.some ends.new_good
+    break_refuted t.update.net t.update.new t.update.demands (classes_for t) c.in-Some-end_breaks.breaks c.in-Some-end_breaks.ensures.some ends.new_good

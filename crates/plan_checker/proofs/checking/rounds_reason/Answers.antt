@@ -15,10 +15,10 @@ loop-k-preserved c =
 
 pub returns-clause-none : goal.returns-clause-none
 returns-clause-none c =
-    let count : c.count-k-end.result ≡ length c.args.case.now.task.update.rounds = c.count-k-end.ensures ∙ ap (λ (v : CaseView). length v.task.update.rounds) c.case.view_is in
+    let count : c.count-k-end.result ≡ length c.args.case.now.task.rounds = c.count-k-end.ensures ∙ ap (λ (v : CaseView). length v.task.rounds) c.case.view_is in
     let past = c.loop-k-test.false in
     let upto = c.loop-k.auto.k-end in
-    let all : c.loop-k.k ≡ length c.args.case.now.task.update.rounds = omega arith in (
+    let all : c.loop-k.k ≡ length c.args.case.now.task.rounds = omega arith in (
       subst (λ k. RoundsPass c.args.case.now.task c.args.case.now.evidence k) all c.loop-k.invariant.passed,
       subst (λ k. IsReady c.args.case.now k c.loop-k.room) all c.loop-k.invariant.ready,
     )

@@ -7,7 +7,7 @@ use Rattle.dest_classes.specs.declared.Class.{Class}
 use Rattle.demands.specs.Duties.{DemandView, duties_of}
 use Rattle.config_check.proofs.JudgeLaws.{class_within}
 use Rattle.update_model.specs.Changes.{rule_of}
-use Rattle.update_model.specs.Mixtures.{Update}
+use Rattle.update_model.specs.Mixtures.{Rollout}
 use Rattle.round_mix.specs.Prepared.{MixedState}
 use Rattle.class_evidence.specs.Found.{IsFound}
 use Rattle.class_evidence.specs.declared.ClassEvidence.{ClassEvidence}
@@ -21,7 +21,7 @@ use Rattle.round_planner.proofs.JudgingLaws.{picks_up_to, stays_certified, visit
 use Rattle.round_planner.proofs.judging.judge_class.Goals as goal
 
 -- the switches are prepared for a round in the same network
-round_here : (net other : Network) → other ≡ net → (mixes : List MixedState) (u : Update) (k : ℕ) → IsRoundOf net mixes u k → IsRoundOf other mixes u k
+round_here : (net other : Network) → other ≡ net → (mixes : List MixedState) (u : Rollout) (k : ℕ) → IsRoundOf net mixes u k → IsRoundOf other mixes u k
 round_here net other is mixes u k round = subst (λ (n : Network). IsRoundOf n mixes u k) (sym is) round
 
 pub is_kept-requires-clause-walked : goal.is_kept-requires-clause-walked
@@ -59,7 +59,7 @@ returns-then-is_kept c u k class round is next =
     subst (IsCertifiedClass aim u c.args.store.now.evidence k c.args.number) same ((c.is_kept.ensures u k round.net_is walked begun).0 c.if-is_kept.true)
 
 -- what was found is for the duties of the search and for each class with the number
-found_for : (aim : Aim) (demands : List DemandView) → demands ≡ aim.demands → (u : Update) (k : ℕ) (here class : Class) → here ≡ class → (found other : Option ClassEvidence) → found ≡ other
+found_for : (aim : Aim) (demands : List DemandView) → demands ≡ aim.demands → (u : Rollout) (k : ℕ) (here class : Class) → here ≡ class → (found other : Option ClassEvidence) → found ≡ other
     → IsFound u k here (duties_of demands here.entry here.first) found → IsFound u k class (duties_in aim class) other
 found_for aim demands same u k here class is found other are h =
     subst (λ (c : Class). IsFound u k c (duties_in aim c) other) is

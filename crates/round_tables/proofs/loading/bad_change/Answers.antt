@@ -1,3 +1,4 @@
+use Rattle.certificates.specs.Updates.{rollout}
 use Rattle.std.proofs.Common.{◌≡◌, ℕ, List, length, take, sym, subst}
 use Rattle.std.specs.Prelude.{slice_get}
 use Rattle.topology.specs.Networks.{switch_count}
@@ -10,7 +11,7 @@ use Rattle.round_tables.proofs.loading.bad_change.Goals as goal
 
 pub returns : goal.returns
 returns c =
-    let u = c.args.case.now.task.update in
+    let u = (rollout c.args.case.now.task) in
     let round = round_after c.args.k u.rounds in
     let same : c.round_of.result.now ≡ round = c.round_of.ensures.value in
     let i = c.number_of-change.result in

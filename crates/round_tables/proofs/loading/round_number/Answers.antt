@@ -4,10 +4,10 @@ use Rattle.round_tables.proofs.loading.round_number.Goals as goal
 
 pub overflow_cast-result : goal.overflow_cast-result
 overflow_cast-result c =
-    let same = ap (λ (v : CaseView). length v.task.update.rounds) c.case.view_is in
+    let same = ap (λ (v : CaseView). length v.task.rounds) c.case.view_is in
     omega (arith, c.case.invariant.valid.few_rounds)
 
 pub overflow_add-result : goal.overflow_add-result
 overflow_add-result c =
-    let same = ap (λ (v : CaseView). length v.task.update.rounds) c.case.view_is in
+    let same = ap (λ (v : CaseView). length v.task.rounds) c.case.view_is in
     omega (arith, c.case.invariant.valid.few_rounds)

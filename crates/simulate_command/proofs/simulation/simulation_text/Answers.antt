@@ -1,6 +1,7 @@
 use Rattle.std.proofs.Common.{subst, sym}
 use Rattle.std.specs.List.{AllByRecursion}
-use Rattle.command_base.specs.Updates.{meaning_of, task_for}
+use Rattle.certificates.specs.Updates.{task_for}
+use Rattle.command_base.specs.Updates.{meaning_of}
 use Rattle.update_model.specs.Worlds.{WorldState}
 use Rattle.schedule_pilot.specs.Ends.{AreEntries}
 use Rattle.schedule_replay.specs.EventTexts.{HasLine}

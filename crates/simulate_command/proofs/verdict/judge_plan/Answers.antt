@@ -1,7 +1,8 @@
 use Rattle.std.proofs.Common.{◌∙◌, sym, subst, IfSome, ◌<◌}
 use Rattle.dest_classes.specs.Classes.{class_count}
 use Rattle.check_command.specs.ReasonLines as lines
-use Rattle.command_base.specs.Updates.{meaning_of, task_for}
+use Rattle.certificates.specs.Updates.{task_for}
+use Rattle.command_base.specs.Updates.{meaning_of}
 use Rattle.check_command.proofs.ReasonLaws.{named_fits}
 use Rattle.simulate_command.proofs.verdict.judge_plan.Goals as goal
 

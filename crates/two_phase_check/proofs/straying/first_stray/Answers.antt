@@ -1,3 +1,4 @@
+use Rattle.certificates.specs.Updates.{rollout}
 use Rattle.std.proofs.Common.{◌≡◌, sym, ◌∙◌, ap, subst, refl, arith}
 use Rattle.flow_rules.specs.Tables.{rules_of_all}
 use Rattle.path_walk.specs.Paths.{outcome_in}
@@ -9,14 +10,14 @@ use Rattle.two_phase_check.proofs.straying.first_stray.Goals as goal
 
 pub loop-step-init : goal.loop-step-init
 loop-step-init c = record {
-  followed = follow_none c.args.round.now.task.update c.args.round.now.number c.args.dst (rules_of_all c.args.tables.now) c.args.first c.args.tag;
+  followed = follow_none (rollout c.args.round.now.task) c.args.round.now.number c.args.dst (rules_of_all c.args.tables.now) c.args.first c.args.tag;
   within = c.requires.switch;
   room = c.requires.room;
 }
 
 pub returns-then-not-stays-clause-some : goal.returns-then-not-stays-clause-some
 returns-then-not-stays-clause-some c =
-    let u = c.args.round.now.task.update in
+    let u = (rollout c.args.round.now.task) in
     let k = c.args.round.now.number in
     let tables = rules_of_all c.args.tables.now in
     let same : c.carry.result ≡ outcome_carrying c.args.tag (outcome_in u.net tables c.loop-step.place c.args.dst) = c.carry.ensures ∙ ap (outcome_carrying c.args.tag) c.outcome_at-expected.ensures.value in
@@ -25,7 +26,7 @@ returns-then-not-stays-clause-some c =
 
 pub returns-in_default : goal.returns-in_default
 returns-in_default c =
-    let u = c.args.round.now.task.update in
+    let u = (rollout c.args.round.now.task) in
     let k = c.args.round.now.number in
     let tables = rules_of_all c.args.tables.now in
     let same : c.carry.result ≡ outcome_carrying c.args.tag (outcome_in u.net tables c.loop-step.place c.args.dst) = c.carry.ensures ∙ ap (outcome_carrying c.args.tag) c.outcome_at-expected.ensures.value in
@@ -39,7 +40,7 @@ returns-in_default c =
 
 pub loop-step-preserved : goal.loop-step-preserved
 loop-step-preserved c =
-    let u = c.args.round.now.task.update in
+    let u = (rollout c.args.round.now.task) in
     let k = c.args.round.now.number in
     let tables = rules_of_all c.args.tables.now in
     let same : c.carry.result ≡ outcome_carrying c.args.tag (outcome_in u.net tables c.loop-step.place c.args.dst) = c.carry.ensures ∙ ap (outcome_carrying c.args.tag) c.outcome_at-expected.ensures.value in
@@ -53,7 +54,7 @@ loop-step-preserved c =
 
 pub returns-clause-none : goal.returns-clause-none
 returns-clause-none c =
-    let u = c.args.round.now.task.update in
+    let u = (rollout c.args.round.now.task) in
     absurd
     (follow_over u c.args.round.now.number c.args.dst (rules_of_all c.args.tables.now) c.args.first c.args.tag c.loop-step._step c.loop-step.place c.loop-step.invariant.followed c.requires.soon
     (let past = c.loop-step-test.false in let end = c.switches-step-end.ensures in let few = c.loop-step.auto in omega arith))

@@ -1,3 +1,4 @@
+use Rattle.certificates.specs.Updates.{rollout}
 use Rattle.std.proofs.Common.{◌+◌, List, Option, take, sym, subst}
 use Rattle.std.proofs.lemmas.List.{take_all}
 use Rattle.net_base.specs.declared.ids.SwitchId.{SwitchId}
@@ -24,7 +25,7 @@ returns-clause-none c =
     let k = c.args.round.now.number in
     let list = c.list-outcomes.result.now in
     class_kept t k c.args.class c.args.round.now.labels list
-    (subst (λ (xs : List Outcome). AreAllFound t.update k c.args.class.first c.args.class.entry xs) (sym c.list-outcomes.ensures) c.find_outcomes.ensures.all) c.loop-found.least
+    (subst (λ (xs : List Outcome). AreAllFound (rollout t) k c.args.class.first c.args.class.entry xs) (sym c.list-outcomes.ensures) c.find_outcomes.ensures.all) c.loop-found.least
     (subst (λ (xs : List Outcome). IsLeastAmong t k c.args.class c.args.round.now.labels xs c.loop-found.least) (take_all c.loop-found.found-index list c.loop-found-test.false) c.loop-found.invariant.among)
 
 pub returns-clause-some : goal.returns-clause-some
@@ -33,5 +34,5 @@ returns-clause-some c =
     let k = c.args.round.now.number in
     let list = c.list-outcomes.result.now in
     class_least t k c.args.class c.args.round.now.labels list
-    (subst (λ (xs : List Outcome). AreAllFound t.update k c.args.class.first c.args.class.entry xs) (sym c.list-outcomes.ensures) c.find_outcomes.ensures.all) c.loop-found.least
+    (subst (λ (xs : List Outcome). AreAllFound (rollout t) k c.args.class.first c.args.class.entry xs) (sym c.list-outcomes.ensures) c.find_outcomes.ensures.all) c.loop-found.least
     (subst (λ (xs : List Outcome). IsLeastAmong t k c.args.class c.args.round.now.labels xs c.loop-found.least) (take_all c.loop-found.found-index list c.loop-found-test.false) c.loop-found.invariant.among)

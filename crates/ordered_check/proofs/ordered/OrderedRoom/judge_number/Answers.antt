@@ -6,7 +6,8 @@ use Rattle.dest_classes.specs.declared.Class.{Class}
 use Rattle.update_model.specs.declared.Change.{Change}
 use Rattle.path_walk.specs.UserConfigs.{IsUserConfig}
 use Rattle.certificates.specs.Ordered.{OrderedCertificate}
-use Rattle.certificates.specs.Certified.{Task, classes_for}
+use Rattle.certificates.specs.Updates.{Task, rollout}
+use Rattle.certificates.specs.Certified.{classes_for}
 use Rattle.certificates.specs.Valid.{IsValidOrdered}
 use Rattle.certificates.specs.declared.OrderedPick.{OrderedPick}
 use Rattle.certificates.specs.declared.OrderedEvidence.{OrderedEvidence}
@@ -31,10 +32,10 @@ module _ (t : Task) (n : ℕ) (state : OrderedState) (items : List Class) (items
 
 -- a class that isn't touched
 stands_there : (t : Task) (e : OrderedEvidence) (k n : ℕ) (changes : List Change) (mixes : List MixedState) (state : OrderedState) (class : Class) (marks : List Bool) (in_force : Option OrderedPick)
-    → IsUserConfig t.update.net t.update.old → IsValidOrdered t.update.net (length t.update.rounds) e → IsRound t e k changes mixes → HasClassRoom (classes_for t) state
-    → PicksStand e.picks (suc k) state.picks → ((other : Class) (them : List Bool) → slice_get state.classes n ≡ Some other → slice_get state.came n ≡ Some them → HoldsWalksBefore t.update k other them)
+    → IsUserConfig t.update.net t.update.old → IsValidOrdered t.update.net (length t.rounds) e → IsRound t e k changes mixes → HasClassRoom (classes_for t) state
+    → PicksStand e.picks (suc k) state.picks → ((other : Class) (them : List Bool) → slice_get state.classes n ≡ Some other → slice_get state.came n ≡ Some them → HoldsWalksBefore (rollout t) k other them)
     → slice_get state.classes n ≡ Some class → slice_get state.came n ≡ Some marks → slice_get state.picks.of_class n ≡ Some in_force → IsSomeAnd in_force (λ pick. pick.round ≤ k)
-    → touches_walk changes class marks ≡ false → OrderedCertificate t.update e k n class.first class.entry (class_duties t class) × HoldsWalks t.update k class marks
+    → touches_walk changes class marks ≡ false → OrderedCertificate (rollout t) e k n class.first class.entry (class_duties t class) × HoldsWalks (rollout t) k class marks
 stands_there t e k n changes mixes state class marks in_force user valid round room picks walks is came kept begun off =
     class_stands t e k n class in_force marks user valid round.within round.before round.pass (room.classes_are.each n class is) (picks.each n in_force kept) begun (walks class marks is came)
     (subst (λ (cs : List Change). touches_walk cs class marks ≡ false) round.changes_are off)
@@ -57,7 +58,7 @@ returns-then-is_unchanged-clause-none c other is =
     let stands = stands_there t e k n c.args.round.now.changes.now c.args.round.now.mixes.now state class c.index.result.now c.of-in_force.result c.keeps_valid.ensures.old_user c.keeps_valid.ensures.valid c.requires.round
     c.requires.room c.requires.stands c.requires.walks here (ap (λ (ms : List (List Bool)). slice_get ms n) (sym came_is) ∙ read_at c.self.inside.came.items n c.index.result.now marked c.index.ensures)
     (ap (λ (ps : List (Option OrderedPick)). slice_get ps n) (sym picks_are) ∙ c.of-in_force.ensures) (c.is_unchanged.ensures.pick c.if-is_unchanged.true) (c.is_unchanged.ensures.walk c.if-is_unchanged.true) in
-    subst (λ (x : Class). OrderedCertificate t.update e k n x.first x.entry (class_duties t x)) (same_Some class other (sym here ∙ is)) stands.0
+    subst (λ (x : Class). OrderedCertificate (rollout t) e k n x.first x.entry (class_duties t x)) (same_Some class other (sym here ∙ is)) stands.0
 
 pub returns-then-is_unchanged-clause-walks : goal.returns-then-is_unchanged-clause-walks
 returns-then-is_unchanged-clause-walks c other them is came =
@@ -79,8 +80,8 @@ returns-then-is_unchanged-clause-walks c other them is came =
     let stands = stands_there t e k n c.args.round.now.changes.now c.args.round.now.mixes.now state class marks c.of-in_force.result c.keeps_valid.ensures.old_user c.keeps_valid.ensures.valid c.requires.round
     c.requires.room c.requires.stands c.requires.walks here there
     (ap (λ (ps : List (Option OrderedPick)). slice_get ps n) (sym picks_are) ∙ c.of-in_force.ensures) (c.is_unchanged.ensures.pick c.if-is_unchanged.true) (c.is_unchanged.ensures.walk c.if-is_unchanged.true) in
-    subst (λ (ms : List Bool). HoldsWalks t.update k other ms) (same_Some marks them (sym there ∙ came))
-    (subst (λ (x : Class). HoldsWalks t.update k x marks) (same_Some class other (sym here ∙ is)) stands.1)
+    subst (λ (ms : List Bool). HoldsWalks (rollout t) k other ms) (same_Some marks them (sym there ∙ came))
+    (subst (λ (x : Class). HoldsWalks (rollout t) k x marks) (same_Some class other (sym here ∙ is)) stands.1)
 
 pub judge_class-reason-requires-clause-class : goal.judge_class-reason-requires-clause-class
 judge_class-reason-requires-clause-class c =
@@ -101,7 +102,7 @@ returns-clause-none c other is =
     let number = c.requires.number in
     let within : n < length c.self.inside.classes.items = (let same = ap (λ (cs : List Class). length cs) classes_are in let count = c.requires.room.classes_are.count in omega arith) in
     let here = class_at t n c.args.self.now c.self.inside.classes.items classes_are class within c.index-class.ensures in
-    subst (λ (x : Class). IfNone c.judge_class-reason.result (OrderedCertificate t.update e k n x.first x.entry (class_duties t x))) (same_Some class other (sym here ∙ is)) c.judge_class-reason.ensures.none
+    subst (λ (x : Class). IfNone c.judge_class-reason.result (OrderedCertificate (rollout t) e k n x.first x.entry (class_duties t x))) (same_Some class other (sym here ∙ is)) c.judge_class-reason.ensures.none
 
 pub returns-clause-others : goal.returns-clause-others
 returns-clause-others c m ne =
@@ -118,9 +119,9 @@ returns-clause-walks c =
     let number = c.requires.number in
     let within : n < length items = (let same = ap (λ (s : OrderedState). length s.classes) c.self.view_is in let count = c.requires.room.classes_are.count in omega arith) in
     let here : slice_get items n ≡ Some class = read_at items n class within c.index-class.ensures in
-    none_then c.judge_class-reason.result (IsWalked t.update k class.first class.entry c.judge_class-reason.new.walk)
-    ((other : Class) (them : List Bool) → slice_get items n ≡ Some other → slice_get (set c.self.inside.came.items n marks) n ≡ Some them → HoldsWalks t.update k other them) c.judge_class-reason.ensures.walked
+    none_then c.judge_class-reason.result (IsWalked (rollout t) k class.first class.entry c.judge_class-reason.new.walk)
+    ((other : Class) (them : List Bool) → slice_get items n ≡ Some other → slice_get (set c.self.inside.came.items n marks) n ≡ Some them → HoldsWalks (rollout t) k other them) c.judge_class-reason.ensures.walked
     (λ walked other them is came.
-    subst (λ (ms : List Bool). HoldsWalks t.update k other ms) (get_set_same c.self.inside.came.items n marks them came)
-    (subst (λ (x : Class). HoldsWalks t.update k x marks) (same_Some class other (sym here ∙ is))
-    (walks_marked t.update k class c.judge_class-reason.new.walk c.switches.result.now marks walked c.switches.ensures.seen c.marks_of-marks.ensures)))
+    subst (λ (ms : List Bool). HoldsWalks (rollout t) k other ms) (get_set_same c.self.inside.came.items n marks them came)
+    (subst (λ (x : Class). HoldsWalks (rollout t) k x marks) (same_Some class other (sym here ∙ is))
+    (walks_marked (rollout t) k class c.judge_class-reason.new.walk c.switches.result.now marks walked c.switches.ensures.seen c.marks_of-marks.ensures)))

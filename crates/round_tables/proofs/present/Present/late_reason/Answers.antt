@@ -1,3 +1,4 @@
+use Rattle.certificates.specs.Updates.{rollout}
 use Rattle.std.proofs.Common.{◌≡◌, List, length, sym, ◌∙◌, ap, subst}
 use Rattle.std.proofs.lemmas.List.{length-map}
 use Rattle.topology.specs.Networks.{switch_count}
@@ -13,7 +14,7 @@ pub returns-in-Some-clause-some : goal.returns-in-Some-clause-some
 returns-in-Some-clause-some c =
     let t = c.args.case.now.task in
     let p = c.args.self.now in
-    let len : length (tables_before t.update c.args.k) ≡ switch_count t.update.net =
+    let len : length (tables_before (rollout t) c.args.k) ≡ switch_count t.update.net =
     ap length (sym c.requires.prepared.tables) ∙ length-map p.tables (λ (x : TableState). x.rules) ∙ c.requires.room.tables in
     over_first t c.args.case.now.evidence c.args.k p c.round_of-changes.result.now c.round_of-changes.ensures.value c.round_of-changes.ensures.within len c.requires.prepared c.requires.round
     c.in-Some.switch c.in-Some.need c.in-Some.ensures.some c.round_number-round.result c.round_number-round.ensures
@@ -22,7 +23,7 @@ pub returns-in-Some-rewrite_of-clause-some : goal.returns-in-Some-rewrite_of-cla
 returns-in-Some-rewrite_of-clause-some c =
     let t = c.args.case.now.task in
     let p = c.args.self.now in
-    let len : length (tables_before t.update c.args.k) ≡ switch_count t.update.net =
+    let len : length (tables_before (rollout t) c.args.k) ≡ switch_count t.update.net =
     ap length (sym c.requires.prepared.tables) ∙ length-map p.tables (λ (x : TableState). x.rules) ∙ c.requires.room.tables in
     let found = c.in-Some-rewrite_of.ensures.some in
     rewrite_first t c.args.case.now.evidence c.args.k p c.round_of-changes.result.now c.round_of-changes.ensures.value c.round_of-changes.ensures.within len c.requires.prepared
@@ -38,7 +39,7 @@ returns-in-None-clause-none c =
     let round = c.round_of-changes.result.now in
     let is = c.round_of-changes.ensures.value in
     let within = c.round_of-changes.ensures.within in
-    let len : length (tables_before t.update k) ≡ switch_count t.update.net =
+    let len : length (tables_before (rollout t) k) ≡ switch_count t.update.net =
     ap length (sym c.requires.prepared.tables) ∙ length-map p.tables (λ (x : TableState). x.rules) ∙ c.requires.room.tables in
     let fits = c.in_default.ensures.none in (
       changes_pass t e k p round is within len c.requires.prepared fits (subst (RoundKeepsVlans e) is c.in-None.ensures.none),

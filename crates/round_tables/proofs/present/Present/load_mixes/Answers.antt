@@ -1,3 +1,4 @@
+use Rattle.certificates.specs.Updates.{rollout}
 use Rattle.std.proofs.Common.{◌≡◌, ℕ, length, sym, ◌∙◌, ap, subst}
 use Rattle.std.specs.Prelude.{Option, Some}
 use Rattle.std.proofs.lemmas.List.{length-map}
@@ -17,8 +18,8 @@ returns-in-Ok-Some-clause-some c =
     let p = c.args.self.now in
     let s = c.in-Ok-Some.switch in
     let keeps : Keeps p q = keeps_through p c.touch.new.self q c.touch.ensures.keeps c.in-Ok-Some.ensures.keeps in
-    let tables : rules_of_all q.tables ≡ tables_before t.update c.args.k = ap rules_of_all keeps.tables ∙ c.requires.stands.tables in
-    let len : length (tables_before t.update c.args.k) ≡ switch_count t.update.net =
+    let tables : rules_of_all q.tables ≡ tables_before (rollout t) c.args.k = ap rules_of_all keeps.tables ∙ c.requires.stands.tables in
+    let len : length (tables_before (rollout t) c.args.k) ≡ switch_count t.update.net =
     ap length (sym c.requires.stands.tables) ∙ length-map p.tables (λ (x : TableState). x.rules) ∙ c.requires.room.tables in
     let switches : c.switches.result ≡ switch_count t.update.net = c.switches.ensures.value ∙ ap (λ (v : CaseView). switch_count v.task.update.net) c.case.view_is in
     let loaded : IsLoadedTo c.round_of.result.now (switch_count t.update.net) q (Some s) =
@@ -29,6 +30,6 @@ returns-in-Ok-Some-clause-some c =
 
 pub returns-in-Ok-Some-clause-room : goal.returns-in-Ok-Some-clause-room
 returns-in-Ok-Some-clause-room c =
-    let u = c.args.case.now.task.update in
+    let u = (rollout c.args.case.now.task) in
     room_kept u.net u.rounds c.args.self.now c.load_all.new.self c.requires.room
     (keeps_through c.args.self.now c.touch.new.self c.load_all.new.self c.touch.ensures.keeps c.in-Ok-Some.ensures.keeps)

@@ -45,12 +45,12 @@ bounds-tables-table c =
 pub judge_classes-requires-clause-old_good : goal.judge_classes-requires-clause-old_good
 judge_classes-requires-clause-old_good c =
     let t = c.args.case.now.task in
-    subst (λ (xs : ClassList). HasGoodPaths t.update.net t.update.old t.demands xs) (sym c.requires.classes) c.requires.old_good
+    subst (λ (xs : ClassList). HasGoodPaths t.update.net t.update.old t.update.demands xs) (sym c.requires.classes) c.requires.old_good
 
 pub judge_classes-requires-clause-new_good : goal.judge_classes-requires-clause-new_good
 judge_classes-requires-clause-new_good c =
     let t = c.args.case.now.task in
-    subst (λ (xs : ClassList). HasGoodPaths t.update.net t.new t.demands xs) (sym c.requires.classes) c.requires.new_good
+    subst (λ (xs : ClassList). HasGoodPaths t.update.net t.update.new t.update.demands xs) (sym c.requires.classes) c.requires.new_good
 
 pub judge_classes-requires-clause-stands : goal.judge_classes-requires-clause-stands
 judge_classes-requires-clause-stands c = λ yes.
