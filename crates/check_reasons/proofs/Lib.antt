@@ -1,3 +1,5 @@
 pub mod RankLaws
 pub mod SameWalks
 pub mod TouchLaws
+pub mod PositionLaws
+pub mod LeastLaws

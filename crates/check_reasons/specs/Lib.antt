@@ -5,3 +5,5 @@ pub mod Passed
 pub mod Loaded
 pub mod Touched
 pub mod Numbered
+pub mod Positions
+pub mod Least

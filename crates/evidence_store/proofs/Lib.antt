@@ -5,3 +5,7 @@ pub mod NumberLaws
 pub mod StoredLaws
 pub mod PickLaws
 pub mod CountLaws
+pub mod PositionLaws
+pub mod LeastLaws
+pub mod GuardLaws
+pub mod EvidenceLaws

@@ -4,3 +4,5 @@ pub mod Numbers
 pub mod UseKeys
 pub mod Keys
 pub mod Kept
+pub mod Found
+pub mod Guards

@@ -1,4 +1,5 @@
-//! The evidence of an ordered plan while it is made: equal numberings, before sets and uses stand once.
+//! The evidence of an ordered plan while it is made: what keeps a class safe in a round, and the store of it, where equal
+//! numberings, before sets and uses stand once.
 #![tactic(auto)]
 
 ghost use Rattle.std.specs.Prelude.{◌≡◌, ◌≢◌, ℕ, ◌<◌, ◌≤◌, length, replicate, None, IfOk, IfSome, IfNone};
@@ -9,13 +10,17 @@ ghost use Rattle.certificates.specs.Valid.{IsPickBefore};
 ghost use Rattle.certificates.specs.declared.OrderedPick.{OrderedPick};
 ghost use Rattle.evidence_store.specs.Stored.{IsStored, IsWithPick, no_evidence};
 
+mod class_evidence;
 mod keys;
+mod least;
+mod safe;
 mod uses;
 
 use crate::keys::Keys;
 use crate::uses::add_use;
 use acyclic_numbering::Numbering;
 use certificates::{Befores, Numberings, OrderedEvidence, OrderedPick, OrderedPicks, Uses};
+pub use class_evidence::{ClassEvidence, NamedEvidence, evidence_of, keeps_safe};
 use net_base::Memory;
 use std::alloc::Global;
 use std::marker::Model;

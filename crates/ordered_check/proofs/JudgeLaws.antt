@@ -22,12 +22,14 @@ use Rattle.check_reasons.specs.Ranks.{IsBefore, rank_of}
 use Rattle.check_reasons.specs.Reasons.{IsInForce, HasBadStep, DropsAt, IsBypassed, IsJudged, class_duties}
 use Rattle.check_reasons.specs.Reasons.{IsOrderedReason, rewrites, no_numbering, not_lower, may_drop, no_before, bypass}
 use Rattle.mixed_walks.specs.Walks.{WalkState, IsWalked}
-use Rattle.ordered_check.specs.Judged.{IsLeastOf, HasEdgeUp, IsWayRound, AreGuardedBelow, IsFirstWayRound}
+use Rattle.check_reasons.specs.Positions.{position_count}
+use Rattle.check_reasons.specs.Least.{IsLeastOf}
+use Rattle.ordered_check.specs.Judged.{HasEdgeUp, IsWayRound, AreGuardedBelow, IsFirstWayRound}
 use Rattle.ordered_check.specs.Firsts.{IsOfClasses, IsFirstOfClass}
 use Rattle.check_reasons.specs.declared.reason.Reason.{Reason}
 use Rattle.check_reasons.specs.declared.reason.Reason.TheVariants.{NotLower, MayDrop, NoBefore, Bypass}
 use Rattle.ordered_check.specs.declared.ways.WayRound.{WayRound}
-use Rattle.ordered_check.proofs.WayLaws.{together, length_positions}
+use Rattle.ordered_check.proofs.WayLaws.{length_positions}
 use Rattle.ordered_check.proofs.MeaningLaws.{carried, carried_class, has_pick}
 
 -- ---- what can be decided
@@ -126,7 +128,7 @@ module _ (t : Task) (e : OrderedEvidence) (k n : ℕ) (class : Class) (numbers :
   data IsFault : ℕ → Reason → Type 0 where
     goes_up : (s : SwitchId) → HasBadStep (rollout t) k class.first class.entry numbers s → IsFault 0 (NotLower (suc k) n s)
     drops_at : (s : SwitchId) → IsTrue duties.arrive → DropsAt (rollout t) k class.first class.entry s → IsFault 0 (MayDrop (suc k) n s)
-    other_count : length sets ≢ together duties.chains → IsFault 0 (NoBefore (suc k) n)
+    other_count : length sets ≢ position_count duties.chains → IsFault 0 (NoBefore (suc k) n)
     goes_round : (i : ℕ) (s : SwitchId) (p : Position) → slice_get (positions duties.chains sets) i ≡ Some p → IsBypassed (rollout t) k class.first class.entry p s
         → IsFault i (Bypass (suc k) n p.waypoint s)
 
@@ -155,7 +157,7 @@ module _ (t : Task) (e : OrderedEvidence) (k n : ℕ) (class : Class) (numbers :
         let round : suc j ≡ suc k = at.round in
         let same : j ≡ k = omega arith in
         at_class (λ x y. IsFault 0 (NoBefore (suc x) y)) j m same at.class
-        (other_count (carried (classes_for t) e in_order k n class numbers sets is force (λ x cl ns vs. length vs ≢ together (class_duties t cl).chains) j m other xs us same at.class judged.is forced differ))
+        (other_count (carried (classes_for t) e in_order k n class numbers sets is force (λ x cl ns vs. length vs ≢ position_count (class_duties t cl).chains) j m other xs us same at.class judged.is forced differ))
     fault_of i r (bypass j m x other xs us p s judged forced stands bypassed) at =
         let round : suc j ≡ suc k = at.round in
         let same : j ≡ k = omega arith in
@@ -200,7 +202,7 @@ module _ (t : Task) (e : OrderedEvidence) (k n : ℕ) (class : Class) (numbers :
 
     module _ (s : SwitchId) (least : IsLeastOf (HasEdgeUp noted.steps numbers) (Some s)) where
       none_before_up : (i : ℕ) (r : Reason) → IsFault i r → ¬ IsBefore (rank_of i r) (rank_of 0 (NotLower (suc k) n s))
-      none_before_up i r (goes_up x bad) before = let le = least.1 x (edge_up x bad) in omega arith
+      none_before_up i r (goes_up x bad) before = let le = least.least x (edge_up x bad) in omega arith
       none_before_up i r (drops_at x arrive drops) before = omega arith
       none_before_up i r (other_count differ) before = omega arith
       none_before_up i r (goes_round y x p at bypassed) before = omega arith
@@ -208,20 +210,20 @@ module _ (t : Task) (e : OrderedEvidence) (k n : ℕ) (class : Class) (numbers :
       -- the least switch from which a step goes to no lower number
       pub not_lower_first : IsFirstOfClass t e k n (NotLower (suc k) n s)
       not_lower_first =
-          first_from 0 (NotLower (suc k) n s) (not_lower k n class numbers sets s judged j.force (step_up s least.0)) (record { round = refl; number = omega arith; class = refl }) none_before_up
+          first_from 0 (NotLower (suc k) n s) (not_lower k n class numbers sets s judged j.force (step_up s least.holds)) (record { round = refl; number = omega arith; class = refl }) none_before_up
 
     module _ (falls : NoUp) where
       module _ (s : SwitchId) (least : IsLeastOf (λ x. IsTrue duties.arrive × IsIn x noted.dropping) (Some s)) where
         none_before_drop : (i : ℕ) (r : Reason) → IsFault i r → ¬ IsBefore (rank_of i r) (rank_of 0 (MayDrop (suc k) n s))
         none_before_drop i r (goes_up x bad) before = falls x (edge_up x bad)
-        none_before_drop i r (drops_at x arrive drops) before = let le = least.1 x (arrive, (j.walked.dropping x).1 drops) in omega arith
+        none_before_drop i r (drops_at x arrive drops) before = let le = least.least x (arrive, (j.walked.dropping x).1 drops) in omega arith
         none_before_drop i r (other_count differ) before = omega arith
         none_before_drop i r (goes_round y x p at bypassed) before = omega arith
 
         -- the least switch where a packet that must arrive may be discarded
         pub may_drop_first : IsFirstOfClass t e k n (MayDrop (suc k) n s)
         may_drop_first =
-            first_from 0 (MayDrop (suc k) n s) (may_drop k n class s judged least.0.0 ((j.walked.dropping s).0 least.0.1)) (record { round = refl; number = omega arith; class = refl }) none_before_drop
+            first_from 0 (MayDrop (suc k) n s) (may_drop k n class s judged least.holds.0 ((j.walked.dropping s).0 least.holds.1)) (record { round = refl; number = omega arith; class = refl }) none_before_drop
 
       module _ (arrives : NoDrop) where
         none_before_count : (i : ℕ) (r : Reason) → IsFault i r → ¬ IsBefore (rank_of i r) (rank_of 0 (NoBefore (suc k) n))
@@ -231,11 +233,11 @@ module _ (t : Task) (e : OrderedEvidence) (k n : ℕ) (class : Class) (numbers :
         none_before_count i r (goes_round y x p at bypassed) before = omega arith
 
         -- the number of before sets
-        pub no_before_first : length sets ≢ together duties.chains → IsFirstOfClass t e k n (NoBefore (suc k) n)
+        pub no_before_first : length sets ≢ position_count duties.chains → IsFirstOfClass t e k n (NoBefore (suc k) n)
         no_before_first differ =
             first_from 0 (NoBefore (suc k) n) (no_before k n class numbers sets judged j.force differ) (record { round = refl; number = omega arith; class = refl }) none_before_count
 
-        module _ (same_count : length sets ≡ together duties.chains) where
+        module _ (same_count : length sets ≡ position_count duties.chains) where
           module _ (found : WayRound) (first : IsFirstWayRound around (positions duties.chains sets) found) where
             -- at the first position the way round is at the least switch
             least_there : (i : ℕ) (x : SwitchId) (p : Position) → slice_get (positions duties.chains sets) i ≡ Some p → around p x → i ≡ first.place → found.switch.0 ≤ x.0

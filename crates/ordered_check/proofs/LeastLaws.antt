@@ -1,35 +1,19 @@
 -- The least switch of those of which something holds.
-use Rattle.std.proofs.Common.{◌≡◌, ◌⊎◌, ◌↔◌, ℕ, ◌+◌, ◌<◌, ◌≤◌, Bool, true, false, IsTrue, not, List, [], ◌∷◌, ◌++◌, length, get_or, take, Option, Some, None, refl, sym, ap, ◌∙◌, subst, inl, inr, arith}
+use Rattle.std.proofs.Common.{◌≡◌, ◌⊎◌, ◌↔◌, ℕ, ◌+◌, ◌<◌, ◌≤◌, Bool, true, false, IsTrue, not, List, [], ◌∷◌, ◌++◌, length, get_or, take, Option, refl, sym, ap, ◌∙◌, subst, inl, inr, arith}
 use Rattle.std.specs.Bool.{then_some}
-use Rattle.std.proofs.lemmas.Bool.{cases_lt, lt-ltb, false≢true, le-ltb}
+use Rattle.std.proofs.lemmas.Bool.{false≢true}
 use Rattle.std.proofs.lemmas.List.{take_more, take_all}
 use Rattle.net_base.specs.Members.{IsIn}
 use Rattle.net_base.proofs.MemberLaws.{in_append_left, in_append_right, in_append_cases}
 use Rattle.net_base.specs.declared.ids.SwitchId.{SwitchId}
 use Rattle.acyclic_numbering.specs.Heights.{IsEdge}
 use Rattle.acyclic_numbering.specs.declared.Edge.{Edge}
-use Rattle.ordered_check.specs.Judged.{IsLeastOf, lesser}
-
-module _ (P Q : SwitchId → Type 0) where
-  -- what holds of the same switches has the same least one
-  pub least_iff : (o : Option SwitchId) → ((s : SwitchId) → P s → Q s) → ((s : SwitchId) → Q s → P s) → IsLeastOf P o → IsLeastOf Q o
-  least_iff None to from h = λ s q. h s (from s q)
-  least_iff (Some s) to from h = (to s h.0, λ t q. h.1 t (from t q))
-
-  -- the least of two kinds is the lesser of their least ones
-  pub least_two : (one other : Option SwitchId) → IsLeastOf P one → IsLeastOf Q other → IsLeastOf (λ s. P s ⊎ Q s) (lesser one other)
-  least_two None None h k = λ s w. elim w [ inl p ↦ h s p | inr q ↦ k s q ]
-  least_two None (Some t) h k = (inr k.0, λ s w. elim w [ inl p ↦ absurd (h s p) | inr q ↦ k.1 s q ])
-  least_two (Some s) None h k = (inl h.0, λ t w. elim w [ inl p ↦ h.1 t p | inr q ↦ absurd (k t q) ])
-  least_two (Some s) (Some t) h k =
-      elim (cases_lt t.0 s.0) [
-        | inl less ↦ rw (lt-ltb t.0 s.0 less) (inr k.0, λ x w. elim w [ inl p ↦ (let le = h.1 x p in omega arith) | inr q ↦ k.1 x q ])
-        | inr le ↦ rw (le-ltb t.0 s.0 le) (inl h.0, λ x w. elim w [ inl p ↦ h.1 x p | inr q ↦ (let less = k.1 x q in omega arith) ])
-      ]
+use Rattle.check_reasons.specs.Least.{IsLeastOf, lesser}
+use Rattle.check_reasons.proofs.LeastLaws.{least_iff, least_two}
 
 -- a switch, where this holds of it
 pub least_one : (P : SwitchId → Type 0) (s : SwitchId) (b : Bool) → (IsTrue b ↔ P s) → IsLeastOf (λ x. (x ≡ s) × P x) (then_some b s)
-least_one P s true told = ((refl, told.0 refl), λ t w. let e : t.0 ≡ s.0 = ap (λ (x : SwitchId). x.0) w.0 in omega arith)
+least_one P s true told = record { holds = (refl, told.0 refl); least = λ t w. let e : t.0 ≡ s.0 = ap (λ (x : SwitchId). x.0) w.0 in omega arith }
 least_one P s false told = λ t w. false≢true (told.1 (subst P w.0 w.1))
 
 -- what is refused is what isn't so
@@ -43,7 +27,7 @@ module _ {A : Type 0} (holds : A → Type 0) (at : A → SwitchId) where
   AtSome xs s = (x : A) × IsIn x xs × holds x × (at x ≡ s)
 
   last_least : (x : A) (b : Bool) → (IsTrue b ↔ holds x) → IsLeastOf (AtSome (x ∷ [])) (then_some b (at x))
-  last_least x true told = ((x, inl refl, told.0 refl, refl), λ t w. here t w.1 w.3)
+  last_least x true told = record { holds = (x, inl refl, told.0 refl, refl); least = λ t w. here t w.1 w.3 }
     where
       here : (t : SwitchId) {y : A} → IsIn y (x ∷ []) → at y ≡ t → (at x).0 ≤ t.0
       here t {y} (inl e) is = let f : (at x).0 ≡ t.0 = ap (λ (z : A). (at z).0) (sym e) ∙ ap (λ (z : SwitchId). z.0) is in omega arith

@@ -13,7 +13,7 @@ use Rattle.certificates.specs.declared.OrderedPick.{OrderedPick}
 use Rattle.certificates.specs.declared.OrderedEvidence.{OrderedEvidence}
 use Rattle.certificates.specs.declared.Shared.{Shared}
 use Rattle.check_reasons.specs.Reasons.{IsInForce}
-use Rattle.ordered_check.specs.Judged.{sets_of}
+use Rattle.check_reasons.specs.Positions.{sets_of}
 use Rattle.ordered_check.proofs.PickLaws.{chain_rest}
 
 before_through : (p q r : OrderedPick) → IsPickBefore p q → IsPickBefore q r → IsPickBefore p r

@@ -3,14 +3,12 @@
 use Rattle.std.proofs.Common.{◌≡◌, ℕ, zero, suc, ◌<◌, ◌≤◌, Bool, true, false, IsTrue, List, [], ◌∷◌, length, sym, ◌∙◌, ap, subst, inl, inr, arith}
 use Rattle.std.specs.Prelude.{◌==◌, ◌&&◌, Option, Some, None, IsSomeAnd}
 use Rattle.std.specs.List.{list_any}
-use Rattle.std.proofs.lemmas.Bool.{cases_Bool, cases_lt, both_ways, and_parts, and_from, or_parts, eqb-true}
-use Rattle.net_base.specs.Blocks.{in_block}
+use Rattle.std.proofs.lemmas.Bool.{cases_lt, both_ways, and_from, or_parts, eqb-true}
 use Rattle.net_base.specs.Members.{IsIn}
 use Rattle.net_base.specs.declared.ids.SwitchId.{SwitchId}
 use Rattle.net_base.specs.declared.ids.Place.{Place}
-use Rattle.net_base.specs.declared.ids.Vlan.{Vlan}
 use Rattle.net_base.proofs.MemberLaws.{each_at, each_from_in, in_from_filter}
-use Rattle.flow_rules.specs.Patterns.{covers, admits_port, admits_vlan}
+use Rattle.flow_rules.specs.Patterns.{covers}
 use Rattle.flow_rules.specs.Tables.{IsClear}
 use Rattle.flow_rules.specs.declared.rules.Rule.{Rule}
 use Rattle.path_walk.specs.Outcomes.{header_at}
@@ -32,6 +30,7 @@ use Rattle.certificates.specs.declared.Evidence.TheVariants.{Ordered}
 use Rattle.check_reasons.specs.Passed.{ChangesPass, RoundsPass, RoundKeepsVlans}
 use Rattle.check_reasons.specs.Reasons.{class_duties}
 use Rattle.check_reasons.specs.Touched.{may_cover}
+use Rattle.check_reasons.proofs.TouchLaws.{not_covered}
 use Rattle.check_reasons.proofs.SameWalks.{was_on_walk, was_safe, NoneCovers, unchanged_at, possible_after}
 use Rattle.mixed_walks.specs.Walks.{KeepVlansUpTo, TablesKeepVlans}
 use Rattle.mixed_walks.proofs.PlaceLaws.{tables_keep, on_walk_vlan}
@@ -50,17 +49,8 @@ none_of p (y ∷ ys) x off (inr i) = none_of p ys x (or_parts (p y) (list_any p 
 misses : (c : Change) (class : Class) (marks : List Bool) (place : Place) → place.vlan ≡ class.entry.vlan → IsTrue (is_marked marks place.switch) → (switch_of c).0 ≡ place.switch.0
     → (may_cover c class && is_marked marks (switch_of c)) ≡ false → covers (rule_of c).key.pattern (header_at place class.first) ≡ false
 misses c class marks place vlan marked here off =
-    let pattern = (rule_of c).key.pattern in
-    elim (cases_Bool (covers pattern (header_at place class.first))) [
-      | inr none ↦ none
-      | inl on ↦
-          let (port_vlan, block) = and_parts (admits_port pattern.in_port place.port && admits_vlan pattern.vlan place.vlan) (in_block pattern.dst class.first) on in
-          let admitted = (and_parts (admits_port pattern.in_port place.port) (admits_vlan pattern.vlan place.vlan) port_vlan).1 in
-          let same = subst (λ (v : Vlan). admits_vlan pattern.vlan v ≡ true) vlan admitted in
-          let covered = and_from (in_block pattern.dst class.first) (admits_vlan pattern.vlan class.entry.vlan) block same in
-          let mark : is_marked marks (switch_of c) ≡ true = subst (λ n. is_marked marks (record { 0 = n }) ≡ true) (sym here) marked in
-          absurd (both_ways (may_cover c class && is_marked marks (switch_of c)) off (and_from (may_cover c class) (is_marked marks (switch_of c)) covered mark))
-    ]
+    let mark : is_marked marks (switch_of c) ≡ true = subst (λ n. is_marked marks (record { 0 = n }) ≡ true) (sym here) marked in
+    not_covered c class place vlan (λ covered. both_ways (may_cover c class && is_marked marks (switch_of c)) off (and_from (may_cover c class) (is_marked marks (switch_of c)) covered mark))
 
 -- ---- a round whose changes aren't met on the walks of the round before
 
@@ -83,11 +73,6 @@ module _ (u : Rollout) (k : ℕ) (class : Class) (marks : List Bool) (less : suc
 
   walks_still : HoldsWalks u (suc k) class marks
   walks_still place on = held place (was_on_walk u u k (suc k) class.first class.entry was place on)
-
--- what keeps a class safe in a round keeps it safe in the next, where all that is possible was possible
-pub still_safe : (u : Rollout) (k dst : ℕ) (entry : Place) → ((place : Place) (found : Outcome) → IsPossible u (suc k) dst place found → IsPossible u k dst place found)
-    → (duties : PacketDuties) (numbers : List ℕ) (sets : List (List ℕ)) → IsSafe u k dst entry duties numbers sets → IsSafe u (suc k) dst entry duties numbers sets
-still_safe u k dst entry was_there = was_safe u u k (suc k) dst entry (λ place on. was_there place)
 
 -- ---- the certificate
 

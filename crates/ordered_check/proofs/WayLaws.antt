@@ -6,7 +6,9 @@ use Rattle.std.proofs.lemmas.Option.{same_Some, none-some, slice_get_within}
 use Rattle.std.proofs.lemmas.List.{append_assoc, append-nil, drop-drop, length-append, length-drop}
 use Rattle.net_base.specs.declared.ids.SwitchId.{SwitchId}
 use Rattle.certificates.specs.Ordered.{Position, chain_positions, positions}
-use Rattle.ordered_check.specs.Judged.{set_before, AreGuardedBelow, IsFirstWayRound}
+use Rattle.check_reasons.specs.Positions.{position_count, set_before}
+use Rattle.check_reasons.proofs.PositionLaws.{take_next, count_fits}
+use Rattle.ordered_check.specs.Judged.{AreGuardedBelow, IsFirstWayRound}
 use Rattle.ordered_check.specs.declared.ways.WayRound.{WayRound}
 
 -- ---- places of lists
@@ -20,12 +22,6 @@ module _ {A : Type 0} where
   pub get_back : (xs ys : List A) (i : ℕ) → slice_get (xs ++ ys) (length xs + i) ≡ slice_get ys i
   get_back [] ys i = ap (slice_get ys) (omega arith)
   get_back (x ∷ xs) ys i = let e : length (x ∷ xs) + i ≡ suc (length xs + i) = omega arith in ap (slice_get (x ∷ xs ++ ys)) e ∙ get_back xs ys i
-
-  -- the next item comes after those that were taken
-  pub take_next : (xs : List A) (i : ℕ) (x : A) → slice_get xs i ≡ Some x → take (i + 1) xs ≡ take i xs ++ x ∷ []
-  take_next [] i x is = absurd (none-some x is)
-  take_next (y ∷ xs) zero x is = ap (λ (z : A). z ∷ []) (same_Some y x is)
-  take_next (y ∷ xs) (suc i) x is = let e : suc i + 1 ≡ suc (i + 1) = omega arith in ap (λ n. take n (y ∷ xs)) e ∙ ap (λ (zs : List A). y ∷ zs) (take_next xs i x is)
 
 -- ---- the positions of one chain
 
@@ -65,43 +61,16 @@ length_chain earlier (w ∷ chain) (x ∷ sets) le = ap suc (length_chain (Some 
 
 -- ---- one chain after another
 
-abbrev pub together : List (List SwitchId) → ℕ
-together chains = length (flat_map (λ chain. chain) chains)
-
-pub together_push : (chains : List (List SwitchId)) (chain : List SwitchId) → together (chains ++ chain ∷ []) ≡ together chains + length chain
-together_push [] chain = ap (λ (xs : List SwitchId). length xs) (append-nil chain) ∙ omega arith
-together_push (c ∷ chains) chain =
-    let h = together_push chains chain in
-    let a = length-append c (flat_map (λ (x : List SwitchId). x) (chains ++ chain ∷ [])) in
-    let b = length-append c (flat_map (λ (x : List SwitchId). x) chains) in
-    omega arith
-
--- the chains that were taken are no longer than all, and the next one fits too
-pub together_take : (chains : List (List SwitchId)) (i : ℕ) (chain : List SwitchId) → slice_get chains i ≡ Some chain → together (take i chains) + length chain ≤ together chains
-together_take [] i chain is = absurd (none-some chain is)
-together_take (c ∷ chains) zero chain is =
-    let e : length c ≡ length chain = ap (λ (xs : List SwitchId). length xs) (same_Some c chain is) in
-    let b = length-append c (flat_map (λ (x : List SwitchId). x) chains) in
-    omega arith
-together_take (c ∷ chains) (suc i) chain is =
-    let h = together_take chains i chain is in
-    let a = length-append c (flat_map (λ (x : List SwitchId). x) (take i chains)) in
-    let b = length-append c (flat_map (λ (x : List SwitchId). x) chains) in
-    omega arith
-
-pub together_next : (chains : List (List SwitchId)) (i : ℕ) (chain : List SwitchId) → slice_get chains i ≡ Some chain → together (take (i + 1) chains) ≡ together (take i chains) + length chain
-together_next chains i chain is = ap together (take_next chains i chain is) ∙ together_push (take i chains) chain
-
 -- the positions with one more chain
-positions_push : (chains : List (List SwitchId)) (chain : List SwitchId) (sets : List (List ℕ)) → positions (chains ++ chain ∷ []) sets ≡ positions chains sets ++ chain_positions None chain (drop (together chains) sets)
+positions_push : (chains : List (List SwitchId)) (chain : List SwitchId) (sets : List (List ℕ)) → positions (chains ++ chain ∷ []) sets ≡ positions chains sets ++ chain_positions None chain (drop (position_count chains) sets)
 positions_push [] chain sets = append-nil (chain_positions None chain sets)
 positions_push (c ∷ chains) chain sets =
     let first = chain_positions None c sets in
     let rest = drop (length c) sets in
-    let far : drop (together chains) rest ≡ drop (together (c ∷ chains)) sets =
-    drop-drop (together chains) (length c) sets ∙ ap (λ n. drop n sets) (sym (length-append c (flat_map (λ (x : List SwitchId). x) chains))) in
+    let far : drop (position_count chains) rest ≡ drop (position_count (c ∷ chains)) sets =
+    drop-drop (position_count chains) (length c) sets ∙ ap (λ n. drop n sets) (sym (length-append c (flat_map (λ (x : List SwitchId). x) chains))) in
     ap (λ (ps : List Position). first ++ ps) (positions_push chains chain rest)
-    ∙ sym (append_assoc first (positions chains rest) (chain_positions None chain (drop (together chains) rest)))
+    ∙ sym (append_assoc first (positions chains rest) (chain_positions None chain (drop (position_count chains) rest)))
     ∙ ap (λ (xs : List (List ℕ)). (first ++ positions chains rest) ++ chain_positions None chain xs) far
 
 -- the positions of all chains begin with those of the first ones
@@ -114,14 +83,14 @@ positions_front (c ∷ chains) (suc i) sets =
       ap (λ (ps : List Position). chain_positions None c sets ++ ps) is ∙ sym (append_assoc (chain_positions None c sets) (positions (take i chains) (drop (length c) sets)) back),
     )
 
-pub length_positions : (chains : List (List SwitchId)) (sets : List (List ℕ)) → together chains ≤ length sets → length (positions chains sets) ≡ together chains
+pub length_positions : (chains : List (List SwitchId)) (sets : List (List ℕ)) → position_count chains ≤ length sets → length (positions chains sets) ≡ position_count chains
 length_positions [] sets le = refl
 length_positions (c ∷ chains) sets le =
     let b = length-append c (flat_map (λ (x : List SwitchId). x) chains) in
     let rest = length-drop (length c) sets in
     length-append (chain_positions None c sets) (positions chains (drop (length c) sets))
     ∙ (let one = length_chain None c sets (omega arith) in
-    let less : together chains ≤ length (drop (length c) sets) = omega arith in
+    let less : position_count chains ≤ length (drop (length c) sets) = omega arith in
     let others = length_positions chains (drop (length c) sets) less in
     omega arith)
 
@@ -174,25 +143,25 @@ module _ (around : Position → SwitchId → Type 0) where
     earlier = λ i p s lt is. guarded_append xs ys m h.place len first h.earlier i p s (omega arith) is;
   }
 
-  module _ (chains : List (List SwitchId)) (sets : List (List ℕ)) (count : length sets ≡ together chains) (i : ℕ) (chain : List SwitchId) (is : slice_get chains i ≡ Some chain) where
-    here_taken : positions (take (i + 1) chains) sets ≡ positions (take i chains) sets ++ chain_positions None chain (drop (together (take i chains)) sets)
+  module _ (chains : List (List SwitchId)) (sets : List (List ℕ)) (count : length sets ≡ position_count chains) (i : ℕ) (chain : List SwitchId) (is : slice_get chains i ≡ Some chain) where
+    here_taken : positions (take (i + 1) chains) sets ≡ positions (take i chains) sets ++ chain_positions None chain (drop (position_count (take i chains)) sets)
     here_taken = ap (λ (cs : List (List SwitchId)). positions cs sets) (take_next chains i chain is) ∙ positions_push (take i chains) chain sets
 
-    taken_length : length (positions (take i chains) sets) ≡ together (take i chains)
-    taken_length = length_positions (take i chains) sets (let h = together_take chains i chain is in omega arith)
+    taken_length : length (positions (take i chains) sets) ≡ position_count (take i chains)
+    taken_length = length_positions (take i chains) sets (let h = count_fits chains i chain is in omega arith)
 
     -- the positions with those of the next chain are guarded too
-    pub guarded_more : AreGuardedBelow around (positions (take i chains) sets) (together (take i chains)) → AreGuardedBelow around (chain_positions None chain (drop (together (take i chains)) sets)) (length chain)
-        → AreGuardedBelow around (positions (take (i + 1) chains) sets) (together (take i chains) + length chain)
+    pub guarded_more : AreGuardedBelow around (positions (take i chains) sets) (position_count (take i chains)) → AreGuardedBelow around (chain_positions None chain (drop (position_count (take i chains)) sets)) (length chain)
+        → AreGuardedBelow around (positions (take (i + 1) chains) sets) (position_count (take i chains) + length chain)
     guarded_more first second =
-        subst (λ (ps : List Position). AreGuardedBelow around ps (together (take i chains) + length chain)) (sym here_taken)
-        (guarded_append (positions (take i chains) sets) (chain_positions None chain (drop (together (take i chains)) sets)) (together (take i chains)) (length chain) taken_length first second)
+        subst (λ (ps : List Position). AreGuardedBelow around ps (position_count (take i chains) + length chain)) (sym here_taken)
+        (guarded_append (positions (take i chains) sets) (chain_positions None chain (drop (position_count (take i chains)) sets)) (position_count (take i chains)) (length chain) taken_length first second)
 
     -- the first position of the next chain that isn't guarded is the first of all
-    pub first_in_next : (found : WayRound) → AreGuardedBelow around (positions (take i chains) sets) (together (take i chains)) → IsFirstWayRound around (chain_positions None chain (drop (together (take i chains)) sets)) found
+    pub first_in_next : (found : WayRound) → AreGuardedBelow around (positions (take i chains) sets) (position_count (take i chains)) → IsFirstWayRound around (chain_positions None chain (drop (position_count (take i chains)) sets)) found
         → IsFirstWayRound around (positions chains sets) found
     first_in_next found first h =
         let (back, split) = positions_front chains (i + 1) sets in
         let taken = subst (λ (ps : List Position). IsFirstWayRound around ps found) (sym here_taken)
-        (first_back (positions (take i chains) sets) (chain_positions None chain (drop (together (take i chains)) sets)) found (together (take i chains)) taken_length first h) in
+        (first_back (positions (take i chains) sets) (chain_positions None chain (drop (position_count (take i chains)) sets)) found (position_count (take i chains)) taken_length first h) in
         subst (λ (ps : List Position). IsFirstWayRound around ps found) (sym split) (first_front (positions (take (i + 1) chains) sets) back found taken)

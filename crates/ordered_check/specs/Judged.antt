@@ -1,22 +1,11 @@
 -- What is found of one class in a round of an ordered plan.
-use Rattle.std.specs.Prelude.{◌≡◌, ◌⊎◌, ℕ, zero, suc, ◌<◌, ◌≤◌, List, [], map, slice_get, slice_index_or, Option, Some, None, if◌then◌else◌, nat_lt}
+use Rattle.std.specs.Prelude.{◌≡◌, ◌⊎◌, ℕ, ◌<◌, ◌≤◌, List, slice_get, Some}
 use Rattle.net_base.specs.declared.ids.SwitchId.{SwitchId}
 use Rattle.acyclic_numbering.specs.Heights.{IsEdge, IsLower}
 use Rattle.acyclic_numbering.specs.declared.Edge.{Edge}
 use Rattle.waypoint_evidence.specs.Befores.{Holds, HoldsEarlier, IsFirst}
 use Rattle.certificates.specs.Ordered.{Position}
 use Rattle.ordered_check.specs.declared.ways.WayRound.{WayRound}
-
--- the least switch of those of which this holds, or none where it holds of none
-abbrev pub IsLeastOf : (SwitchId → Type 0) → Option SwitchId → Type 0
-IsLeastOf holds None = (s : SwitchId) → ¬ holds s
-IsLeastOf holds (Some s) = holds s × ((t : SwitchId) → holds t → s.0 ≤ t.0)
-
--- the lesser of two switches, where there are two
-abbrev pub lesser : Option SwitchId → Option SwitchId → Option SwitchId
-lesser None other = other
-lesser (Some s) None = Some s
-lesser (Some s) (Some t) = if nat_lt t.0 s.0 then Some t else Some s
 
 -- an edge from the switch goes to no lower number
 abbrev pub HasEdgeUp : List Edge → List ℕ → SwitchId → Type 0
@@ -37,15 +26,6 @@ IsWayRound start edge leaves p s =
     ((s ≡ start) × ¬ (Holds p.set s ⊎ (IsFirst p.earlier × (s ≡ p.waypoint))))
     ⊎ ((Holds p.set s × leaves s)
     ⊎ ((t : SwitchId) × Holds p.set s × edge s t × (¬ Holds p.set t) × ¬ ((¬ HoldsEarlier p.earlier s) × (t ≡ p.waypoint))))
-
--- the before sets with these numbers
-abbrev pub sets_of : List (List ℕ) → List ℕ → List (List ℕ)
-sets_of befores indices = map (λ i. slice_index_or befores i []) indices
-
--- the set of the place before, if one is before it
-abbrev pub set_before : List (List ℕ) → ℕ → Option (List ℕ)
-set_before sets zero = None
-set_before sets (suc j) = slice_get sets j
 
 -- each of so many positions is guarded
 abbrev pub AreGuardedBelow : (Position → SwitchId → Type 0) → List Position → ℕ → Type 0

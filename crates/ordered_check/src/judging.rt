@@ -9,14 +9,14 @@ ghost use Rattle.certificates.specs.Ordered.{IsPickInForce, OrderedCertificate};
 ghost use Rattle.certificates.specs.Certified.{classes_for};
 ghost use Rattle.check_reasons.specs.Numbered.{IsNumbered};
 ghost use Rattle.mixed_walks.specs.Walks.{IsWalked};
-ghost use Rattle.ordered_check.specs.Judged.{IsLeastOf};
+ghost use Rattle.check_reasons.specs.Least.{IsLeastOf};
 ghost use Rattle.ordered_check.specs.Firsts.{IsFirstOfClass};
 
 use crate::cases::OrderedCase;
 use crate::least::{least_not_lower, least_of};
-use crate::ways::{first_way_round, has_positions};
+use crate::ways::first_way_round;
 use certificates::OrderedPick;
-use check_reasons::{NumberedClass, Reason};
+use check_reasons::{NumberedClass, Reason, has_positions};
 use demands::Duties;
 use mixed_walks::WalkRoom;
 use net_base::SwitchId;

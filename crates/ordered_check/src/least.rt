@@ -1,28 +1,17 @@
 // The least switches at which something is wrong.
-ghost use Rattle.std.specs.Prelude.{◌≡◌, ◌↔◌, ◌<◌, length, All, IsTrue};
+ghost use Rattle.std.specs.Prelude.{◌↔◌, ◌<◌, length, All, IsTrue};
 ghost use Rattle.std.specs.Option.{option_copied};
 ghost use Rattle.net_base.specs.Members.{IsIn};
 ghost use Rattle.net_base.specs.declared.ids.SwitchId.{SwitchId};
 ghost use Rattle.acyclic_numbering.specs.Heights.{IsEdge};
 ghost use Rattle.waypoint_evidence.specs.Befores.{Holds};
-ghost use Rattle.ordered_check.specs.Judged.{IsLeastOf, lesser, HasEdgeUp, HasStray, Strays, IsWayRound};
+ghost use Rattle.check_reasons.specs.Least.{IsLeastOf};
+ghost use Rattle.ordered_check.specs.Judged.{HasEdgeUp, HasStray, Strays, IsWayRound};
 
 use acyclic_numbering::{Edge, Numbering, lowers};
+use check_reasons::lesser;
 use net_base::SwitchId;
 use waypoint_evidence::{Before, begins, meets};
-
-/// The lesser of two switches, where there are two.
-fn lesser(one: Option<SwitchId>, other: Option<SwitchId>) -> Option<SwitchId>
-    ensures { result ≡ lesser one other }
-{
-    match one {
-        None => other,
-        Some(s) => match other {
-            None => one,
-            Some(t) => { if t.0 < s.0 { other } else { one } }
-        },
-    }
-}
 
 /// The least of the switches from which a step goes to no lower number.
 pub(crate) fn least_not_lower(numbering: &Numbering, steps: &[Edge]) -> Option<SwitchId>

@@ -1,17 +1,17 @@
 // The positions of the chains of a class that before sets don't guard.
-ghost use Rattle.std.specs.Prelude.{◌≡◌, ◌↔◌, ◌<◌, ◌≤◌, length, drop, flat_map, slice_get, Some, None, All, IsTrue, IfSome, IfNone};
-ghost use Rattle.std.specs.Option.{option_copied};
+ghost use Rattle.std.specs.Prelude.{◌≡◌, ◌<◌, ◌≤◌, length, None, All, IfSome, IfNone};
 ghost use Rattle.net_base.specs.Members.{IsIn};
 ghost use Rattle.acyclic_numbering.specs.Heights.{IsEdge};
 ghost use Rattle.dest_classes.specs.Classes.{class_count};
 ghost use Rattle.demands.specs.Duties.{duties_of};
 ghost use Rattle.certificates.specs.Ordered.{chain_positions, positions};
 ghost use Rattle.check_reasons.specs.Numbered.{IsNumbered};
-ghost use Rattle.ordered_check.specs.Judged.{IsWayRound, sets_of, set_before, AreGuardedBelow, IsFirstWayRound};
+ghost use Rattle.check_reasons.specs.Positions.{position_count, sets_of};
+ghost use Rattle.ordered_check.specs.Judged.{IsWayRound, AreGuardedBelow, IsFirstWayRound};
 
 use crate::least::least_way_round;
 use acyclic_numbering::Edge;
-use check_reasons::NumberedClass;
+use check_reasons::{NumberedClass, earlier_set, from_place, set_at};
 use demands::Duties;
 use net_base::SwitchId;
 use waypoint_evidence::Before;
@@ -21,28 +21,6 @@ use waypoint_evidence::Before;
 pub(crate) struct WayRound {
     pub(crate) waypoint: SwitchId,
     pub(crate) switch: SwitchId,
-}
-
-/// The before set at a place of a list of their numbers.
-fn set_at<'a>(befores: &'a [Before], indices: &[u64], place: usize) -> &'a Before
-    requires place { place < length indices.now }
-    requires indices { All (λ i. i < length befores.now) indices.now }
-    ensures { slice_get (sets_of befores.now indices.now) place ≡ Some result.now }
-{
-    &befores[indices[place] as usize]
-}
-
-/// The before set at the place before, if one is before it.
-fn earlier_set<'a>(befores: &'a [Before], indices: &[u64], place: usize) -> Option<&'a Before>
-    requires place { place < length indices.now }
-    requires indices { All (λ i. i < length befores.now) indices.now }
-    ensures { option_copied result ≡ set_before (sets_of befores.now indices.now) place }
-{
-    if place == 0 {
-        None
-    } else {
-        Some(set_at(befores, indices, place - 1))
-    }
 }
 
 /// The first waypoint of a chain that isn't guarded, where the first numbers are those of its before sets.
@@ -77,32 +55,6 @@ fn way_round_chain(
     None
 }
 
-/// The numbers from a place on.
-fn from_place(indices: &[u64], place: usize) -> &[u64]
-    requires { place ≤ length indices.now }
-    ensures { result.now ≡ drop place indices.now }
-{
-    &indices[place..]
-}
-
-/// Whether there are so many positions in the chains of a class.
-pub(crate) fn has_positions(duties: &Duties, numbered: NumberedClass, count: usize) -> bool
-    requires number { numbered.number < class_count duties.now.classes }
-    requires class { IsNumbered duties.now.classes numbered }
-    ensures { IsTrue result ↔ (count ≡ length (flat_map (λ chain. chain) (duties_of duties.now.demands numbered.class.entry numbered.class.first).chains)) }
-{
-    let number = numbered.number;
-    let mut left = count;
-    for i in 0..duties.chains(number) {
-        let chain = duties.chain(number, i);
-        if chain.len() > left {
-            return false;
-        }
-        left -= chain.len();
-    }
-    left == 0
-}
-
 /// The first waypoint of the chains of a class that isn't guarded, where these are the numbers of its before sets.
 pub(crate) fn first_way_round(
     steps: &[Edge],
@@ -118,7 +70,7 @@ pub(crate) fn first_way_round(
     requires number { numbered.number < class_count duties.now.classes }
     requires class { IsNumbered duties.now.classes numbered }
     requires indices { All (λ i. i < length befores.now) indices.now }
-    requires count { length indices.now ≡ length (flat_map (λ chain. chain) (duties_of duties.now.demands numbered.class.entry numbered.class.first).chains) }
+    requires count { length indices.now ≡ position_count (duties_of duties.now.demands numbered.class.entry numbered.class.first).chains }
     ensures none { IfNone result (AreGuardedBelow (IsWayRound numbered.class.entry.switch (IsEdge steps.now) (λ s. IsIn s leaving.now))
         (positions (duties_of duties.now.demands numbered.class.entry numbered.class.first).chains (sets_of befores.now indices.now)) (length indices.now)) }
     ensures some { IfSome result (IsFirstWayRound (IsWayRound numbered.class.entry.switch (IsEdge steps.now) (λ s. IsIn s leaving.now))

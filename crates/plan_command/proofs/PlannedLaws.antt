@@ -12,7 +12,7 @@ use Rattle.update_model.specs.declared.Change.{Change}
 use Rattle.certificates.specs.Certified.{classes_for}
 use Rattle.certificates.specs.Trees.{IsTreeUpdate}
 use Rattle.certificates.specs.declared.Plan.{Plan}
-use Rattle.plan_classes.specs.SameClasses.{HasSameClasses}
+use Rattle.table_difference.specs.SameClasses.{HasSameClasses}
 use Rattle.plan_format.specs.Plans.{plan_in}
 use Rattle.plan_text.specs.PlanText.{plan_text}
 use Rattle.round_planner.specs.Search.{Aim, EndsOrdered, EndsStuck, single_rounds}

@@ -14,7 +14,7 @@ use Rattle.certificates.specs.Consistent.{IsConsistent}
 use Rattle.certificates.specs.Trees.{IsTreeUpdate}
 use Rattle.certificates.specs.declared.Plan.{Plan}
 use Rattle.check_reasons.specs.declared.reason.Reason.TheVariants.{EndBreaks}
-use Rattle.plan_classes.specs.SameClasses.{HasSameClasses, classes_before}
+use Rattle.table_difference.specs.SameClasses.{HasSameClasses, classes_before}
 use Rattle.round_planner.specs.Search.{Aim}
 use Rattle.round_planner.specs.Ends.{aim_of, IsPlanOf, AreStuck}
 use Rattle.two_phase.specs.Laws.{FitsTwoPhase}

@@ -5,8 +5,9 @@ ghost use Rattle.path_walk.specs.UserConfigs.{IsUserConfig};
 ghost use Rattle.certificates.specs.Certified.{IsCertified, classes_for};
 ghost use Rattle.certificates.specs.Trees.{IsTreeUpdate};
 ghost use Rattle.certificates.specs.Valid.{IsValidPlan};
-ghost use Rattle.plan_classes.specs.SameClasses.{HasSameClasses};
-ghost use Rattle.round_planner.specs.Ends.{AreStuck, MayBeTried};
+ghost use Rattle.table_difference.specs.SameClasses.{HasSameClasses};
+ghost use Rattle.table_difference.specs.Tried.{AreTried};
+ghost use Rattle.round_planner.specs.Ends.{AreStuck};
 ghost use Rattle.two_phase.specs.Plans.{AreTooFew, IsFirstTooSmall};
 ghost use Rattle.command_base.specs.Judgements.{SaysWhyNot, most_classes};
 ghost use Rattle.certificates.specs.Updates.{task_for};
@@ -126,7 +127,7 @@ fn two_phase_reply(alloc: Global, files: &UpdateFiles, tried: &Rounds) -> Result
     requires new { IsUserConfig files.now.net (rules_of_all files.now.new) }
     requires good { EndsAreGood (meaning_of files.now) }
     requires stuck { AreStuck (update_aim (meaning_of files.now)) (rules_of_all files.now.old) tried.now }
-    requires tried { MayBeTried files.now.net tried.now }
+    requires tried { AreTried files.now.net tried.now }
     ensures { IfOk result (λ r. SaysSearched (meaning_of files.now) (answer_of r)) }
 {
     match two_phase(alloc, &files.net, &files.old, &files.new, tried) {

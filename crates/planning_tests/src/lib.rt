@@ -12,11 +12,11 @@ mod evidence_store_tests;
 #[cfg(test)]
 mod parts;
 #[cfg(test)]
+mod round_tables_tests;
+#[cfg(test)]
 mod table_difference_tests;
 #[cfg(test)]
 mod tag_allocator_tests;
-#[cfg(test)]
-mod trial_tables_tests;
 #[cfg(test)]
 mod two_phase_tests;
 #[cfg(test)]

@@ -6,7 +6,7 @@ use Rattle.dest_classes.specs.Classes.{class_count}
 use Rattle.demands.specs.Duties.{DemandView}
 use Rattle.update_model.specs.Remaining.{remaining}
 use Rattle.certificates.specs.Trees.{IsTreeUpdate}
-use Rattle.plan_classes.specs.SameClasses.{classes_before}
+use Rattle.table_difference.specs.SameClasses.{classes_before}
 use Rattle.ring_sample.specs.Ring.{ring_network, ring_tables, ring_demands}
 use Rattle.ring_sample.proofs.Tree.{ring_tree, class_count_is}
 use Rattle.ring_sample.proofs.Changes.{changes_are}

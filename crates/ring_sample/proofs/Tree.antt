@@ -25,8 +25,8 @@ use Rattle.demands.specs.Good.{HasGoodPath, HasGoodPaths}
 use Rattle.certificates.specs.Updates.{Task}
 use Rattle.certificates.specs.Certified.{classes_for, blocks_of}
 use Rattle.certificates.specs.Trees.{IsTreeUpdate, MatchesPrefixAlone, AreApart, LeavesOrStays}
-use Rattle.plan_classes.specs.SameClasses.{every_address}
-use Rattle.plan_classes.proofs.BoundaryLaws.{same_boundaries}
+use Rattle.table_difference.specs.SameClasses.{every_address}
+use Rattle.table_difference.proofs.BoundaryLaws.{same_boundaries}
 use Rattle.ring_sample.specs.Ring.{below, destinations, others, ring_stop, ring_network, ring_prefix, ring_rule, ring_table, ring_tables, ring_demand, ring_demands}
 use Rattle.ring_sample.proofs.Ranges.{in_range, from_range}
 use Rattle.ring_sample.proofs.Ways.{IsWay, IsFar, next_way, back_way, ahead, next_ahead, back, behind, back_behind}

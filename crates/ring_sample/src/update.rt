@@ -6,7 +6,7 @@ ghost use Rattle.command_base.specs.Updates.{meaning_of};
 ghost use Rattle.dest_classes.specs.Classes.{class_count};
 ghost use Rattle.update_model.specs.Remaining.{remaining};
 ghost use Rattle.certificates.specs.Trees.{IsTreeUpdate};
-ghost use Rattle.plan_classes.specs.SameClasses.{classes_before};
+ghost use Rattle.table_difference.specs.SameClasses.{classes_before};
 ghost use Rattle.ring_sample.specs.Ring.{ring_network, ring_tables, ring_demands, ring_update as the_ring};
 
 use crate::configuration::configuration_text;

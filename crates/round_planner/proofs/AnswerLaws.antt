@@ -12,10 +12,11 @@ use Rattle.certificates.specs.Trees.{IsTreeUpdate}
 use Rattle.certificates.specs.Valid.{IsValidPlan}
 use Rattle.certificates.specs.declared.Plan.{Plan}
 use Rattle.evidence_store.specs.Stored.{IsStored}
-use Rattle.plan_classes.specs.SameClasses.{HasSameClasses, classes_before, MakeNoClasses}
+use Rattle.table_difference.specs.SameClasses.{HasSameClasses, classes_before, MakeNoClasses}
 use Rattle.round_planner.specs.Search.{Aim}
 use Rattle.round_planner.specs.Searching.{SearchState, IsEnded, answer_by}
-use Rattle.round_planner.specs.Ends.{aim_of, IsSearched, OfPlan, OfStuck, MayBeTried, IsNotStuck}
+use Rattle.table_difference.specs.Tried.{AreTried}
+use Rattle.round_planner.specs.Ends.{aim_of, IsSearched, OfPlan, OfStuck, IsNotStuck}
 use Rattle.round_planner.proofs.OrderLaws.{plan_searched, now_valid, now_certified, now_classes, now_count, rounds_stuck, rounds_tried, tree_not_stuck}
 
 module _ (aim : Aim) (old : List (List Rule)) (classes_are : aim.classes ≡ classes_before aim.net old aim.new aim.demands) (net : IsNetwork aim.net) (old_user : IsUserConfig aim.net old)
@@ -24,7 +25,7 @@ module _ (aim : Aim) (old : List (List Rule)) (classes_are : aim.classes ≡ cla
   answer_searched true (changes, at, ends) = plan_searched aim old classes_are net old_user new_user s changes at ends
   answer_searched false (changes, at, ends) = rounds_stuck aim old classes_are net old_user new_user s changes at ends
 
-  pub answer_tried : (none : Bool) → IsEnded aim old s none → OfStuck (MayBeTried aim.net) (answer_by s none)
+  pub answer_tried : (none : Bool) → IsEnded aim old s none → OfStuck (AreTried aim.net) (answer_by s none)
   answer_tried true (changes, at, ends) = tt
   answer_tried false (changes, at, ends) = rounds_tried aim old classes_are net old_user new_user s changes at
 

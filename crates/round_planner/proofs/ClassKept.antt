@@ -4,7 +4,7 @@ use Rattle.std.specs.Prelude.{slice_get, Some}
 use Rattle.net_base.specs.Places.{stop_of}
 use Rattle.dest_classes.specs.Classes.{ClassList, IsClass, boundaries}
 use Rattle.dest_classes.specs.declared.Class.{Class}
-use Rattle.plan_classes.specs.SameClasses.{HasSameClasses}
+use Rattle.table_difference.specs.SameClasses.{HasSameClasses}
 
 pub class_kept : (a b : ClassList) → HasSameClasses a b → (n : ℕ) (class : Class) → IsClass a n class → IsClass b n class
 class_kept a b same n class is = record {

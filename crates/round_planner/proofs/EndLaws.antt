@@ -40,11 +40,11 @@ use Rattle.certificates.specs.declared.Plan.{Plan}
 use Rattle.dest_classes.proofs.MapLaws.{number_fits}
 use Rattle.dest_classes.specs.Classes.{class_count}
 use Rattle.evidence_store.specs.Stored.{IsStored}
-use Rattle.plan_classes.specs.SameClasses.{HasSameClasses, classes_before, BringNoPrefix, MakeNoClasses}
-use Rattle.trial_tables.specs.Trials.{single, HasRoomAlone}
+use Rattle.table_difference.specs.SameClasses.{HasSameClasses, classes_before, BringNoPrefix, MakeNoClasses}
+use Rattle.round_tables.specs.Trials.{single, HasRoomAlone}
 use Rattle.round_planner.specs.Search.{Aim, update_by, single_rounds, IsFirstQualifying, AreFirstQualifying}
 use Rattle.round_planner.specs.Standing.{Stands}
-use Rattle.round_planner.specs.Ends.{MayBeTried}
+use Rattle.table_difference.specs.Tried.{AreTried}
 use Rattle.round_planner.proofs.ClassKept.{class_kept}
 use Rattle.round_planner.proofs.SameRound.{IsSameRound, same_back, same_alone, held_same, need_same}
 use Rattle.round_planner.proofs.StandingLaws.{length_rounds}
@@ -244,7 +244,7 @@ module _ (aim : Aim) (old : List (List Rule)) (net : IsNetwork aim.net) (old_use
   sum_singles [] = refl
   sum_singles (c ∷ cs) = let first = sum_by-cons length (c ∷ []) (single_rounds cs) in let rest = sum_singles cs in omega arith
 
-  pub may_be_tried : MayBeTried aim.net u.rounds
+  pub may_be_tried : AreTried aim.net u.rounds
   may_be_tried = record {
     few = (let count = length_singles in let all = found_count in let few = found_few in omega arith);
     single = single_each changes;

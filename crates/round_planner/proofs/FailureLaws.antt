@@ -1,6 +1,6 @@
 -- A failure of a change stands while nothing touches what it rests on.
 use Rattle.std.proofs.Common.{◌≡◌, ◌≢◌, ◌↔◌, ℕ, zero, suc, ◌<◌, ◌≤◌, cond, List, [], ◌∷◌, length, sym, ◌∙◌, subst, ap, inl, inr, arith, length-set, get_or-set_other}
-use Rattle.std.specs.Prelude.{◌==◌, not, map}
+use Rattle.std.specs.Prelude.{◌==◌, not, map, IsTrue}
 use Rattle.std.specs.List.{AllByRecursion}
 use Rattle.std.proofs.lemmas.Bool.{cases_eq, eq-eqb, cond-true, cond_both}
 use Rattle.net_base.proofs.MemberLaws.{each_append, each_filter, each_get_or, each_set, each_weaker}
@@ -20,17 +20,19 @@ use Rattle.update_model.specs.declared.Change.{Change}
 use Rattle.update_model.specs.declared.Change.TheVariants.{Insert, Delete, Replace}
 use Rattle.update_model.proofs.ChangeLaws.{rules_at-after_change}
 use Rattle.certificates.specs.Certified.{KeepsVlan}
+use Rattle.check_reasons.specs.Touched.{may_cover}
+use Rattle.check_reasons.proofs.TouchLaws.{not_covered}
 use Rattle.mixed_walks.specs.Walks.{TablesKeepVlans}
-use Rattle.trial_tables.specs.Trials.{TrialState, single, HasRoomAlone, IsSettled}
-use Rattle.trial_tables.proofs.TrialLaws.{changes_here, changes_there}
-use Rattle.trial_tables.proofs.AloneLaws.{alone_clear}
+use Rattle.mixed_walks.proofs.PlaceLaws.{on_walk_vlan}
+use Rattle.round_tables.specs.Trials.{TrialState, single, HasRoomAlone, IsSettled}
+use Rattle.round_tables.proofs.TrialLaws.{changes_here, changes_there}
+use Rattle.round_tables.proofs.AloneLaws.{alone_clear}
 use Rattle.round_planner.specs.Search.{Aim, duties_in, CanBeSafe, Qualifies}
-use Rattle.round_planner.specs.Failures.{HasRoomThere, IsVisited, CoversClass, IsTouched, IsApart, IsFailure}
+use Rattle.round_planner.specs.Failures.{HasRoomThere, IsVisited, IsTouched, IsApart, IsFailure}
 use Rattle.round_planner.specs.declared.failing.Failure.{Failure}
 use Rattle.round_planner.specs.declared.failing.Failure.TheVariants as failure
 use Rattle.round_planner.proofs.CoveringLaws.{covering_kept, possible_by_covering}
 use Rattle.check_reasons.proofs.SameWalks.{same_on_walk, same_safe}
-use Rattle.round_planner.proofs.StillLaws.{walk_vlan, not_covered}
 
 -- the rules of another switch than the change's stay
 other_rules : (d : Change) (tables : List (List Rule)) (s : SwitchId) → s.0 ≢ (switch_of d).0 → rules_at (tables_after_change d tables) s ≡ rules_at tables s
@@ -109,10 +111,10 @@ module _ (aim : Aim) (tables : List (List Rule)) (c : Change) (keeps_rules : Tab
     same_covering place on =
         elim (cases_eq place.switch.0 (switch_of d).0) [
           | inl e ↦
-              let off : ¬ CoversClass d class = apart place on (same_switch place.switch (switch_of d) e) in
+              let off : ¬ IsTrue (may_cover d class) = apart place on (same_switch place.switch (switch_of d) e) in
               ap (covering (header_at place class.first)) (rules_at-after_change d tables place.switch within
               ∙ cond-true ((switch_of d).0 == place.switch.0) (rules_after_change d (rules_at tables place.switch)) (rules_at tables place.switch) (eq-eqb (switch_of d).0 place.switch.0 (sym e)))
-              ∙ covering_kept (header_at place class.first) d (not_covered d class place (walk_vlan u 0 class.first class.entry keeps_rules (λ j _. keep_rounds j) place on) off) (rules_at tables place.switch)
+              ∙ covering_kept (header_at place class.first) d (not_covered d class place (on_walk_vlan u 0 class.first class.entry keeps_rules (λ j _. keep_rounds j) place on) off) (rules_at tables place.switch)
           | inr ne ↦ ap (covering (header_at place class.first)) (other_rules d tables place.switch ne)
         ]
 

@@ -26,12 +26,12 @@ use Rattle.certificates.specs.declared.Shared.{Shared}
 use Rattle.certificates.specs.declared.OrderedPick.{OrderedPick}
 use Rattle.certificates.specs.declared.OrderedEvidence.{OrderedEvidence}
 use Rattle.check_reasons.specs.Touched.{touches}
+use Rattle.check_reasons.proofs.SameWalks.{was_safe}
 use Rattle.check_reasons.proofs.TouchLaws.{possible_before}
-use Rattle.class_evidence.specs.Found.{IsSafeEvidence}
+use Rattle.evidence_store.specs.Found.{IsSafeEvidence}
 use Rattle.evidence_store.specs.Stored.{IsStored}
 use Rattle.evidence_store.proofs.ListLaws.{chain_push}
 use Rattle.ordered_check.proofs.MeaningLaws.{one_in_force, one_meaning, at_place}
-use Rattle.ordered_check.proofs.StandLaws.{still_safe}
 use Rattle.round_planner.specs.declared.judging.Found.{Found}
 use Rattle.round_planner.specs.Search.{Aim, duties_in}
 use Rattle.round_planner.specs.declared.failing.UnsafeClass.{UnsafeClass}
@@ -93,7 +93,7 @@ module _ (aim : Aim) (u : Rollout) (e : OrderedEvidence) (k : ℕ) (c : Change) 
                     cert.in_force.latest other i same (each_at (λ (p : OrderedPick). (0 < p.round) × (p.round ≤ suc j)) e.picks other h.picks i).1;
               };
               meant = cert.meant;
-              safe = still_safe u j class.first class.entry (possible_before u j class.first h.within (h.good j (omega arith)) (h.good (suc j) (omega arith)) h.clear off)
+              safe = was_safe u u j (suc j) class.first class.entry (λ place _. possible_before u j class.first h.within (h.good j (omega arith)) (h.good (suc j) (omega arith)) h.clear off place)
                   (duties_in aim class) cert.numbers cert.sets cert.safe;
             }
       ] next

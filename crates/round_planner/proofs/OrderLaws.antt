@@ -14,10 +14,11 @@ use Rattle.certificates.specs.Valid.{IsValidPlan}
 use Rattle.certificates.specs.declared.Evidence.TheVariants.{Ordered}
 use Rattle.certificates.specs.declared.Plan.{Plan}
 use Rattle.evidence_store.specs.Stored.{IsStored}
-use Rattle.plan_classes.specs.SameClasses.{HasSameClasses, classes_before, MakeNoClasses}
+use Rattle.table_difference.specs.SameClasses.{HasSameClasses, classes_before, MakeNoClasses}
 use Rattle.round_planner.specs.Search.{Aim, single_rounds, EndsOrdered, EndsStuck}
 use Rattle.round_planner.specs.Searching.{SearchState, IsAt}
-use Rattle.round_planner.specs.Ends.{aim_of, IsPlanOf, AreStuck, MayBeTried}
+use Rattle.table_difference.specs.Tried.{AreTried}
+use Rattle.round_planner.specs.Ends.{aim_of, IsPlanOf, AreStuck}
 use Rattle.round_planner.proofs.EndLaws.{plan_valid, plan_classes, plan_certified, plan_count, may_be_tried}
 use Rattle.round_planner.proofs.TreeSearch.{not_stuck}
 
@@ -73,8 +74,8 @@ module _ (aim : Aim) (old : List (List Rule)) (classes_are : aim.classes ≡ cla
     pub rounds_stuck : EndsStuck aim old changes → AreStuck (aim_of aim.net old aim.new aim.demands) old s.rounds
     rounds_stuck ends = subst (λ (a : Aim). AreStuck a old s.rounds) same_aim (record { changes = changes; rounds_are = at.rounds; ends = ends })
 
-    pub rounds_tried : MayBeTried aim.net s.rounds
-    rounds_tried = subst (MayBeTried aim.net) (sym at.rounds) (may_be_tried aim old net old_user new_user changes at.stands.found)
+    pub rounds_tried : AreTried aim.net s.rounds
+    rounds_tried = subst (AreTried aim.net) (sym at.rounds) (may_be_tried aim old net old_user new_user changes at.stands.found)
 
     -- the task of no rounds
     abbrev pub no_rounds : Task

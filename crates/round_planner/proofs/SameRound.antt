@@ -19,8 +19,8 @@ use Rattle.acyclic_numbering.specs.Heights.{number_of, IsHeight}
 use Rattle.waypoint_evidence.specs.Befores.{IsBeforeSet, IsGuard, IsLeastBefore}
 use Rattle.certificates.specs.Steps.{IsMixedStep, MayLeave, MayDrop}
 use Rattle.certificates.specs.Ordered.{Position, positions, IsSafe}
-use Rattle.class_evidence.specs.Found.{IsLeastEvidence}
-use Rattle.trial_tables.specs.Trials.{single}
+use Rattle.evidence_store.specs.Found.{IsLeastEvidence}
+use Rattle.round_tables.specs.Trials.{single}
 use Rattle.round_planner.specs.Search.{Aim, update_by, single_rounds}
 
 -- ---- what may happen

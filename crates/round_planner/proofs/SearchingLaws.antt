@@ -26,7 +26,7 @@ use Rattle.mixed_walks.specs.Walks.{IsRoundOf}
 use Rattle.mixed_walks.proofs.PlaceLaws.{tables_keep}
 use Rattle.evidence_store.specs.State.{StoreState}
 use Rattle.evidence_store.specs.Stored.{IsStored, no_evidence}
-use Rattle.trial_tables.specs.Trials.{TrialState, single, HasRoomAlone, IsSettled, IsTrying}
+use Rattle.round_tables.specs.Trials.{TrialState, single, HasRoomAlone, IsSettled, IsTrying}
 use Rattle.round_planner.specs.declared.judging.Found.{Found}
 use Rattle.round_planner.specs.Search.{Aim, duties_in, update_by, single_rounds, CanBeSafe, Qualifies, IsFirstQualifying}
 use Rattle.round_planner.specs.Standing.{Stands, IsCertifiedClass, IsNextRound, AreSafeBelow, HasUnsafe, AreWithPicks}

@@ -19,7 +19,7 @@ use Rattle.certificates.specs.Ordered.{IsMeant, OrderedCertificate}
 use Rattle.certificates.specs.Valid.{IsChain, IsValidNumbering, IsValidBefore}
 use Rattle.certificates.specs.declared.OrderedPick.{OrderedPick}
 use Rattle.certificates.specs.declared.OrderedEvidence.{OrderedEvidence}
-use Rattle.class_evidence.specs.Found.{IsSafeEvidence}
+use Rattle.evidence_store.specs.Found.{IsSafeEvidence}
 use Rattle.evidence_store.specs.Stored.{IsStored, no_evidence}
 use Rattle.round_planner.specs.declared.judging.Found.{Found}
 use Rattle.round_planner.specs.Search.{Aim, duties_in, update_by, evidence_until, single_rounds, IsFirstQualifying, AreFirstQualifying, HasPick, IsLeastPick}

@@ -1,17 +1,13 @@
 -- A class that the change of a round covers at no switch that the mixed walks of the round before come to: its walks and what keeps it safe stay.
-use Rattle.std.proofs.Common.{◌≡◌, ◌&&◌, ℕ, suc, ◌<◌, false, List, [], ◌∷◌, length, sym, subst, ap, inl, inr}
+use Rattle.std.proofs.Common.{◌≡◌, ℕ, suc, ◌<◌, false, List, [], ◌∷◌, length, sym, subst, inl, inr}
 use Rattle.std.specs.Prelude.{◌==◌, IsTrue}
 use Rattle.std.specs.List.{AllByRecursion}
-use Rattle.std.proofs.lemmas.Bool.{cases_Bool, and_parts, eqb-true}
-use Rattle.net_base.specs.Blocks.{in_block}
+use Rattle.std.proofs.lemmas.Bool.{eqb-true}
 use Rattle.net_base.specs.Members.{IsIn, IsSameSet}
-use Rattle.net_base.proofs.MemberLaws.{IsSubsequence_refl, each_from_in, in_from_filter, in_from_map}
+use Rattle.net_base.proofs.MemberLaws.{IsSubsequence_refl, each_from_in, in_from_filter}
 use Rattle.net_base.proofs.NameLaws.{same_switch}
-use Rattle.net_base.specs.declared.ids.Stop.{Stop}
-use Rattle.net_base.specs.declared.ids.Vlan.{Vlan}
 use Rattle.net_base.specs.declared.ids.Place.{Place}
-use Rattle.topology.proofs.LinkLaws.{ends_of}
-use Rattle.flow_rules.specs.Patterns.{covers, admits_port, admits_vlan}
+use Rattle.flow_rules.specs.Patterns.{covers}
 use Rattle.flow_rules.specs.Tables.{rules_at}
 use Rattle.path_walk.specs.Outcomes.{header_at}
 use Rattle.path_walk.specs.declared.Outcome.{Outcome}
@@ -22,38 +18,15 @@ use Rattle.update_model.specs.Mixtures.{Rollout, IsPossible, IsOnMixedWalk, tabl
 use Rattle.update_model.specs.declared.Change.{Change}
 use Rattle.update_model.proofs.OneRoundLaws.{next_tables}
 use Rattle.certificates.specs.Ordered.{IsSafe}
+use Rattle.check_reasons.specs.Touched.{may_cover}
+use Rattle.check_reasons.proofs.TouchLaws.{not_covered}
 use Rattle.mixed_walks.specs.Walks.{TablesKeepVlans, KeepVlansUpTo}
-use Rattle.mixed_walks.proofs.PlaceLaws.{on_walk_in}
-use Rattle.round_planner.specs.Failures.{CoversClass}
+use Rattle.mixed_walks.proofs.PlaceLaws.{on_walk_vlan}
 use Rattle.round_planner.proofs.CoveringLaws.{possible_alone}
 use Rattle.check_reasons.proofs.SameWalks.{was_on_walk, was_safe}
 
--- each place of a mixed walk has the VLAN of the entry
-module _ (u : Rollout) (k dst : ℕ) (entry : Place) (keeps_rules : TablesKeepVlans u.old) (keeps : KeepVlansUpTo u k) where
-  abbrev place_at : Stop → Place
-  place_at stop = record { switch = stop.switch; port = stop.port; vlan = entry.vlan }
-
-  pub walk_vlan : (place : Place) → IsOnMixedWalk u k dst entry place → place.vlan ≡ entry.vlan
-  walk_vlan place on =
-      elim (on_walk_in u k dst entry keeps_rules keeps place on) [
-        | inl e ↦ ap (λ (p : Place). p.vlan) e
-        | inr i ↦ (let (stop, _, e) = in_from_map place_at place (ends_of u.net.links) i in ap (λ (p : Place). p.vlan) e)
-      ]
-
--- a change that doesn't cover a class covers none of its packets
-pub not_covered : (c : Change) (class : Class) (place : Place) → place.vlan ≡ class.entry.vlan → ¬ CoversClass c class → covers (rule_of c).key.pattern (header_at place class.first) ≡ false
-not_covered c class place vlan_is off =
-    elim (cases_Bool (covers (rule_of c).key.pattern (header_at place class.first))) [
-      | inr none ↦ none
-      | inl on ↦
-          let p = (rule_of c).key.pattern in
-          let (first, prefix) = and_parts (admits_port p.in_port place.port && admits_vlan p.vlan place.vlan) (in_block p.dst class.first) on in
-          let vlan = (and_parts (admits_port p.in_port place.port) (admits_vlan p.vlan place.vlan) first).1 in
-          absurd (off (subst (λ (x : Vlan). IsTrue (admits_vlan p.vlan x)) vlan_is vlan, prefix))
-    ]
-
 module _ (u : Rollout) (k : ℕ) (class : Class) (c : Change) (less : k < length u.rounds) (good : IsGoodRound (tables_before u k) (round_after k u.rounds)) (round_is : round_after (suc k) u.rounds ≡ c ∷ [])
-    (keeps_rules : TablesKeepVlans u.old) (keeps : KeepVlansUpTo u k) (apart : (place : Place) → IsOnMixedWalk u k class.first class.entry place → place.switch ≡ switch_of c → ¬ CoversClass c class) where
+    (keeps_rules : TablesKeepVlans u.old) (keeps : KeepVlansUpTo u k) (apart : (place : Place) → IsOnMixedWalk u k class.first class.entry place → place.switch ≡ switch_of c → ¬ IsTrue (may_cover c class)) where
   none_covers : (place : Place) → IsOnMixedWalk u k class.first class.entry place
       → AllByRecursion (λ d. covers (rule_of d).key.pattern (header_at place class.first) ≡ false) (changes_at place.switch (round_after (suc k) u.rounds))
   none_covers place on =
@@ -61,9 +34,9 @@ module _ (u : Rollout) (k : ℕ) (class : Class) (c : Change) (less : k < length
       let (in_round, here) = in_from_filter (λ e. (switch_of e).0 == place.switch.0) d (round_after (suc k) u.rounds) i in
       let same : d ≡ c = elim (subst (IsIn d) round_is in_round) [ inl e ↦ e | inr none ↦ absurd none ] in
       let at : place.switch ≡ switch_of d = sym (same_switch (switch_of d) place.switch (eqb-true (switch_of d).0 place.switch.0 here)) in
-      let off : ¬ CoversClass c class = apart place on (subst (λ (x : Change). place.switch ≡ switch_of x) same at) in
+      let off : ¬ IsTrue (may_cover c class) = apart place on (subst (λ (x : Change). place.switch ≡ switch_of x) same at) in
       subst (λ (x : Change). covers (rule_of x).key.pattern (header_at place class.first) ≡ false) (sym same)
-      (not_covered c class place (walk_vlan u k class.first class.entry keeps_rules keeps place on) off))
+      (not_covered c class place (on_walk_vlan u k class.first class.entry keeps_rules keeps place on) off))
 
   was : (place : Place) → IsOnMixedWalk u k class.first class.entry place → (found : Outcome) → IsPossible u (suc k) class.first place found → IsPossible u k class.first place found
   was place on found possible =

@@ -1,15 +1,13 @@
 -- How the search of an update ends.
-use Rattle.std.specs.Prelude.{◌≡◌, ◌≤◌, List, length}
-use Rattle.std.specs.List.{AllByRecursion}
+use Rattle.std.specs.Prelude.{◌≡◌, List}
 use Rattle.topology.specs.Networks.{Network}
 use Rattle.flow_rules.specs.declared.rules.Rule.{Rule}
 use Rattle.demands.specs.Duties.{DemandView}
-use Rattle.update_model.specs.Ranges.{IsPlanChange}
 use Rattle.update_model.specs.declared.Change.{Change}
 use Rattle.certificates.specs.declared.Evidence.TheVariants as kind
 use Rattle.certificates.specs.declared.OrderedEvidence.{OrderedEvidence}
 use Rattle.certificates.specs.declared.Plan.{Plan}
-use Rattle.plan_classes.specs.SameClasses.{classes_before}
+use Rattle.table_difference.specs.SameClasses.{classes_before}
 use Rattle.round_planner.specs.declared.Ordered.{Ordered}
 use Rattle.round_planner.specs.declared.Ordered.TheVariants.{Rounds, Stuck}
 use Rattle.round_planner.specs.Search.{Aim, IsSearchPlan, EndsStuck, single_rounds}
@@ -45,12 +43,6 @@ OfPlan P (Stuck rounds) = Unit {0}
 abbrev pub OfStuck : (List (List Change) → Type 0) → Ordered → Type 0
 OfStuck P (Rounds plan) = Unit {0}
 OfStuck P (Stuck rounds) = P rounds
-
--- rounds that may stand among the tried ones of a plan: at most 4096, each of one change with numbers in range
-pub record MayBeTried (net : Network) (rounds : List (List Change)) : Type 0 where
-  pub few : length rounds ≤ 4096
-  pub single : AllByRecursion (λ round. length round ≡ 1) rounds
-  pub ranges : AllByRecursion (AllByRecursion (IsPlanChange net)) rounds
 
 -- the search isn't stuck
 abbrev pub IsNotStuck : Ordered → Type 0

@@ -1,11 +1,9 @@
 -- Why a change doesn't qualify, and what that rests on.
 use Rattle.std.specs.Prelude.{◌≡◌, ◌<◌, ◌≤◌, ℕ, Bool, true, false, List, [], ◌∷◌, length, map, slice_index_or, IsTrue, IfSome}
 use Rattle.std.specs.List.{AllByRecursion}
-use Rattle.net_base.specs.Blocks.{in_block}
 use Rattle.net_base.specs.declared.ids.SwitchId.{SwitchId}
 use Rattle.net_base.specs.declared.ids.Place.{Place}
 use Rattle.topology.specs.Networks.{Network, switch_count, capacity_of}
-use Rattle.flow_rules.specs.Patterns.{admits_vlan}
 use Rattle.flow_rules.specs.Tables.{IsClear, rules_at}
 use Rattle.flow_rules.specs.declared.rules.Rule.{Rule}
 use Rattle.dest_classes.specs.Classes.{IsClass}
@@ -15,8 +13,9 @@ use Rattle.update_model.specs.Mixtures.{IsMixture, IsOnMixedWalk, entries_needed
 use Rattle.update_model.specs.Remaining.{remaining}
 use Rattle.update_model.specs.declared.Change.{Change}
 use Rattle.certificates.specs.Certified.{KeepsVlan}
+use Rattle.check_reasons.specs.Touched.{may_cover}
 use Rattle.mixed_walks.specs.Walks.{TablesKeepVlans}
-use Rattle.trial_tables.specs.Trials.{single}
+use Rattle.round_tables.specs.Trials.{single}
 use Rattle.round_planner.specs.declared.failing.Failure.{Failure}
 use Rattle.round_planner.specs.declared.failing.Failure.TheVariants as failure
 use Rattle.round_planner.specs.declared.failing.UnsafeClass.{UnsafeClass}
@@ -48,18 +47,14 @@ IsFailure aim tables c (failure.Class f) = IsUnsafeClass aim tables c f
 
 -- ---- what it rests on
 
--- the change covers the packets of the class: its VLAN test admits their VLAN, and its prefix holds their address
-abbrev pub CoversClass : Change → Class → Type 0
-CoversClass d class = IsTrue (admits_vlan (rule_of d).key.pattern.vlan class.entry.vlan) × IsTrue (in_block (rule_of d).key.pattern.dst class.first)
-
 -- the change touches what a failure of a change at the switch rests on: its table, or the packets of the class at a marked switch
 abbrev pub IsTouched : SwitchId → Change → Failure → Type 0
 IsTouched s d failure.Table = (switch_of d).0 ≡ s.0
-IsTouched s d (failure.Class f) = IsVisited f.visited (switch_of d) × CoversClass d f.class
+IsTouched s d (failure.Class f) = IsVisited f.visited (switch_of d) × IsTrue (may_cover d f.class)
 
 -- while the change c is made no packet of the class comes to a switch where the change d covers it
 abbrev pub IsApart : Aim → List (List Rule) → Change → Class → Change → Type 0
-IsApart aim tables c class d = (place : Place) → IsOnMixedWalk (single aim.net tables c) 0 class.first class.entry place → place.switch ≡ switch_of d → ¬ CoversClass d class
+IsApart aim tables c class d = (place : Place) → IsOnMixedWalk (single aim.net tables c) 0 class.first class.entry place → place.switch ≡ switch_of d → ¬ IsTrue (may_cover d class)
 
 -- ---- the changes that remain
 

@@ -15,9 +15,9 @@ use Rattle.certificates.specs.Ordered.{IsSafe, IsMeant, OrderedCertificate}
 use Rattle.certificates.specs.Valid.{IsChain, IsPickBefore}
 use Rattle.certificates.specs.declared.OrderedPick.{OrderedPick}
 use Rattle.certificates.specs.declared.OrderedEvidence.{OrderedEvidence}
-use Rattle.class_evidence.specs.Found.{IsLeastEvidence}
+use Rattle.evidence_store.specs.Found.{IsLeastEvidence}
 use Rattle.evidence_store.specs.Stored.{IsEachOnce}
-use Rattle.trial_tables.specs.Trials.{single, HasRoomAlone}
+use Rattle.round_tables.specs.Trials.{single, HasRoomAlone}
 
 -- what a search is for: a network, the new tables, demands, and the classes
 pub record Aim : Type 0 where

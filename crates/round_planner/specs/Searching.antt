@@ -13,7 +13,7 @@ use Rattle.update_model.specs.declared.Change.{Change}
 use Rattle.certificates.specs.declared.Evidence.TheVariants as evidence
 use Rattle.certificates.specs.declared.Plan.{Plan}
 use Rattle.evidence_store.specs.State.{StoreState}
-use Rattle.trial_tables.specs.Trials.{TrialState, IsSettled, IsTrying}
+use Rattle.round_tables.specs.Trials.{TrialState, IsSettled, IsTrying}
 use Rattle.round_planner.specs.declared.Ordered.{Ordered}
 use Rattle.round_planner.specs.declared.Ordered.TheVariants.{Rounds, Stuck}
 use Rattle.round_planner.specs.declared.failing.Failure.{Failure}

@@ -15,7 +15,7 @@ use Rattle.certificates.specs.Ordered.{IsSafe, OrderedCertificate}
 use Rattle.certificates.specs.Valid.{IsChain, IsValidNumbering, IsValidBefore}
 use Rattle.certificates.specs.declared.OrderedPick.{OrderedPick}
 use Rattle.certificates.specs.declared.OrderedEvidence.{OrderedEvidence}
-use Rattle.class_evidence.specs.Found.{IsSafeEvidence}
+use Rattle.evidence_store.specs.Found.{IsSafeEvidence}
 use Rattle.evidence_store.specs.Stored.{IsWithPick}
 use Rattle.round_planner.specs.declared.judging.Found.{Found}
 use Rattle.round_planner.specs.declared.judging.Judged.{Judged}

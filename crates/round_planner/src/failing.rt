@@ -3,11 +3,11 @@ ghost use Rattle.std.specs.Prelude.{◌≡◌, ◌↔◌, ◌<◌, IsTrue};
 ghost use Rattle.std.specs.List.{AllByRecursion};
 ghost use Rattle.net_base.specs.declared.ids.SwitchId.{SwitchId as Switch};
 ghost use Rattle.update_model.specs.Changes.{switch_of};
-ghost use Rattle.round_planner.specs.Failures.{IsVisited, CoversClass, IsTouched};
+ghost use Rattle.round_planner.specs.Failures.{IsVisited, IsTouched};
 
 use acyclic_numbering::Edge;
+use check_reasons::may_cover;
 use dest_classes::Class;
-use flow_rules::admits_vlan;
 use net_base::SwitchId;
 use std::marker::Model;
 use update_model::Change;
@@ -85,14 +85,6 @@ pub(crate) fn visited_on(entry: SwitchId, steps: &[Edge]) -> Visited
     visited
 }
 
-/// Whether a change covers the packets of a class.
-fn covers_class(change: &Change, class: Class) -> bool
-    ensures { IsTrue result ↔ CoversClass change.now class }
-{
-    let pattern = change.rule().key.pattern;
-    admits_vlan(pattern.vlan, class.entry.vlan) && pattern.dst.has(class.first)
-}
-
 impl Failure {
     /// Whether a change that was made touches what this failure of a change at a switch rests on: its table,
     /// or the packets of the class at a switch that their mixed walks come to.
@@ -103,7 +95,7 @@ impl Failure {
         match self {
             Failure::Table => made.switch().0 == switch.0,
             Failure::Class(failing) => {
-                failing.visited.has(made.switch()) && covers_class(made, failing.class)
+                failing.visited.has(made.switch()) && may_cover(made, failing.class)
             }
         }
     }

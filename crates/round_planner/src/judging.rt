@@ -18,9 +18,9 @@ use crate::failing::{UnsafeClass, visited_on};
 use crate::goal::Goal;
 use acyclic_numbering::Numbering;
 use certificates::{OrderedEvidence, Shared};
-use class_evidence::{ClassEvidence, evidence_of, keeps_safe};
+use check_reasons::NumberedClass;
 use dest_classes::Class;
-use evidence_store::EvidenceStore;
+use evidence_store::{ClassEvidence, EvidenceStore, NamedEvidence, evidence_of, keeps_safe};
 use mixed_walks::WalkRoom;
 use net_base::Memory;
 use round_mix::Mixed;
@@ -98,11 +98,12 @@ fn use_keeps(
         goal.net,
         walk,
         goal.duties,
-        number,
-        class,
-        numbering_of(evidence, shared),
-        evidence.befores.list(),
-        shared.befores.list(),
+        NumberedClass { number, class },
+        NamedEvidence {
+            numbering: numbering_of(evidence, shared),
+            befores: evidence.befores.list(),
+            indices: shared.befores.list(),
+        },
     )
 }
 
@@ -163,7 +164,8 @@ fn judge_class(
     if is_kept(goal, walk, store, number, class) {
         return Ok(Judged::Kept);
     }
-    match evidence_of(alloc, goal.net, walk, goal.duties, number, class)? {
+    let numbered = NumberedClass { number, class };
+    match evidence_of(alloc, goal.net, walk, goal.duties, numbered)? {
         Some(evidence) => Ok(Judged::New(evidence)),
         None => Ok(Judged::Unsafe(UnsafeClass {
             class,

@@ -18,8 +18,9 @@ ghost use Rattle.certificates.specs.Certified.{IsCertified, classes_for};
 ghost use Rattle.certificates.specs.Laws.{task_of};
 ghost use Rattle.certificates.specs.Trees.{IsTreeUpdate};
 ghost use Rattle.certificates.specs.Valid.{IsValidPlan};
-ghost use Rattle.plan_classes.specs.SameClasses.{HasSameClasses, classes_before};
-ghost use Rattle.round_planner.specs.Ends.{aim_of, IsSearched, OfPlan, OfStuck, MayBeTried, IsNotStuck};
+ghost use Rattle.table_difference.specs.SameClasses.{HasSameClasses, classes_before};
+ghost use Rattle.table_difference.specs.Tried.{AreTried};
+ghost use Rattle.round_planner.specs.Ends.{aim_of, IsSearched, OfPlan, OfStuck, IsNotStuck};
 
 use crate::goal::Goal;
 use crate::searching::Search;
@@ -28,8 +29,8 @@ use demands::Duties;
 use dest_classes::ClassMap;
 use flow_rules::Config;
 use net_base::Memory;
-use plan_classes::rounds_make_no_classes;
 use std::alloc::Global;
+use table_difference::classes::rounds_make_no_classes;
 use topology::Net;
 use update_model::Rounds;
 
@@ -70,7 +71,7 @@ pub fn order(
 
     // One round for each change that remained at first.
     ensures count { IfOk result (OfPlan (λ p. length p.rounds ≡ length (remaining (rules_of_all old.now) (rules_of_all new.now)))) }
-    ensures tried { IfOk result (OfStuck (MayBeTried net.now)) }
+    ensures tried { IfOk result (OfStuck (AreTried net.now)) }
 
     // The search of an update of destination trees isn't stuck.
     ensures tree { IsTreeUpdate (record { update = record { net = net.now; old = rules_of_all old.now; new = rules_of_all new.now; demands = duties.now.demands }; rounds = [] })

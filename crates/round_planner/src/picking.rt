@@ -6,8 +6,7 @@ ghost use Rattle.round_planner.specs.declared.judging.Found.{Found as FoundView}
 ghost use Rattle.round_planner.specs.Standing.{AreWithPicks};
 
 use crate::judging::Found;
-use class_evidence::ClassEvidence;
-use evidence_store::EvidenceStore;
+use evidence_store::{ClassEvidence, EvidenceStore};
 use net_base::Memory;
 
 /// The store with a pick more of the round for each class for which new evidence was found.

@@ -9,7 +9,7 @@ ghost use Rattle.dest_classes.specs.Classes.{class_count};
 ghost use Rattle.update_model.specs.Changes.{tables_after};
 ghost use Rattle.update_model.specs.Remaining.{remaining};
 ghost use Rattle.update_model.specs.declared.Change.{Change as ChangeOf};
-ghost use Rattle.trial_tables.specs.Trials.{IsTrying};
+ghost use Rattle.round_tables.specs.Trials.{IsTrying};
 ghost use Rattle.round_planner.specs.declared.judging.Found.{Found as FoundOf};
 ghost use Rattle.round_planner.specs.Search.{IsFirstQualifying, update_by};
 ghost use Rattle.round_planner.specs.Standing.{Stands, AreSafeBelow};
@@ -28,11 +28,11 @@ use evidence_store::EvidenceStore;
 use flow_rules::Config;
 use mixed_walks::WalkRoom;
 use net_base::Memory;
+use round_tables::TrialTables;
 use std::alloc::Global;
 use std::marker::Model;
 use std::mem::replace;
 use table_difference::remaining;
-use trial_tables::TrialTables;
 use update_model::{Change, Rounds};
 
 /// A search: the tables so far with what is prepared of them, the rounds that led to them, and their evidence.

@@ -4,3 +4,5 @@ pub mod EndLaws
 pub mod LoadLaws
 pub mod ApplyLaws
 pub mod PassLaws
+pub mod AloneLaws
+pub mod TrialLaws

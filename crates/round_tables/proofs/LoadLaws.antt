@@ -28,8 +28,8 @@ use Rattle.check_reasons.specs.Ranks.{IsBefore, rank_of, round_start}
 use Rattle.check_reasons.specs.Reasons.{IsBadChange, IsUnclear}
 use Rattle.check_reasons.specs.Reasons as why
 use Rattle.check_reasons.specs.Passed.{IsFirstFrom}
-use Rattle.round_tables.specs.Present.{PresentState, IsMixed, mix_at, is_touched, table_at, room_of, HasRoom}
-use Rattle.round_tables.specs.Loading.{rules_there, AreWithin, IsFirstFault, IsFirstUnclear, IsLoadedTo, Keeps}
+use Rattle.round_tables.specs.Present.{PresentState, IsMixed, mix_at, is_touched, table_at, room_of, HasRoom, rules_there}
+use Rattle.round_tables.specs.Loading.{AreWithin, IsFirstFault, IsFirstUnclear, IsLoadedTo, Keeps}
 use Rattle.check_reasons.specs.declared.reason.Reason.TheVariants.{BadChange, Ambiguous}
 use Rattle.round_tables.proofs.PresentLaws.{switch_n, set_each}
 use Rattle.round_tables.proofs.FirstReasons.{first_in_round}
@@ -250,17 +250,17 @@ pub clear_mixed : (rules : List Rule) (changes : List Change) (mixed : MixedStat
 clear_mixed rules changes mixed h = (mixed_good rules changes mixed h).1
 
 module _ (round : List Change) (p q : PresentState) (s : SwitchId) (keeps : Keeps p q) where
-  same_there : (o : SwitchId) → rules_there q o ≡ rules_there p o
+  same_there : (o : SwitchId) → rules_there q.tables o ≡ rules_there p.tables o
   same_there o = ap (λ (ts : List TableState). rules_at (rules_of_all ts) o) keeps.tables
 
   -- one more switch is good
-  good_next : ((o : SwitchId) → o.0 < s.0 → AreGood (rules_there p o) (changes_at o round)) → AreGood (rules_there p s) (changes_at s round)
-      → (o : SwitchId) → o.0 < s.0 + 1 → AreGood (rules_there q o) (changes_at o round)
+  good_next : ((o : SwitchId) → o.0 < s.0 → AreGood (rules_there p.tables o) (changes_at o round)) → AreGood (rules_there p.tables s) (changes_at s round)
+      → (o : SwitchId) → o.0 < s.0 + 1 → AreGood (rules_there q.tables o) (changes_at o round)
   good_next good here o less =
       subst (λ (rs : List Rule). AreGood rs (changes_at o round)) (sym (same_there o))
       (elim (cases_lt o.0 s.0) [
         | inl below ↦ good o below
-        | inr more ↦ (let e : s.0 ≡ o.0 = omega arith in subst (λ (n : ℕ). AreGood (rules_there p (switch_n n)) (changes_at (switch_n n) round)) e here)
+        | inr more ↦ (let e : s.0 ≡ o.0 = omega arith in subst (λ (n : ℕ). AreGood (rules_there p.tables (switch_n n)) (changes_at (switch_n n) round)) e here)
       ])
 
   first_kept : (a : SwitchId) → IsFirstUnclear (rules_of_all p.tables) round a → IsFirstUnclear (rules_of_all q.tables) round a
@@ -268,34 +268,34 @@ module _ (round : List Change) (p q : PresentState) (s : SwitchId) (keeps : Keep
 
   -- the next switch is prepared
   pub loaded_next : (unclear : Option SwitchId) → IsLoadedTo round s.0 p unclear → ((o : SwitchId) → o.0 ≢ s.0 → mix_at q.mixes o ≡ mix_at p.mixes o)
-      → IsMixed (rules_there p s) (changes_at s round) (mix_at q.mixes s) → IsLoadedTo round (s.0 + 1) q unclear
+      → IsMixed (rules_there p.tables s) (changes_at s round) (mix_at q.mixes s) → IsLoadedTo round (s.0 + 1) q unclear
   loaded_next unclear so_far others here =
-      record { good = good_next so_far.good (good_mixed (rules_there p s) (changes_at s round) (mix_at q.mixes s) here); rest = rest unclear so_far.rest }
+      record { good = good_next so_far.good (good_mixed (rules_there p.tables s) (changes_at s round) (mix_at q.mixes s) here); rest = rest unclear so_far.rest }
     where
-      rest : (unclear : Option SwitchId) → MatchOption unclear ((o : SwitchId) → o.0 < s.0 → IsMixed (rules_there p o) (changes_at o round) (mix_at p.mixes o)) (IsFirstUnclear (rules_of_all p.tables) round)
-          → MatchOption unclear ((o : SwitchId) → o.0 < s.0 + 1 → IsMixed (rules_there q o) (changes_at o round) (mix_at q.mixes o)) (IsFirstUnclear (rules_of_all q.tables) round)
+      rest : (unclear : Option SwitchId) → MatchOption unclear ((o : SwitchId) → o.0 < s.0 → IsMixed (rules_there p.tables o) (changes_at o round) (mix_at p.mixes o)) (IsFirstUnclear (rules_of_all p.tables) round)
+          → MatchOption unclear ((o : SwitchId) → o.0 < s.0 + 1 → IsMixed (rules_there q.tables o) (changes_at o round) (mix_at q.mixes o)) (IsFirstUnclear (rules_of_all q.tables) round)
       rest None all = λ o less.
           subst (λ (rs : List Rule). IsMixed rs (changes_at o round) (mix_at q.mixes o)) (sym (same_there o))
           (elim (cases_lt o.0 s.0) [
-            | inl below ↦ subst (λ (m : MixedState). IsMixed (rules_there p o) (changes_at o round) m) (sym (others o (omega arith))) (all o below)
+            | inl below ↦ subst (λ (m : MixedState). IsMixed (rules_there p.tables o) (changes_at o round) m) (sym (others o (omega arith))) (all o below)
             | inr more ↦ (let e : s.0 ≡ o.0 = omega arith in
-                subst (λ (n : ℕ). IsMixed (rules_there p (switch_n n)) (changes_at (switch_n n) round) (mix_at q.mixes (switch_n n))) e here)
+                subst (λ (n : ℕ). IsMixed (rules_there p.tables (switch_n n)) (changes_at (switch_n n) round) (mix_at q.mixes (switch_n n))) e here)
           ])
       rest (Some a) h = first_kept a h
 
   -- the next switch is unclear
-  pub loaded_unclear : (unclear : Option SwitchId) (i j : ℕ) → IsLoadedTo round s.0 p unclear → IsTable (rules_there p s) → IsAmbiguous (rules_there p s) (changes_at s round) i j
+  pub loaded_unclear : (unclear : Option SwitchId) (i j : ℕ) → IsLoadedTo round s.0 p unclear → IsTable (rules_there p.tables s) → IsAmbiguous (rules_there p.tables s) (changes_at s round) i j
       → IsLoadedTo round (s.0 + 1) q (Some (unwrap_or unclear s))
   loaded_unclear unclear i j so_far table ambiguous = record { good = good_next so_far.good ambiguous.good; rest = rest unclear so_far.rest }
     where
-      rest : (unclear : Option SwitchId) → MatchOption unclear ((o : SwitchId) → o.0 < s.0 → IsMixed (rules_there p o) (changes_at o round) (mix_at p.mixes o)) (IsFirstUnclear (rules_of_all p.tables) round)
+      rest : (unclear : Option SwitchId) → MatchOption unclear ((o : SwitchId) → o.0 < s.0 → IsMixed (rules_there p.tables o) (changes_at o round) (mix_at p.mixes o)) (IsFirstUnclear (rules_of_all p.tables) round)
           → IsFirstUnclear (rules_of_all q.tables) round (unwrap_or unclear s)
       rest None all = first_kept s (record {
         i = i;
         j = j;
         table = table;
         ambiguous = ambiguous;
-        below = λ o less. clear_mixed (rules_there p o) (changes_at o round) (mix_at p.mixes o) (all o less);
+        below = λ o less. clear_mixed (rules_there p.tables o) (changes_at o round) (mix_at p.mixes o) (all o less);
       })
       rest (Some a) h = first_kept a h
 
@@ -314,7 +314,7 @@ loaded_first t evidence k q count cs s less within same tables len loaded round 
     subst (λ (n : ℕ). AreWithin n (round_after k t.rounds)) (sym len) (subst (AreWithin count) same within) in
     unclear_first t evidence k s all
     (λ o in_o. subst (λ (ts : List (List Rule)). AreGood (rules_at ts o) (changes_at o (round_after k t.rounds))) tables
-    (subst (λ (ds : List Change). AreGood (rules_there q o) (changes_at o ds)) same (loaded.good o (omega arith))))
+    (subst (λ (ds : List Change). AreGood (rules_there q.tables o) (changes_at o ds)) same (loaded.good o (omega arith))))
     less
     (subst (λ (ts : List (List Rule)). IsFirstUnclear ts (round_after k t.rounds) s) tables (subst (λ (ds : List Change). IsFirstUnclear (rules_of_all q.tables) ds s) same loaded.rest))
     round number

@@ -1,3 +1,5 @@
 pub mod Present
 pub mod Loading
 pub mod Ends
+pub mod Trials
+pub mod Steps

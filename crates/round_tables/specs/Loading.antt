@@ -14,17 +14,13 @@ use Rattle.round_mix.specs.Prepared.{AreGood, AreClear}
 use Rattle.certificates.specs.Certified.{KeepsVlan}
 use Rattle.certificates.specs.declared.Evidence.{Evidence}
 use Rattle.certificates.specs.declared.Evidence.TheVariants.{Ordered, TwoPhase}
-use Rattle.round_tables.specs.Present.{PresentState, mix_at, is_touched, IsMixed, table_at}
-
--- the rules of a switch
-abbrev pub rules_there : PresentState → SwitchId → List Rule
-rules_there p s = rules_at (rules_of_all p.tables) s
+use Rattle.round_tables.specs.Present.{PresentState, rules_there, mix_at, is_touched, IsMixed, table_at}
 
 -- there is room to prepare each switch for the round
 pub record CanLoad (round : List Change) (p : PresentState) : Type 0 where
   pub mixes : length p.mixes ≡ length p.tables
   pub touched : length p.touched ≡ length p.tables
-  pub marks : (s : SwitchId) → s.0 < length p.tables → length (rules_there p s) + length (changes_at s round) ≤ (mix_at p.mixes s).room
+  pub marks : (s : SwitchId) → s.0 < length p.tables → length (rules_there p.tables s) + length (changes_at s round) ≤ (mix_at p.mixes s).room
   pub changes : length round ≤ p.room
 
 -- the tables stay, and no room is lost
@@ -38,7 +34,7 @@ pub record Keeps (p q : PresentState) : Type 0 where
 -- each switch that isn't to be prepared anew is prepared, and the round has no changes there
 abbrev pub AreSettled : List Change → PresentState → Type 0
 AreSettled round p =
-    (s : SwitchId) → is_touched p.touched s ≡ false → IsMixed (rules_there p s) (changes_at s round) (mix_at p.mixes s) × (changes_at s round ≡ [])
+    (s : SwitchId) → is_touched p.touched s ≡ false → IsMixed (rules_there p.tables s) (changes_at s round) (mix_at p.mixes s) × (changes_at s round ≡ [])
 
 -- the first switch with a mixture that isn't clear
 pub record IsFirstUnclear (tables : List (List Rule)) (round : List Change) (s : SwitchId) : Type 0 where
@@ -50,8 +46,8 @@ pub record IsFirstUnclear (tables : List (List Rule)) (round : List Change) (s :
 
 -- the changes are good at the first n switches, and each of these is prepared, or one is the first that is unclear
 pub record IsLoadedTo (round : List Change) (n : ℕ) (p : PresentState) (unclear : Option SwitchId) : Type 0 where
-  pub good : (s : SwitchId) → s.0 < n → AreGood (rules_there p s) (changes_at s round)
-  pub rest : MatchOption unclear ((s : SwitchId) → s.0 < n → IsMixed (rules_there p s) (changes_at s round) (mix_at p.mixes s))
+  pub good : (s : SwitchId) → s.0 < n → AreGood (rules_there p.tables s) (changes_at s round)
+  pub rest : MatchOption unclear ((s : SwitchId) → s.0 < n → IsMixed (rules_there p.tables s) (changes_at s round) (mix_at p.mixes s))
       (IsFirstUnclear (rules_of_all p.tables) round)
 
 -- at the switch the change of that position among its changes is the first bad one, and at none before it is there a bad one

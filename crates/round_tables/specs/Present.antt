@@ -21,6 +21,10 @@ pub record PresentState : Type 0 where
 abbrev pub table_at : List TableState → SwitchId → TableState
 table_at tables s = slice_index_or tables s.0 (record { rules = []; spare = 0 })
 
+-- the rules of a switch
+abbrev pub rules_there : List TableState → SwitchId → List Rule
+rules_there tables s = rules_at (rules_of_all tables) s
+
 -- what is prepared of a switch
 abbrev pub mix_at : List MixedState → SwitchId → MixedState
 mix_at mixes s = slice_index_or mixes s.0 (record { prepared = None; room = 0 })

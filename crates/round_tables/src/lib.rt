@@ -1,9 +1,14 @@
-//! The tables before each round of a plan, and each switch prepared for the round.
+//! The tables before each round of a plan, or between rounds on which single changes are tried, and each switch prepared
+//! for its changes.
 #![tactic(auto)]
 
+mod alone;
+mod changed;
 mod ends;
 mod loading;
 mod present;
 mod rounds;
+mod trials;
 
 pub use present::Present;
+pub use trials::TrialTables;

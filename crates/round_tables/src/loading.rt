@@ -9,8 +9,8 @@ ghost use Rattle.update_model.specs.Mixtures.{tables_before};
 ghost use Rattle.round_mix.specs.Faults.{IsFault};
 ghost use Rattle.check_reasons.specs.Ranks.{round_start};
 ghost use Rattle.check_reasons.specs.Passed.{IsFirstFrom};
-ghost use Rattle.round_tables.specs.Present.{HasRoom, StandsBefore, mix_at, is_touched, IsMixed};
-ghost use Rattle.round_tables.specs.Loading.{rules_there, CanLoad, Keeps, AreSettled, IsLoadedTo, IsFirstFault, ArePrepared, AreWithin};
+ghost use Rattle.round_tables.specs.Present.{HasRoom, StandsBefore, mix_at, is_touched, IsMixed, rules_there};
+ghost use Rattle.round_tables.specs.Loading.{CanLoad, Keeps, AreSettled, IsLoadedTo, IsFirstFault, ArePrepared, AreWithin};
 
 use crate::present::Present;
 use check_reasons::{Case, Reason};
@@ -115,9 +115,9 @@ impl Present {
         requires within { switch.0 < length self.old.tables }
         requires settled { AreSettled round.now self.old }
         requires touched { is_touched self.old.touched switch ≡ true }
-        ensures ok { OnOk result (IsMixed (rules_there self.old switch) (changes_at switch round.now) (mix_at self.new.mixes switch)) }
-        ensures err { IfErr result (λ fault. IsFault (rules_there self.old switch) (changes_at switch round.now) fault) }
-        ensures table { IsTable (rules_there self.old switch) }
+        ensures ok { OnOk result (IsMixed (rules_there self.old.tables switch) (changes_at switch round.now) (mix_at self.new.mixes switch)) }
+        ensures err { IfErr result (λ fault. IsFault (rules_there self.old.tables switch) (changes_at switch round.now) fault) }
+        ensures table { IsTable (rules_there self.old.tables switch) }
         ensures others { (t : Switch) → t.0 ≢ switch.0 → mix_at self.new.mixes t ≡ mix_at self.old.mixes t }
         ensures settled { AreSettled round.now self.new }
         ensures keeps { Keeps self.old self.new }
@@ -135,8 +135,8 @@ impl Present {
         requires can { CanLoad round.now self.old }
         requires within { switch.0 < length self.old.tables }
         requires settled { AreSettled round.now self.old }
-        ensures ok { OnOk result (IsMixed (rules_there self.old switch) (changes_at switch round.now) (mix_at self.new.mixes switch)) }
-        ensures err { IfErr result (λ fault. IsTable (rules_there self.old switch) × IsFault (rules_there self.old switch) (changes_at switch round.now) fault) }
+        ensures ok { OnOk result (IsMixed (rules_there self.old.tables switch) (changes_at switch round.now) (mix_at self.new.mixes switch)) }
+        ensures err { IfErr result (λ fault. IsTable (rules_there self.old.tables switch) × IsFault (rules_there self.old.tables switch) (changes_at switch round.now) fault) }
         ensures others { (t : Switch) → t.0 ≢ switch.0 → mix_at self.new.mixes t ≡ mix_at self.old.mixes t }
         ensures settled { AreSettled round.now self.new }
         ensures keeps { Keeps self.old self.new }

@@ -13,7 +13,7 @@ use Rattle.dest_classes.specs.Classes.{ClassList, class_count, boundaries}
 use Rattle.certificates.specs.declared.OrderedEvidence.{OrderedEvidence}
 use Rattle.certificates.specs.declared.Evidence.TheVariants.{Ordered}
 use Rattle.certificates.specs.declared.Plan.{Plan}
-use Rattle.plan_classes.specs.SameClasses.{HasSameClasses}
+use Rattle.table_difference.specs.SameClasses.{HasSameClasses}
 use Rattle.round_planner.specs.Ends.{IsPlanOf}
 use Rattle.plan_command.specs.Planned.{update_aim}
 use Rattle.plan_command.specs.NewPlans.{KeepsConsistent}

@@ -7,7 +7,7 @@ ghost use Rattle.update_model.specs.Remaining.{remaining};
 ghost use Rattle.certificates.specs.Certified.{IsCertified, classes_for};
 ghost use Rattle.certificates.specs.Trees.{IsTreeUpdate};
 ghost use Rattle.certificates.specs.Valid.{IsValidPlan};
-ghost use Rattle.plan_classes.specs.SameClasses.{HasSameClasses};
+ghost use Rattle.table_difference.specs.SameClasses.{HasSameClasses};
 ghost use Rattle.round_planner.specs.Ends.{IsPlanOf};
 ghost use Rattle.plan_checker.specs.Fits.{Fits};
 ghost use Rattle.command_base.specs.Judgements.{most_classes};

@@ -3,3 +3,4 @@ pub mod StepLaws
 pub mod SwitchLaws
 pub mod LengthLaws
 pub mod WithoutLaws
+pub mod BoundaryLaws

@@ -1,2 +1,4 @@
 pub mod KeyOrder
 pub mod Steps
+pub mod SameClasses
+pub mod Tried

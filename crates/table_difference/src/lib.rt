@@ -1,10 +1,11 @@
-//! The changes that lead from some tables to others.
+//! The changes that lead from some tables to others, and the classes of rounds of such changes.
 #![tactic(auto)]
 
 ghost use Rattle.std.specs.Prelude.{◌≡◌, ◌<◌, ◌^◌, length, IfOk};
 ghost use Rattle.flow_rules.specs.Tables.{rules_of_all};
 ghost use Rattle.update_model.specs.Remaining.{remaining};
 
+pub mod classes;
 pub mod laws;
 mod merging;
 mod sorting;

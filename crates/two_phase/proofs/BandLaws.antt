@@ -20,7 +20,8 @@ use Rattle.flow_rules.specs.declared.rules.Action.TheVariants.{Discard}
 use Rattle.flow_rules.specs.declared.rules.Rule.{Rule}
 use Rattle.path_walk.specs.UserConfigs.{IsUserRule}
 use Rattle.tag_allocator.specs.Tags.{Tagged, tags_of}
-use Rattle.two_phase.specs.TwoPhasePlan.{every_address, host_end, is_host, is_host_bound, test_of, tagged_action, ingress_action, rule, tagged_copy, tagged_rules, ingress_copy, hosts_of, ingress_rules}
+use Rattle.table_difference.specs.SameClasses.{every_address}
+use Rattle.two_phase.specs.TwoPhasePlan.{host_end, is_host, is_host_bound, test_of, tagged_action, ingress_action, rule, tagged_copy, tagged_rules, ingress_copy, hosts_of, ingress_rules}
 use Rattle.net_base.proofs.ListLaws.{in_flat_map, in_from_flat_map, in_when, when_in, any_in}
 
 abbrev pub header : Port → Vlan → ℕ → Header

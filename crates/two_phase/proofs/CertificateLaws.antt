@@ -26,7 +26,8 @@ use Rattle.certificates.specs.TwoPhase.{carrying, outcome_carrying, IsLabelled, 
 use Rattle.certificates.specs.declared.Label.{Label}
 use Rattle.certificates.specs.declared.TwoPhaseEvidence.{TwoPhaseEvidence}
 use Rattle.tag_allocator.specs.Tags.{Tagged, tags_of}
-use Rattle.two_phase.specs.TwoPhasePlan.{every_address, rule, tagged_rules, ingress_rules, label, label_table, label_tables, label_picks}
+use Rattle.table_difference.specs.SameClasses.{every_address}
+use Rattle.two_phase.specs.TwoPhasePlan.{rule, tagged_rules, ingress_rules, label, label_table, label_tables, label_picks}
 use Rattle.two_phase.proofs.TagLaws.{IsTagging}
 use Rattle.two_phase.proofs.BandLaws.{header, covers_from, every_has, host_default_in}
 use Rattle.two_phase.proofs.MaskLaws.{IsBanded, HasRaw, HasAll, HasNone, no_ingress, raw_lookup, tagged_lookup, entering_lookup}

@@ -10,7 +10,8 @@ use Rattle.flow_rules.specs.declared.rules.Rule.{Rule}
 use Rattle.flow_rules.specs.declared.rules.Action.TheVariants.{Discard}
 use Rattle.flow_rules.specs.declared.rules.VlanTest.TheVariants as test
 use Rattle.tag_allocator.specs.Tags.{Tagged, paired, tags_of, available_tags}
-use Rattle.two_phase.specs.TwoPhasePlan.{is_host_bound, tagged_copy, ingress_copy, hosts_of, rule, every_address, tagged_rules, tagged_rules_by, ingress_rules, ingress_rules_by, counted_tags}
+use Rattle.table_difference.specs.SameClasses.{every_address}
+use Rattle.two_phase.specs.TwoPhasePlan.{is_host_bound, tagged_copy, ingress_copy, hosts_of, rule, tagged_rules, tagged_rules_by, ingress_rules, ingress_rules_by, counted_tags}
 
 -- the lists for tags of one user are of one length
 abbrev IsByUser : (Tagged → List Rule) → Type 0

@@ -16,7 +16,8 @@ use Rattle.flow_rules.specs.declared.rules.Rule.{Rule}
 use Rattle.flow_rules.specs.declared.rules.Action.TheVariants.{Discard}
 use Rattle.flow_rules.specs.declared.rules.VlanTest.TheVariants as test
 use Rattle.tag_allocator.specs.Tags.{Tagged}
-use Rattle.two_phase.specs.TwoPhasePlan.{is_host_bound, tagged_copy, ingress_copy, hosts_of, rule, every_address, tagged_rules_by, ingress_rules_by, counted_tags}
+use Rattle.table_difference.specs.SameClasses.{every_address}
+use Rattle.two_phase.specs.TwoPhasePlan.{is_host_bound, tagged_copy, ingress_copy, hosts_of, rule, tagged_rules_by, ingress_rules_by, counted_tags}
 use Rattle.two_phase.proofs.CountLaws.{one_or_none}
 
 abbrev counted : List Vlan → List Tagged

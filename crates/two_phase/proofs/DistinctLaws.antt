@@ -25,7 +25,8 @@ use Rattle.update_model.specs.Changes.{switch_of, rule_of, entry_named}
 use Rattle.update_model.specs.declared.Change.{Change}
 use Rattle.update_model.proofs.MadeLaws.{distinct_some}
 use Rattle.tag_allocator.specs.Tags.{Tagged, tags_of, numbers_from}
-use Rattle.two_phase.specs.TwoPhasePlan.{every_address, is_host_bound, test_of, tagged_action, ingress_action, rule, tagged_copy, tagged_rules, ingress_copy, hosts_of, ingress_rules, with_rule, in_key_order, switches, by_switch}
+use Rattle.table_difference.specs.SameClasses.{every_address}
+use Rattle.two_phase.specs.TwoPhasePlan.{is_host_bound, test_of, tagged_action, ingress_action, rule, tagged_copy, tagged_rules, ingress_copy, hosts_of, ingress_rules, with_rule, in_key_order, switches, by_switch}
 use Rattle.net_base.proofs.ListLaws.{in_flat_map, in_from_flat_map, in_when, IsTold, told_from_distinct, distinct_append, distinct_members, distinct_map, distinct_flat_map}
 use Rattle.two_phase.proofs.TagLaws.{IsTagging}
 use Rattle.net_base.proofs.NameLaws.{same_port, same_switch}

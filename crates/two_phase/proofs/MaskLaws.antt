@@ -19,7 +19,8 @@ use Rattle.flow_rules.specs.declared.rules.Rule.{Rule}
 use Rattle.flow_rules.proofs.LookupLaws.{lookup_by_set}
 use Rattle.path_walk.specs.UserConfigs.{IsUserRule}
 use Rattle.tag_allocator.specs.Tags.{Tagged, tags_of}
-use Rattle.two_phase.specs.TwoPhasePlan.{every_address, is_host, test_of, tagged_action, ingress_action, rule, tagged_rules, hosts_of, ingress_rules}
+use Rattle.table_difference.specs.SameClasses.{every_address}
+use Rattle.two_phase.specs.TwoPhasePlan.{is_host, test_of, tagged_action, ingress_action, rule, tagged_rules, hosts_of, ingress_rules}
 use Rattle.flow_rules.proofs.BestLaws.{IsBest, best_or_none, lookup_best, lookup_none}
 use Rattle.two_phase.proofs.TagLaws.{IsTagging}
 use Rattle.net_base.proofs.NameLaws.{same_port}

@@ -20,10 +20,10 @@ use Rattle.path_walk.specs.UserConfigs.{IsUserConfig}
 use Rattle.update_model.specs.Changes.{rule_of}
 use Rattle.update_model.specs.declared.Change.{Change}
 use Rattle.certificates.specs.Certified.{classes_for}
-use Rattle.plan_classes.specs.SameClasses.{HasSameClasses, MakeNoClasses, BringNoPrefix, classes_before}
+use Rattle.table_difference.specs.SameClasses.{HasSameClasses, MakeNoClasses, BringNoPrefix, classes_before, every_address}
 use Rattle.two_phase.specs.Laws.{FitsTwoPhase, two_phase_task}
 use Rattle.two_phase.specs.Plans.{two_phase_plan, IsCertifiedTwoPhase}
-use Rattle.two_phase.specs.TwoPhasePlan.{every_address, two_phase_rounds}
+use Rattle.two_phase.specs.TwoPhasePlan.{two_phase_rounds}
 use Rattle.two_phase.proofs.BandLaws.{tagged_cases, ingress_cases}
 use Rattle.two_phase.proofs.CertifiedLaws.{two_phase_certified}
 use Rattle.two_phase.proofs.OwnChanges.{IsOfPlan, IsAmong, all_of_plan}

@@ -22,7 +22,8 @@ use Rattle.update_model.specs.Mixtures.{Rollout, IsPossible}
 use Rattle.update_model.specs.declared.Change.{Change}
 use Rattle.update_model.specs.declared.Change.TheVariants.{Insert, Delete, Replace}
 use Rattle.certificates.specs.Certified.{blocks_of}
-use Rattle.two_phase.specs.TwoPhasePlan.{rule, two_phase_rounds, label_tables, label_picks, two_phase_need, every_address, label}
+use Rattle.table_difference.specs.SameClasses.{every_address}
+use Rattle.two_phase.specs.TwoPhasePlan.{rule, two_phase_rounds, label_tables, label_picks, two_phase_need, label}
 
 abbrev pub sw : ℕ → SwitchId
 sw n = record { 0 = n }

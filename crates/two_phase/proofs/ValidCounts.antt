@@ -23,7 +23,7 @@ use Rattle.update_model.specs.declared.Change.{Change}
 use Rattle.update_model.specs.declared.Change.TheVariants.{Insert, Delete}
 use Rattle.tag_allocator.specs.Tags.{numbers_from}
 use Rattle.tag_allocator.proofs.TagLaws.{numbers_length, numbers_below}
-use Rattle.two_phase.specs.Plans.{AreTried}
+use Rattle.table_difference.specs.Tried.{AreTried}
 use Rattle.two_phase.specs.Laws.{FitsTwoPhase}
 use Rattle.two_phase.specs.TwoPhasePlan.{tagged_rules, ingress_rules, with_rule, in_key_order, switches, by_switch, ranks, of_rank, two_phase_rounds}
 use Rattle.two_phase.proofs.CountLaws.{tagged_counted, ingress_counted}

@@ -12,7 +12,8 @@ use Rattle.certificates.specs.declared.Label.{Label}
 use Rattle.certificates.specs.declared.LabelPick.{LabelPick}
 use Rattle.certificates.specs.declared.TwoPhaseEvidence.{TwoPhaseEvidence}
 use Rattle.two_phase.specs.Laws.{FitsTwoPhase}
-use Rattle.two_phase.specs.Plans.{two_phase_plan, AreTried}
+use Rattle.table_difference.specs.Tried.{AreTried}
+use Rattle.two_phase.specs.Plans.{two_phase_plan}
 use Rattle.two_phase.specs.TwoPhasePlan.{label_table, vlan_number}
 use Rattle.two_phase.proofs.TagLaws.{tagging}
 use Rattle.two_phase.proofs.LabelLaws.{label_cases}

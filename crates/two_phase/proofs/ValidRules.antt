@@ -26,7 +26,8 @@ use Rattle.update_model.specs.Ranges.{IsPlanPort, IsPlanVlan, IsPlanRewrite, IsP
 use Rattle.update_model.specs.declared.Change.{Change}
 use Rattle.tag_allocator.specs.Tags.{Tagged, tags_of, available_tags}
 use Rattle.tag_allocator.proofs.TagLaws.{tag_available}
-use Rattle.two_phase.specs.TwoPhasePlan.{every_address, is_host, is_link, restore, test_of, tagged_action, ingress_action, tagged_rules, ingress_rules, hosts_of, two_phase_rounds}
+use Rattle.table_difference.specs.SameClasses.{every_address}
+use Rattle.two_phase.specs.TwoPhasePlan.{is_host, is_link, restore, test_of, tagged_action, ingress_action, tagged_rules, ingress_rules, hosts_of, two_phase_rounds}
 use Rattle.two_phase.proofs.TagLaws.{paired_user, paired_tag}
 use Rattle.two_phase.proofs.BandLaws.{tagged_cases, ingress_cases}
 use Rattle.two_phase.proofs.OwnChanges.{IsOfPlan, IsAmong, all_of_plan}

@@ -1,18 +1,16 @@
 -- The two-phase plan as a whole, and why there is none.
 use Rattle.std.specs.Prelude.{◌≡◌, ℕ, ◌<◌, ◌≤◌, List, length}
-use Rattle.std.specs.List.{AllByRecursion}
 use Rattle.net_base.specs.declared.ids.SwitchId.{SwitchId}
 use Rattle.topology.specs.Networks.{Network, switch_count, capacity_of}
 use Rattle.flow_rules.specs.declared.rules.Rule.{Rule}
 use Rattle.demands.specs.Duties.{DemandView}
 use Rattle.demands.specs.Good.{HasGoodPaths}
-use Rattle.update_model.specs.Ranges.{IsPlanChange}
 use Rattle.update_model.specs.declared.Change.{Change}
 use Rattle.certificates.specs.Certified.{IsCertified}
 use Rattle.certificates.specs.declared.Evidence.TheVariants.{TwoPhase}
 use Rattle.certificates.specs.declared.Plan.{Plan}
 use Rattle.tag_allocator.specs.Tags.{available_tags}
-use Rattle.plan_classes.specs.SameClasses.{classes_before}
+use Rattle.table_difference.specs.SameClasses.{classes_before}
 use Rattle.two_phase.specs.TwoPhasePlan.{two_phase_rounds, two_phase_need}
 use Rattle.two_phase.specs.Laws.{two_phase_task, two_phase_evidence}
 use Rattle.two_phase.specs.declared.planning.TwoFault.{TwoFault}
@@ -21,12 +19,6 @@ use Rattle.two_phase.specs.declared.planning.TwoFault.TheVariants.{TooFewTags, T
 -- the two-phase plan, with the rounds that were tried before
 abbrev pub two_phase_plan : Network → List (List Rule) → List (List Rule) → List (List Change) → Plan
 two_phase_plan net old new tried = record { rounds = two_phase_rounds net old new; evidence = TwoPhase (two_phase_evidence net new tried) }
-
--- rounds that were tried: at most 4096, each of one change with numbers in range
-pub record AreTried (net : Network) (tried : List (List Change)) : Type 0 where
-  pub few : length tried ≤ 4096
-  pub single : AllByRecursion (λ round. length round ≡ 1) tried
-  pub ranges : AllByRecursion (AllByRecursion (IsPlanChange net)) tried
 
 -- there are too few tags: more declared VLANs than available ones
 pub record AreTooFew (net : Network) (need has : ℕ) : Type 0 where

@@ -26,12 +26,9 @@ use Rattle.update_model.specs.declared.Change.{Change}
 use Rattle.update_model.specs.declared.Change.TheVariants.{Insert, Delete}
 use Rattle.certificates.specs.declared.Label.{Label}
 use Rattle.certificates.specs.declared.LabelPick.{LabelPick}
+use Rattle.table_difference.specs.SameClasses.{every_address}
 use Rattle.tag_allocator.specs.Tags.{Tagged, tags_of, numbers_from}
 use Rattle.dest_classes.specs.Classes.{ascending}
-
--- all addresses
-abbrev pub every_address : Block
-every_address = record { base = 0; len = 0 }
 
 -- what is at a port of a switch
 abbrev pub end_of_port : Network → SwitchId → Port → End

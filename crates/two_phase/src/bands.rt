@@ -3,7 +3,8 @@ ghost use Rattle.std.specs.Prelude.{◌≡◌, ◌≤◌, ◌++◌, [], Some, No
 ghost use Rattle.std.specs.List.{AllByRecursion};
 ghost use Rattle.flow_rules.specs.declared.rules.VlanTest.TheVariants as test;
 ghost use Rattle.flow_rules.specs.declared.rules.Action.TheVariants.{Discard};
-ghost use Rattle.two_phase.specs.TwoPhasePlan.{every_address, rule, tagged_copy, ingress_copy, hosts_of, tagged_rules_by, ingress_rules_by};
+ghost use Rattle.table_difference.specs.SameClasses.{every_address};
+ghost use Rattle.two_phase.specs.TwoPhasePlan.{rule, tagged_copy, ingress_copy, hosts_of, tagged_rules_by, ingress_rules_by};
 
 use crate::copies::{add_ingress_copy, add_tagged_copy, default_rule, is_host_bound};
 use crate::vlan_tags::VlanTag;

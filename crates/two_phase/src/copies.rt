@@ -1,7 +1,8 @@
 // The copies of a new rule that the two-phase plan makes for a declared VLAN and its tag.
 ghost use Rattle.std.specs.Prelude.{◌≡◌, ◌≤◌, ◌++◌, OnOk};
 ghost use Rattle.flow_rules.specs.Patterns.{admits_port, admits_vlan};
-ghost use Rattle.two_phase.specs.TwoPhasePlan.{host_end, link_end, is_host_bound, restore, test_of, tagged_action, ingress_action, rule, tagged_copy, ingress_copy, every_address};
+ghost use Rattle.table_difference.specs.SameClasses.{every_address};
+ghost use Rattle.two_phase.specs.TwoPhasePlan.{host_end, link_end, is_host_bound, restore, test_of, tagged_action, ingress_action, rule, tagged_copy, ingress_copy};
 
 use crate::vlan_tags::VlanTag;
 use flow_rules::{Action, Key, Pattern, Rewrite, Rule, VlanTest, admits_port, admits_vlan};

@@ -1,8 +1,8 @@
 -- What an outcome of the entry tells of the versions, and the least switch where it mixes them.
 use Rattle.std.proofs.Common.{◌≡◌, ◌⊎◌, ℕ, ◌+◌, ◌<◌, take, get_or, Bool, true, false, Option, Some, None, List, [], ◌∷◌, ◌++◌, length, IfSome, IfNone, refl, sym, ◌∙◌, subst, ap, inl, inr, arith}
-use Rattle.std.specs.Prelude.{nat_lt, if◌then◌else◌, ◌&&◌, MatchOption}
+use Rattle.std.specs.Prelude.{nat_lt, if◌then◌else◌, ◌&&◌}
 use Rattle.std.specs.List.{AllByRecursion}
-use Rattle.std.proofs.lemmas.Bool.{cond_both, ltb-true, ltb-false}
+use Rattle.std.proofs.lemmas.Bool.{cond_both}
 use Rattle.std.proofs.lemmas.List.{take_more}
 use Rattle.net_base.specs.Members.{IsDistinct}
 use Rattle.net_base.proofs.MemberLaws.{each_at, each_append, in_append_left, in_append_right, in_append_cases}
@@ -24,9 +24,11 @@ use Rattle.update_model.specs.Mixtures.{IsPossible}
 use Rattle.certificates.specs.Updates.{Task, rollout}
 use Rattle.certificates.specs.TwoPhase.{tables_of, KeepsOn, KeepsPath}
 use Rattle.certificates.specs.declared.Label.{Label}
+use Rattle.check_reasons.specs.Least.{IsLeastSwitch, IsLeastOf, lesser}
+use Rattle.check_reasons.proofs.LeastLaws.{least_iff, least_two}
 use Rattle.two_phase_check.specs.declared.two_phase.Follow.{Follow}
 use Rattle.two_phase_check.specs.declared.two_phase.Follow.TheVariants.{Differs, Keeps, Astray}
-use Rattle.two_phase_check.specs.Agreements.{EndsSoon, IsFirstStray, AgreesWith, AgreesAt, StraysBy, Tells, lesser, astray_at, differs, least_of, MixesBy, IsKept, IsLeastSwitch, MixesAmong, MixesAt, KeepsVersions, AreAllFound}
+use Rattle.two_phase_check.specs.Agreements.{EndsSoon, IsFirstStray, AgreesWith, AgreesAt, StraysBy, Tells, astray_at, differs, least_of, MixesBy, IsKept, MixesAmong, MixesAt, KeepsVersions, AreAllFound}
 use Rattle.two_phase_check.proofs.StrayLaws.{stray_one, stray_none}
 
 module _ (net : Network) (valid : IsNetwork net) (tables : List (List Rule)) (dst : ℕ) where
@@ -57,25 +59,6 @@ module _ (net : Network) (valid : IsNetwork net) (tables : List (List Rule)) (ds
       let path = good.path in
       soon_from entry first path.rest good.trace.ended within path.walk
       (subst IsDistinct (ap switches_of path.stops ∙ switches_along (entry ∷ path.rest)) good.good.distinct) path.ended path.ends goes
-
--- each fact of none, or the least switch of which it holds
-abbrev pub IsLeastOf : (SwitchId → Type 0) → Option SwitchId → Type 0
-IsLeastOf P o = MatchOption o ((s : SwitchId) → ¬ P s) (IsLeastSwitch P)
-
--- the lesser of the least of two facts is the least of either
-pub least_either : (P Q : SwitchId → Type 0) (a b : Option SwitchId) → IsLeastOf P a → IsLeastOf Q b → IsLeastOf (λ s. P s ⊎ Q s) (lesser a b)
-least_either P Q None None p q = λ s h. elim h [ inl x ↦ p s x | inr y ↦ q s y ]
-least_either P Q None (Some t) p q = record { holds = inr q.holds; least = λ r h. elim h [ inl x ↦ absurd (p r x) | inr y ↦ q.least r y ] }
-least_either P Q (Some s) None p q = record { holds = inl p.holds; least = λ r h. elim h [ inl x ↦ p.least r x | inr y ↦ absurd (q r y) ] }
-least_either P Q (Some s) (Some t) p q =
-    cond_both (nat_lt t.0 s.0) t s (IsLeastSwitch (λ x. P x ⊎ Q x))
-    (λ e. let lt = ltb-true t.0 s.0 e in record { holds = inr q.holds; least = λ r h. elim h [ inl x ↦ (let le = p.least r x in omega arith) | inr y ↦ q.least r y ] })
-    (λ e. let le = ltb-false t.0 s.0 e in record { holds = inl p.holds; least = λ r h. elim h [ inl x ↦ p.least r x | inr y ↦ (let lt = q.least r y in omega arith) ] })
-
--- the least of a fact is that of one that holds of the same switches
-pub least_same : (P Q : SwitchId → Type 0) (o : Option SwitchId) → ((s : SwitchId) → P s → Q s) → ((s : SwitchId) → Q s → P s) → IsLeastOf P o → IsLeastOf Q o
-least_same P Q None to from p = λ s q. p s (from s q)
-least_same P Q (Some s) to from p = record { holds = to s p.holds; least = λ r q. p.least r (from r q) }
 
 module _ (t : Task) (k : ℕ) (class : Class) (labels : List Label) (found : Outcome) where
   stray_only : (version : Bool) (s r : SwitchId) → StraysBy t k class labels version found s → StraysBy t k class labels version found r → r ≡ s
@@ -135,10 +118,10 @@ module _ (t : Task) (k : ℕ) (class : Class) (labels : List Label) (found : Out
 
     astray_least : (version : Bool) × AgreesAt t class labels version found → IsLeastOf (MixesBy t k class labels found) (lesser (astray_at old) (astray_at new))
     astray_least agrees =
-        least_same (λ s. StraysBy t k class labels false found s ⊎ StraysBy t k class labels true found s) (MixesBy t k class labels found) (lesser (astray_at old) (astray_at new))
+        least_iff (λ s. StraysBy t k class labels false found s ⊎ StraysBy t k class labels true found s) (MixesBy t k class labels found) (lesser (astray_at old) (astray_at new))
         (λ s h. elim h [ inl x ↦ inr (false, x) | inr y ↦ inr (true, y) ])
         (λ s h. elim h [ inl x ↦ absurd (x.1 agrees.0 agrees.1) | inr y ↦ sorted s y.0 y.1 ])
-        (least_either (StraysBy t k class labels false found) (StraysBy t k class labels true found) (astray_at old) (astray_at new) (told_least false old old_told) (told_least true new new_told))
+        (least_two (StraysBy t k class labels false found) (StraysBy t k class labels true found) (astray_at old) (astray_at new) (told_least false old old_told) (told_least true new new_told))
       where
         sorted : (s : SwitchId) (version : Bool) → StraysBy t k class labels version found s → StraysBy t k class labels false found s ⊎ StraysBy t k class labels true found s
         sorted s true x = inr x
@@ -228,7 +211,7 @@ module _ (t : Task) (k : ℕ) (class : Class) (labels : List Label) where
   among_push list found a b so none some = record {
     none = none_both a b so.none none;
     some = some_of (lesser a b)
-        (least_same (λ s. MixesAmong t k class labels list s ⊎ MixesBy t k class labels found s) (MixesAmong t k class labels (list ++ found ∷ [])) (lesser a b)
+        (least_iff (λ s. MixesAmong t k class labels list s ⊎ MixesBy t k class labels found s) (MixesAmong t k class labels (list ++ found ∷ [])) (lesser a b)
         (λ s h. elim h [
           | inl (other, i, x) ↦ (other, in_append_left other list (found ∷ []) i, x)
           | inr x ↦ (found, in_append_right found list (found ∷ []) (inl refl), x)
@@ -237,7 +220,7 @@ module _ (t : Task) (k : ℕ) (class : Class) (labels : List Label) where
           | inl j ↦ inl (other, j, x)
           | inr j ↦ elim j [ inl e ↦ inr (subst (λ f. MixesBy t k class labels f s) e x) | inr none ↦ absurd none ]
         ])
-        (least_either (MixesAmong t k class labels list) (MixesBy t k class labels found) a b (among_least list a so) (one_least found b none some)));
+        (least_two (MixesAmong t k class labels list) (MixesBy t k class labels found) a b (among_least list a so) (one_least found b none some)));
   }
     where
       none_both : (x y : Option SwitchId) → IfNone x (AllByRecursion (IsKept t k class labels) list) → IfNone y (IsKept t k class labels found)

@@ -1,5 +1,5 @@
 -- When an outcome at the entry is that of a version, and where a packet strays from the path after it.
-use Rattle.std.specs.Prelude.{◌≡◌, ◌≢◌, ◌⊎◌, ◌↔◌, ℕ, ◌<◌, ◌≤◌, Bool, true, false, ◌&&◌, List, ◌∷◌, ◌++◌, length, Option, Some, None, nat_lt, if◌then◌else◌}
+use Rattle.std.specs.Prelude.{◌≡◌, ◌≢◌, ◌⊎◌, ◌↔◌, ℕ, ◌<◌, Bool, true, false, ◌&&◌, List, ◌∷◌, ◌++◌, length, Option, Some, None, if◌then◌else◌}
 use Rattle.net_base.specs.Members.{IsIn}
 use Rattle.net_base.specs.Walks.{IsWalk, end_of}
 use Rattle.net_base.specs.declared.ids.SwitchId.{SwitchId}
@@ -17,6 +17,7 @@ use Rattle.certificates.specs.TwoPhase.{outcome_carrying, tables_of, IsLabelled,
 use Rattle.certificates.specs.declared.Label.{Label}
 use Rattle.two_phase_check.specs.declared.two_phase.Follow.{Follow}
 use Rattle.two_phase_check.specs.declared.two_phase.Follow.TheVariants.{Differs, Keeps, Astray}
+use Rattle.check_reasons.specs.Least.{lesser}
 use Rattle.check_reasons.specs.Reasons.{Strays, IsMixedAtEntry, StraysAt}
 
 -- a round of a task, by its number from 0, with the label table in force, and whether the classes stand that it doesn't touch
@@ -79,12 +80,6 @@ Tells t k class labels version found Keeps =
     AgreesAt t class labels version found × KeepsOn (rollout t) k class.first (tables_of (rollout t) t.update.new version) class.entry found
 Tells t k class labels version found (Astray s) = StraysBy t k class labels version found s
 
--- the lesser of two switches, where there are two
-abbrev pub lesser : Option SwitchId → Option SwitchId → Option SwitchId
-lesser None b = b
-lesser (Some a) None = Some a
-lesser (Some a) (Some b) = Some (if nat_lt b.0 a.0 then b else a)
-
 -- the switch where a packet may stray
 abbrev pub astray_at : Follow → Option SwitchId
 astray_at (Astray s) = Some s
@@ -120,8 +115,3 @@ MixesAt t k class labels s = ((s ≡ class.entry.switch) × IsMixedAtEntry t k c
 -- each possible outcome of the entry keeps to a version
 abbrev pub KeepsVersions : Task → ℕ → Class → List Label → Type 0
 KeepsVersions t k class labels = (found : Outcome) → IsPossible (rollout t) k class.first class.entry found → IsKept t k class labels found
-
--- the least switch of which a fact holds
-pub record IsLeastSwitch (P : SwitchId → Type 0) (s : SwitchId) : Type 0 where
-  pub holds : P s
-  pub least : (r : SwitchId) → P r → s.0 ≤ r.0

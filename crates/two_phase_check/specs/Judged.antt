@@ -6,7 +6,8 @@ use Rattle.update_model.specs.Changes.{round_after}
 use Rattle.certificates.specs.Updates.{Task}
 use Rattle.certificates.specs.declared.Label.{Label}
 use Rattle.check_reasons.specs.Touched.{touches}
-use Rattle.two_phase_check.specs.Agreements.{MixesAt, KeepsVersions, IsLeastSwitch}
+use Rattle.check_reasons.specs.Least.{IsLeastSwitch}
+use Rattle.two_phase_check.specs.Agreements.{MixesAt, KeepsVersions}
 use Rattle.two_phase_check.specs.declared.two_phase.MixedClass.{MixedClass}
 
 -- each class keeps the versions apart

@@ -8,11 +8,12 @@ ghost use Rattle.certificates.specs.Certified.{classes_for};
 ghost use Rattle.certificates.specs.declared.TwoPhaseEvidence.{TwoPhaseEvidence};
 ghost use Rattle.certificates.specs.declared.Evidence.TheVariants.{TwoPhase};
 ghost use Rattle.two_phase_check.specs.InForce.{LabelsStand};
+ghost use Rattle.check_reasons.specs.Least.{IsLeastSwitch};
 ghost use Rattle.check_reasons.specs.Loaded.{AreLoaded};
 ghost use Rattle.check_reasons.specs.Ranks.{classes_start};
 ghost use Rattle.check_reasons.specs.Passed.{IsFirstFrom, ChangesPass, ClassesPass, RoundsPass};
 ghost use Rattle.check_reasons.specs.Touched.{touches};
-ghost use Rattle.two_phase_check.specs.Agreements.{Tells, IsKept, MixesBy, MixesAt, KeepsVersions, IsLeastSwitch};
+ghost use Rattle.two_phase_check.specs.Agreements.{Tells, IsKept, MixesBy, MixesAt, KeepsVersions};
 ghost use Rattle.two_phase_check.specs.Agreements as seen;
 ghost use Rattle.two_phase_check.specs.Kept.{AreKept, number_at};
 ghost use Rattle.two_phase_check.specs.Judged.{AllKeepVersions, IsFirstMixed, StandsUntouched, StandUntouched};
@@ -21,7 +22,7 @@ use crate::keeping::{KeptPlace, MOST_KNOWN, Way, forget, keeps_way};
 use crate::labels::{LabelsInForce, agrees};
 use crate::straying::{RoundCase, find_outcomes, first_stray, outcome_at, tables_of};
 use certificates::TwoPhaseEvidence;
-use check_reasons::{Case, Reason, is_touched};
+use check_reasons::{Case, Reason, is_touched, lesser};
 use dest_classes::{Class, ClassMap};
 use net_base::{Memory, SwitchId};
 use path_walk::Outcome;
@@ -72,19 +73,6 @@ impl Follow {
             Follow::Differs => true,
             _ => false,
         }
-    }
-}
-
-/// The lesser of two switches.
-fn lesser(a: Option<SwitchId>, b: Option<SwitchId>) -> Option<SwitchId>
-    ensures { result ≡ seen.lesser a b }
-{
-    match a {
-        None => b,
-        Some(s) => match b {
-            None => a,
-            Some(t) => Some(if t.0 < s.0 { t } else { s }),
-        },
     }
 }
 

@@ -6,11 +6,12 @@ use Rattle.evidence_store.specs.Stored.{IsStored}
 use Rattle.certificates.specs.Certified.{IsCertified, classes_for}
 use Rattle.certificates.specs.Laws.{task_of}
 use Rattle.certificates.specs.Valid.{IsValidPlan}
-use Rattle.plan_classes.specs.SameClasses.{HasSameClasses}
+use Rattle.table_difference.specs.SameClasses.{HasSameClasses}
 use Rattle.round_planner.specs.declared.Ordered.{Ordered}
 use Rattle.round_planner.specs.Search.{Aim}
 use Rattle.round_planner.specs.Searching.{SearchState}
-use Rattle.round_planner.specs.Ends.{aim_of, IsSearched, OfPlan, OfStuck, MayBeTried, IsNotStuck}
+use Rattle.table_difference.specs.Tried.{AreTried}
+use Rattle.round_planner.specs.Ends.{aim_of, IsSearched, OfPlan, OfStuck, IsNotStuck}
 use Rattle.round_planner.proofs.AnswerLaws.{answer_searched, answer_tried, answer_tree, answer_valid, answer_certified, answer_classes, answer_count}
 use Rattle.round_planner.proofs.order.Goals as goal
 
@@ -79,7 +80,7 @@ returns-clause-tried c =
     let old = rules_of_all c.args.old.now in
     let none = c.in_ok-none_remains.none_remains in
     let ended = c.in_ok-none_remains.ensures old [] c.requires.old c.in_ok-search.ensures.at in
-    subst (OfStuck (MayBeTried c.args.net.now)) (sym c.into_answer.ensures) (answer_tried aim old c.requires.classes c.keeps_rules.ensures c.requires.old c.requires.new c.run.new.self none ended)
+    subst (OfStuck (AreTried c.args.net.now)) (sym c.into_answer.ensures) (answer_tried aim old c.requires.classes c.keeps_rules.ensures c.requires.old c.requires.new c.run.new.self none ended)
 
 pub returns-clause-tree : goal.returns-clause-tree
 returns-clause-tree c tree =

@@ -24,11 +24,12 @@ use Rattle.certificates.specs.declared.Shared.{Shared}
 use Rattle.config_check.proofs.JudgeLaws.{none_holds}
 use Rattle.check_reasons.specs.Reasons.{class_duties}
 use Rattle.mixed_walks.specs.Walks.{WalkState, IsWalked}
-use Rattle.ordered_check.specs.Judged.{IsLeastOf, HasEdgeUp, IsWayRound, AreGuardedBelow, IsFirstWayRound, sets_of}
+use Rattle.check_reasons.specs.Positions.{sets_of, position_count}
+use Rattle.check_reasons.specs.Least.{IsLeastOf}
+use Rattle.ordered_check.specs.Judged.{HasEdgeUp, IsWayRound, AreGuardedBelow, IsFirstWayRound}
 use Rattle.ordered_check.specs.Firsts.{IsFirstOfClass}
 use Rattle.check_reasons.specs.declared.reason.Reason.TheVariants.{NotLower, MayDrop, NoBefore, Bypass}
 use Rattle.ordered_check.specs.declared.ways.WayRound.{WayRound}
-use Rattle.ordered_check.proofs.WayLaws.{together}
 use Rattle.ordered_check.proofs.MeaningLaws.{at_place, in_force_from_pick}
 use Rattle.ordered_check.proofs.JudgeLaws.{IsJudging, not_lower_first, may_drop_first, no_before_first, bypass_first, certificate_of}
 use Rattle.ordered_check.proofs.judging.first_of_class.Goals as goal
@@ -74,12 +75,12 @@ carry P a a' b b' c c' d d' e e' p q r s u h =
 
 -- the number of sets
 counted : (t : Task) (befores : List (List ℕ)) (class : Class) (indices named : List ℕ) (demands : List DemandView) → indices ≡ named → demands ≡ t.update.demands
-    → (length (sets_of befores named) ≡ together (class_duties t class).chains → length indices ≡ together (duties_of demands class.entry class.first).chains)
-    × (length indices ≡ together (duties_of demands class.entry class.first).chains → length (sets_of befores named) ≡ together (class_duties t class).chains)
+    → (length (sets_of befores named) ≡ position_count (class_duties t class).chains → length indices ≡ position_count (duties_of demands class.entry class.first).chains)
+    × (length indices ≡ position_count (duties_of demands class.entry class.first).chains → length (sets_of befores named) ≡ position_count (class_duties t class).chains)
 counted t befores class indices named demands is same =
     let long = length-map named (λ i. slice_index_or befores i []) in
     let len : length indices ≡ length named = ap (λ (xs : List ℕ). length xs) is in
-    let all : together (duties_of demands class.entry class.first).chains ≡ together (class_duties t class).chains = ap (λ (ds : List DemandView). together (duties_of ds class.entry class.first).chains) same in (
+    let all : position_count (duties_of demands class.entry class.first).chains ≡ position_count (class_duties t class).chains = ap (λ (ds : List DemandView). position_count (duties_of ds class.entry class.first).chains) same in (
       λ h. len ∙ sym long ∙ h ∙ sym all,
       λ h. long ∙ sym len ∙ h ∙ all,
     )

@@ -2,7 +2,7 @@ use Rattle.std.proofs.Common.{IsTrue, sym, ◌∙◌}
 use Rattle.net_base.specs.Members.{IsIn}
 use Rattle.net_base.specs.declared.ids.SwitchId.{SwitchId}
 use Rattle.demands.specs.Duties.{duties_of}
-use Rattle.ordered_check.proofs.LeastLaws.{least_iff}
+use Rattle.check_reasons.proofs.LeastLaws.{least_iff}
 use Rattle.ordered_check.proofs.judging.least_drop.Goals as goal
 
 pub returns-then-must_arrive : goal.returns-then-must_arrive

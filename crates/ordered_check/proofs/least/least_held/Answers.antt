@@ -2,7 +2,7 @@ use Rattle.std.proofs.Common.{◌∙◌, ap, arith}
 use Rattle.net_base.specs.Members.{IsIn}
 use Rattle.net_base.specs.declared.ids.SwitchId.{SwitchId}
 use Rattle.waypoint_evidence.specs.Befores.{Holds}
-use Rattle.ordered_check.specs.Judged.{lesser}
+use Rattle.check_reasons.specs.Least.{lesser}
 use Rattle.ordered_check.proofs.LeastLaws.{least_more, switch_at}
 use Rattle.ordered_check.proofs.least.least_held.Goals as goal
 

@@ -1,7 +1,7 @@
 use Rattle.std.proofs.Common.{take}
 use Rattle.net_base.specs.declared.ids.SwitchId.{SwitchId}
 use Rattle.waypoint_evidence.specs.Befores.{Holds}
-use Rattle.ordered_check.specs.Judged.{IsLeastOf}
+use Rattle.check_reasons.specs.Least.{IsLeastOf}
 use Rattle.ordered_check.proofs.LeastLaws.{AtSome}
 use Rattle.ordered_check.proofs.least.least_held.Given as goal
 

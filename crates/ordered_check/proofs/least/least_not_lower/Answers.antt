@@ -1,7 +1,7 @@
 use Rattle.std.proofs.Common.{◌∙◌, ap, not, arith}
 use Rattle.acyclic_numbering.specs.Heights.{IsLower}
 use Rattle.acyclic_numbering.specs.declared.Edge.{Edge}
-use Rattle.ordered_check.specs.Judged.{lesser}
+use Rattle.check_reasons.specs.Least.{lesser}
 use Rattle.ordered_check.proofs.LeastLaws.{least_more, told_not, edge_at}
 use Rattle.ordered_check.proofs.least.least_not_lower.Goals as goal
 

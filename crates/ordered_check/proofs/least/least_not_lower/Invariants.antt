@@ -1,7 +1,7 @@
 use Rattle.std.proofs.Common.{take}
 use Rattle.acyclic_numbering.specs.Heights.{IsLower}
 use Rattle.acyclic_numbering.specs.declared.Edge.{Edge}
-use Rattle.ordered_check.specs.Judged.{IsLeastOf}
+use Rattle.check_reasons.specs.Least.{IsLeastOf}
 use Rattle.ordered_check.proofs.LeastLaws.{AtSome}
 use Rattle.ordered_check.proofs.least.least_not_lower.Given as goal
 

@@ -1,6 +1,6 @@
 use Rattle.std.proofs.Common.{take}
 use Rattle.net_base.specs.declared.ids.SwitchId.{SwitchId}
-use Rattle.ordered_check.specs.Judged.{IsLeastOf}
+use Rattle.check_reasons.specs.Least.{IsLeastOf}
 use Rattle.ordered_check.proofs.LeastLaws.{AtSome}
 use Rattle.ordered_check.proofs.least.least_of.Given as goal
 

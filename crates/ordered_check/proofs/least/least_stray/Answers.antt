@@ -2,7 +2,8 @@ use Rattle.std.proofs.Common.{◌∙◌, ap, arith}
 use Rattle.std.specs.Option.{option_copied}
 use Rattle.acyclic_numbering.specs.declared.Edge.{Edge}
 use Rattle.certificates.specs.Ordered.{Position}
-use Rattle.ordered_check.specs.Judged.{lesser, Strays}
+use Rattle.check_reasons.specs.Least.{lesser}
+use Rattle.ordered_check.specs.Judged.{Strays}
 use Rattle.ordered_check.proofs.LeastLaws.{least_more, edge_at}
 use Rattle.ordered_check.proofs.least.least_stray.Goals as goal
 

@@ -2,7 +2,8 @@ use Rattle.std.proofs.Common.{take}
 use Rattle.std.specs.Option.{option_copied}
 use Rattle.acyclic_numbering.specs.declared.Edge.{Edge}
 use Rattle.certificates.specs.Ordered.{Position}
-use Rattle.ordered_check.specs.Judged.{IsLeastOf, Strays}
+use Rattle.check_reasons.specs.Least.{IsLeastOf}
+use Rattle.ordered_check.specs.Judged.{Strays}
 use Rattle.ordered_check.proofs.LeastLaws.{AtSome}
 use Rattle.ordered_check.proofs.least.least_stray.Given as goal
 

@@ -5,8 +5,10 @@ use Rattle.net_base.specs.declared.ids.SwitchId.{SwitchId}
 use Rattle.acyclic_numbering.specs.Heights.{IsEdge}
 use Rattle.waypoint_evidence.specs.Befores.{Holds, IsFirst}
 use Rattle.certificates.specs.Ordered.{Position}
-use Rattle.ordered_check.specs.Judged.{IsLeastOf, HasStray, IsWayRound}
-use Rattle.ordered_check.proofs.LeastLaws.{least_one, least_two, least_iff, told_not}
+use Rattle.check_reasons.specs.Least.{IsLeastOf}
+use Rattle.ordered_check.specs.Judged.{HasStray, IsWayRound}
+use Rattle.check_reasons.proofs.LeastLaws.{least_two, least_iff}
+use Rattle.ordered_check.proofs.LeastLaws.{least_one, told_not}
 use Rattle.ordered_check.proofs.least.least_way_round.Goals as goal
 
 pub returns : goal.returns

@@ -1,43 +1,39 @@
-use Rattle.std.proofs.Common.{◌≡◌, ℕ, ◌+◌, List, [], None, length, drop, take, sym, ap, subst, ◌∙◌, arith}
-use Rattle.std.proofs.lemmas.List.{take_all, drop-map, length-map, length-drop}
-use Rattle.std.specs.Prelude.{slice_index_or}
+use Rattle.std.proofs.Common.{◌≡◌, ℕ, ◌+◌, List, None, length, take, sym, ap, subst, ◌∙◌, arith}
+use Rattle.std.proofs.lemmas.List.{take_all, length-drop}
 use Rattle.net_base.specs.Members.{IsIn}
 use Rattle.net_base.specs.declared.ids.SwitchId.{SwitchId}
 use Rattle.acyclic_numbering.specs.Heights.{IsEdge}
 use Rattle.demands.specs.Duties.{duties_of}
 use Rattle.certificates.specs.Ordered.{chain_positions, positions}
-use Rattle.ordered_check.specs.Judged.{IsWayRound, IsFirstWayRound, AreGuardedBelow, sets_of}
-use Rattle.ordered_check.proofs.WayLaws.{together, together_take, together_next, guarded_more, first_in_next}
+use Rattle.check_reasons.specs.Positions.{sets_of, position_count}
+use Rattle.check_reasons.proofs.PositionLaws.{count_fits, count_next, sets_rest, sets_length}
+use Rattle.ordered_check.specs.Judged.{IsWayRound, IsFirstWayRound, AreGuardedBelow}
+use Rattle.ordered_check.proofs.WayLaws.{guarded_more, first_in_next}
 use Rattle.ordered_check.proofs.ways.first_way_round.Goals as goal
-
--- the sets of the numbers from a place on
-sets_rest : (befores : List (List ℕ)) (indices rest : List ℕ) (at taken : ℕ) → rest ≡ drop at indices → at ≡ taken → sets_of befores rest ≡ drop taken (sets_of befores indices)
-sets_rest befores indices rest at taken is at_is =
-    ap (sets_of befores) is ∙ sym (drop-map (λ i. slice_index_or befores i []) at indices) ∙ ap (λ n. drop n (sets_of befores indices)) at_is
 
 pub from_place-rest-requires : goal.from_place-rest-requires
 from_place-rest-requires c =
     let chains = (duties_of c.args.duties.now.demands c.args.numbered.class.entry c.args.numbered.class.first).chains in
-    let fits = together_take chains c.loop-i.i c.chain-chain.result.now (c.chain-chain.ensures.chain c.args.numbered.class c.requires.class) in
+    let fits = count_fits chains c.loop-i.i c.chain-chain.result.now (c.chain-chain.ensures.chain c.args.numbered.class c.requires.class) in
     let at_is = c.loop-i.invariant.at_is in
-    let count : length c.args.indices.now ≡ together chains = c.requires.count in
+    let count : length c.args.indices.now ≡ position_count chains = c.requires.count in
     omega arith
 
 pub way_round_chain-requires-clause-enough : goal.way_round_chain-requires-clause-enough
 way_round_chain-requires-clause-enough c =
     let chains = (duties_of c.args.duties.now.demands c.args.numbered.class.entry c.args.numbered.class.first).chains in
-    let fits = together_take chains c.loop-i.i c.chain-chain.result.now (c.chain-chain.ensures.chain c.args.numbered.class c.requires.class) in
+    let fits = count_fits chains c.loop-i.i c.chain-chain.result.now (c.chain-chain.ensures.chain c.args.numbered.class c.requires.class) in
     let at_is = c.loop-i.invariant.at_is in
-    let count : length c.args.indices.now ≡ together chains = c.requires.count in
+    let count : length c.args.indices.now ≡ position_count chains = c.requires.count in
     let rest = ap (λ (xs : List ℕ). length xs) c.from_place-rest.ensures ∙ length-drop c.loop-i.at c.args.indices.now in
     omega arith
 
 pub overflow_add-at : goal.overflow_add-at
 overflow_add-at c =
     let chains = (duties_of c.args.duties.now.demands c.args.numbered.class.entry c.args.numbered.class.first).chains in
-    let fits = together_take chains c.loop-i.i c.chain-chain.result.now (c.chain-chain.ensures.chain c.args.numbered.class c.requires.class) in
+    let fits = count_fits chains c.loop-i.i c.chain-chain.result.now (c.chain-chain.ensures.chain c.args.numbered.class c.requires.class) in
     let at_is = c.loop-i.invariant.at_is in
-    let count : length c.args.indices.now ≡ together chains = c.requires.count in
+    let count : length c.args.indices.now ≡ position_count chains = c.requires.count in
     omega arith
 
 pub returns-in-Some-clause-some : goal.returns-in-Some-clause-some
@@ -48,8 +44,8 @@ returns-in-Some-clause-some c =
     let i = c.loop-i.i in
     let chain = c.chain-chain.result.now in
     let at_is = c.loop-i.invariant.at_is in
-    let rest = sets_rest c.args.befores.now c.args.indices.now c.from_place-rest.result.now c.loop-i.at (together (take i chains)) c.from_place-rest.ensures at_is in
-    first_in_next around chains sets (length-map c.args.indices.now (λ i. slice_index_or c.args.befores.now i []) ∙ c.requires.count) i chain (c.chain-chain.ensures.chain c.args.numbered.class c.requires.class) c.in-Some.way
+    let rest = sets_rest c.args.befores.now c.args.indices.now c.from_place-rest.result.now c.loop-i.at (position_count (take i chains)) c.from_place-rest.ensures at_is in
+    first_in_next around chains sets (sets_length c.args.befores.now c.args.indices.now ∙ c.requires.count) i chain (c.chain-chain.ensures.chain c.args.numbered.class c.requires.class) c.in-Some.way
     (subst (AreGuardedBelow around (positions (take i chains) sets)) at_is c.loop-i.invariant.guarded)
     (subst (λ (xs : List (List ℕ)). IsFirstWayRound around (chain_positions None chain xs) c.in-Some.way) rest c.in-Some.ensures.some)
 
@@ -62,11 +58,11 @@ loop-i-preserved c =
     let chain = c.chain-chain.result.now in
     let is = c.chain-chain.ensures.chain c.args.numbered.class c.requires.class in
     let at_is = c.loop-i.invariant.at_is in
-    let rest = sets_rest c.args.befores.now c.args.indices.now c.from_place-rest.result.now c.loop-i.at (together (take i chains)) c.from_place-rest.ensures at_is in
-    let more = guarded_more around chains sets (length-map c.args.indices.now (λ i. slice_index_or c.args.befores.now i []) ∙ c.requires.count) i chain is
+    let rest = sets_rest c.args.befores.now c.args.indices.now c.from_place-rest.result.now c.loop-i.at (position_count (take i chains)) c.from_place-rest.ensures at_is in
+    let more = guarded_more around chains sets (sets_length c.args.befores.now c.args.indices.now ∙ c.requires.count) i chain is
     (subst (AreGuardedBelow around (positions (take i chains) sets)) at_is c.loop-i.invariant.guarded)
     (subst (λ (xs : List (List ℕ)). AreGuardedBelow around (chain_positions None chain xs) (length chain)) rest c.in_default.ensures.none) in
-    let next = together_next chains i chain is in
+    let next = count_next chains i chain is in
     record {
       at_is = omega arith;
       guarded = subst (λ n. AreGuardedBelow around (positions (take (i + 1) chains) sets) (n + length chain)) (sym at_is) more;
@@ -80,6 +76,6 @@ returns-clause-none c =
     let end = c.loop-i-test.false in
     let count = c.chains-i-end.ensures.count c.args.numbered.class c.requires.class in
     let all : take c.loop-i.i chains ≡ chains = take_all c.loop-i.i chains (omega arith) in
-    let at_is : c.loop-i.at ≡ length c.args.indices.now = c.loop-i.invariant.at_is ∙ ap together all ∙ sym c.requires.count in
+    let at_is : c.loop-i.at ≡ length c.args.indices.now = c.loop-i.invariant.at_is ∙ ap position_count all ∙ sym c.requires.count in
     subst (AreGuardedBelow around (positions chains sets)) at_is
     (subst (λ (cs : List (List SwitchId)). AreGuardedBelow around (positions cs sets) c.loop-i.at) all c.loop-i.invariant.guarded)

@@ -6,7 +6,8 @@ use Rattle.net_base.specs.Members.{IsIn}
 use Rattle.net_base.specs.declared.ids.SwitchId.{SwitchId}
 use Rattle.acyclic_numbering.specs.Heights.{IsEdge}
 use Rattle.certificates.specs.Ordered.{Position, chain_positions}
-use Rattle.ordered_check.specs.Judged.{IsWayRound, sets_of, set_before}
+use Rattle.check_reasons.specs.Positions.{sets_of, set_before}
+use Rattle.ordered_check.specs.Judged.{IsWayRound}
 use Rattle.ordered_check.proofs.WayLaws.{position_at, guarded_next, guarded_fewer}
 use Rattle.ordered_check.proofs.ways.way_round_chain.Goals as goal
 
@@ -24,8 +25,8 @@ returns-in-Some-clause-some c = record {
   position = record { waypoint = get_or c.args.chain.now c.loop-place.place (record { 0 = 0 }); earlier = option_copied c.earlier_set-earlier.result; set = c.set_at-set.result.now };
   is = here c.args.chain.now (sets_of c.args.befores.now c.args.indices.now) c.loop-place.place (option_copied c.earlier_set-earlier.result) c.set_at-set.result.now c.earlier_set-earlier.ensures c.set_at-set.ensures c.loop-place-test.true;
   waypoint_is = refl;
-  here = c.in-Some.ensures.0;
-  least = c.in-Some.ensures.1;
+  here = c.in-Some.ensures.holds;
+  least = c.in-Some.ensures.least;
   earlier = c.loop-place.invariant;
 }
 

@@ -2,7 +2,8 @@ use Rattle.std.proofs.Common.{None}
 use Rattle.net_base.specs.Members.{IsIn}
 use Rattle.acyclic_numbering.specs.Heights.{IsEdge}
 use Rattle.certificates.specs.Ordered.{chain_positions}
-use Rattle.ordered_check.specs.Judged.{IsWayRound, sets_of, AreGuardedBelow}
+use Rattle.check_reasons.specs.Positions.{sets_of}
+use Rattle.ordered_check.specs.Judged.{IsWayRound, AreGuardedBelow}
 use Rattle.ordered_check.proofs.ways.way_round_chain.Given as goal
 
 abbrev pub invariant-loop-place : goal.invariant-loop-place

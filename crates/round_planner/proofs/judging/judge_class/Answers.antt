@@ -9,8 +9,8 @@ use Rattle.config_check.proofs.JudgeLaws.{class_within}
 use Rattle.update_model.specs.Changes.{rule_of}
 use Rattle.update_model.specs.Mixtures.{Rollout}
 use Rattle.round_mix.specs.Prepared.{MixedState}
-use Rattle.class_evidence.specs.Found.{IsFound}
-use Rattle.class_evidence.specs.declared.ClassEvidence.{ClassEvidence}
+use Rattle.evidence_store.specs.Found.{IsFound}
+use Rattle.evidence_store.specs.declared.class_evidence.ClassEvidence.{ClassEvidence}
 use Rattle.std.specs.List.{AllByRecursion}
 use Rattle.acyclic_numbering.specs.declared.Edge.{Edge}
 use Rattle.mixed_walks.specs.Walks.{IsRoundOf}

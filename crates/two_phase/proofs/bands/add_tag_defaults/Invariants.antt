@@ -2,7 +2,8 @@ use Rattle.std.proofs.Common.{◌≡◌, ◌++◌, take, map}
 use Rattle.std.specs.Prelude.{None}
 use Rattle.flow_rules.specs.declared.rules.Action.TheVariants.{Discard}
 use Rattle.flow_rules.specs.declared.rules.VlanTest.TheVariants as test
-use Rattle.two_phase.specs.TwoPhasePlan.{rule, every_address}
+use Rattle.table_difference.specs.SameClasses.{every_address}
+use Rattle.two_phase.specs.TwoPhasePlan.{rule}
 use Rattle.two_phase.proofs.bands.add_tag_defaults.Given as goal
 
 abbrev pub invariant-loop-v : goal.invariant-loop-v

@@ -1,6 +1,7 @@
 use Rattle.std.proofs.Common.{Option, sym, subst, IfSome, IfNone}
 use Rattle.net_base.specs.declared.ids.SwitchId.{SwitchId}
-use Rattle.two_phase_check.specs.Agreements.{IsKept, MixesBy, IsLeastSwitch}
+use Rattle.check_reasons.specs.Least.{IsLeastSwitch}
+use Rattle.two_phase_check.specs.Agreements.{IsKept, MixesBy}
 use Rattle.two_phase_check.proofs.FollowLaws.{mixed_least, mixed_kept}
 use Rattle.two_phase_check.proofs.two_phase.mixed_by.Goals as goal
 

@@ -3,7 +3,7 @@ use Rattle.topology.specs.Networks.{Network}
 use Rattle.flow_rules.specs.Tables.{rules_of_all}
 use Rattle.dest_classes.specs.Classes.{class_count}
 use Rattle.evidence_store.specs.State.{StoreState}
-use Rattle.trial_tables.specs.Trials.{IsSettled}
+use Rattle.round_tables.specs.Trials.{IsSettled}
 use Rattle.round_planner.specs.Search.{Aim}
 use Rattle.round_planner.proofs.SearchingLaws.{begins_at}
 use Rattle.round_planner.proofs.searching.Search.make.Goals as goal

@@ -4,7 +4,7 @@ use Rattle.topology.specs.Networks.{Network}
 use Rattle.path_walk.specs.UserConfigs.{IsUserConfig}
 use Rattle.update_model.specs.Changes.{with_change}
 use Rattle.dest_classes.specs.Classes.{class_count}
-use Rattle.trial_tables.specs.Trials.{IsSettled}
+use Rattle.round_tables.specs.Trials.{IsSettled}
 use Rattle.evidence_store.specs.Stored.{IsStored}
 use Rattle.evidence_store.specs.State.{StoreState}
 use Rattle.round_planner.specs.declared.judging.Found.{Found as FoundOf}

@@ -6,7 +6,7 @@ use Rattle.flow_rules.specs.Tables.{rules_of_all}
 use Rattle.update_model.specs.Changes.{Applies, tables_after}
 use Rattle.round_mix.specs.Prepared.{MixedState}
 use Rattle.mixed_walks.specs.Walks.{IsRoundOf}
-use Rattle.trial_tables.specs.Trials.{IsSettled, IsTrying, HasRoomAlone}
+use Rattle.round_tables.specs.Trials.{IsSettled, IsTrying, HasRoomAlone}
 use Rattle.round_planner.specs.Search.{Aim, update_by}
 use Rattle.round_planner.specs.Standing.{AreJudged}
 use Rattle.round_planner.specs.Searching.{IsAt}

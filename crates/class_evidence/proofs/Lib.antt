@@ -1,4 +1,0 @@
-pub mod PositionLaws
-pub mod LeastLaws
-pub mod GuardLaws
-pub mod EvidenceLaws

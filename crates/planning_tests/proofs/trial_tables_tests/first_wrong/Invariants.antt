@@ -1,5 +1,0 @@
-use Rattle.trial_tables.specs.Trials.{IsSettled}
-use Rattle.planning_tests.proofs.trial_tables_tests.first_wrong.Given as goal
-
-abbrev pub invariant-loop-i : goal.invariant-loop-i
-invariant-loop-i g l = IsSettled l.net l.trial

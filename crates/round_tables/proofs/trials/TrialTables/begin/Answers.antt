@@ -1,0 +1,42 @@
+use Rattle.std.proofs.Common.{◌≤◌, ◌∷◌, [], List, sym, subst}
+use Rattle.std.proofs.lemmas.Bool.{both_ways}
+use Rattle.net_base.specs.declared.ids.SwitchId.{SwitchId}
+use Rattle.flow_rules.specs.Tables.{rules_of_all}
+use Rattle.flow_rules.specs.declared.rules.Rule.{Rule}
+use Rattle.topology.specs.Networks.{capacity_of}
+use Rattle.update_model.specs.Changes.{switch_of, Applies}
+use Rattle.update_model.specs.Mixtures.{entries_needed}
+use Rattle.round_tables.specs.Trials.{HasRoomAlone}
+use Rattle.round_tables.specs.Present.{mix_at, IsMixed, rules_there}
+use Rattle.round_tables.proofs.TrialLaws.{trying, never_unclear, never_over, capacities_few}
+use Rattle.round_tables.proofs.trials.TrialTables.begin.Goals as goal
+use Rattle.round_tables.proofs.trials.TrialTables.begin.Goals.{else-load-via-then-load+else-is_within, else-load-via-else-load}
+
+pub returns-then-is_within-clause-yes : goal.returns-then-is_within-clause-yes
+returns-then-is_within-clause-yes c = λ _.
+    let change = c.args.change.now in
+    let net = c.args.net.now in
+    let p = c.load.new.self in
+    let rules = rules_there p.tables (switch_of change) in
+    let here = c.load.ensures.yes c.if-load.true in
+    let said = c.is_within.ensures rules (change ∷ []) (subst (λ (s : SwitchId). IsMixed rules (change ∷ []) (mix_at p.mixes s)) (sym c.switch-switch.ensures) here) in
+    let fits : entries_needed rules (change ∷ []) ≤ capacity_of net (switch_of change) =
+    subst (λ (s : SwitchId). entries_needed rules (change ∷ []) ≤ capacity_of net s) c.switch-switch.ensures (said.0 c.if-is_within.true) in
+    trying net p change c.load.ensures.beside here fits (capacities_few net c.keeps_rules.ensures)
+    (subst (λ (ts : List (List Rule)). Applies ts change) (sym c.load.ensures.rules) c.requires.applies)
+
+pub returns-clause-never : goal.returns-clause-never
+returns-clause-never c = λ _.
+    let change = c.args.change.now in
+    let net = c.args.net.now in
+    let p = c.load.new.self in
+    let rules = rules_there p.tables (switch_of change) in
+    let never : ¬ HasRoomAlone net (rules_of_all p.tables) change =
+    elim c.else-load.branch [
+      | else-load-via-then-load+else-is_within w ↦ never_over net (rules_of_all p.tables) change c.load.ensures.beside.within (λ fits.
+          let here = c.load.ensures.yes w.if-load.true in
+          let said = w.is_within.ensures rules (change ∷ []) (subst (λ (s : SwitchId). IsMixed rules (change ∷ []) (mix_at p.mixes s)) (sym c.switch-switch.ensures) here) in
+          both_ways w.is_within.result w.if-is_within.false (said.1 (subst (λ (s : SwitchId). entries_needed rules (change ∷ []) ≤ capacity_of net s) (sym c.switch-switch.ensures) fits)))
+      | else-load-via-else-load w ↦ never_unclear net (rules_of_all p.tables) change (c.load.ensures.no w.if-load.false)
+    ] in
+    subst (λ (ts : List (List Rule)). ¬ HasRoomAlone net ts change) c.load.ensures.rules never

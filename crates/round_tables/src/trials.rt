@@ -1,0 +1,138 @@
+// The tables of a network between rounds, on which single changes are tried.
+ghost use Rattle.std.specs.Prelude.{◌≡◌, ◌∷◌, [], List, true, false, ◌↔◌, ◌≤◌, IsTrue, IsSome, IfOk, OnOk, OnErr};
+ghost use Rattle.topology.specs.Networks.{capacity_of};
+ghost use Rattle.flow_rules.specs.Tables.{rules_of_all};
+ghost use Rattle.flow_rules.specs.declared.rules.Rule.{Rule};
+ghost use Rattle.path_walk.specs.UserConfigs.{IsUserConfig};
+ghost use Rattle.update_model.specs.Changes.{Applies, switch_of, tables_after_change};
+ghost use Rattle.update_model.specs.Mixtures.{entries_needed};
+ghost use Rattle.update_model.specs.declared.Change.{Change as ChangeOf};
+ghost use Rattle.round_mix.specs.Prepared.{AreClear};
+ghost use Rattle.round_tables.specs.Trials.{IsSettled, IsTrying, HasRoomAlone};
+ghost use Rattle.round_tables.specs.Present.{mix_at, IsMixed, rules_there};
+ghost use Rattle.round_tables.specs.Steps.{IsSettledBeside};
+
+use crate::alone::{all_alone, reload};
+use crate::changed::load_for;
+use flow_rules::Config;
+use net_base::{Memory, SwitchId};
+use round_mix::Mixed;
+use std::alloc::Global;
+use std::marker::Model;
+use topology::Net;
+use update_model::{Change, change_tables};
+
+/// The tables between rounds, and each switch prepared for its table, or for a change of it that is tried.
+#[derive(Drop)]
+pub struct TrialTables {
+    tables: Config,
+    mixes: Vec<Mixed>,
+}
+
+impl Model for TrialTables {
+    ghost use Rattle.round_tables.specs.Trials.{TrialState};
+
+    ghost Value = { TrialState };
+
+    ghost view = { λ t. record { tables = t.tables; mixes = t.mixes.items } };
+}
+
+impl TrialTables {
+    /// The tables of a configuration.
+    pub fn make(alloc: Global, net: &Net, config: &Config) -> Result<TrialTables, Memory>
+        requires { IsUserConfig net.now (rules_of_all config.now) }
+        ensures rules { IfOk result (λ t. rules_of_all t.tables ≡ rules_of_all config.now) }
+        ensures settled { IfOk result (IsSettled net.now) }
+    {
+        let tables = config.copy()?;
+        let mixes = all_alone(alloc, net, &tables)?;
+        Ok(TrialTables { tables, mixes })
+    }
+
+    /// The tables.
+    pub fn tables(&self) -> &Config
+        ensures { result.now ≡ self.now.tables }
+    {
+        &self.tables
+    }
+
+    /// What is prepared of each switch.
+    pub fn mixes(&self) -> &[Mixed]
+        ensures { result.now ≡ self.now.mixes }
+    {
+        &self.mixes
+    }
+
+    /// Prepares a switch for its table alone, as the others are.
+    fn settle(&mut self, net: &Net, switch: SwitchId)
+        requires { IsSettledBeside net.now switch self.old }
+        ensures rules { rules_of_all self.new.tables ≡ rules_of_all self.old.tables }
+        ensures settled { IsSettled net.now self.new }
+    {
+        reload(&mut self.mixes, switch, self.tables.table(switch));
+    }
+
+    /// Prepares the switch of a change for it, if each mixture is clear.
+    fn load(&mut self, net: &Net, change: &Change) -> bool
+        requires settled { IsSettled net.now self.old }
+        requires applies { Applies (rules_of_all self.old.tables) change.now }
+        ensures rules { rules_of_all self.new.tables ≡ rules_of_all self.old.tables }
+        ensures beside { IsSettledBeside net.now (switch_of change.now) self.new }
+        ensures yes { result ≡ true → IsMixed (rules_there self.new.tables (switch_of change.now)) (change.now ∷ []) (mix_at self.new.mixes (switch_of change.now)) }
+        ensures no { result ≡ false → ¬ AreClear (rules_there self.new.tables (switch_of change.now)) (change.now ∷ []) }
+    {
+        let switch = change.switch();
+        load_for(&mut self.mixes, switch, self.tables.table(switch), change)
+    }
+
+    /// Whether what is prepared of a switch is within its capacity.
+    fn is_within(&self, net: &Net, switch: SwitchId) -> bool
+        requires beside { IsSettledBeside net.now switch self.now }
+        requires prepared { IsSome (mix_at self.now.mixes switch).prepared }
+        ensures { (table : List Rule) (changes : List ChangeOf) → IsMixed table changes (mix_at self.now.mixes switch)
+            → IsTrue result ↔ (entries_needed table changes ≤ capacity_of net.now switch) }
+    {
+        self.mixes[switch.0 as usize].most_entries() <= u64::from(net.capacity(switch))
+    }
+
+    /// Prepares the switch of a change for it, if as a round of its own the change is clear and within capacity. If it
+    /// isn't, the switch is prepared for its table alone again. Costs the preparation of one switch, or two where it isn't.
+    pub fn begin(&mut self, net: &Net, change: &Change) -> bool
+        requires settled { IsSettled net.now self.old }
+        requires applies { Applies (rules_of_all self.old.tables) change.now }
+        ensures rules { rules_of_all self.new.tables ≡ rules_of_all self.old.tables }
+        ensures yes { result ≡ true → IsTrying net.now change.now self.new }
+        ensures no { result ≡ false → IsSettled net.now self.new }
+        ensures never { result ≡ false → ¬ HasRoomAlone net.now (rules_of_all self.old.tables) change.now }
+    {
+        let switch = change.switch();
+        if self.load(net, change) && self.is_within(net, switch) {
+            net.keeps_rules();
+            return true;
+        }
+        self.settle(net, switch);
+        false
+    }
+
+    /// Prepares the switch of a change that was tried for its table alone again.
+    pub fn give_up(&mut self, net: &Net, change: &Change)
+        requires { IsTrying net.now change.now self.old }
+        ensures rules { rules_of_all self.new.tables ≡ rules_of_all self.old.tables }
+        ensures settled { IsSettled net.now self.new }
+    {
+        self.settle(net, change.switch());
+    }
+
+    /// Makes a change that was tried. After a refusal the tables are as before and the change is still tried.
+    pub fn keep(&mut self, net: &Net, change: &Change) -> Result<(), Memory>
+        requires { IsTrying net.now change.now self.old }
+        ensures rules { OnOk result (rules_of_all self.new.tables ≡ tables_after_change change.now (rules_of_all self.old.tables)) }
+        ensures settled { OnOk result (IsSettled net.now self.new) }
+        ensures same { OnErr result (rules_of_all self.new.tables ≡ rules_of_all self.old.tables) }
+        ensures trying { OnErr result (IsTrying net.now change.now self.new) }
+    {
+        change_tables(&mut self.tables, change)?;
+        self.settle(net, change.switch());
+        Ok(())
+    }
+}
