@@ -424,9 +424,11 @@ def file_text(specs, file, definitions):
 
 
 def counts(definitions):
-    """Returns how many definitions, declared types, lines and files there are."""
+    """Returns how many definitions there are and their lines, how many declared types and theirs, and how many files."""
     types = [it for it in definitions if it.language == "rust"]
-    return len(definitions) - len(types), len(types), sum(it.lines() for it in definitions), len({it.file for it in definitions})
+    others = [it for it in definitions if it.language != "rust"]
+    lines = lambda some: sum(it.lines() for it in some)
+    return len(others), lines(others), len(types), lines(types), len({it.file for it in definitions})
 
 
 def library_text(specs, definitions):
@@ -460,16 +462,19 @@ def page(specs):
         sections = [file_text(specs, *it) for it in by_file(own, follow)]
         parts.append("\n".join([f"## {number}. {title}\n\n{about}\n", *sections]))
     rows.append(("All", *counts(every)))
-    table = ["| Part | Definitions | Declared types | Lines | Files |", "|---|---|---|---|---|", *[f"| {' | '.join(map(str, it))} |" for it in rows]]
-    note = "Lines are those of the definitions and types, without the comments above them. A file that has something of several parts is counted in each, and once in the last row."
+    table = ["| Part | Definitions | Their lines | Declared types | Their lines | Files |", "|---|---|---|---|---|---|", *[f"| {' | '.join(map(str, it))} |" for it in rows]]
+    note = "Lines are counted without the comments above a definition or a type. A file that has something of several parts is counted in each, and once in the last row."
     words, untold = library_text(specs, every)
     return "\n".join([HEAD, "\n".join(table), "", note, "", NOTATION, words, *parts]), rows, untold
 
 
 def with_counts(readme, rows):
     """Returns the text of README.md with the counts of the parts between their marks."""
-    parts = [f"for {title[0].lower()}{title[1:]} {definitions} definitions ({lines} lines with the types that they speak of)" for title, definitions, _, lines, _ in rows[:-1]]
-    text, found = re.subn(r"<!-- counts -->.*?<!-- /counts -->", f"<!-- counts -->{', '.join(parts)}<!-- /counts -->", readme, flags=re.S)
+    parts = [
+        f"for {title[0].lower()}{title[1:]} {definitions} definitions in {lines} lines, and {types} types that the code declares"
+        for title, definitions, lines, types, _, _ in rows[:-1]
+    ]
+    text, found = re.subn(r"<!-- counts -->.*?<!-- /counts -->", f"<!-- counts -->{'; '.join(parts)}<!-- /counts -->", readme, flags=re.S)
     if found != 1:
         raise LookupError("README.md has no marks <!-- counts --> and <!-- /counts --> around the counts")
     return text
@@ -494,8 +499,8 @@ def main(words):
             it.write(wanted[file])
         for it in untold:
             print(f"headline: WORDS in tools/headline.py doesn't say what {it} means", file=sys.stderr)
-    for title, definitions, types, lines, files in rows:
-        print(f"headline: {title}: {definitions} definitions, {types} declared types, {lines} lines, {files} files")
+    for title, definitions, lines, types, type_lines, files in rows:
+        print(f"headline: {title}: {definitions} definitions in {lines} lines, {types} declared types in {type_lines} lines, {files} files")
     return 0
 
 

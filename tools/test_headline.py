@@ -139,7 +139,7 @@ class Page(unittest.TestCase):
             text, rows, untold = headline.page(self.specs)
         finally:
             headline.PARTS = parts
-        self.assertEqual(rows, [("One", 2, 2, 14, 3), ("Two", 4, 1, 12, 3), ("All", 6, 3, 26, 3)])
+        self.assertEqual(rows, [("One", 2, 5, 2, 9, 3), ("Two", 4, 11, 1, 1, 3), ("All", 6, 16, 3, 10, 3)])
         self.assertEqual(untold, [])
         self.assertIn("## 1. One\n\nFirst.\n\n### crates/high/specs/Good.antt\n\nGood places, in two lines.\n\n```text\n-- open\nabbrev pub AreOpen", text)
         self.assertLess(text.index("### crates/low/specs/Lists.antt"), text.index("pub enum State"))
@@ -147,8 +147,8 @@ class Page(unittest.TestCase):
         self.assertNotIn("unused", text)
 
     def test_counts_stand_between_their_marks(self):
-        rows = [("One part", 2, 3, 40, 5), ("All", 9, 9, 9, 9)]
-        wanted = "a <!-- counts -->for one part 2 definitions (40 lines with the types that they speak of)<!-- /counts --> b"
+        rows = [("One part", 2, 40, 3, 7, 5), ("Other part", 4, 5, 6, 7, 8), ("All", 9, 9, 9, 9, 9)]
+        wanted = "a <!-- counts -->for one part 2 definitions in 40 lines, and 3 types that the code declares; for other part 4 definitions in 5 lines, and 6 types that the code declares<!-- /counts --> b"
         self.assertEqual(headline.with_counts("a <!-- counts -->old\ntext<!-- /counts --> b", rows), wanted)
         with self.assertRaises(LookupError):
             headline.with_counts("no marks", rows)
