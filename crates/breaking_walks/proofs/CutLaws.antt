@@ -72,10 +72,6 @@ module _ (entry : Place) (rest : List Place) (i : ℕ) (less : i < length rest) 
       subst (λ (n : ℕ). IsDistinct (switches_along entry (take n rest))) (sym (add-one i))
       (distinct_next entry rest i place at (λ among. false≢true (sym fresh ∙ (told place at).1 among)) before)
 
--- none at all
-pub repeats_nowhere : (entry : Place) (rest : List Place) (n : ℕ) → length rest ≤ n → IsDistinct (switches_along entry (take n rest)) → IsDistinct (switches_along entry rest)
-repeats_nowhere entry rest n all distinct = subst (λ (xs : List Place). IsDistinct (switches_along entry xs)) (take_all n rest all) distinct
-
 module _ (u : Rollout) (k dst : ℕ) (entry : Place) (duties : PacketDuties) where
   -- a walk up to its first repeat breaks the duties there, and not before
   pub breaks_cut : (rest : List Place) (i : ℕ) → IsMixedWalk u k dst entry rest → IsFirstRepeat entry rest i → IsBreakingWalk u k dst entry duties (take (suc i) rest) None

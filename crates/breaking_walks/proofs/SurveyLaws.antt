@@ -107,9 +107,6 @@ never_again u k dst entry never rest walk again =
 
 -- ---- edges
 
-pub edges_none : (edges : List Edge) (from : SwitchId) → AreAdded edges from [] edges
-edges_none edges from = record { kept = λ s t edge. edge; added = λ place i. absurd i }
-
 module _ (old mid : List Edge) (from : SwitchId) (found : List Outcome) (so : AreAdded old from found mid) where
   -- one more outcome by which a packet goes on
   pub edges_more : (place : Place) → AreAdded old from (found ++ Go place ∷ []) (mid ++ (record { from = from; to = place.switch }) ∷ [])

@@ -21,13 +21,6 @@ module _ {A : Type 0} (P : A → Type 0) where
   all_from [] h = tt
   all_from (x ∷ xs) h = (h 0 x (omega arith), all_from xs (λ k d lt. h (suc k) d (omega arith)))
 
-  pub all_more : (xs : List A) (i : ℕ) (d : A) → i < length xs → P (get_or xs i d) → AreUpTo xs i → AreUpTo xs (i + 1)
-  all_more xs i d lt here h k e below_ =
-      elim (cases_lt k i) [
-        | inl before ↦ h k e before
-        | inr ge ↦ let same : i ≡ k = omega arith in subst (λ (n : ℕ). P (get_or xs n e)) same (subst P (get_or_default xs i d e lt) here)
-      ]
-
   pub all_at : (xs : List A) (k : ℕ) (d : A) → k < length xs → AllByRecursion P xs → P (get_or xs k d)
   all_at [] k d lt h = absurd (omega arith)
   all_at (x ∷ xs) zero d lt h = h.0

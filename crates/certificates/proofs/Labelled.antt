@@ -108,11 +108,6 @@ module _ (u : Rollout) (new : List (List Rule)) (evidence : TwoPhaseEvidence) (k
   either P true h = inr h
   either P false h = inl h
 
-  -- a walk that carries a VLAN along the path of a version
-  abbrev Carried : List Place → Type 0
-  Carried rest = (version : Bool) × (tag : Vlan) × (qs : List Place) × IsWalk (Forwards u.net (tables_of u new version) dst) entry qs × (rest ≡ map (carrying tag) qs)
-      × ((found : Outcome) → IsPossible u k dst (end_of entry rest) found → found ≡ outcome_carrying tag (outcome_in u.net (tables_of u new version) (end_of entry qs) dst))
-
   ends_version : (rest : List Place) (version : Bool) (tag : Vlan) (qs : List Place) → IsWalk (Forwards u.net (tables_of u new version) dst) entry qs → rest ≡ map (carrying tag) qs
       → (found : Outcome) → found ≡ outcome_carrying tag (outcome_in u.net (tables_of u new version) (end_of entry qs) dst) → IsEnd (ended_by (end_of entry rest) found)
       → ((trace_by entry rest found ≡ old_path) ⊎ (trace_by entry rest found ≡ new_path)) × EndsFor entry.vlan found

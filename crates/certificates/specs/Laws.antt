@@ -71,12 +71,6 @@ EndsFor user Discard = Unit {0}
 EndsFor user (Leave port vlan) = vlan ≡ user
 EndsFor user (Go next) = ⊥
 
--- a mixed walk begins the path of the tables
-pub record WalkBeginsPath (net : Network) (tables : List (List Rule)) (dst : ℕ) (entry : Place) (rest : List Place) : Type 0 where
-  pub whole : Trace
-  pub path : IsPath net tables entry dst whole
-  pub begins : IsPrefix (map stop_of (entry ∷ rest)) whole.stops
-
 -- the trace of a mixed walk that ends by an outcome
 abbrev pub trace_by : Place → List Place → Outcome → Trace
 trace_by entry rest found = record { stops = map stop_of (entry ∷ rest); ended = ended_by (end_of entry rest) found }

@@ -129,12 +129,6 @@ module _ (u v : Rollout) (k j dst : ℕ) (entry : Place)
   pub same_step : (s t : SwitchId) → IsMixedStep v j dst entry s t ↔ IsMixedStep u k dst entry s t
   same_step s t = (was_step u v k j dst entry was s t, still_step s t)
 
-  pub same_leaving : (s : SwitchId) → MayLeave v j dst entry s ↔ MayLeave u k dst entry s
-  same_leaving s = (was_leaving u v k j dst entry was s, still_leaving s)
-
-  pub same_dropping : MayDrop v j dst entry ↔ MayDrop u k dst entry
-  same_dropping = (was_dropping u v k j dst entry was, still_dropping)
-
   -- and the same keeps both safe
   pub same_safe : (duties : PacketDuties) (numbers : List ℕ) (sets : List (List ℕ)) → IsSafe v j dst entry duties numbers sets ↔ IsSafe u k dst entry duties numbers sets
   same_safe duties numbers sets = (

@@ -109,9 +109,6 @@ module _ (u : Rollout) (k : ℕ) (good : IsGoodRound (tables_before u k) (round_
       abbrev changed : State
       changed = state_after u.net u.rounds st (map event.Change s.changes)
 
-      abbrev gone : State
-      gone = state_after_event u.net u.rounds changed (event.Hop 0)
-
       made : AreMade u k good place.switch s.changes st changed
       made = changes_made u k good place.switch s.changes st step_ready
 

@@ -15,18 +15,10 @@ abbrev pub round_of : Rollout → ℕ → RoundView
 round_of u k = record { net = u.net; tables = tables_before u k; round = round_after k u.rounds }
 
 module _ (u : Rollout) (k dst : ℕ) (entry : Place) (duties : PacketDuties) where
-  breaks_there : (rest : List Place) → Breaks (alone (round_of u k)) 0 dst entry duties rest → Breaks u k dst entry duties rest
-  breaks_there rest (inl again) = inl again
-  breaks_there rest (inr (inl unmet)) = inr (inl (record { port = unmet.port; vlan = unmet.vlan; leaves = unmet.leaves; misses = unmet.misses }))
-  breaks_there rest (inr (inr drops)) = inr (inr drops)
-
   breaks_here : (rest : List Place) → Breaks u k dst entry duties rest → Breaks (alone (round_of u k)) 0 dst entry duties rest
   breaks_here rest (inl again) = inl again
   breaks_here rest (inr (inl unmet)) = inr (inl (record { port = unmet.port; vlan = unmet.vlan; leaves = unmet.leaves; misses = unmet.misses }))
   breaks_here rest (inr (inr drops)) = inr (inr drops)
-
-  pub has_there : HasBreakingWalk (alone (round_of u k)) 0 dst entry duties → HasBreakingWalk u k dst entry duties
-  has_there h = record { rest = h.rest; walk = h.walk; breaks = breaks_there h.rest h.breaks }
 
   pub has_here : HasBreakingWalk u k dst entry duties → HasBreakingWalk (alone (round_of u k)) 0 dst entry duties
   has_here h = record { rest = h.rest; walk = h.walk; breaks = breaks_here h.rest h.breaks }

@@ -143,10 +143,6 @@ pub puts_there : (x : List SwitchId) (cs : List (List SwitchId)) (d : List Switc
 puts_there [] cs d some h = absurd (eqb-false 0 0 some refl)
 puts_there (s ∷ ss) cs d some h = put_there s ss cs d h
 
-pub puts_empty : (x : List SwitchId) (cs : List (List SwitchId)) → (length x == 0) ≡ true → with_chain x cs ≡ cs
-puts_empty [] cs e = refl
-puts_empty (s ∷ ss) cs e = let f = eqb-true (suc (length ss)) 0 e in absurd (omega arith)
-
 -- an element that is read, with another default
 pub read_at : {A : Type 0} (xs : List A) (i : ℕ) (x d : A) → i < length xs → x ≡ get_or xs i x → get_or xs i d ≡ x
 read_at xs i x d lt at = get_or_from_slice_get xs i x d (slice_get_read xs (length xs) i x refl lt at)

@@ -7,12 +7,7 @@ use Rattle.net_base.specs.declared.ids.Place.{Place}
 use Rattle.topology.specs.Networks.{stop_eq}
 use Rattle.flow_rules.specs.Patterns.{admits_vlan}
 use Rattle.demands.specs.declared.Cover.{Cover}
-use Rattle.demands.specs.Duties.{DemandView}
 
 -- whether packets that enter there, to this address, are covered
 abbrev pub is_covered : Cover → Place → ℕ → Bool
 is_covered c entry dst = option_map_or (λ s. stop_eq s (stop_of entry)) c.from true && admits_vlan c.vlan entry.vlan && in_block c.dst dst
-
--- what a demand covers
-abbrev pub cover_of : DemandView → Cover
-cover_of d = record { from = d.from; vlan = d.vlan; dst = d.dst }

@@ -12,7 +12,7 @@ use Rattle.topology.specs.Networks.{Network, IsNetwork, IsName}
 use Rattle.update_model.specs.declared.Change.{Change}
 use Rattle.update_model.specs.declared.Event.{Event}
 use Rattle.schedule_replay.specs.EventTexts.{event_text, schedule_text, HasLine}
-use Rattle.schedule_replay.specs.Lines.{text_of, is_comment}
+use Rattle.net_base.specs.Lines.{text_of, is_comment}
 use Rattle.schedule_replay.specs.Schedules.{schedule_in, numbered}
 use Rattle.schedule_replay.specs.Traces.{phase_line}
 use Rattle.schedule_replay.proofs.EventsAgain.{lines_between}

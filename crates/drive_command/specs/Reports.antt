@@ -4,7 +4,7 @@ use Rattle.hex.specs.Hex.{encode_lower}
 use Rattle.topology.specs.Networks.{Network}
 use Rattle.update_model.specs.declared.Change.{Change}
 use Rattle.schedule_replay.specs.EventTexts.{event_text, schedule_text}
-use Rattle.schedule_replay.specs.Lines.{text_of}
+use Rattle.net_base.specs.Lines.{text_of}
 use Rattle.schedule_replay.specs.Traces.{phase_line}
 use Rattle.round_messages.specs.Requests.{switch_numbered}
 use Rattle.switch_session.specs.declared.Cause.{Cause}

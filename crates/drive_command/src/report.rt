@@ -1,7 +1,7 @@
 // The report on a driver.
 ghost use Rattle.std.specs.Prelude.{◌≡◌, ◌<◌, ◌++◌, IfOk, OnOk, slice_index_or, [], length};
 ghost use Rattle.topology.specs.Networks.{switch_count};
-ghost use Rattle.schedule_replay.specs.Lines.{text_of};
+ghost use Rattle.net_base.specs.Lines.{text_of};
 ghost use Rattle.drive_command.specs.Reports as reports;
 
 use hex::encode;

@@ -3,7 +3,7 @@ use Rattle.std.specs.Prelude.{ℕ, List, [], ◌∷◌, ◌++◌, length, nat_lt
 use Rattle.std.specs.List.{AllByRecursion}
 use Rattle.net_base.specs.Reading.{◌>>=◌, check, in_turn}
 use Rattle.topology.specs.Networks.{Network}
-use Rattle.schedule_replay.specs.Lines.{lines_of, is_comment}
+use Rattle.net_base.specs.Lines.{lines_of, is_comment}
 use Rattle.driver_input.specs.declared.fault.InputFault.{InputFault}
 use Rattle.driver_input.specs.declared.fault.InputFault.TheVariants.{TooMany}
 use Rattle.driver_input.specs.declared.inputs.InputLine.{InputLine}

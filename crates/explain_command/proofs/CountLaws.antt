@@ -11,12 +11,3 @@ each_short [] few = tt
 each_short (round ∷ rounds) few =
     let sum = sum_by-cons (λ (x : List Change). length x) round rounds in
     (omega arith, each_short rounds (omega arith))
-
-round_within : (rounds : List (List Change)) (k : ℕ) → length (round_after k rounds) ≤ sum_by length rounds
-round_within [] zero = omega arith
-round_within [] (suc k) = omega arith
-round_within (r ∷ rounds) zero = let first = sum_by-cons (λ (x : List Change). length x) r rounds in omega arith
-round_within (r ∷ rounds) (suc k) = let rest = round_within rounds k in let first = sum_by-cons (λ (x : List Change). length x) r rounds in omega arith
-
-pub round_short : (rounds : List (List Change)) → sum_by length rounds ≤ 2200000 → (k : ℕ) → length (round_after k rounds) < 2 ^ 32
-round_short rounds few k = let round = round_within rounds k in omega arith

@@ -3,10 +3,12 @@
 
 mod configs;
 pub mod laws;
+mod order;
 mod overlaps;
 mod rules;
 mod tables;
 
 pub use configs::Config;
+pub use order::key_order;
 pub use rules::{Action, Key, Pattern, Rewrite, Rule, VlanTest, admits_port, admits_vlan};
 pub use tables::Table;

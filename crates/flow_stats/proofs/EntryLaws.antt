@@ -82,13 +82,6 @@ module _ (bytes : List ℕ) where
 pub entry_found : (at : ℕ) (bytes : List ℕ) (x : Entry) → Some x ≡ entry_in at bytes → (is_entry at bytes ≡ true) × (entry_at at bytes ≡ x)
 entry_found at bytes x e = cond_some (is_entry at bytes) (entry_at at bytes) x (sym e)
 
-none_found : (b : Bool) (x : Entry) → None ≡ cond b (Some x) None → b ≡ false
-none_found true x e = absurd cc
-none_found false x e = refl
-
-pub none_begins : (at : ℕ) (bytes : List ℕ) → None ≡ entry_in at bytes → is_entry at bytes ≡ false
-none_begins at bytes e = none_found (is_entry at bytes) (entry_at at bytes) e
-
 pub behind_nothing : (bytes : List ℕ) (o : Option (List Entry)) → behind bytes [] o ≡ o
 behind_nothing bytes None = refl
 behind_nothing bytes (Some es) = refl

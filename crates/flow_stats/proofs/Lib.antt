@@ -1,5 +1,4 @@
 pub mod EntryLaws
-pub mod ItemTurns
 pub mod Destinations
 pub mod AreaLaws
 pub mod MarkLaws
@@ -10,5 +9,4 @@ pub mod UserTables
 pub mod Shallow
 pub mod RuleAgain
 pub mod ConfigAgain
-pub mod Texts
 pub mod RuleTrees

@@ -17,6 +17,7 @@ use Rattle.net_base.specs.Text.{cut_first}
 use Rattle.net_base.specs.declared.ids.SwitchId.{SwitchId}
 use Rattle.net_base.proofs.Turns.{bind_ok, ok_is, in_turn-keeps}
 use Rattle.net_base.proofs.ListLaws.{any_in}
+use Rattle.net_base.specs.Lines.{lines_of, is_comment}
 use Rattle.topology.specs.Networks.{Network, switch_count, switch_named, capacity_of}
 use Rattle.flow_rules.specs.Patterns.{Header, covers, key_eq}
 use Rattle.flow_rules.specs.Overlaps.{keys_clash, patterns_meet}
@@ -31,7 +32,7 @@ use Rattle.config_files.proofs.TableUpdates.{each_after}
 use Rattle.flow_stats.specs.Entries.{Fill, entries_in}
 use Rattle.flow_stats.specs.Messages.{Reply, is_flow_reply, reply_in, progress_of}
 use Rattle.flow_stats.specs.Layout.{stats_reply_at}
-use Rattle.flow_stats.specs.Lines.{Sent, bytes_in, text_in, sent_in, is_comment, lines_of}
+use Rattle.flow_stats.specs.Lines.{Sent, bytes_in, text_in, sent_in}
 use Rattle.flow_stats.specs.Profile.{rule_in}
 use Rattle.flow_stats.specs.Tables as step
 use Rattle.flow_stats.specs.Tables.{rules_with, with_rule}

@@ -1,6 +1,5 @@
 -- The lines of a file of flow statistics.
-use Rattle.std.specs.Prelude.{ℕ, ◌==◌, Bool, true, List, [], ◌∷◌, Option, None, Result, Ok, Err, if◌then◌else◌}
-use Rattle.std.specs.List.{slice_split}
+use Rattle.std.specs.Prelude.{ℕ, List, [], ◌∷◌, Option, None, Result, Ok, Err, if◌then◌else◌}
 use Rattle.std.specs.Result.{result_ok}
 use Rattle.std.specs.Str.{is_utf8}
 use Rattle.hex.specs.Hex.{decode_of}
@@ -11,16 +10,6 @@ use Rattle.topology.specs.Networks.{Network, switch_named}
 use Rattle.flow_stats.specs.declared.fault.StatsFault.{StatsFault}
 use Rattle.flow_stats.specs.declared.fault.StatsFault.TheVariants.{BadLine}
 use Rattle.flow_stats.specs.declared.lines.SentMessage.{SentMessage}
-
--- the lines: the parts round each line end, the byte 10. What stands after the last line end is a line too, which is empty
--- where nothing stands there
-abbrev pub lines_of : List ℕ → List (List ℕ)
-lines_of bytes = slice_split (λ b. b == 10) bytes
-
--- whether a line is a comment: it is empty, or begins with `#`
-abbrev pub is_comment : List ℕ → Bool
-is_comment [] = true
-is_comment (b ∷ bs) = b == 35
 
 -- the bytes of a message and the switch that sent it
 pub record Sent : Type 0 where

@@ -3,10 +3,11 @@ use Rattle.std.specs.Prelude.{◌≡◌, ◌≤◌, ℕ, ◌+◌, Bool, true, fa
 use Rattle.std.specs.List.{range_with_len}
 use Rattle.net_base.specs.declared.ids.SwitchId.{SwitchId}
 use Rattle.net_base.specs.Reading.{◌>>=◌, check, need, in_turn}
+use Rattle.net_base.specs.Lines.{lines_of, is_comment}
 use Rattle.topology.specs.Networks.{Network, switch_count, capacity_of}
 use Rattle.flow_rules.specs.Tables.{rules_at, rules_of_all}
 use Rattle.flow_rules.specs.declared.rules.Rule.{Rule}
-use Rattle.flow_stats.specs.Lines.{Sent, lines_of, is_comment, sent_in}
+use Rattle.flow_stats.specs.Lines.{Sent, sent_in}
 use Rattle.flow_stats.specs.Messages.{Reply, reply_in}
 use Rattle.flow_stats.specs.Tables.{entry_at}
 use Rattle.flow_stats.specs.Index.{AreIndexed}

@@ -14,10 +14,10 @@ ghost use Rattle.flow_stats.specs.Replies.{AreFor};
 use crate::adding::add_entries;
 use crate::fault::StatsFault;
 use crate::index::RuleIndex;
-use crate::lines::{SentMessage, is_comment, is_line_end, read_sent};
+use crate::lines::{SentMessage, read_sent};
 use crate::messages::{FlowReply, Progress, read_reply};
 use flow_rules::Config;
-use net_base::{SwitchId, place_of};
+use net_base::{SwitchId, is_comment, is_line_end, place_of};
 use std::alloc::Global;
 use topology::Net;
 

@@ -7,6 +7,8 @@ pub mod Decimals
 pub mod Cuts
 pub mod Trees
 pub mod Turns
+pub mod ItemTurns
+pub mod TextLines
 pub mod Prefixes
 pub mod LineEnd
 pub mod Pieces

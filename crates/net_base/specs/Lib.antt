@@ -3,6 +3,7 @@ pub mod Walks
 pub mod Members
 pub mod Places
 pub mod Text
+pub mod Lines
 pub mod Tree
 pub mod Reading
 pub mod Causes

@@ -222,6 +222,3 @@ module _ (t : Task) (e : Evidence) (count : length t.update.old ≡ switch_count
 module _ (c : CaseView) (checked : IsChecked c) where
   pub case_ascends : PicksAscend c.evidence
   case_ascends = picks_ascend c.task.update.net (length c.task.rounds) (sum_by length c.task.rounds) c.evidence checked.valid.evidence
-
-  abbrev pub case_count : length c.task.update.old ≡ switch_count c.task.update.net
-  case_count = checked.old_user.count

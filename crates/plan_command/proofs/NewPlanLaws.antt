@@ -46,16 +46,6 @@ module _ (u : Update) where
     answer_is = is;
   }
 
-  -- the plan of a search that ended ordered, for the duties that were made
-  pub says_ordered : (duties : ClassDuties) (classes : ClassList) → duties ≡ record { demands = u.demands; classes = classes } → (p : Plan) → IsPlanOf (aim_of u.net u.old u.new duties.demands) u.old p
-      → length p.rounds ≡ length (remaining u.old u.new) → (answer : Answer) → SaysPlan u.net p answer → SaysOrdered u answer
-  says_ordered duties classes made p searched count answer says = record {
-    plan = p;
-    searched = subst (λ (d : ClassDuties). IsPlanOf (aim_of u.net u.old u.new d.demands) u.old p) made searched;
-    says = says;
-    count = count;
-  }
-
   -- a tree update, for the duties that were made
   pub tree_for : (duties : ClassDuties) (classes : ClassList) → duties ≡ record { demands = u.demands; classes = classes } → IsTreeUpdate (bare_task u)
       → IsTreeUpdate (record { update = record { net = u.net; old = u.old; new = u.new; demands = duties.demands }; rounds = [] })

@@ -1,9 +1,9 @@
 // The changes between two small configurations.
-use flow_rules::{Action, Config, Key, Pattern, Rewrite, Rule, VlanTest};
+use flow_rules::{Action, Config, Key, Pattern, Rewrite, Rule, VlanTest, key_order};
 use net_base::{Port, SwitchId, read_prefix};
 use std::cmp::Ordering;
 use std::process::Abort;
-use table_difference::{key_order, remaining, sort_by_key};
+use table_difference::{remaining, sort_by_key};
 use update_model::Change;
 
 /// A rule for a prefix, of any ingress port where that is 0, that sends to a port, or discards where that is 0.

@@ -1,51 +1,19 @@
 -- What a sort by keys gives.
-use Rattle.std.proofs.Common.{◌≡◌, ℕ, zero, suc, ◌<◌, ◌≤◌, true, false, List, [], ◌∷◌, length, get_or, refl, sym, ◌∙◌, subst, ap, inl, inr, arith}
-use Rattle.std.specs.Cmp.{IsTotalOrder, IsStrictWeakOrder, on_total, then_total, back_total, nat_cmp_total}
-use Rattle.std.specs.Ordering.{nat_cmp, ordering_then, is_lt}
+use Rattle.std.proofs.Common.{◌≡◌, ℕ, zero, suc, ◌<◌, ◌≤◌, true, false, List, [], ◌∷◌, length, get_or, sym, ◌∙◌, ap, inl, inr, arith}
+use Rattle.std.specs.Cmp.{IsStrictWeakOrder}
+use Rattle.std.specs.Ordering.{nat_cmp, is_lt}
 use Rattle.std.specs.List.Sorted.{IsSortedBy}
 use Rattle.std.specs.declared.cmp.Ordering.{Ordering}
-use Rattle.std.specs.declared.cmp.Ordering.TheVariants.{Less, Equal, Greater}
 use Rattle.std.proofs.lemmas.Bool.{both_ways, cases_lt}
 use Rattle.std.proofs.lemmas.List.Elements.{recursion_from_All}
 use Rattle.std.proofs.lemmas.List.Sorted.{ranks_by, sorted_far}
 use Rattle.net_base.proofs.MemberLaws.{each_weaker}
-use Rattle.flow_rules.specs.Order.{port_rank, vlan_rank, by_parts, key_cmp}
-use Rattle.flow_rules.specs.declared.rules.Key.{Key}
+use Rattle.flow_rules.specs.Order.{by_parts, key_cmp}
+use Rattle.flow_rules.proofs.OrderLaws.{key_total}
 use Rattle.round_mix.specs.Order.{priority_of, base_of, port_of, vlan_of, IsInKeyOrder, AreInKeyOrder}
 use Rattle.round_mix.specs.Prepared.{IsFalling}
 use Rattle.round_mix.specs.declared.MarkedRule.{MarkedRule}
 use Rattle.round_mix.proofs.OrderLaws.{nat_less, nat_equal}
-
--- one part after the other decides
-pub in_turn_is : (a b c d e : Ordering) → ordering_then (ordering_then (ordering_then (ordering_then a b) c) d) e ≡ by_parts (a ∷ b ∷ c ∷ d ∷ e ∷ [])
-in_turn_is Less b c d e = refl
-in_turn_is Greater b c d e = refl
-in_turn_is Equal Less c d e = refl
-in_turn_is Equal Greater c d e = refl
-in_turn_is Equal Equal Less d e = refl
-in_turn_is Equal Equal Greater d e = refl
-in_turn_is Equal Equal Equal Less e = refl
-in_turn_is Equal Equal Equal Greater e = refl
-in_turn_is Equal Equal Equal Equal Less = refl
-in_turn_is Equal Equal Equal Equal Greater = refl
-in_turn_is Equal Equal Equal Equal Equal = refl
-
-abbrev turns : Key → Key → Ordering
-turns a b =
-    ordering_then (ordering_then (ordering_then (ordering_then (nat_cmp b.priority a.priority) (nat_cmp (port_rank a.pattern.in_port) (port_rank b.pattern.in_port)))
-    (nat_cmp (vlan_rank a.pattern.vlan) (vlan_rank b.pattern.vlan))) (nat_cmp a.pattern.dst.base b.pattern.dst.base)) (nat_cmp a.pattern.dst.len b.pattern.dst.len)
-
-turns_total : IsTotalOrder turns
-turns_total =
-    then_total (then_total (then_total (then_total (back_total (on_total (λ (k : Key). k.priority) nat_cmp_total)) (on_total (λ (k : Key). port_rank k.pattern.in_port) nat_cmp_total))
-    (on_total (λ (k : Key). vlan_rank k.pattern.vlan) nat_cmp_total)) (on_total (λ (k : Key). k.pattern.dst.base) nat_cmp_total)) (on_total (λ (k : Key). k.pattern.dst.len) nat_cmp_total)
-
-key_total : IsTotalOrder key_cmp
-key_total = subst IsTotalOrder is turns_total
-  where
-    is : turns ≡ key_cmp
-    is = λ i a b. in_turn_is (nat_cmp b.priority a.priority) (nat_cmp (port_rank a.pattern.in_port) (port_rank b.pattern.in_port))
-        (nat_cmp (vlan_rank a.pattern.vlan) (vlan_rank b.pattern.vlan)) (nat_cmp a.pattern.dst.base b.pattern.dst.base) (nat_cmp a.pattern.dst.len b.pattern.dst.len) i
 
 -- the order is one that sorts
 pub keys_sort : IsStrictWeakOrder (λ (a b : MarkedRule). is_lt (key_cmp a.rule.key b.rule.key))

@@ -123,7 +123,3 @@ marked_push rs before c old new distinct state by =
           (distinct_push (map key_named before) (key_named c) state.distinct (λ i. none_named before by.rule off (subst (λ k. IsIn k (map key_named before)) key i)));
       named = each_append (IsNamed rs) before (c ∷ []) state.named ((by.rule, there, by.named), tt);
     }
-
--- a marked rule at a position
-pub mark_at : (ms : List MarkedRule) (i : ℕ) (m : MarkedRule) → slice_get ms i ≡ Some m → m.mark ≡ Sure → slice_get ms i ≡ Some (with_mark m.rule Sure)
-mark_at ms i m at sure = at ∙ ap (λ (a : Mark). Some (with_mark m.rule a)) sure

@@ -10,9 +10,9 @@ ghost use Rattle.round_mix.specs.Prepared.{IsPrepared};
 
 use crate::apart::sort_apart;
 use crate::marking::{fill, mark_by};
-use crate::sorting::{key_order, sort_by_key};
+use crate::sorting::sort_by_key;
 use crate::{Mark, MarkedRule};
-use flow_rules::{Rule, Table};
+use flow_rules::{Rule, Table, key_order};
 use update_model::Change;
 
 /// Whether a change names a rule: by its key, and a delete by its action too.

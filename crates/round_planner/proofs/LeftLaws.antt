@@ -95,10 +95,6 @@ module _ (aim : Aim) (tables : List (List Rule)) where
         | Some f ↦ λ _ fails. fails_then aim tables one.change f fails
       ] some stands
 
-  -- one that hasn't has nothing that could fall
-  pub stands_untried : (one : Left) → one.failure ≡ None → HasStanding aim tables one
-  stands_untried one is = subst (λ (o : Option Failure). IfSome o (λ g. IsFailure aim tables one.change g)) (sym is) tt
-
   -- a failure that a change doesn't touch stands after it
   pub stands_on : (one : Left) (d : Change) → IsOfUsers tables one → (switch_of d).0 < length tables → ¬ IsSomeAnd one.failure (λ f. IsTouched (switch_of one.change) d f)
       → HasStanding aim tables one → HasStanding aim (tables_after_change d tables) one
@@ -108,9 +104,6 @@ module _ (aim : Aim) (tables : List (List Rule)) where
         | None ↦ λ _ _. tt
         | Some f ↦ λ off fails. failure_stands aim tables one.change users.rules users.change d within f off fails
       ] untouched stands
-
-  pub all_untried : (left : List Left) → map change_of left ≡ remaining tables aim.new → AllByRecursion (λ (l : Left). l.failure ≡ None) left → AreLeft aim tables left
-  all_untried left are none = record { changes = are; standing = each_weaker (λ (l : Left). l.failure ≡ None) (HasStanding aim tables) stands_untried left none }
 
 -- ---- a change that is tried among those that remain
 
@@ -136,9 +129,6 @@ module _ (aim : Aim) (old : List (List Rule)) (changes : List Change) where
 
     there : y ≡ get_or set_left i y
     there = sym (get_or-set_same left i y y less)
-
-    pub changes_set : map change_of set_left ≡ map change_of left
-    changes_set = map_set change_of left i x y less is same
 
     -- those before it don't qualify, and it does
     pub placed : AreLeft aim tables left → AllByRecursion Unfit (take i left) → (s : SearchState) → IsLeftTried aim old changes x s true → IsPlaced aim old changes s set_left (Some i)

@@ -75,16 +75,6 @@ room_rest c cs s spare new =
       | false ↦ λ room is. subst (λ (n : ℕ). insert_count (changes_at s cs) ≤ n) (sym is) room
     ]
 
--- the first change has room too
-pub room_first : (c : Change) (cs : List Change) (s : SwitchId) → insert_count (changes_at s (c ∷ [])) ≤ insert_count (changes_at s (c ∷ cs))
-room_first c cs s =
-    elim ((switch_of c).0 == s.0) as (λ b. insert_count (cond b (c ∷ []) []) ≤ insert_count (cond b (c ∷ changes_at s cs) (changes_at s cs))) [ true ↦ one c (changes_at s cs) | false ↦ omega arith ]
-  where
-    one : (c : Change) (cs : List Change) → insert_count (c ∷ []) ≤ insert_count (c ∷ cs)
-    one (Insert s r) cs = omega arith
-    one (Delete s r) cs = omega arith
-    one (Replace s r) cs = omega arith
-
 after_few : (c : Change) (rules : List Rule) (cs : List Change) → length (rules_after_change c rules) + insert_count cs ≤ length rules + insert_count (c ∷ cs)
 after_few (Insert s r) rules cs = let len = length-append rules (r ∷ []) in omega arith
 after_few (Delete s r) rules cs = let few = filter_less (λ q. not (key_eq q.key r.key)) rules in omega arith

@@ -1,5 +1,4 @@
 pub mod ReplayLaws
-pub mod LineTurns
 pub mod Printed
 pub mod LinesAgain
 pub mod EventsAgain

@@ -3,7 +3,7 @@ use Rattle.std.proofs.Common.{◌≡◌, ℕ, suc, eqb, false, List, [], ◌∷�
 use Rattle.std.specs.List.{AllByRecursion}
 use Rattle.std.proofs.lemmas.Bool.{ne_eqb}
 use Rattle.net_base.proofs.Cuts.{Lacks}
-use Rattle.schedule_replay.specs.Lines.{lines_of, text_of}
+use Rattle.net_base.specs.Lines.{lines_of, text_of}
 
 first_line : (line rest : List ℕ) → Lacks 10 line → lines_of (line ++ 10 ∷ rest) ≡ line ∷ lines_of rest
 first_line [] rest h = refl

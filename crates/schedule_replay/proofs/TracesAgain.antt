@@ -13,7 +13,7 @@ use Rattle.update_model.specs.declared.Event.{Event}
 use Rattle.update_model.specs.declared.Packet.{Packet}
 use Rattle.update_model.specs.declared.Phase.{Phase}
 use Rattle.update_model.specs.declared.Phase.TheVariants.{Settled, Running}
-use Rattle.schedule_replay.specs.Lines.{is_comment}
+use Rattle.net_base.specs.Lines.{is_comment}
 use Rattle.schedule_replay.specs.EventTexts.{switch_text, stop_text, place_text, entry_text, HasLine}
 use Rattle.schedule_replay.specs.Schedules.{schedule_in, numbered}
 use Rattle.schedule_replay.specs.Traces.{packet_text, stops_text, end_text, packet_line, packet_lines, phase_line, trace_lines, marked, record_text}

@@ -8,7 +8,7 @@ use Rattle.net_base.specs.Text.{vlan_text, address_text}
 use Rattle.topology.specs.Networks.{Network, switch_count, IsPortNumber, IsVlan}
 use Rattle.update_model.specs.declared.Event.{Event}
 use Rattle.update_model.specs.declared.Event.TheVariants.{Start, Settle, Change, Enter, Hop, Lose}
-use Rattle.schedule_replay.specs.Lines.{text_of}
+use Rattle.net_base.specs.Lines.{text_of}
 
 -- the name of a switch; empty where the network has no such switch
 abbrev pub switch_text : Network → SwitchId → List ℕ

@@ -1,5 +1,4 @@
 pub mod Faults
-pub mod Lines
 pub mod EventLines
 pub mod Schedules
 pub mod Replays

@@ -6,7 +6,7 @@ use Rattle.update_model.specs.declared.Event.{Event}
 use Rattle.schedule_replay.specs.declared.schedule.ScheduleLine.{ScheduleLine}
 use Rattle.schedule_replay.specs.declared.fault.ScheduleFault.{ScheduleFault}
 use Rattle.schedule_replay.specs.declared.fault.ScheduleFault.TheVariants.{BadLine, TooMany}
-use Rattle.schedule_replay.specs.Lines.{lines_of, is_comment}
+use Rattle.net_base.specs.Lines.{lines_of, is_comment}
 use Rattle.schedule_replay.specs.EventLines.{event_in}
 
 -- these events and the one of a line, of which there are at most 4,000,000

@@ -9,7 +9,7 @@ use Rattle.update_model.specs.declared.Event.{Event}
 use Rattle.update_model.specs.declared.Packet.{Packet}
 use Rattle.update_model.specs.declared.Phase.{Phase}
 use Rattle.update_model.specs.declared.Phase.TheVariants.{Settled, Running}
-use Rattle.schedule_replay.specs.Lines.{text_of}
+use Rattle.net_base.specs.Lines.{text_of}
 use Rattle.schedule_replay.specs.EventTexts.{switch_text, stop_text, place_text, entry_text, event_text}
 
 -- where a packet entered, to which address, and how many rounds were settled then: `packet I SWITCH:PORT VLAN ADDRESS born B:`

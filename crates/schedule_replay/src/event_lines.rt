@@ -1,6 +1,5 @@
 // The event that a line of a schedule spells.
 ghost use Rattle.std.specs.Prelude.{◌≡◌, IfSome, ◌≤◌, ◌<◌, ◌^◌};
-ghost use Rattle.schedule_replay.specs.Lines as lines;
 ghost use Rattle.schedule_replay.specs.EventLines as spelled;
 ghost use Rattle.update_model.specs.declared.Event.TheVariants as event;
 
@@ -13,16 +12,6 @@ const MAX_PORT: u64 = 65279;
 const MAX_VLAN: u64 = 4094;
 
 const MAX_NUMBER: u64 = 4_294_967_295;
-
-/// Whether a line is a comment: empty, or `#` and what follows.
-pub fn is_comment(line: &[u8]) -> bool
-    ensures { result ≡ lines.is_comment line.now }
-{
-    match line {
-        [] => true,
-        [first, ..] => *first == b'#',
-    }
-}
 
 /// Reads a port of a switch, `SWITCH:PORT`.
 #[tactic(auto, unfolding(crate::specs::EventLines::stop_in))]

@@ -2,7 +2,7 @@
 ghost use Rattle.std.specs.Prelude.{◌≡◌, ◌≤◌, ◌++◌, ◌∷◌, [], IfOk, OnOk, Ok, length};
 ghost use Rattle.std.specs.List.{AllByRecursion};
 ghost use Rattle.schedule_replay.specs.EventTexts.{HasLine};
-ghost use Rattle.schedule_replay.specs.Lines.{text_of};
+ghost use Rattle.net_base.specs.Lines.{text_of};
 ghost use Rattle.schedule_replay.specs.Schedules.{schedule_in, numbered};
 ghost use Rattle.schedule_replay.specs.Traces.{marked};
 ghost use Rattle.schedule_replay.specs.Traces as texts;

@@ -20,15 +20,6 @@ use Rattle.simulate_command.specs.Simulations.{IsEntryFor, IsTraffic}
 abbrev pub AreInTurn : ClassList → List Entry → Type 0
 AreInTurn classes entries = (i : ℕ) (entry : Entry) → slice_get entries i ≡ Some entry → IsEntryFor classes (i % class_count classes) entry
 
-pushed : {A : Type 0} (xs : List A) (x : A) (i : ℕ) (y : A) → slice_get (xs ++ x ∷ []) i ≡ Some y → (slice_get xs i ≡ Some y) ⊎ ((i ≡ length xs) × (x ≡ y))
-pushed [] x zero y is = let f : Some x ≡ Some y = is in let g : x ≡ y = cc in inr (refl, g)
-pushed [] x (suc i) y is = absurd (let f : None ≡ Some y = is in cc)
-pushed (z ∷ xs) x zero y is = inl is
-pushed (z ∷ xs) x (suc i) y is = elim (pushed xs x i y is) [
-  | inl h ↦ inl h
-  | inr h ↦ inr (ap suc h.0, h.1)
-]
-
 few_of : (b : Bool) (n count most : ℕ) → n ≡ (if b then 0 else count) → count ≤ most → n ≤ most
 few_of true n count most is few = omega arith
 few_of false n count most is few = omega arith

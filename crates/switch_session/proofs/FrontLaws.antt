@@ -130,10 +130,6 @@ message_grows x y n e =
 
 -- ---- lengths
 
-or_left : (a b : Bool) → (a || b) ≡ false → a ≡ false
-or_left true b e = e
-or_left false b e = refl
-
 -- a length that isn't wrong is at least a header's
 pub at_least_header : (type said : ℕ) → is_wrong_length type said ≡ false → 8 ≤ said
 at_least_header type said e =

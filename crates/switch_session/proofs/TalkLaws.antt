@@ -89,12 +89,6 @@ taken_message old new bytes n going e is room =
 pub part : (bytes : List ℕ) (at : ℕ) → take (length bytes - at) (drop at bytes) ≡ drop at bytes
 part bytes at = take_rest bytes at
 
-pub taken_on : (bytes : List ℕ) (at n : ℕ) (first old new : Talk) → after_bytes bytes (channel_of first []) ≡ after_bytes (drop at bytes) (channel_of old [])
-    → IsTaken n old new (take (length bytes - at) (drop at bytes)) → after_bytes bytes (channel_of first []) ≡ after_bytes (drop (at + n) bytes) (channel_of new [])
-taken_on bytes at n first old new so_far step =
-    so_far ∙ ap (λ l. after_bytes l (channel_of old [])) (sym (part bytes at)) ∙ step.state
-    ∙ ap (λ l. after_bytes (drop n l) (channel_of new [])) (part bytes at) ∙ ap (λ l. after_bytes l (channel_of new [])) (drop-drop n at bytes)
-
 -- ---- a piece behind the unread bytes
 
 module _ (v : ChannelView) (talk : Talk) (unread piece : List ℕ) (room : ℕ) (seen : let w : ChannelView = record { state = channel_of talk unread; room = room } in w ≡ v) where

@@ -1,8 +1,8 @@
--- The key order is total, so a sort by it is in key order, and ascends where the keys are distinct.
+-- A sort by the key order is in key order, and ascends where the keys are distinct.
 use Rattle.std.proofs.Common.{◌≡◌, ◌≢◌, ℕ, zero, suc, ◌<◌, ◌≤◌, true, false, List, [], ◌∷◌, length, get_or, refl, sym, ◌∙◌, subst, ap, inl, inr, arith}
 use Rattle.std.specs.Prelude.{IsPermutation}
-use Rattle.std.specs.Cmp.{IsTotalOrder, IsStrictWeakOrder, on_total, then_total, back_total, nat_cmp_total}
-use Rattle.std.specs.Ordering.{nat_cmp, ordering_then, ordering_reverse, is_lt}
+use Rattle.std.specs.Cmp.{IsStrictWeakOrder}
+use Rattle.std.specs.Ordering.{ordering_reverse, is_lt}
 use Rattle.std.specs.List as std_list
 use Rattle.std.specs.List.Sorted.{IsSortedBy}
 use Rattle.std.specs.declared.cmp.Ordering.{Ordering}
@@ -13,45 +13,15 @@ use Rattle.std.proofs.lemmas.List.Sorted.{ranks_by, sorted_far, IsPermutation-ma
 use Rattle.std.proofs.lemmas.Map.Keys.{IsDistinct-IsPermutation}
 use Rattle.net_base.specs.Members.{IsIn, IsDistinct}
 use Rattle.net_base.proofs.MemberLaws.{each_at, each_from_in, in_map, in_from_map}
-use Rattle.flow_rules.specs.Order.{port_rank, vlan_rank, by_parts, key_cmp}
+use Rattle.flow_rules.specs.Order.{key_cmp}
 use Rattle.flow_rules.specs.Patterns.{key_eq}
 use Rattle.flow_rules.specs.Tables.{keys_of, IsTable}
 use Rattle.flow_rules.specs.declared.rules.Key.{Key}
 use Rattle.flow_rules.specs.declared.rules.Rule.{Rule}
+use Rattle.flow_rules.proofs.OrderLaws.{key_total}
 use Rattle.flow_rules.proofs.KeyLaws.{key_eq-true, key_eq-false, key_eq-refl, key_ne}
 use Rattle.update_model.proofs.KeyOrderLaws.{IsKeyLess, key_either}
 use Rattle.table_difference.specs.KeyOrder.{AreInKeyOrder, AreAscending}
-
--- one part after the other decides
-pub in_turn_is : (a b c d e : Ordering) → ordering_then (ordering_then (ordering_then (ordering_then a b) c) d) e ≡ by_parts (a ∷ b ∷ c ∷ d ∷ e ∷ [])
-in_turn_is Less b c d e = refl
-in_turn_is Greater b c d e = refl
-in_turn_is Equal Less c d e = refl
-in_turn_is Equal Greater c d e = refl
-in_turn_is Equal Equal Less d e = refl
-in_turn_is Equal Equal Greater d e = refl
-in_turn_is Equal Equal Equal Less e = refl
-in_turn_is Equal Equal Equal Greater e = refl
-in_turn_is Equal Equal Equal Equal Less = refl
-in_turn_is Equal Equal Equal Equal Greater = refl
-in_turn_is Equal Equal Equal Equal Equal = refl
-
-abbrev turns : Key → Key → Ordering
-turns a b =
-    ordering_then (ordering_then (ordering_then (ordering_then (nat_cmp b.priority a.priority) (nat_cmp (port_rank a.pattern.in_port) (port_rank b.pattern.in_port)))
-    (nat_cmp (vlan_rank a.pattern.vlan) (vlan_rank b.pattern.vlan))) (nat_cmp a.pattern.dst.base b.pattern.dst.base)) (nat_cmp a.pattern.dst.len b.pattern.dst.len)
-
-turns_total : IsTotalOrder turns
-turns_total =
-    then_total (then_total (then_total (then_total (back_total (on_total (λ (k : Key). k.priority) nat_cmp_total)) (on_total (λ (k : Key). port_rank k.pattern.in_port) nat_cmp_total))
-    (on_total (λ (k : Key). vlan_rank k.pattern.vlan) nat_cmp_total)) (on_total (λ (k : Key). k.pattern.dst.base) nat_cmp_total)) (on_total (λ (k : Key). k.pattern.dst.len) nat_cmp_total)
-
-pub key_total : IsTotalOrder key_cmp
-key_total = subst IsTotalOrder is turns_total
-  where
-    is : turns ≡ key_cmp
-    is = λ i a b. in_turn_is (nat_cmp b.priority a.priority) (nat_cmp (port_rank a.pattern.in_port) (port_rank b.pattern.in_port))
-        (nat_cmp (vlan_rank a.pattern.vlan) (vlan_rank b.pattern.vlan)) (nat_cmp a.pattern.dst.base b.pattern.dst.base) (nat_cmp a.pattern.dst.len b.pattern.dst.len) i
 
 -- the order is one that sorts
 pub rules_sort : IsStrictWeakOrder (λ (a b : Rule). is_lt (key_cmp a.key b.key))

@@ -13,7 +13,7 @@ mod sorting;
 use flow_rules::Config;
 use merging::add_differences;
 use net_base::{Memory, SwitchId};
-pub use sorting::{key_order, sort_by_key};
+pub use sorting::sort_by_key;
 use std::alloc::Global;
 use update_model::Change;
 

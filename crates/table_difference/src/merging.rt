@@ -6,8 +6,8 @@ ghost use Rattle.update_model.specs.Remaining.{difference, changes_between};
 ghost use Rattle.table_difference.specs.KeyOrder.{AreAscending};
 ghost use Rattle.table_difference.specs.Steps.{IsStep};
 
-use crate::sorting::{key_order, sort_by_key};
-use flow_rules::{Rule, Table};
+use crate::sorting::sort_by_key;
+use flow_rules::{Rule, Table, key_order};
 use net_base::{Memory, SwitchId};
 use std::alloc::Global;
 use std::cmp::Ordering;

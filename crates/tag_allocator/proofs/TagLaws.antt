@@ -96,10 +96,6 @@ paired_firsts [] ts = refl
 paired_firsts (v ∷ vs) [] = refl
 paired_firsts (v ∷ vs) (t ∷ ts) = ap (λ ys. t ∷ ys) (paired_firsts vs ts)
 
--- the two tests of an id are one
-same_id : (a b : ℕ) → (a == b) ≡ (b == a)
-same_id a b = grind arith
-
 length_filter : {A : Type 0} (p : A → Bool) (xs : List A) → length (filter p xs) ≤ length xs
 length_filter p [] = omega arith
 length_filter p (x ∷ xs) =

@@ -202,9 +202,6 @@ module _ (t : Task) (k : ℕ) (class : Class) (labels : List Label) where
   one_least found None none some = λ s h. kept_not found s none h
   one_least found (Some s) none some = some
 
-  pub among_none : IsLeastAmong [] None
-  among_none = record { none = tt; some = tt }
-
   -- one outcome more
   pub among_push : (list : List Outcome) (found : Outcome) (a b : Option SwitchId) → IsLeastAmong list a → IfNone b (IsKept t k class labels found)
       → IfSome b (IsLeastSwitch (MixesBy t k class labels found)) → IsLeastAmong (list ++ found ∷ []) (lesser a b)

@@ -195,9 +195,6 @@ module _ (v : DriverView) (old : List Turn) (xid : ℕ) (inv : IsDriver v old xi
       let same = ap length round_is in
       omega (arith, before, count, this, same, first_is, inv.drivable.few_rounds, inv.drivable.few_changes)
 
-  pub round_plan : AllByRecursion (IsPlanChange v.net) round
-  round_plan = subst (AllByRecursion (IsPlanChange v.net)) (sym round_is) (each_round_of (IsPlanChange v.net) v.rounds k more inv.drivable.plan)
-
   next_xid : xid + length (round_requests v.net k round) ≡ first_xid v.net v.rounds (suc k)
   next_xid =
       let step : suc k ≡ k + 1 = omega arith in
@@ -250,9 +247,6 @@ module _ (net : Network) (rounds : List (List Change)) (phase : Phase) (log : Li
   pub channel_count : length channels ≡ switch_count v.net
   channel_count = sym (length-states channels) ∙ (reached_sound (record { net = net; rounds = rounds; state = with_states phase log channels }) inv.reached).count ∙ ap (λ (w : DriverView). switch_count w.net) seen
 
-  pub turn_count : length turns ≡ switch_count v.net
-  turn_count = inv.count ∙ ap (λ (w : DriverView). switch_count w.net) seen
-
   pub channel_is : (s : SwitchId) (x : ChannelView) → s.0 < switch_count v.net → x ≡ get_or channels s.0 x → x.state ≡ channel_at v.state s
   channel_is s x lt at =
       let count = channel_count in
@@ -289,19 +283,6 @@ module _ (net : Network) (rounds : List (List Change)) (phase : Phase) (log : Li
   module _ (round : List Change) (may : MayStartWith net rounds (states_of channels) phase round) where
     pub start_few : switch_count net ≤ 128 → xid + length round + switch_count net < 2 ^ 32
     start_few few = few_xids here turns xid inv may.k may.settled may.more (may.no_fault log) round may.round_is few
-
-    pub start_plan : AllByRecursion (IsPlanChange net) round
-    start_plan = round_plan here turns xid inv may.k may.settled may.more (may.no_fault log) round may.round_is
-
-    pub start_most : begun_count phase + 1 < 2 ^ 32
-    start_most =
-        let few = inv.drivable.few_rounds in
-        let more = may.more in
-        let count : begun_count phase ≡ may.k = ap begun_count may.settled in
-        omega arith
-
-    pub start_allowed : start_fault v.net v.rounds v.state ≡ None
-    start_allowed = subst (λ (w : DriverView). start_fault w.net w.rounds w.state ≡ None) seen (may.no_fault log)
 
     module _ (list : List Turn) (messages : (j : ℕ) → HoldMessages j (sent_from xid (round_requests net j round)) list) (events : HoldEvents round list) (count : length list ≡ switch_count net) (next : DriverState)
         (begins : next ≡ begun_by_turns list (with_states phase log channels)) where

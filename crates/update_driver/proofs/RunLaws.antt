@@ -209,10 +209,6 @@ module _ (net : Network) (rounds : List (List Change)) (old : List (List Rule)) 
   goes_on : (log events : List Event) → IsRun u log → AreEnabled net rounds (state_after_run u log) events → GoesOn log events
   goes_on log events run enabled = record { run = enabled-append (first_state old) log events run enabled; state = state-append (first_state old) log events }
 
-  -- a state of a driver with another log
-  abbrev logged : List Event → DriverState → DriverState
-  logged log d = record d { log = log }
-
   -- what is to be known of the state after a log
   follows_from : (d : DriverState) (st : State) → IsRun u d.log → state_after_run u d.log ≡ st → Keeps st → st.phase ≡ d.phase → st.packets ≡ [] → Waits rounds d.phase d.channels st.pending → Follows d
   follows_from d st run is keeps phase packets waits =

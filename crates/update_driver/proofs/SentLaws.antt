@@ -43,10 +43,6 @@ filter_alike : {A : Type 0} (p q : A → Bool) (xs : List A) → AllByRecursion 
 filter_alike p q [] h = refl
 filter_alike p q (x ∷ xs) h = ap (λ b. cond b (x ∷ filter p xs) (filter p xs)) h.0 ∙ ap (λ l. cond (q x) (x ∷ l) l) (filter_alike p q xs h.1)
 
-each_map_of : {A B : Type 0} (P : A → Type 0) (Q : B → Type 0) (xs : List A) (f : A → B) → ((x : A) → P x → Q (f x)) → AllByRecursion P xs → AllByRecursion Q (map f xs)
-each_map_of P Q [] f h all = tt
-each_map_of P Q (x ∷ xs) f h all = (h x all.0, each_map_of P Q xs f h all.1)
-
 each_sent : (P : ℕ → Type 0) (x : ℕ) (rs : List Request) → AllByRecursion (λ r. P r.round) rs → AllByRecursion (λ (m : Sent). P m.round) (sent_from x rs)
 each_sent P x [] h = tt
 each_sent P x (r ∷ rs) h = (h.0, each_sent P (suc x) rs h.1)

@@ -27,9 +27,6 @@ use Rattle.update_driver.specs.declared.turns.Turn.{Turn}
 
 -- ---- channels and their states
 
-pub states_more : (vs : List ChannelView) (v : ChannelView) (n : ℕ) → states_of vs ≡ replicate n first_channel → v.state ≡ first_channel → states_of (vs ++ v ∷ []) ≡ replicate (n + 1) first_channel
-states_more vs v n so_far is = map-append (λ (x : ChannelView). x.state) vs (v ∷ []) ∙ ap (λ l. l ++ v.state ∷ []) so_far ∙ ap (λ c. replicate n first_channel ++ c ∷ []) is ∙ replicate_more n first_channel
-
 pub none_outstanding-states : (vs : List ChannelView) → list_all (λ v. is_none v.state.outstanding) vs ≡ none_outstanding (states_of vs)
 none_outstanding-states [] = refl
 none_outstanding-states (v ∷ vs) = ap (λ b. is_none v.state.outstanding && b) (none_outstanding-states vs)
@@ -121,12 +118,6 @@ module _ (n : ℕ) (turns : List Turn) (first now : List ChannelView) (so_far : 
         room = later_room v;
       }
 
-pub none_told : (turns : List Turn) (first : List ChannelView) → HasRoomFrom 0 turns first → ToldBelow 0 turns first first
-none_told turns first room = record { count = refl; states = refl; room = room }
-
-pub all_told : (n : ℕ) (turns : List Turn) (first now : List ChannelView) → length turns ≤ n → ToldBelow n turns first now → states_of now ≡ told_by_turns turns (states_of first)
-all_told n turns first now le told = told.states ∙ ap (λ l. told_by_turns l (states_of first)) (take_all n turns le)
-
 -- ---- room
 
 -- there is room in the first channels
@@ -134,9 +125,6 @@ pub record ReservedBelow (n : ℕ) (turns : List Turn) (first now : List Channel
   pub count : length now ≡ length first
   pub states : states_of now ≡ states_of first
   pub room : (i : ℕ) (t : Turn) (v : ChannelView) → i < n → length (get_or turns i t).text.items ≤ (get_or now i v).room
-
-pub none_reserved : (turns : List Turn) (first : List ChannelView) → ReservedBelow 0 turns first first
-none_reserved turns first = record { count = refl; states = refl; room = λ i t v lt. absurd (omega arith) }
 
 -- a channel that keeps its state
 pub reserved_kept : (n : ℕ) (turns : List Turn) (first now : List ChannelView) (v old : ChannelView) → ReservedBelow n turns first now → old ≡ get_or now n old → v.state ≡ old.state → states_of (set now n v) ≡ states_of first
@@ -156,9 +144,6 @@ reserved_more n turns first now t v old so_far lt less at at_old state room = re
     | inr differs ↦ subst (λ (y : ChannelView). length (get_or turns i x).text.items ≤ y.room) (sym (get_or-set_other now n i v w differs)) (so_far.room i x w (omega arith))
   ];
 }
-
-pub all_reserved : (n : ℕ) (turns : List Turn) (first now : List ChannelView) → length turns ≤ n → ReservedBelow n turns first now → HasRoomFrom 0 turns now
-all_reserved n turns first now le reserved = record { room = λ i t v ge within. reserved.room i t v (omega arith) }
 
 -- ---- what is sent are the messages of `emit`
 

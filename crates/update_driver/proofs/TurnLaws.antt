@@ -140,15 +140,6 @@ pub record ChangesPut (changes : List Change) (i : ℕ) (a b : Turns) : Type 0 w
   pub events : HoldEvents (take i changes) b.list.items
   pub unasked : AreUnasked 0 b.list.items
 
-pub none_put : (changes : List Change) (a : Turns) → AreEmpty a.list.items → ChangesPut changes 0 a a
-none_put changes a empty = record {
-  count = refl;
-  xid = omega arith;
-  messages = λ k. record { text = λ s d lt. (empty s d lt).text; barrier = λ s d lt. (empty s d lt).barrier };
-  events = record { events = λ s d lt. (empty s d lt).events };
-  unasked = record { barrier = λ s d le lt. (empty s d lt).barrier };
-}
-
 module _ (changes : List Change) (i : ℕ) (c : Change) (a b e : Turns) (so_far : ChangesPut changes i a b) (lt : i < length changes) (is : get_or changes i c ≡ c) (within : (switch_of c).0 < length b.list.items)
     (puts : PutsMessage (switch_of c).0 (wire_text (message_of c b.xid)) (event.Change i ∷ []) (λ x. x) b e) where
   more : take (i + 1) changes ≡ take i changes ++ c ∷ []
@@ -204,16 +195,6 @@ module _ (changes : List Change) (i : ℕ) (c : Change) (a b e : Turns) (so_far 
       }
 
 -- ---- the barriers
-
-pub no_barriers : (a : Turns) → AreUnasked 0 a.list.items → PutsBarriers 0 a a
-no_barriers a unasked = record {
-  count = refl;
-  few = omega arith;
-  unasked = unasked;
-  messages = λ k sent changes hold events. subst (λ l. HoldMessages k l a.list.items) (sym (append-nil sent)) hold;
-  events = λ changes events. events;
-  xid = λ changes events. omega arith;
-}
 
 abbrev passed : List Change → ℕ → List SwitchId
 passed changes n = filter (is_changed changes) (map switch_numbered (range_with_len 0 n))
@@ -313,12 +294,6 @@ round_length net k changes =
 
 -- ---- one turn more
 
-pub quiet_at : (turns : Turns) (s : ℕ) (t : Turn) → s < length turns.list.items → t ≡ get_or turns.list.items s t → t.events.items ≡ [] → IsQuietAt s turns
-quiet_at turns s t lt at none = λ d. ap (λ (x : Turn). x.events.items) (get_or_default turns.list.items s d t lt ∙ sym at) ∙ none
-
-pub busy_at : (turns : Turns) (s : ℕ) (t : Turn) → s < length turns.list.items → t ≡ get_or turns.list.items s t → (t.events.items ≡ [] → ⊥) → IsBusyAt s turns
-busy_at turns s t lt at some = λ d e. some (ap (λ (x : Turn). x.events.items) (at ∙ get_or_default turns.list.items s t d lt) ∙ e)
-
 some_turn : (turns : List Turn) (n : ℕ) → n < length turns → Turn
 some_turn [] n lt = absurd (omega arith)
 some_turn (t ∷ turns) n lt = t
@@ -326,12 +301,6 @@ some_turn (t ∷ turns) n lt = t
 pub turn_taken : (n : ℕ) (a b e : Turns) → PutsBarriers n a b → n < length b.list.items → TakesTurn n b e → PutsBarriers (n + 1) a e
 turn_taken n a b e so_far lt (inl h) = subst (PutsBarriers (n + 1) a) (sym h.1) (barrier_past n a b so_far lt h.0 (some_turn b.list.items n lt))
 turn_taken n a b e so_far lt (inr h) = let d = some_turn b.list.items n lt in barrier_put n a b e so_far lt d (h.0 d) h.1
-
-pub empty_more : (turns : List Turn) (t : Turn) → AreEmpty turns → IsEmptyTurn t → AreEmpty (turns ++ t ∷ [])
-empty_more [] t empty is zero d lt = is
-empty_more [] t empty is (suc s) d lt = absurd (omega arith)
-empty_more (x ∷ turns) t empty is zero d lt = empty 0 d (omega arith)
-empty_more (x ∷ turns) t empty is (suc s) d lt = empty_more turns t (λ i d less. empty (suc i) d (omega arith)) is s d (omega arith)
 
 pub turns_hold : (net : Network) (k xid : ℕ) (changes : List Change) (first put done : Turns) → first.xid ≡ xid → HoldMessages k (sent_from first.xid (map (change_request k) changes)) put.list.items
     → HoldEvents changes put.list.items → put.xid ≡ first.xid + length changes → length put.list.items ≡ switch_count net → PutsBarriers (length put.list.items) put done
@@ -346,11 +315,3 @@ turns_hold net k xid changes first put done from hold events number count puts =
     ∙ ap (λ (n : ℕ). sent_from xid (map (change_request k) changes) ++ barriers_below k changes (switch_count net) n) here
     ∙ sym (round_sent net k xid changes) in
     subst (λ l. HoldMessages k l done.list.items) all whole
-
-pub turns_number : (net : Network) (k xid : ℕ) (changes : List Change) (first put done : Turns) → first.xid ≡ xid → HoldEvents changes put.list.items → put.xid ≡ first.xid + length changes
-    → length put.list.items ≡ switch_count net → PutsBarriers (length put.list.items) put done → done.xid ≡ xid + length (round_requests net k changes)
-turns_number net k xid changes first put done from events number count puts =
-    let whole = puts.xid changes events in
-    let all = round_length net k changes in
-    let same = ap (λ (n : ℕ). length (passed changes n)) count in
-    omega (arith, whole, all, same, number, from)

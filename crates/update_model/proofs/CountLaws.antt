@@ -34,10 +34,6 @@ module _ {A : Type 0} (p : A → Bool) where
   zero_from_none [] h = refl
   zero_from_none (x ∷ xs) h = let c = cons x xs in let z : one (p x) ≡ 0 = ap one h.0 in let r = zero_from_none xs h.1 in omega (arith, c, z, r)
 
-  -- one more item
-  pub counted_push : (xs : List A) (x : A) → count_by p (xs ++ x ∷ []) ≡ count_by p xs + cond (p x) 1 0
-  counted_push xs x = sum_by_push (λ y. cond (p y) 1 0) xs x
-
   -- another item in the place of one
   pub counted_set : (xs : List A) (i : ℕ) (x y : A) → slice_get xs i ≡ Some x → count_by p (set xs i y) + cond (p x) 1 0 ≡ count_by p xs + cond (p y) 1 0
   counted_set [] i x y e = let f : None ≡ Some x = e in absurd (cc)
@@ -52,9 +48,6 @@ module _ {A : Type 0} (p : A → Bool) where
   counted_alike q (x ∷ xs) h =
       let a = cons x xs in let b = sum_by-cons (λ y. cond (q y) 1 0) x xs in let same : one (p x) ≡ one (q x) = ap one h.0 in
       let r = counted_alike q xs h.1 in omega (arith, a, b, same, r)
-
-pub counted_replicate : (n : ℕ) → count_by (λ on. on) (replicate n true) ≡ n
-counted_replicate n = omega (arith, sum_by-replicate (λ (on : Bool). cond on 1 0) n true)
 
 -- ---- packets
 
@@ -95,14 +88,6 @@ counted_settle packets k n m c = record {
   late = c.all ∙ counted_alike (λ p. goes_on p.ended) (is_late (suc k)) packets
       (each_weaker _ _ (λ p h. and_true (goes_on p.ended) (nat_lt p.born (suc k)) (lt-ltb p.born (suc k) (omega (arith, h)))) packets c.born);
   born = each_weaker _ _ (λ p h. omega (arith, h)) packets c.born;
-}
-
--- a packet enters
-pub counted_enter : (packets : List Packet) (place : Place) (dst k n m : ℕ) → AreCounted packets k n m → AreCounted (packets ++ entered place dst k ∷ []) k (n + 1) m
-counted_enter packets place dst k n m c = record {
-  all = omega (arith, c.all, counted_push (λ p. goes_on p.ended) packets (entered place dst k));
-  late = let same : cond (nat_lt k k) 1 0 ≡ 0 = ap one (le-ltb k k (omega arith)) in omega (arith, c.late, same, counted_push (is_late k) packets (entered place dst k));
-  born = each_append (λ p. p.born ≤ k) packets (entered place dst k ∷ []) c.born (omega arith, tt);
 }
 
 -- packet i, where it stands

@@ -18,9 +18,6 @@ use Rattle.waypoint_evidence.proofs.SetLaws.{cases_in, cases_earlier}
 use Rattle.net_base.proofs.WalkLaws.{walk_weaker}
 use Rattle.net_base.proofs.ItemLaws.{in_at}
 
-cases_switch : (s t : SwitchId) → (s ≡ t) ⊎ (¬ (s ≡ t))
-cases_switch s t = elim (cases_eq s.0 t.0) [ inl e ↦ inl (same_switch s t e) | inr ne ↦ inr (λ e. ne (ap (λ x. x.0) e)) ]
-
 -- an edge by which a set is left
 pub not_stays : (set : List ℕ) (waypoint : SwitchId) (earlier : Option (List ℕ)) (e : Edge) → ¬ Stays set waypoint earlier e
     → Holds set e.from × (¬ Holds set e.to) × ((e.to ≡ waypoint) → HoldsEarlier earlier e.from)

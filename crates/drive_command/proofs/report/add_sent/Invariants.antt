@@ -1,5 +1,5 @@
 use Rattle.std.proofs.Common.{◌≡◌, ◌++◌, drop}
-use Rattle.schedule_replay.specs.Lines.{text_of}
+use Rattle.net_base.specs.Lines.{text_of}
 use Rattle.drive_command.specs.Reports.{by_switch, sent_to}
 use Rattle.drive_command.proofs.report.add_sent.Given as goal
 

@@ -1,5 +1,5 @@
 use Rattle.std.proofs.Common.{ℕ, List, ◌++◌, ap, ◌∙◌}
-use Rattle.schedule_replay.specs.Lines.{text_of}
+use Rattle.net_base.specs.Lines.{text_of}
 use Rattle.drive_command.specs.Reports.{by_switch, sent_to, session_of, log_text}
 use Rattle.drive_command.proofs.ReportLaws.{report_parts}
 use Rattle.drive_command.proofs.report.report_text.Goals as goal

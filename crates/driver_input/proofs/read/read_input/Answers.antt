@@ -1,11 +1,12 @@
-use Rattle.std.proofs.Common.{refl, ℕ, ◌≤◌, length, eqb, ap, ◌∙◌, rules, arith}
+use Rattle.std.proofs.Common.{refl, ℕ, ◌+◌, ◌≤◌, length, eqb, sym, ap, ◌∙◌, rules, arith}
 use Rattle.std.proofs.lemmas.List.{length_push}
 use Rattle.std.proofs.lemmas.List.FromFn.{length-enumerate_from}
 use Rattle.std.proofs.lemmas.Iterator.Consumers.{YieldsList-turn, YieldsList-end, YieldsList-from_enumerate, YieldsList-at}
 use Rattle.std.proofs.lemmas.Iterator.Splits.{YieldsList-from_slice_split}
 use Rattle.std.proofs.lemmas.Result.{err_from_is_err_and}
-use Rattle.schedule_replay.specs.Lines.{lines_of}
-use Rattle.schedule_replay.proofs.LineTurns.{numbered_turn, goes_on, ends, is_done}
+use Rattle.net_base.specs.Lines.{lines_of}
+use Rattle.net_base.specs.Reading.{place_of}
+use Rattle.net_base.proofs.ItemTurns.{numbered_turn, goes_on, ends, is_done}
 use Rattle.driver_input.specs.declared.fault.InputFault.TheVariants.{Memory}
 use Rattle.driver_input.specs.Inputs.{line_at, inputs_in}
 use Rattle.driver_input.proofs.read.read_input.Goals as goal
@@ -19,8 +20,8 @@ loop-i-preserved c =
     let here = numbered_turn (lines_of c.args.bytes.now) (length c.loop-i.yielded) c.in-Some.i c.in-Some.line.now turn.0 turn.1 in
     record {
       read = rw length_push
-          (goes_on (line_at c.args.net.now) (lines_of c.args.bytes.now) (length c.loop-i.yielded) c.loop-i.inputs c.in-Some.line.now (inputs_in c.args.net.now c.args.bytes.now) here.0 here.2 c.read_line.new.inputs
-          (rw (← here.1, ← c.place_of.ensures) c.in_ok-read_line.ensures.read) c.loop-i.invariant.read);
+          (goes_on (line_at c.args.net.now) (lines_of c.args.bytes.now) (length c.loop-i.yielded) (length c.loop-i.yielded + 1) c.loop-i.inputs c.in-Some.line.now c.in-Some.line.now (inputs_in c.args.net.now c.args.bytes.now)
+          here.0 (sym here.2) c.place_of.result (length c.loop-i.yielded + 1 + 1) c.read_line.new.inputs (c.place_of.ensures ∙ ap (λ (k : ℕ). place_of (k + 1)) here.1) refl c.in_ok-read_line.ensures.read c.loop-i.invariant.read);
       kept = search rules;
     }
 
@@ -33,8 +34,8 @@ returns-in_err-read_line-clause-read c =
     let here = numbered_turn (lines_of c.args.bytes.now) (length c.loop-i.yielded) c.in-Some.i c.in-Some.line.now turn.0 turn.1 in
     let p = err_from_is_err_and c.from_residual.result c.from_residual.ensures.1 in
     rw (p.1, p.2)
-    (ends (line_at c.args.net.now) (lines_of c.args.bytes.now) (length c.loop-i.yielded) c.loop-i.inputs c.in-Some.line.now (inputs_in c.args.net.now c.args.bytes.now) here.0 here.2 Memory c.in_err-read_line.field-0.0
-    (rw (← here.1, ← c.place_of.ensures) c.in_err-read_line.ensures.read) c.loop-i.invariant.read)
+    (ends (line_at c.args.net.now) (lines_of c.args.bytes.now) (length c.loop-i.yielded) (length c.loop-i.yielded + 1) c.loop-i.inputs c.in-Some.line.now c.in-Some.line.now (inputs_in c.args.net.now c.args.bytes.now)
+    here.0 (sym here.2) c.place_of.result Memory c.in_err-read_line.field-0.0 (c.place_of.ensures ∙ ap (λ (k : ℕ). place_of (k + 1)) here.1) c.in_err-read_line.ensures.read c.loop-i.invariant.read)
 
 pub returns-clause-read : goal.returns-clause-read
 returns-clause-read c =
@@ -44,4 +45,4 @@ returns-clause-read c =
     let all = YieldsList-end road c.loop-i.yielded _ c.loop-i.yielded_by _ _ c.in-None.is c.next.ensures.steps in
     let count = length-enumerate_from 0 (lines_of c.args.bytes.now) in
     let past : length (lines_of c.args.bytes.now) ≤ length c.loop-i.yielded = omega (arith, all.1, count) in
-    is_done (line_at c.args.net.now) (lines_of c.args.bytes.now) (length c.loop-i.yielded) c.loop-i.inputs (inputs_in c.args.net.now c.args.bytes.now) past c.loop-i.invariant.read
+    is_done (line_at c.args.net.now) (lines_of c.args.bytes.now) (length c.loop-i.yielded) (length c.loop-i.yielded + 1) c.loop-i.inputs (inputs_in c.args.net.now c.args.bytes.now) past c.loop-i.invariant.read

@@ -1,6 +1,6 @@
 use Rattle.std.proofs.Common.{◌≡◌, ◌+◌, length, drop}
 use Rattle.net_base.specs.Reading.{in_turn}
-use Rattle.schedule_replay.specs.Lines.{lines_of}
+use Rattle.net_base.specs.Lines.{lines_of}
 use Rattle.driver_input.specs.Inputs.{line_at, inputs_in, AreInputs}
 use Rattle.driver_input.proofs.read.read_input.Given as goal
 

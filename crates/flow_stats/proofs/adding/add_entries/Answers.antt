@@ -3,7 +3,7 @@ use Rattle.std.proofs.lemmas.Result.{err_from_is_err_and}
 use Rattle.flow_rules.specs.Tables.{rules_of_all}
 use Rattle.flow_stats.specs.declared.fault.StatsFault.TheVariants.{Memory}
 use Rattle.flow_stats.specs.Tables.{entry_at}
-use Rattle.flow_stats.proofs.ItemTurns.{goes_on, ends, is_done}
+use Rattle.net_base.proofs.ItemTurns.{goes_on, ends, is_done}
 use Rattle.flow_stats.proofs.adding.add_entries.Goals as goal
 
 pub returns-in_err-add_entry-clause-read : goal.returns-in_err-add_entry-clause-read

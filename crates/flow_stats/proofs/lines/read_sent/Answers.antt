@@ -1,8 +1,11 @@
-use Rattle.flow_stats.proofs.Texts.{line_read, none_read}
+use Rattle.net_base.proofs.TextLines.{line_read, none_read}
+use Rattle.flow_stats.specs.Lines.{sent_seen, text_in}
+use Rattle.flow_stats.specs.declared.fault.StatsFault.TheVariants.{BadLine, Memory}
 use Rattle.flow_stats.proofs.lines.read_sent.Goals as goal
 
 pub returns-in-Ok-clause-read : goal.returns-in-Ok-clause-read
-returns-in-Ok-clause-read c = line_read c.args.net.now c.args.number c.args.line.now c.in-Ok.text.now c.in-Ok.ensures.cases.0 c.in-Ok.ensures.cases.1 c.read_text.result c.read_text.ensures.read
+returns-in-Ok-clause-read c =
+    line_read Memory (BadLine c.args.number) sent_seen (text_in c.args.net.now c.args.number) c.args.line.now c.in-Ok.text.now c.in-Ok.ensures.cases.0 c.in-Ok.ensures.cases.1 c.read_text.result c.read_text.ensures.read
 
 pub returns-in-Err-clause-read : goal.returns-in-Err-clause-read
-returns-in-Err-clause-read c = none_read c.args.net.now c.args.number c.args.line.now c.in-Err.ensures.cases.0
+returns-in-Err-clause-read c = none_read Memory (BadLine c.args.number) sent_seen (text_in c.args.net.now c.args.number) c.args.line.now c.in-Err.ensures.cases.0

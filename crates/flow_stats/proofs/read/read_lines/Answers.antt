@@ -6,9 +6,9 @@ use Rattle.std.proofs.lemmas.Iterator.Splits.{YieldsList-from_slice_split}
 use Rattle.std.proofs.lemmas.Result.{err_from_is_err_and}
 use Rattle.net_base.specs.Reading.{place_of}
 use Rattle.flow_stats.specs.declared.fault.StatsFault.TheVariants.{Memory}
-use Rattle.flow_stats.specs.Lines.{lines_of}
+use Rattle.net_base.specs.Lines.{lines_of}
 use Rattle.flow_stats.specs.Replies.{line_at, told_in, told_seen}
-use Rattle.flow_stats.proofs.ItemTurns.{numbered_turn, goes_on, ends, is_done}
+use Rattle.net_base.proofs.ItemTurns.{numbered_turn, goes_on, ends, is_done}
 use Rattle.flow_stats.proofs.read.read_lines.Goals as goal
 
 pub loop-i-preserved : goal.loop-i-preserved

@@ -1,6 +1,6 @@
 use Rattle.std.proofs.Common.{◌≡◌, ◌+◌, length, drop}
 use Rattle.net_base.specs.Reading.{in_turn}
-use Rattle.flow_stats.specs.Lines.{lines_of}
+use Rattle.net_base.specs.Lines.{lines_of}
 use Rattle.flow_stats.specs.Replies.{line_at, told_in, told_seen, AreFor}
 use Rattle.flow_stats.proofs.read.read_lines.Given as goal
 

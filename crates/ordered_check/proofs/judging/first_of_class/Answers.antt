@@ -66,9 +66,6 @@ at_round P k h = subst P (sym (add-one k)) h
 class_counted : (classes : ClassList) (d : ClassDuties) (demands : List DemandView) (n : ℕ) (class : Class) → d ≡ record { demands = demands; classes = classes } → IsClass classes n class → n < class_count d.classes
 class_counted classes d demands n class is h = subst (λ (x : ClassDuties). n < class_count x.classes) (sym is) (number_fits classes n class h)
 
-class_here : (classes : ClassList) (d : ClassDuties) (demands : List DemandView) (n : ℕ) (class : Class) → d ≡ record { demands = demands; classes = classes } → IsClass classes n class → IsClass d.classes n class
-class_here classes d demands n class is h = subst (λ (x : ClassDuties). IsClass x.classes n class) (sym is) h
-
 carry : {A B C D E : Type 0} (P : A → B → C → D → E → Type 0) (a a' : A) (b b' : B) (c c' : C) (d d' : D) (e e' : E) → a ≡ a' → b ≡ b' → c ≡ c' → d ≡ d' → e ≡ e' → P a b c d e → P a' b' c' d' e'
 carry P a a' b b' c c' d d' e e' p q r s u h =
     subst (λ x. P a' b' c' d' x) u (subst (λ x. P a' b' c' x e) s (subst (λ x. P a' b' x d e) r (subst (λ x. P a' x c d e) q (subst (λ x. P x b c d e) p h))))

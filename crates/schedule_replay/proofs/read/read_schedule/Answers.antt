@@ -1,13 +1,14 @@
-use Rattle.std.proofs.Common.{refl, ℕ, ◌≤◌, length, eqb, ap, ◌∙◌, arith}
+use Rattle.std.proofs.Common.{refl, ℕ, ◌+◌, ◌≤◌, length, eqb, sym, ap, ◌∙◌, arith}
 use Rattle.std.proofs.lemmas.List.{length_push}
 use Rattle.std.proofs.lemmas.List.FromFn.{length-enumerate_from}
 use Rattle.std.proofs.lemmas.Iterator.Consumers.{YieldsList-turn, YieldsList-end, YieldsList-from_enumerate, YieldsList-at}
 use Rattle.std.proofs.lemmas.Iterator.Splits.{YieldsList-from_slice_split}
 use Rattle.std.proofs.lemmas.Result.{err_from_is_err_and}
+use Rattle.net_base.specs.Reading.{place_of}
 use Rattle.schedule_replay.specs.declared.fault.ScheduleFault.TheVariants.{Memory}
-use Rattle.schedule_replay.specs.Lines.{lines_of}
+use Rattle.net_base.specs.Lines.{lines_of}
 use Rattle.schedule_replay.specs.Schedules.{line_at, schedule_in}
-use Rattle.schedule_replay.proofs.LineTurns.{numbered_turn, goes_on, ends, is_done}
+use Rattle.net_base.proofs.ItemTurns.{numbered_turn, goes_on, ends, is_done}
 use Rattle.schedule_replay.proofs.read.read_schedule.Goals as goal
 
 pub loop-i-preserved : goal.loop-i-preserved
@@ -18,8 +19,8 @@ loop-i-preserved c =
     let turn = YieldsList-turn road c.loop-i.yielded _ c.loop-i.yielded_by _ _ _ c.in-Some.is c.next.ensures.steps in
     let here = numbered_turn (lines_of c.args.bytes.now) (length c.loop-i.yielded) c.in-Some.i c.in-Some.line.now turn.0 turn.1 in
     rw length_push
-    (goes_on (line_at c.args.net.now) (lines_of c.args.bytes.now) (length c.loop-i.yielded) c.loop-i.schedule c.in-Some.line.now (schedule_in c.args.net.now c.args.bytes.now) here.0 here.2 c.read_line.new.schedule
-    (rw (← here.1, ← c.place_of.ensures) c.in_ok-read_line.ensures) c.loop-i.invariant)
+    (goes_on (line_at c.args.net.now) (lines_of c.args.bytes.now) (length c.loop-i.yielded) (length c.loop-i.yielded + 1) c.loop-i.schedule c.in-Some.line.now c.in-Some.line.now (schedule_in c.args.net.now c.args.bytes.now)
+    here.0 (sym here.2) c.place_of.result (length c.loop-i.yielded + 1 + 1) c.read_line.new.schedule (c.place_of.ensures ∙ ap (λ (k : ℕ). place_of (k + 1)) here.1) refl c.in_ok-read_line.ensures c.loop-i.invariant)
 
 pub returns-in_err-read_line : goal.returns-in_err-read_line
 returns-in_err-read_line c =
@@ -30,8 +31,8 @@ returns-in_err-read_line c =
     let here = numbered_turn (lines_of c.args.bytes.now) (length c.loop-i.yielded) c.in-Some.i c.in-Some.line.now turn.0 turn.1 in
     let p = err_from_is_err_and c.from_residual.result c.from_residual.ensures.1 in
     rw (p.1, p.2)
-    (ends (line_at c.args.net.now) (lines_of c.args.bytes.now) (length c.loop-i.yielded) c.loop-i.schedule c.in-Some.line.now (schedule_in c.args.net.now c.args.bytes.now) here.0 here.2 Memory c.in_err-read_line.field-0.0
-    (rw (← here.1, ← c.place_of.ensures) c.in_err-read_line.ensures) c.loop-i.invariant)
+    (ends (line_at c.args.net.now) (lines_of c.args.bytes.now) (length c.loop-i.yielded) (length c.loop-i.yielded + 1) c.loop-i.schedule c.in-Some.line.now c.in-Some.line.now (schedule_in c.args.net.now c.args.bytes.now)
+    here.0 (sym here.2) c.place_of.result Memory c.in_err-read_line.field-0.0 (c.place_of.ensures ∙ ap (λ (k : ℕ). place_of (k + 1)) here.1) c.in_err-read_line.ensures c.loop-i.invariant)
 
 pub returns : goal.returns
 returns c =
@@ -41,4 +42,4 @@ returns c =
     let all = YieldsList-end road c.loop-i.yielded _ c.loop-i.yielded_by _ _ c.in-None.is c.next.ensures.steps in
     let count = length-enumerate_from 0 (lines_of c.args.bytes.now) in
     let past : length (lines_of c.args.bytes.now) ≤ length c.loop-i.yielded = omega (arith, all.1, count) in
-    is_done (line_at c.args.net.now) (lines_of c.args.bytes.now) (length c.loop-i.yielded) c.loop-i.schedule (schedule_in c.args.net.now c.args.bytes.now) past c.loop-i.invariant
+    is_done (line_at c.args.net.now) (lines_of c.args.bytes.now) (length c.loop-i.yielded) (length c.loop-i.yielded + 1) c.loop-i.schedule (schedule_in c.args.net.now c.args.bytes.now) past c.loop-i.invariant

@@ -1,6 +1,6 @@
 use Rattle.std.proofs.Common.{◌≡◌, ◌+◌, length, drop}
 use Rattle.net_base.specs.Reading.{in_turn}
-use Rattle.schedule_replay.specs.Lines.{lines_of}
+use Rattle.net_base.specs.Lines.{lines_of}
 use Rattle.schedule_replay.specs.Schedules.{line_at, schedule_in}
 use Rattle.schedule_replay.proofs.read.read_schedule.Given as goal
 

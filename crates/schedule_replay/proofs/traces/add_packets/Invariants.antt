@@ -1,5 +1,5 @@
 use Rattle.std.proofs.Common.{◌≡◌, ◌++◌, drop}
-use Rattle.schedule_replay.specs.Lines.{text_of}
+use Rattle.net_base.specs.Lines.{text_of}
 use Rattle.schedule_replay.specs.Traces.{packet_lines, marked}
 use Rattle.schedule_replay.proofs.traces.add_packets.Given as goal
 

@@ -1,5 +1,5 @@
 use Rattle.std.proofs.Common.{ap, ◌∙◌}
-use Rattle.schedule_replay.specs.Lines.{text_of}
+use Rattle.net_base.specs.Lines.{text_of}
 use Rattle.schedule_replay.specs.Traces.{trace_lines}
 use Rattle.schedule_replay.proofs.TracesAgain.{marked_by_nothing}
 use Rattle.schedule_replay.proofs.traces.traces_text.Goals as goal

@@ -1,6 +1,6 @@
 use Rattle.std.proofs.Common.{◌≡◌, length, ◌∙◌}
 use Rattle.topology.specs.Networks.{switch_count}
-use Rattle.update_driver.proofs.TurnLaws.{turns_hold, turns_number}
+use Rattle.update_driver.proofs.TurnLaws.{turns_hold}
 use Rattle.update_driver.proofs.turns.turns_of.Goals as goal
 
 pub returns-clause-messages : goal.returns-clause-messages
