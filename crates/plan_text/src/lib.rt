@@ -5,8 +5,6 @@ mod write;
 mod write_changes;
 mod write_evidence;
 mod write_lists;
-#[cfg(test)]
-mod write_tests;
 mod write_used;
 
 pub use write::{rounds_text, write_plan};

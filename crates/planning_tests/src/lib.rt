@@ -2,8 +2,6 @@
 #![tactic(auto)]
 
 #[cfg(test)]
-mod acyclic_numbering_tests;
-#[cfg(test)]
 mod certificates_tests;
 #[cfg(test)]
 mod empty_tables;
@@ -19,5 +17,3 @@ mod table_difference_tests;
 mod tag_allocator_tests;
 #[cfg(test)]
 mod two_phase_tests;
-#[cfg(test)]
-mod waypoint_evidence_tests;

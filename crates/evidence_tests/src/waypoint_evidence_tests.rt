@@ -1,0 +1,143 @@
+// Sets before waypoints, and ways round these.
+ghost use Rattle.std.specs.Prelude.{◌<◌, All};
+
+use acyclic_numbering::Edge;
+use net_base::{Memory, SwitchId};
+use std::alloc::Global;
+use std::process::Abort;
+use waypoint_evidence::{Before, Befored, before_set};
+
+// A line 0, 1, 2, 3, and a way round 1.
+const LINE: [Edge; 4] = [
+    Edge {
+        from: SwitchId(0),
+        to: SwitchId(1),
+    },
+    Edge {
+        from: SwitchId(1),
+        to: SwitchId(2),
+    },
+    Edge {
+        from: SwitchId(2),
+        to: SwitchId(3),
+    },
+    Edge {
+        from: SwitchId(0),
+        to: SwitchId(2),
+    },
+];
+
+// The detour: its switches s, x, w, y and d are 0 to 4, and w is its waypoint.
+const STEPS: [Edge; 4] = [
+    Edge {
+        from: SwitchId(0),
+        to: SwitchId(1),
+    },
+    Edge {
+        from: SwitchId(1),
+        to: SwitchId(2),
+    },
+    Edge {
+        from: SwitchId(2),
+        to: SwitchId(3),
+    },
+    Edge {
+        from: SwitchId(3),
+        to: SwitchId(4),
+    },
+];
+
+// One step more leads from s past w to y.
+const PAST: [Edge; 5] = [
+    Edge {
+        from: SwitchId(0),
+        to: SwitchId(1),
+    },
+    Edge {
+        from: SwitchId(1),
+        to: SwitchId(2),
+    },
+    Edge {
+        from: SwitchId(2),
+        to: SwitchId(3),
+    },
+    Edge {
+        from: SwitchId(3),
+        to: SwitchId(4),
+    },
+    Edge {
+        from: SwitchId(0),
+        to: SwitchId(3),
+    },
+];
+
+/// The set before a waypoint of the line, from its first switch to its last.
+fn before_in_line(
+    alloc: Global,
+    waypoint: SwitchId,
+    earlier: Option<&Before>,
+) -> Result<Befored, Memory> {
+    let leaving = [SwitchId(3)];
+    before_set(alloc, 4, SwitchId(0), &LINE, &leaving, waypoint, earlier)
+}
+
+/// The set before the waypoint of the detour.
+fn before_in_detour(alloc: Global, steps: &[Edge]) -> Result<Befored, Memory>
+    requires { All (λ e. (e.from.0 < 5) × (e.to.0 < 5)) steps.now }
+{
+    let leaving = [SwitchId(4)];
+    before_set(alloc, 5, SwitchId(0), steps, &leaving, SwitchId(2), None)
+}
+
+/// Of the first five switches it holds those below a number.
+fn holds_below(rt: &impl Abort, set: &Before, end: u32) {
+    for switch in 0..5u32 {
+        assert!(rt; set.holds(SwitchId(switch)) == (switch < end), "{switch}");
+    }
+}
+
+fn is_set(rt: &impl Abort, found: &Befored, end: u32) {
+    match found {
+        Befored::Set(set) => holds_below(rt, set, end),
+        Befored::Walk(_walk) => assert!(rt; false, "a way round"),
+    }
+}
+
+fn is_way_round(rt: &impl Abort, found: &Befored, want: &[SwitchId]) {
+    match found {
+        Befored::Set(_set) => assert!(rt; false, "a set"),
+        Befored::Walk(walk) => assert!(rt; walk.list() == want),
+    }
+}
+
+#[test]
+fn the_set_ends_before_the_waypoint(rt: HostRuntime) {
+    let found = before_in_line(rt.alloc(), SwitchId(2), None).expect(&rt, "memory");
+    is_set(&rt, &found, 2);
+}
+
+#[test]
+fn a_way_round_misses_the_waypoint(rt: HostRuntime) {
+    let found = before_in_line(rt.alloc(), SwitchId(1), None).expect(&rt, "memory");
+    is_way_round(&rt, &found, &[SwitchId(0), SwitchId(2), SwitchId(3)]);
+}
+
+#[test]
+fn a_second_waypoint_is_met_from_outside_the_first_set(rt: HostRuntime) {
+    let mut first = Before::none();
+    first.put(SwitchId(0));
+    let found = before_in_line(rt.alloc(), SwitchId(2), Some(&first)).expect(&rt, "memory");
+    is_way_round(&rt, &found, &[SwitchId(0), SwitchId(2), SwitchId(3)]);
+}
+
+#[test]
+fn the_set_before_the_waypoint_ends_at_it(rt: HostRuntime) {
+    let found = before_in_detour(rt.alloc(), &STEPS).expect(&rt, "memory");
+    is_set(&rt, &found, 2);
+}
+
+#[test]
+fn a_step_past_the_waypoint_is_a_way_round(rt: HostRuntime) {
+    let found = before_in_detour(rt.alloc(), &PAST).expect(&rt, "memory");
+    is_way_round(&rt, &found, &[SwitchId(0), SwitchId(3), SwitchId(4)]);
+}
