@@ -6,9 +6,11 @@ use Rattle.net_base.specs.Places.{stop_of}
 use Rattle.net_base.proofs.MemberLaws.{each_at, in_append_right, map-push}
 use Rattle.net_base.specs.declared.ids.SwitchId.{SwitchId}
 use Rattle.net_base.specs.declared.ids.Place.{Place}
+use Rattle.net_base.specs.declared.ids.Stop.{Stop}
 use Rattle.topology.specs.Networks.{Network}
 use Rattle.flow_rules.specs.declared.rules.Rule.{Rule}
 use Rattle.path_walk.specs.Paths.{Trace}
+use Rattle.path_walk.specs.Walked.{ComesAgain}
 use Rattle.path_walk.specs.declared.Ended.{Ended}
 use Rattle.path_walk.specs.declared.Ended.TheVariants as end
 use Rattle.path_walk.proofs.PathLaws.{path_one, path_begins}
@@ -16,7 +18,7 @@ use Rattle.path_walk.proofs.WalkedLaws.{along, switches_along}
 use Rattle.demands.specs.Duties.{DemandView, duties_of}
 use Rattle.demands.specs.Good.{switches_of, HasGoodPath, IsGood, MeetsChains, IsDropped}
 use Rattle.demands.proofs.DutyLaws.{distinct_prefix}
-use Rattle.config_check.specs.Broken.{Loops, EndsSo, IsLeft, BreaksSo}
+use Rattle.config_check.specs.Broken.{EndsSo, IsLeft, BreaksSo}
 use Rattle.config_check.specs.declared.How.{How}
 use Rattle.config_check.specs.declared.How.TheVariants.{Loop, Dropped, Missed}
 use Rattle.config_check.proofs.ChainLaws.{first_part}
@@ -35,8 +37,8 @@ met_of_left chains switches (end.Dropped s) left meets = absurd left
 met_of_left chains switches end.Lost left meets = absurd left
 
 module _ (net : Network) (tables : List (List Rule)) (demands : List DemandView) (entry : Place) (dst : ℕ) where
-  loop_is_bad : (s : SwitchId) → Loops net tables dst entry s → HasGoodPath net tables demands entry dst → ⊥
-  loop_is_bad s loops good =
+  loop_is_bad : (s : SwitchId) (stops : List Stop) → ComesAgain net tables entry dst stops s → HasGoodPath net tables demands entry dst → ⊥
+  loop_is_bad s stops loops good =
       let places = entry ∷ loops.front ++ loops.again ∷ [] in
       let front = path_begins net tables entry dst (loops.front ++ loops.again ∷ []) good.trace loops.walk good.path in
       let once : IsDistinct (along places) = subst IsDistinct (switches_along places) (distinct_prefix (map stop_of places) good.trace.stops front good.good.distinct) in
@@ -49,7 +51,7 @@ module _ (net : Network) (tables : List (List Rule)) (demands : List DemandView)
 
   -- what breaks duties is not good
   pub break_is_bad : (how : How) → BreaksSo net tables (duties_of demands entry dst) entry dst how → ¬ HasGoodPath net tables demands entry dst
-  break_is_bad (Loop s) breaks good = loop_is_bad s breaks good
+  break_is_bad (Loop s) (stops, loops) good = loop_is_bad s stops loops good
   break_is_bad (Dropped s) (trace, ends, dropped, arrive) good = (good_so trace ends good).arrives arrive (subst IsDropped (sym dropped) tt)
   break_is_bad (Missed w) (trace, ends, left, misses) good =
       let switches = switches_of trace.stops in

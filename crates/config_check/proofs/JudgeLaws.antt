@@ -15,12 +15,12 @@ use Rattle.topology.specs.Networks.{Network, IsNetwork, IsPortNumber, switch_cou
 use Rattle.dest_classes.specs.Classes.{ClassList, IsClass}
 use Rattle.dest_classes.specs.declared.Class.{Class}
 use Rattle.flow_rules.specs.declared.rules.Rule.{Rule}
-use Rattle.path_walk.specs.Walked.{EndsOnce, ComesAgain}
+use Rattle.path_walk.specs.Walked.{EndsOnce}
 use Rattle.path_walk.specs.declared.Ended.{Ended}
 use Rattle.path_walk.specs.declared.Ended.TheVariants as end
 use Rattle.demands.specs.Duties.{DemandView, duties_of}
 use Rattle.demands.specs.Good.{switches_of, HasGoodPath}
-use Rattle.config_check.specs.Broken.{Loops, EndsSo, IsMetUpTo, MissesAt}
+use Rattle.config_check.specs.Broken.{IsMetUpTo, MissesAt}
 
 module _ {A : Type 0} (P : A → Type 0) where
   each_more : (xs : List A) (i : ℕ) (x : A) → slice_get xs i ≡ Some x → P x → AllByRecursion P (take i xs) → AllByRecursion P (take (suc i) xs)

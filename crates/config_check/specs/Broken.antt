@@ -1,13 +1,14 @@
 -- How a path breaks its duties.
-use Rattle.std.specs.Prelude.{◌≡◌, ℕ, ◌<◌, IsTrue, List, [], ◌∷◌, ◌++◌, map}
+use Rattle.std.specs.Prelude.{◌≡◌, ℕ, ◌<◌, IsTrue, List, [], ◌∷◌, ◌++◌}
 use Rattle.std.specs.List.{AllByRecursion}
-use Rattle.net_base.specs.Members.{IsIn, IsDistinct, IsSubsequence}
-use Rattle.net_base.specs.Walks.{IsWalk}
+use Rattle.net_base.specs.Members.{IsDistinct, IsSubsequence}
 use Rattle.net_base.specs.declared.ids.SwitchId.{SwitchId}
 use Rattle.net_base.specs.declared.ids.Place.{Place}
+use Rattle.net_base.specs.declared.ids.Stop.{Stop}
 use Rattle.topology.specs.Networks.{Network}
 use Rattle.flow_rules.specs.declared.rules.Rule.{Rule}
-use Rattle.path_walk.specs.Paths.{Trace, IsPath, Forwards}
+use Rattle.path_walk.specs.Paths.{Trace, IsPath}
+use Rattle.path_walk.specs.Walked.{ComesAgain}
 use Rattle.path_walk.specs.declared.Ended.{Ended}
 use Rattle.path_walk.specs.declared.Ended.TheVariants as end
 use Rattle.dest_classes.specs.Classes.{ClassList, IsClass}
@@ -17,15 +18,6 @@ use Rattle.demands.specs.Good.{switches_of, HasGoodPath}
 use Rattle.config_check.specs.declared.How.{How}
 use Rattle.config_check.specs.declared.How.TheVariants.{Loop, Dropped, Missed}
 use Rattle.config_check.specs.declared.Breaks.{Breaks}
-
--- the path comes again to a switch for the first time
-pub record Loops (net : Network) (tables : List (List Rule)) (dst : ℕ) (entry : Place) (s : SwitchId) : Type 0 where
-  pub front : List Place
-  pub again : Place
-  pub walk : IsWalk (Forwards net tables dst) entry (front ++ again ∷ [])
-  pub distinct : IsDistinct (map (λ p. p.switch) (entry ∷ front))
-  pub seen : IsIn again.switch (map (λ p. p.switch) (entry ∷ front))
-  pub is : again.switch ≡ s
 
 -- the path ends so, with no switch twice
 pub record EndsSo (net : Network) (tables : List (List Rule)) (dst : ℕ) (entry : Place) (trace : Trace) : Type 0 where
@@ -58,7 +50,7 @@ pub record MissesAt (chains : List (List SwitchId)) (switches : List SwitchId) (
 
 -- how the path of an entry and an address breaks duties
 abbrev pub BreaksSo : Network → List (List Rule) → PacketDuties → Place → ℕ → How → Type 0
-BreaksSo net tables duties entry dst (Loop s) = Loops net tables dst entry s
+BreaksSo net tables duties entry dst (Loop s) = (stops : List Stop) × ComesAgain net tables entry dst stops s
 BreaksSo net tables duties entry dst (Dropped s) =
     (trace : Trace) × EndsSo net tables dst entry trace × (trace.ended ≡ end.Dropped s) × IsTrue duties.arrive
 BreaksSo net tables duties entry dst (Missed w) =

@@ -34,13 +34,13 @@ use Rattle.config_files.proofs.TableUpdates.{each_after}
 use Rattle.config_files.proofs.UserRules.{rule_shown}
 
 -- the table of one switch
-record IsUserTable (net : Network) (s : ℕ) (table : List Rule) : Type 0 where
+pub record IsUserTable (net : Network) (s : ℕ) (table : List Rule) : Type 0 where
   pub distinct : IsTable table
   pub clear : IsClear table
   pub rules : AllByRecursion (IsUserRule net (record { 0 = s })) table
 
 -- the tables after so many rules
-record AreUserTables (net : Network) (n : ℕ) (tables : List (List Rule)) : Type 0 where
+pub record AreUserTables (net : Network) (n : ℕ) (tables : List (List Rule)) : Type 0 where
   pub count : length tables ≡ switch_count net
   pub sum : sum_by length tables ≡ n
   pub few : n ≤ 2048
@@ -48,7 +48,7 @@ record AreUserTables (net : Network) (n : ℕ) (tables : List (List Rule)) : Typ
 
 -- ---- one rule more in a table
 
-all_push : (P : Rule → Type 0) (rules : List Rule) (r : Rule) → AllByRecursion P rules → P r → AllByRecursion P (rules ++ r ∷ [])
+pub all_push : (P : Rule → Type 0) (rules : List Rule) (r : Rule) → AllByRecursion P rules → P r → AllByRecursion P (rules ++ r ∷ [])
 all_push P [] r all new = (new, tt)
 all_push P (x ∷ rules) r all new = (all.0, all_push P rules r all.1 new)
 
@@ -63,7 +63,7 @@ module _ (rules : List Rule) (r : Rule) (apart : list_any (λ q. keys_clash q.ke
       both_ways (list_any (λ x. keys_clash x.key r.key) rules) apart (any_in (λ x. keys_clash x.key r.key) q rules i
       (and_from (q.key.priority == r.key.priority) (patterns_meet q.key.pattern r.key.pattern) (eq-eqb q.key.priority r.key.priority same) (meet_out q.key.pattern r.key.pattern h first second)))
 
-  clear_push : IsClear rules → IsClear (rules ++ r ∷ [])
+  pub clear_push : IsClear rules → IsClear (rules ++ r ∷ [])
   clear_push clear h a b i j first second same =
       elim (in_push a rules r i) [
         | inl k ↦ elim (in_push b rules r j) [
@@ -151,7 +151,7 @@ module _ (net : Network) where
   no_sum : (count : ℕ) → sum_by length (replicate count (let none : List Rule = [] in none)) ≡ 0
   no_sum count = sum_by-replicate length count [] ∙ mul-zero count
 
-  no_rules : AreUserTables net 0 (replicate (switch_count net) [])
+  pub no_rules : AreUserTables net 0 (replicate (switch_count net) [])
   no_rules = record {
     count = length-replicate (switch_count net) [];
     sum = no_sum (switch_count net);
@@ -172,7 +172,7 @@ module _ (net : Network) where
         ]
       ] refl e
 
-  fits : (tables : List (List Rule)) → over_capacity net tables ≡ None → (s : SwitchId) → s.0 < switch_count net → length (rules_at tables s) ≤ capacity_of net s
+  pub fits : (tables : List (List Rule)) → over_capacity net tables ≡ None → (s : SwitchId) → s.0 < switch_count net → length (rules_at tables s) ≤ capacity_of net s
   fits tables e s within =
       let held = none_over tables 0 (switch_count net) s.0 e (omega arith) (omega arith) in
       elim (cases_lt (capacity_of net s) (length (rules_at tables s))) [

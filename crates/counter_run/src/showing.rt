@@ -16,7 +16,7 @@ use demands::Duties;
 use dest_classes::Class;
 use flow_rules::Config;
 use net_base::{Memory, Place};
-use outcome_changes::changes_for;
+use outcome_changes::{Search, changes_for};
 use path_walk::Outcome;
 use std::alloc::Global;
 use topology::Net;
@@ -100,7 +100,13 @@ fn add_hop(
 {
     let table = stage.tables.table(place.switch);
     let round = stage.rounds.round(stage.number);
-    let changes = changes_for(alloc, stage.net, table, round, place, dst, wanted)?;
+    let search = Search {
+        net: stage.net,
+        table,
+        round,
+        wanted,
+    };
+    let changes = changes_for(alloc, search, place, dst)?;
     add_changes(events, changes.list())?;
     events.add(Event::Hop(0))?;
     Ok(())

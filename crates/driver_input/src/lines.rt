@@ -1,5 +1,5 @@
 // The input that a line spells: `start`, or `feed`, the name of a switch and bytes in hexadecimal digits.
-ghost use Rattle.std.specs.Prelude.{IfOk};
+ghost use Rattle.std.specs.Prelude.{◌≡◌, ◌==◌, IfOk};
 ghost use Rattle.net_base.specs.Reading.{Gives, need};
 ghost use Rattle.driver_input.specs.declared.fault.InputFault.TheVariants.{BadLine, Memory};
 ghost use Rattle.driver_input.specs.Lines as lines;
@@ -10,6 +10,13 @@ use hex::FromHexError;
 use net_base::cut_first;
 use std::alloc::Global;
 use topology::Net;
+
+/// Whether a byte ends a line.
+pub fn is_line_end(byte: &u8) -> bool
+    ensures { result ≡ (byte.now == 10) }
+{
+    *byte == b'\n'
+}
 
 /// Reads pairs of hexadecimal digits, at least one.
 fn read_piece(alloc: Global, number: u32, digits: &str) -> Result<Piece, InputFault>

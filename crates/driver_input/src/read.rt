@@ -6,8 +6,8 @@ ghost use Rattle.driver_input.specs.Inputs as files;
 
 use crate::fault::InputFault;
 use crate::inputs::{InputLine, Inputs};
-use crate::lines::read_line_input;
-use net_base::{is_comment, is_line_end, place_of};
+use crate::lines::{is_line_end, read_line_input};
+use net_base::{is_comment, place_of};
 use std::alloc::Global;
 use topology::Net;
 

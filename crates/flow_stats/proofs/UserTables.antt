@@ -1,11 +1,10 @@
 -- Tables that flow statistics tell are a user configuration.
-use Rattle.std.proofs.Common.{◌≡◌, ◌⊎◌, ℕ, zero, suc, ◌+◌, ◌^◌, ◌≤◌, ◌<◌, true, false, cond, Result, Ok, Err, List, [], ◌∷◌, ◌++◌, length, replicate, set, get_or, mul-zero, refl, sym, ◌∙◌, ap, subst, inl, inr, arith}
-use Rattle.std.specs.Prelude.{◌==◌, Option, Some, None, not, nat_lt, nat_le, ◌&&◌, find, sum_by, IfOk, option_map}
-use Rattle.std.specs.List.{list_any, range_with_len, position_or_len, AllByRecursion}
+use Rattle.std.proofs.Common.{◌≡◌, ℕ, suc, ◌+◌, ◌^◌, ◌<◌, true, false, cond, Result, Ok, Err, List, [], ◌∷◌, ◌++◌, length, set, get_or, refl, sym, ◌∙◌, ap, subst, arith}
+use Rattle.std.specs.Prelude.{Option, Some, None, not, nat_lt, nat_le, ◌&&◌, IfOk, option_map}
+use Rattle.std.specs.List.{list_any, position_or_len, AllByRecursion}
 use Rattle.std.specs.Result.{result_ok}
-use Rattle.std.proofs.lemmas.Bool.{and_from, and_parts, leb-true, eq-eqb, ltb-true, lt-ltb, cases_lt, not-true, both_ways}
-use Rattle.std.proofs.lemmas.List.{length-set, length-append, length-replicate}
-use Rattle.std.proofs.lemmas.List.Folds.{sum_by-replicate}
+use Rattle.std.proofs.lemmas.Bool.{and_parts, leb-true, ltb-true, not-true, both_ways}
+use Rattle.std.proofs.lemmas.List.{length-set, length-append}
 use Rattle.std.proofs.lemmas.Option.{cond_some}
 use Rattle.std.specs.Str.{bytes_eq, is_utf8}
 use Rattle.std.proofs.lemmas.List.Sums.{sum_by-set}
@@ -16,19 +15,19 @@ use Rattle.net_base.specs.Reading.{◌>>=◌, check, in_turn, place_of, Gives}
 use Rattle.net_base.specs.Text.{cut_first}
 use Rattle.net_base.specs.declared.ids.SwitchId.{SwitchId}
 use Rattle.net_base.proofs.Turns.{bind_ok, ok_is, in_turn-keeps}
-use Rattle.net_base.proofs.ListLaws.{any_in}
 use Rattle.net_base.specs.Lines.{lines_of, is_comment}
-use Rattle.topology.specs.Networks.{Network, switch_count, switch_named, capacity_of}
-use Rattle.flow_rules.specs.Patterns.{Header, covers, key_eq}
-use Rattle.flow_rules.specs.Overlaps.{keys_clash, patterns_meet}
-use Rattle.flow_rules.specs.Tables.{TableState, IsTable, IsClear, rules_at, rules_of_all, keys_of}
+use Rattle.topology.specs.Networks.{Network, switch_count, switch_named}
+use Rattle.flow_rules.specs.Patterns.{key_eq}
+use Rattle.flow_rules.specs.Overlaps.{keys_clash}
+use Rattle.flow_rules.specs.Tables.{TableState, rules_at, rules_of_all, keys_of}
 use Rattle.flow_rules.specs.declared.rules.Rule.{Rule}
-use Rattle.flow_rules.proofs.OverlapLaws.{meet_out}
 use Rattle.flow_rules.proofs.TableLaws.{table_push, key_found}
 use Rattle.path_walk.specs.UserConfigs.{IsUserRule, IsUserConfig}
 use Rattle.openflow10.proofs.NumberLaws.{IsBytes, number_at-lt}
+use Rattle.config_files.specs.Configuration.{over_capacity}
 use Rattle.config_files.proofs.Steps.{need_passed, check_passed}
 use Rattle.config_files.proofs.TableUpdates.{each_after}
+use Rattle.config_files.proofs.UserTables.{IsUserTable, AreUserTables, all_push, clear_push, no_rules, fits}
 use Rattle.flow_stats.specs.Entries.{Fill, entries_in}
 use Rattle.flow_stats.specs.Messages.{Reply, is_flow_reply, reply_in, progress_of}
 use Rattle.flow_stats.specs.Layout.{stats_reply_at}
@@ -36,55 +35,14 @@ use Rattle.flow_stats.specs.Lines.{Sent, bytes_in, text_in, sent_in}
 use Rattle.flow_stats.specs.Profile.{rule_in}
 use Rattle.flow_stats.specs.Tables as step
 use Rattle.flow_stats.specs.Tables.{rules_with, with_rule}
-use Rattle.flow_stats.specs.Replies.{Told, nothing_told, with_reply, reply_at, message_at, line_at, told_in, is_whole, incomplete, is_over, over_capacity, no_switch, replies_in}
+use Rattle.flow_stats.specs.Replies.{Told, nothing_told, with_reply, reply_at, message_at, line_at, told_in, is_whole, incomplete, no_switch, replies_in}
 use Rattle.flow_stats.specs.declared.entries.Entry.{Entry}
 use Rattle.flow_stats.specs.declared.fault.StatsFault.{StatsFault}
 use Rattle.flow_stats.specs.declared.fault.StatsFault.TheVariants.{Memory, BadLine, BadMessage, KeyTwice, Overlap, TooMany, Incomplete, OverCapacity}
 use Rattle.flow_stats.proofs.EntryLaws.{fill_law}
 use Rattle.flow_stats.proofs.UserRules.{rule_shown}
 
--- the table of one switch
-pub record IsUserTable (net : Network) (s : ℕ) (table : List Rule) : Type 0 where
-  pub distinct : IsTable table
-  pub clear : IsClear table
-  pub rules : AllByRecursion (IsUserRule net (record { 0 = s })) table
-
--- the tables after so many entries
-record AreUserTables (net : Network) (n : ℕ) (tables : List (List Rule)) : Type 0 where
-  pub count : length tables ≡ switch_count net
-  pub sum : sum_by length tables ≡ n
-  pub few : n ≤ 2048
-  pub each : (s : ℕ) → IsUserTable net s (get_or tables s [])
-
 -- ---- one rule more in a table
-
-all_push : (P : Rule → Type 0) (rules : List Rule) (r : Rule) → AllByRecursion P rules → P r → AllByRecursion P (rules ++ r ∷ [])
-all_push P [] r all new = (new, tt)
-all_push P (x ∷ rules) r all new = (all.0, all_push P rules r all.1 new)
-
-in_push : (x : Rule) (rules : List Rule) (r : Rule) → IsIn x (rules ++ r ∷ []) → IsIn x rules ⊎ (x ≡ r)
-in_push x [] r i = elim i [ inl e ↦ inr e | inr j ↦ absurd j ]
-in_push x (y ∷ rules) r (inl e) = inl (inl e)
-in_push x (y ∷ rules) r (inr i) = elim (in_push x rules r i) [ inl j ↦ inl (inr j) | inr e ↦ inr e ]
-
-module _ (rules : List Rule) (r : Rule) (apart : list_any (λ q. keys_clash q.key r.key) rules ≡ false) where
-  apart_from : (q : Rule) (h : Header) → IsIn q rules → covers q.key.pattern h ≡ true → covers r.key.pattern h ≡ true → q.key.priority ≡ r.key.priority → ⊥
-  apart_from q h i first second same =
-      both_ways (list_any (λ x. keys_clash x.key r.key) rules) apart (any_in (λ x. keys_clash x.key r.key) q rules i
-      (and_from (q.key.priority == r.key.priority) (patterns_meet q.key.pattern r.key.pattern) (eq-eqb q.key.priority r.key.priority same) (meet_out q.key.pattern r.key.pattern h first second)))
-
-  clear_push : IsClear rules → IsClear (rules ++ r ∷ [])
-  clear_push clear h a b i j first second same =
-      elim (in_push a rules r i) [
-        | inl k ↦ elim (in_push b rules r j) [
-          | inl l ↦ clear h a b k l first second same
-          | inr f ↦ absurd (apart_from a h k first (subst (λ (x : Rule). covers x.key.pattern h ≡ true) f second) (same ∙ ap (λ (x : Rule). x.key.priority) f))
-        ]
-        | inr e ↦ elim (in_push b rules r j) [
-          | inl l ↦ absurd (apart_from b h l second (subst (λ (x : Rule). covers x.key.pattern h ≡ true) e first) (sym same ∙ ap (λ (x : Rule). x.key.priority) e))
-          | inr f ↦ e ∙ sym f
-        ]
-      ]
 
 with_new : (net : Network) (place : ℕ) (s : ℕ) (rules new : List Rule) (r : Rule) → IsUserTable net s rules → IsUserRule net (record { 0 = s }) r → rules_with place rules r ≡ Ok new
     → IsUserTable net s new × (length new ≡ suc (length rules))
@@ -228,50 +186,11 @@ module _ (net : Network) where
         | false ↦ λ f. message_kept number before after line user f
       ] e
 
-  -- ---- no rules
-
-  none_at : (count s : ℕ) → get_or (replicate count (let none : List Rule = [] in none)) s [] ≡ []
-  none_at zero s = refl
-  none_at (suc count) zero = refl
-  none_at (suc count) (suc s) = none_at count s
-
-  no_sum : (count : ℕ) → sum_by length (replicate count (let none : List Rule = [] in none)) ≡ 0
-  no_sum count = sum_by-replicate length count [] ∙ mul-zero count
-
-  no_rules : AreUserTables net 0 (replicate (switch_count net) [])
-  no_rules = record {
-    count = length-replicate (switch_count net) [];
-    sum = no_sum (switch_count net);
-    few = omega arith;
-    each = λ s. subst (IsUserTable net s) (sym (none_at (switch_count net) s)) (record { distinct = tt; clear = λ h a b i. absurd i; rules = tt });
-  }
-
-  -- ---- capacities
-
-  none_over : (tables : List (List Rule)) (a n s : ℕ) → find (is_over net tables) (range_with_len a n) ≡ None → a ≤ s → s < a + n → is_over net tables s ≡ false
-  none_over tables a zero s e low high = absurd (omega arith)
-  none_over tables a (suc n) s e low high =
-      elim (is_over net tables a) as (λ b. is_over net tables a ≡ b → cond b (Some a) (find (is_over net tables) (range_with_len (a + 1) n)) ≡ None → is_over net tables s ≡ false) [
-        | true ↦ λ over f. absurd (let g : Some a ≡ None = f in cc)
-        | false ↦ λ not_over f. elim (cases_lt a s) [
-          | inl less ↦ none_over tables (a + 1) n s f (omega arith) (omega arith)
-          | inr more ↦ (let same : a ≡ s = omega arith in subst (λ (k : ℕ). is_over net tables k ≡ false) same not_over)
-        ]
-      ] refl e
-
-  fits : (tables : List (List Rule)) → over_capacity net tables ≡ None → (s : SwitchId) → s.0 < switch_count net → length (rules_at tables s) ≤ capacity_of net s
-  fits tables e s within =
-      let held = none_over tables 0 (switch_count net) s.0 e (omega arith) (omega arith) in
-      elim (cases_lt (capacity_of net s) (length (rules_at tables s))) [
-        | inl over ↦ absurd (both_ways (is_over net tables s.0) held (lt-ltb (capacity_of net s) (length (rules_at tables s)) over))
-        | inr fit ↦ fit
-      ]
+  -- ---- the file
 
   no_switch_passed : {A : Type 0} (o : Option ℕ) (fault : SwitchId → StatsFault) (r : Result A StatsFault) (y : A) → (no_switch o fault >>= λ _. r) ≡ Ok y → (o ≡ None) × (r ≡ Ok y)
   no_switch_passed None fault r y e = (refl, e)
   no_switch_passed (Some s) fault r y e = absurd cc
-
-  -- ---- the file
 
   pub replies_shown : (bytes : List ℕ) (tables : List (List Rule)) → replies_in net bytes ≡ Ok tables → IsUserConfig net tables
   unfolding replies_in
@@ -279,7 +198,7 @@ module _ (net : Network) where
       let (told, read, e1) = bind_ok (told_in net bytes) (λ told. no_switch (incomplete net told.progress) Incomplete >>= λ _. no_switch (over_capacity net told.tables) OverCapacity >>= λ _. Ok told.tables) tables e in
       let (whole, e2) = no_switch_passed (incomplete net told.progress) Incomplete (no_switch (over_capacity net told.tables) OverCapacity >>= λ _. Ok told.tables) tables e1 in
       let (within, e3) = no_switch_passed (over_capacity net told.tables) OverCapacity (Ok told.tables) tables e2 in
-      let user = in_turn-keeps (line_at net) (λ (t : Told). AreUserTables net t.entries t.tables) (λ n before after line. line_kept n before after line) 1 (nothing_told net) told (lines_of bytes) no_rules read in
+      let user = in_turn-keeps (line_at net) (λ (t : Told). AreUserTables net t.entries t.tables) (λ n before after line. line_kept n before after line) 1 (nothing_told net) told (lines_of bytes) (no_rules net) read in
       let sum = user.sum in
       let few = user.few in
       subst (IsUserConfig net) (ok_is told.tables tables e3) (record {
@@ -287,7 +206,7 @@ module _ (net : Network) where
         few = omega arith;
         distinct = λ s. (user.each s.0).distinct;
         clear = λ s. (user.each s.0).clear;
-        fits = fits told.tables within;
+        fits = fits net told.tables within;
         rules = λ s. (user.each s.0).rules;
       })
 

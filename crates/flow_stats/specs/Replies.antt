@@ -1,12 +1,13 @@
 -- The configuration that a file of flow statistics tells.
-use Rattle.std.specs.Prelude.{◌≡◌, ◌≤◌, ℕ, ◌+◌, Bool, true, false, not, nat_lt, List, [], length, replicate, slice_set, slice_index_or, find, Option, None, Some, Result, Ok, Err, ⊤, if◌then◌else◌}
+use Rattle.std.specs.Prelude.{◌≡◌, ◌≤◌, ℕ, ◌+◌, Bool, true, false, not, List, [], length, replicate, slice_set, slice_index_or, find, Option, None, Some, Result, Ok, Err, ⊤, if◌then◌else◌}
 use Rattle.std.specs.List.{range_with_len}
 use Rattle.net_base.specs.declared.ids.SwitchId.{SwitchId}
 use Rattle.net_base.specs.Reading.{◌>>=◌, check, need, in_turn}
 use Rattle.net_base.specs.Lines.{lines_of, is_comment}
-use Rattle.topology.specs.Networks.{Network, switch_count, capacity_of}
-use Rattle.flow_rules.specs.Tables.{rules_at, rules_of_all}
+use Rattle.topology.specs.Networks.{Network, switch_count}
+use Rattle.flow_rules.specs.Tables.{rules_of_all}
 use Rattle.flow_rules.specs.declared.rules.Rule.{Rule}
+use Rattle.config_files.specs.Configuration.{over_capacity}
 use Rattle.flow_stats.specs.Lines.{Sent, sent_in}
 use Rattle.flow_stats.specs.Messages.{Reply, reply_in}
 use Rattle.flow_stats.specs.Tables.{entry_at}
@@ -84,14 +85,6 @@ told_in net bytes = in_turn (line_at net) 1 (nothing_told net) (lines_of bytes)
 -- the least switch whose last message says that more follow
 abbrev pub incomplete : Network → List Progress → Option ℕ
 incomplete net progress = find (λ s. is_begun (slice_index_or progress s Awaited)) (range_with_len 0 (switch_count net))
-
--- whether the table of the switch is longer than its capacity
-abbrev pub is_over : Network → List (List Rule) → ℕ → Bool
-is_over net tables s = nat_lt (capacity_of net (record { 0 = s })) (length (rules_at tables (record { 0 = s })))
-
--- the least switch whose table is too long
-abbrev pub over_capacity : Network → List (List Rule) → Option ℕ
-over_capacity net tables = find (is_over net tables) (range_with_len 0 (switch_count net))
 
 -- there is no such switch
 abbrev pub no_switch : Option ℕ → (SwitchId → StatsFault) → Result ⊤ StatsFault

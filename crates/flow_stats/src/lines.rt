@@ -1,5 +1,5 @@
 // Lines: a switch's name, one space, and the bytes of a message in hexadecimal digits.
-ghost use Rattle.std.specs.Prelude.{◌<◌, IfOk};
+ghost use Rattle.std.specs.Prelude.{◌≡◌, ◌==◌, ◌<◌, IfOk};
 ghost use Rattle.net_base.specs.Reading.{Gives, need};
 ghost use Rattle.topology.specs.Networks.{switch_count};
 ghost use Rattle.flow_stats.specs.declared.fault.StatsFault.TheVariants.{BadLine, Memory};
@@ -16,6 +16,13 @@ use topology::Net;
 pub struct SentMessage {
     pub switch: SwitchId,
     pub bytes: Vec<u8>,
+}
+
+/// Whether a byte ends a line.
+pub fn is_line_end(byte: &u8) -> bool
+    ensures { result ≡ (byte.now == 10) }
+{
+    *byte == b'\n'
 }
 
 /// Reads pairs of hexadecimal digits, at least one.

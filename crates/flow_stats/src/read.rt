@@ -4,6 +4,7 @@ ghost use Rattle.net_base.specs.Reading.{Gives, Fails, in_turn};
 ghost use Rattle.topology.specs.Networks.{switch_count};
 ghost use Rattle.flow_rules.specs.Tables.{rules_of_all};
 ghost use Rattle.path_walk.specs.UserConfigs.{IsUserConfig};
+ghost use Rattle.config_files.specs.Configuration as files;
 ghost use Rattle.flow_stats.specs.declared.fault.StatsFault.TheVariants.{Memory};
 ghost use Rattle.flow_stats.specs.declared.messages.Progress.TheVariants.{Awaited};
 ghost use Rattle.flow_stats.specs.Lines.{sent_seen};
@@ -14,10 +15,10 @@ ghost use Rattle.flow_stats.specs.Replies.{AreFor};
 use crate::adding::add_entries;
 use crate::fault::StatsFault;
 use crate::index::RuleIndex;
-use crate::lines::{SentMessage, read_sent};
+use crate::lines::{SentMessage, is_line_end, read_sent};
 use crate::messages::{FlowReply, Progress, read_reply};
 use flow_rules::Config;
-use net_base::{SwitchId, is_comment, is_line_end, place_of};
+use net_base::{SwitchId, is_comment, place_of};
 use std::alloc::Global;
 use topology::Net;
 
@@ -185,7 +186,7 @@ fn incomplete(net: &Net, told: &Told) -> Option<SwitchId>
 fn is_over(net: &Net, config: &Config, switch: SwitchId) -> bool
     requires within { switch.0 < switch_count net.now }
     requires tables { length config.now ≡ switch_count net.now }
-    ensures { result ≡ replies.is_over net.now (rules_of_all config.now) switch.0 }
+    ensures { result ≡ files.is_over net.now (rules_of_all config.now) switch.0 }
 {
     config.table(switch).rules().len() > net.capacity(switch) as usize
 }
@@ -193,7 +194,7 @@ fn is_over(net: &Net, config: &Config, switch: SwitchId) -> bool
 /// The least switch whose table is longer than its capacity.
 fn over_capacity(net: &Net, config: &Config) -> Option<SwitchId>
     requires { length config.now ≡ switch_count net.now }
-    ensures { option_map (λ s. s.0) result ≡ replies.over_capacity net.now (rules_of_all config.now) }
+    ensures { option_map (λ s. s.0) result ≡ files.over_capacity net.now (rules_of_all config.now) }
 {
     for s in 0..net.switches() {
         if is_over(net, config, SwitchId(s)) {

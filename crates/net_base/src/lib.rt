@@ -19,7 +19,7 @@ mod wants;
 pub use field::Field;
 pub use ids::{Place, Port, Stop, SwitchId, Vlan};
 pub use in_memory::{MemorySink, MemorySource};
-pub use lines::{is_comment, is_line_end};
+pub use lines::is_comment;
 pub use list_of::ListOf;
 pub use outside::{Failed, Sink, Source};
 pub use prefix::{BadPrefix, Prefix, read_address, read_prefix};

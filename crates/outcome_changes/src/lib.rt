@@ -19,13 +19,13 @@ use topology::Net;
 use trying::Trial;
 use update_model::Change;
 
-/// What the trials are made on: the table before a round, the round, and the outcome that is wanted.
+/// What changes are sought for: the table of a switch before a round, the round, and the outcome that is wanted.
 #[derive(Clone, Copy)]
-struct Search<'a> {
-    net: &'a Net,
-    table: &'a Table,
-    round: &'a [Change],
-    wanted: Outcome,
+pub struct Search<'a> {
+    pub net: &'a Net,
+    pub table: &'a Table,
+    pub round: &'a [Change],
+    pub wanted: Outcome,
 }
 
 /// The numbers of the changes of the round that a trial takes, if after them a packet has the outcome.
@@ -73,19 +73,16 @@ fn found_with(
 /// that it makes.
 pub fn changes_for(
     alloc: Global,
-    net: &Net,
-    table: &Table,
-    round: &[Change],
+    search: Search<'_>,
     place: Place,
     dst: u32,
-    wanted: Outcome,
 ) -> Result<ListOf<usize>, Memory>
-    requires good { AreGood table.now.rules (changes_at place.switch round.now) }
-    requires clear { AreClear table.now.rules (changes_at place.switch round.now) }
-    requires possible { MayBe net.now table.now.rules (changes_at place.switch round.now) place dst wanted }
-    ensures { IfOk result (λ numbers. GiveOutcome net.now table.now.rules round.now place dst wanted numbers) }
+    requires good { AreGood search.table.now.rules (changes_at place.switch search.round.now) }
+    requires clear { AreClear search.table.now.rules (changes_at place.switch search.round.now) }
+    requires possible { MayBe search.net.now search.table.now.rules (changes_at place.switch search.round.now) place dst search.wanted }
+    ensures { IfOk result (λ numbers. GiveOutcome search.entry.net.now search.entry.table.now.rules search.entry.round.now place dst search.entry.wanted numbers) }
 {
-    if outcome(net, table, place, dst) == wanted {
+    if outcome(search.net, search.table, place, dst) == search.wanted {
         return ListOf::make(alloc);
     }
     let deletes = Trial {
@@ -93,16 +90,10 @@ pub fn changes_for(
         dst,
         turned: None,
     };
-    let search = Search {
-        net,
-        table,
-        round,
-        wanted,
-    };
     if let Some(numbers) = found_by(alloc, search, &deletes)? {
         return Ok(numbers);
     }
-    for change in round {
+    for change in search.round {
         if let Some(numbers) = found_with(alloc, search, &deletes, change)? {
             return Ok(numbers);
         }

@@ -1,5 +1,5 @@
 // The reader of a schedule.
-ghost use Rattle.std.specs.Prelude.{◌≡◌, Ok, MatchResult, []};
+ghost use Rattle.std.specs.Prelude.{◌≡◌, ◌==◌, Ok, MatchResult, []};
 ghost use Rattle.net_base.specs.Reading.{Gives, Fails, in_turn};
 ghost use Rattle.schedule_replay.specs.declared.fault.ScheduleFault.TheVariants.{Memory};
 ghost use Rattle.net_base.specs.Lines.{lines_of};
@@ -8,7 +8,7 @@ ghost use Rattle.schedule_replay.specs.Schedules as schedules;
 use crate::event_lines::read_event;
 use crate::fault::ScheduleFault;
 use crate::schedule::{Schedule, ScheduleLine};
-use net_base::{is_comment, is_line_end, place_of};
+use net_base::{is_comment, place_of};
 use std::alloc::Global;
 use topology::Net;
 
@@ -48,6 +48,13 @@ fn read_line(
         return Ok(());
     }
     add_event(net, schedule, number, line)
+}
+
+/// Whether a byte ends a line.
+fn is_line_end(byte: &u8) -> bool
+    ensures { result ≡ (byte.now == 10) }
+{
+    *byte == b'\n'
 }
 
 /// The events of a schedule, each with the number of its line, from 1: `start`, `settle`, `change N`,

@@ -7,6 +7,6 @@ use Rattle.outcome_changes.proofs.changes_for.Given as goal
 
 abbrev pub invariant-loop-change : goal.invariant-loop-change
 invariant-loop-change l = record {
-  none : ¬ (outcome_after l.net l.table.rules l.round (trial_of l.fn.place l.dst None) ≡ l.search.wanted);
-  before : (c : Change) → IsIn c (take l.change-index l.round) → FailsWith l.net l.table.rules l.round l.fn.place l.dst l.search.wanted c;
+  none : ¬ (outcome_after l.fn.search.net.now l.fn.search.table.now.rules l.fn.search.round.now (trial_of l.fn.place l.dst None) ≡ l.fn.search.wanted);
+  before : (c : Change) → IsIn c (take l.change-index l.fn.search.round.now) → FailsWith l.fn.search.net.now l.fn.search.table.now.rules l.fn.search.round.now l.fn.place l.dst l.fn.search.wanted c;
 }

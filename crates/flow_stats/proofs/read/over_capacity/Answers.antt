@@ -1,7 +1,7 @@
 use Rattle.std.proofs.Common.{◌<◌, sym, ◌∙◌}
 use Rattle.topology.specs.Networks.{switch_count}
 use Rattle.flow_rules.specs.Tables.{rules_of_all}
-use Rattle.flow_stats.specs.Replies.{is_over}
+use Rattle.config_files.specs.Configuration.{is_over}
 use Rattle.config_files.proofs.TableUpdates.{find_more}
 use Rattle.flow_stats.proofs.read.over_capacity.Goals as goal
 

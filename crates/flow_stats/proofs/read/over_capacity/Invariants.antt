@@ -2,7 +2,7 @@ use Rattle.std.proofs.Common.{◌≡◌, ◌-◌, find}
 use Rattle.std.specs.List.{range_with_len}
 use Rattle.topology.specs.Networks.{switch_count}
 use Rattle.flow_rules.specs.Tables.{rules_of_all}
-use Rattle.flow_stats.specs.Replies.{is_over, over_capacity}
+use Rattle.config_files.specs.Configuration.{is_over, over_capacity}
 use Rattle.flow_stats.proofs.read.over_capacity.Given as goal
 
 abbrev pub invariant-loop-s : goal.invariant-loop-s
