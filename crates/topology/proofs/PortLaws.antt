@@ -1,9 +1,11 @@
 -- The used ports as the code holds them.
-use Rattle.std.proofs.Common.{◌≡◌, ◌≢◌, ◌↔◌, ◌+◌, ◌≤◌, ◌||◌, Bool, true, false, cond, IsTrue, List, [], ◌∷◌, ◌++◌, map, length, Option, Some, None, is_some, refl, sym, ◌∙◌, ap, subst, inl, inr, arith, length-append}
+use Rattle.std.proofs.Common.{◌≡◌, ◌≢◌, ◌↔◌, ℕ, zero, suc, ◌+◌, ◌≤◌, ◌<◌, ◌==◌, ◌||◌, get_or, set, replicate, Bool, true, false, cond, IsTrue, List, [], ◌∷◌, ◌++◌, map, length, Option, Some, None, is_some, refl, sym, ◌∙◌, ap, subst, inl, inr, arith, length-append}
 use Rattle.std.specs.Prelude.{count_by, filter, unwrap_or}
 use Rattle.std.specs.List.{list_any}
 use Rattle.std.specs.Map.{lookup}
-use Rattle.std.proofs.lemmas.Bool.{false≢true, cond-false, false_from_ne_true}
+use Rattle.std.proofs.lemmas.Bool.{false≢true, cond-false, false_from_ne_true, eqb-true, eqb-false}
+use Rattle.std.proofs.lemmas.Grind.{get_or-set_at}
+use Rattle.std.proofs.lemmas.List.{get_or-set_other}
 use Rattle.std.proofs.lemmas.List.Folds.{list_any-append}
 use Rattle.std.proofs.lemmas.List.Sums.{length-filter}
 use Rattle.std.proofs.lemmas.List.Elements.{filter-append}
@@ -17,15 +19,15 @@ use Rattle.net_base.specs.declared.ids.Stop.{Stop}
 use Rattle.topology.proofs.LinkLaws.{stop_eq-refl, stop_ne, any_from_in, in_from_any, ends_of, not_both}
 use Rattle.topology.specs.Networks.{Network, IsNetwork, IsUsed, stop_eq, far_end, end_at, used_ports, is_used, is_host}
 use Rattle.topology.specs.Topology.{is_on}
-use Rattle.topology.specs.Ends.{port_ends, is_host_end}
+use Rattle.topology.specs.Ends.{port_ends, is_host_end, AreCounts, IsPort}
 use Rattle.topology.specs.declared.net.Link.{Link}
 use Rattle.topology.specs.declared.net.End.{End}
 use Rattle.topology.specs.declared.net.End.TheVariants as at
 
-abbrev Entry : Type 0
+abbrev pub Entry : Type 0
 Entry = Stop × End
 
-abbrev port_of : Entry → Stop
+abbrev pub port_of : Entry → Stop
 port_of p = p.0
 
 hosts_named : (hosts : List Stop) → map port_of (map (λ h. (h, at.Host)) hosts) ≡ hosts
@@ -57,6 +59,38 @@ count_append p xs ys =
 
 pub count_turned : (p : Stop → Bool) (xs ys : List Stop) → count_by p (xs ++ ys) ≡ count_by p (ys ++ xs)
 count_turned p xs ys = let a = count_append p xs ys in let b = count_append p ys xs in omega arith
+
+abbrev pub zeros_of : ℕ → List ℕ
+zeros_of n = replicate n 0
+
+zeros : (n i : ℕ) → get_or (zeros_of n) i 0 ≡ 0
+zeros zero i = refl
+zeros (suc n) zero = refl
+zeros (suc n) (suc i) = zeros n i
+
+-- no port is counted
+pub none_counted : (n : ℕ) → AreCounts (zeros_of n) []
+none_counted n s = zeros n s.0
+
+-- one port more is counted
+pub counted : (counts : List ℕ) (ports : List Stop) (stop : Stop) → AreCounts counts ports → stop.switch.0 < length counts
+    → AreCounts (set counts stop.switch.0 (get_or counts stop.switch.0 0 + 1)) (ports ++ stop ∷ [])
+counted counts ports stop are within s =
+    let n = stop.switch.0 in
+    let more = count_append (is_on s) ports (stop ∷ []) in
+    let before = are s in
+    elim (n == s.0) as (λ b. (n == s.0) ≡ b → get_or (set counts n (get_or counts n 0 + 1)) s.0 0 ≡ count_by (is_on s) (ports ++ stop ∷ [])) [
+      | true ↦ λ e.
+          let same : n ≡ s.0 = eqb-true n s.0 e in
+          let now = get_or-set_at counts n s.0 (get_or counts n 0 + 1) 0 (sym same) within in
+          let there = ap (λ (m : ℕ). get_or counts m 0) same in
+          let one : count_by (is_on s) (stop ∷ []) ≡ 1 = ap (λ (b : Bool). 0 + cond b 1 0) e in
+          omega arith
+      | false ↦ λ e.
+          let now = get_or-set_other counts n s.0 (get_or counts n 0 + 1) 0 (λ same. eqb-false n s.0 e (sym same)) in
+          let none : count_by (is_on s) (stop ∷ []) ≡ 0 = ap (λ (b : Bool). 0 + cond b 1 0) e in
+          omega arith
+    ] refl
 
 module _ (stop : Stop) where
   abbrev looked : List Entry → Option End
@@ -181,6 +215,10 @@ module _ (stop : Stop) where
   pub used_exactly : (net : Network) → IsTrue (is_used net stop) ↔ IsUsed net stop
   used_exactly net = (λ h. in_from_any stop (used_ports net) h, λ i. any_from_in stop (used_ports net) i)
 
+-- the ports, with one more
+pub map_added : (es : List Entry) (a : Stop) (e : End) → map port_of (es ++ (a, e) ∷ []) ≡ map port_of es ++ a ∷ []
+map_added es a e = map-push port_of es (a, e)
+
 none_from : {A : Type 0} (o : Option A) → is_some o ≡ false → o ≡ None
 none_from None e = refl
 none_from (Some x) e = absurd cc
@@ -208,9 +246,22 @@ module _ (net : Network) (ends : List Entry) (kept : ends ≡ port_ends net.link
   pub used_count : (s : SwitchId) → count_by (is_on s) (map port_of ends) ≡ count_by (is_on s) (used_ports net)
   used_count s = ap (count_by (is_on s)) same_ports ∙ count_turned (is_on s) (ends_of net.links) net.hosts
 
+  -- the same with one port more
+  pub beside_count : (more : List Entry) (a : Stop) (e : End) (s : SwitchId) → more ≡ ends ++ (a, e) ∷ [] → count_by (is_on s) (map port_of more) ≡ count_by (is_on s) (used_ports net ++ a ∷ [])
+  beside_count more a e s is =
+      ap (λ es. count_by (is_on s) (map port_of es)) is
+      ∙ ap (count_by (is_on s)) (map-push port_of ends (a, e))
+      ∙ count_append (is_on s) (map port_of ends) (a ∷ [])
+      ∙ ap (λ n. n + count_by (is_on s) (a ∷ [])) (used_count s)
+      ∙ sym (count_append (is_on s) (used_ports net) (a ∷ []))
+
   pub end_test : IsNetwork net → (stop : Stop) → unwrap_or (lookup (stop_eq stop) ends) at.Nothing ≡ end_at net stop
   end_test is stop = ap (λ es. unwrap_or (lookup (stop_eq stop) es) at.Nothing) kept ∙ end_looked stop net is
 
 -- no switch has more than 64 used ports
 pub count_few : (net : Network) → IsNetwork net → (s : SwitchId) → count_by (is_on s) (used_ports net) ≤ 64
 count_few net is s = let a = length-filter (is_on s) (used_ports net) in let b = is.few_ports s in omega arith
+
+-- a port's switch is one of at most 128
+pub port_few : (net : Network) → IsNetwork net → (stop : Stop) → IsPort net stop → stop.switch.0 < 128
+port_few net is stop port = let less = port.0 in let few = is.few in omega arith

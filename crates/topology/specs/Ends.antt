@@ -1,7 +1,9 @@
 -- What is at the used ports.
-use Rattle.std.specs.Prelude.{◌<◌, length, Bool, true, false, List, [], ◌∷◌, ◌++◌, map, flat_map}
+use Rattle.std.specs.Prelude.{◌≡◌, ℕ, ◌<◌, length, Bool, true, false, List, [], ◌∷◌, ◌++◌, map, flat_map, count_by, slice_index_or}
+use Rattle.net_base.specs.declared.ids.SwitchId.{SwitchId}
 use Rattle.net_base.specs.declared.ids.Stop.{Stop}
 use Rattle.topology.specs.Networks.{Network, IsPortNumber}
+use Rattle.topology.specs.Topology.{is_on}
 use Rattle.topology.specs.declared.net.Link.{Link}
 use Rattle.topology.specs.declared.net.End.{End}
 use Rattle.topology.specs.declared.net.End.TheVariants as at
@@ -19,3 +21,7 @@ port_ends links hosts =
 -- a port of a switch of the network, by a number that a network may use
 abbrev pub IsPort : Network → Stop → Type 0
 IsPort net stop = (stop.switch.0 < length net.names) × IsPortNumber stop.port.0
+
+-- the numbers say for each switch how many of these ports it has
+abbrev pub AreCounts : List ℕ → List Stop → Type 0
+AreCounts counts ports = (s : SwitchId) → slice_index_or counts s.0 0 ≡ count_by (is_on s) ports

@@ -12,20 +12,25 @@ use net_base::{Stop, SwitchId};
 use std::alloc::{AllocError, Global};
 use std::marker::Model;
 
-/// The used ports, each with what is there, in the order of their use.
+/// The used ports, each with what is there, in the order of their use, and for each switch how many of its ports are
+/// used.
 #[derive(Drop)]
 pub struct Ports {
     ends: IndexMap<Stop, End>,
+    counts: [u16; 128],
 }
 
 impl Model for Ports {
-    ghost use Rattle.std.specs.Prelude.{List};
+    ghost use Rattle.std.specs.Prelude.{List, map};
     ghost use Rattle.net_base.specs.declared.ids.Stop.{Stop};
+    ghost use Rattle.topology.specs.Ends.{AreCounts};
     ghost use Rattle.topology.specs.declared.net.End.{End};
 
     ghost Value = { List (Stop × End) };
 
     ghost view = { λ p. p.ends.entries };
+
+    ghost invariant = { λ p. AreCounts p.counts (map (λ e. e.0) p.ends.entries) };
 }
 
 impl Ports {
@@ -35,6 +40,7 @@ impl Ports {
     {
         Ports {
             ends: IndexMap::new(alloc),
+            counts: [0; 128],
         }
     }
 
@@ -55,23 +61,26 @@ impl Ports {
         self.ends.contains_key(&stop)
     }
 
-    /// How many ports of the switch are used.
+    /// How many ports of the switch are used. The cost is that of one look-up by number.
     pub fn count_on(&self, switch: SwitchId) -> usize
         ensures value { result ≡ count_by (is_on switch) (map (λ p. p.0) self.now) }
         ensures few { result < 2 ^ 63 }
     {
-        self.ends
-            .keys()
-            .filter(|stop| stop.switch == switch)
-            .count()
+        match self.counts.get(switch.0 as usize) {
+            Some(count) => *count as usize,
+            None => 0,
+        }
     }
 
     /// Adds a port that isn't used.
     pub fn add(&mut self, stop: Stop, end: End) -> Result<(), AllocError>
-        requires { list_any (stop_eq stop) (map (λ p. p.0) self.old) ≡ false }
+        requires free { list_any (stop_eq stop) (map (λ p. p.0) self.old) ≡ false }
+        requires within { stop.switch.0 < 128 }
+        requires room { count_by (is_on stop.switch) (map (λ p. p.0) self.old) < 64 }
         ensures { OnOk result (self.new ≡ self.old ++ (stop, end) ∷ []) }
     {
         self.ends.insert(stop, end)?;
+        self.counts[stop.switch.0 as usize] += 1;
         Ok(())
     }
 }

@@ -1,7 +1,7 @@
-use Rattle.std.proofs.Common.{List, [], ◌∷◌, ◌++◌, sym, ap, subst, ◌∙◌}
+use Rattle.std.proofs.Common.{ℕ, ◌<◌, List, [], ◌∷◌, ◌++◌, sym, ap, subst, ◌∙◌}
 use Rattle.net_base.specs.declared.ids.Stop.{Stop}
 use Rattle.topology.proofs.GrowthLaws.{host_kept, host_ends}
-use Rattle.topology.proofs.PortLaws.{used_test}
+use Rattle.topology.proofs.PortLaws.{used_test, used_count, port_few}
 use Rattle.topology.specs.Ends.{port_ends}
 use Rattle.topology.specs.Networks.{IsNetwork}
 use Rattle.topology.specs.Seen.{network_of}
@@ -9,8 +9,15 @@ use Rattle.topology.specs.declared.net.End.{End}
 use Rattle.topology.specs.declared.net.End.TheVariants as at
 use Rattle.topology.proofs.net.Net.with_host.Goals as goal
 
-pub add-requires : goal.add-requires
-add-requires c = used_test (network_of c.self.inside) c.self.inside.ends c.self.invariant.ends c.args.stop ∙ (rw (← c.self.view_is) at c.requires.free)
+pub add-requires-clause-free : goal.add-requires-clause-free
+add-requires-clause-free c = used_test (network_of c.self.inside) c.self.inside.ends c.self.invariant.ends c.args.stop ∙ (rw (← c.self.view_is) at c.requires.free)
+
+pub add-requires-clause-within : goal.add-requires-clause-within
+add-requires-clause-within c = port_few (network_of c.self.inside) c.self.invariant.network c.args.stop (rw (← c.self.view_is) at c.requires.port)
+
+pub add-requires-clause-room : goal.add-requires-clause-room
+add-requires-clause-room c =
+    subst (λ (n : ℕ). n < 64) (sym (used_count (network_of c.self.inside) c.self.inside.ends c.self.invariant.ends c.args.stop.switch)) (rw (← c.self.view_is) at c.requires.room)
 
 pub invariant_of-result : goal.invariant_of-result
 invariant_of-result c = record {
