@@ -1,4 +1,5 @@
 pub mod MarkedLaws
 pub mod NotedLaws
 pub mod PlaceLaws
+pub mod SlotLaws
 pub mod WalkedLaws

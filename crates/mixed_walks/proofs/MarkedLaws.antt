@@ -8,10 +8,8 @@ use Rattle.net_base.proofs.ListLaws.{no_longer}
 use Rattle.net_base.proofs.NameLaws.{same_switch}
 use Rattle.net_base.proofs.ItemLaws.{distinct_push}
 use Rattle.net_base.specs.declared.ids.SwitchId.{SwitchId}
-use Rattle.net_base.specs.declared.ids.Place.{Place}
 use Rattle.acyclic_numbering.specs.declared.Edge.{Edge}
-use Rattle.mixed_walks.specs.Marked.{IsMarked, IsPlaceList, IsNear, edge_number}
-use Rattle.mixed_walks.specs.Walks.{switches_of}
+use Rattle.mixed_walks.specs.Marked.{IsMarked, IsNear, edge_number}
 
 -- the numbers below a number
 abbrev upto : ℕ → List ℕ
@@ -173,15 +171,3 @@ edge_told a b near_a near_b e =
   where
     same_parts : (s t v w : SwitchId) → s ≡ v → t ≡ w → made s t ≡ made v w
     same_parts s t v w e f = ap (λ x. made x t) e ∙ ap (λ x. made v x) f
-
--- one more place, whose switch is put
-pub put_place : (places : List Place) (capacity : ℕ) (switches : List SwitchId) → IsPlaceList places capacity switches → (place : Place) → ¬ IsIn place places
-    → (more : ℕ) → capacity ≤ more → (put : List SwitchId) → ((s : SwitchId) → IsIn s put ↔ (IsIn s switches ⊎ (s ≡ place.switch))) → IsPlaceList (places ++ place ∷ []) more put
-put_place places capacity switches is place absent more room put members = record {
-  room = (let r = is.room in omega arith);
-  once = distinct_push places place is.once absent;
-  seen = λ s. subst (λ (xs : List SwitchId). IsIn s put ↔ IsIn s xs) (sym (map-push (λ (p : Place). p.switch) places place)) (
-    λ i. (in_push (switches_of places) place.switch s).1 (elim ((members s).0 i) [ inl j ↦ inl ((is.seen s).0 j) | inr e ↦ inr e ]),
-    λ i. (members s).1 (elim ((in_push (switches_of places) place.switch s).0 i) [ inl j ↦ inl ((is.seen s).1 j) | inr e ↦ inr e ]),
-  );
-}

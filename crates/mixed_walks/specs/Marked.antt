@@ -1,5 +1,5 @@
 -- Lists in which each member stands once, with a mark for each that may stand there.
-use Rattle.std.specs.Prelude.{◌≡◌, ◌↔◌, ℕ, ◌+◌, ◌*◌, ◌<◌, ◌≤◌, Bool, true, false, List, length, map, slice_index_or}
+use Rattle.std.specs.Prelude.{◌≡◌, ◌↔◌, ℕ, ◌+◌, ◌*◌, ◌%◌, ◌<◌, ◌≤◌, Bool, true, false, List, length, map, slice_index_or}
 use Rattle.net_base.specs.Members.{IsIn, IsDistinct}
 use Rattle.net_base.specs.declared.ids.SwitchId.{SwitchId}
 use Rattle.net_base.specs.declared.ids.Place.{Place}
@@ -25,8 +25,16 @@ edge_number e = e.from.0 * 128 + e.to.0
 abbrev pub IsNear : Edge → Type 0
 IsNear e = (e.from.0 < 128) × (e.to.0 < 128)
 
--- each place stands once, the switches are theirs, and there is room for 8193
-pub record IsPlaceList (places : List Place) (capacity : ℕ) (switches : List SwitchId) : Type 0 where
+-- the number of the slot of a place, at one of 128 switches
+abbrev pub slot_number : Place → ℕ
+slot_number p = p.switch.0 * 512 + p.port.0 % 512
+
+-- each place stands once, the switches are theirs, there is room for 8193, and of so many slots those that have a place, and no others, are not empty:
+-- each holds the number of one of the places, from 1
+pub record IsPlaceList (bound : ℕ) (places : List Place) (capacity : ℕ) (slots : List ℕ) (switches : List SwitchId) : Type 0 where
   pub room : 8193 ≤ capacity
   pub once : IsDistinct places
   pub seen : (s : SwitchId) → IsIn s switches ↔ IsIn s (switches_of places)
+  pub count : length slots ≡ bound
+  pub within : (n : ℕ) → slice_index_or slots n 0 ≤ length places
+  pub marked : (n : ℕ) → IsIn n (map slot_number places) ↔ (0 < slice_index_or slots n 0)

@@ -1,5 +1,5 @@
 // Switches, each of them once, with a mark for each that may stand there.
-ghost use Rattle.std.specs.Prelude.{◌≡◌, ◌↔◌, ◌⊎◌, ◌<◌, [], ℕ, IsTrue, length, map, true, false, slice_index_or, All, IfOk};
+ghost use Rattle.std.specs.Prelude.{◌≡◌, ◌↔◌, ◌⊎◌, ◌<◌, [], ℕ, length, map, true, false, slice_index_or, All, IfOk};
 ghost use Rattle.net_base.specs.Members.{IsIn};
 ghost use Rattle.net_base.specs.declared.ids.SwitchId.{SwitchId};
 ghost use Rattle.mixed_walks.specs.Marked.{switch_number};
@@ -55,14 +55,6 @@ impl SwitchSet {
         ensures near { All (λ s. s.0 < 128) result.now }
     {
         &self.list
-    }
-
-    /// Whether the switch stands there.
-    pub(crate) fn has(&self, switch: SwitchId) -> bool
-        requires { switch.0 < 128 }
-        ensures { IsTrue result ↔ IsIn switch self.now }
-    {
-        self.marks[switch.0 as usize]
     }
 
     /// Puts a switch, if it doesn't stand there.

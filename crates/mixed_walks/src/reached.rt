@@ -1,8 +1,9 @@
 // The places that the walks of a class come to, each of them once.
-ghost use Rattle.std.specs.Prelude.{◌≡◌, ◌↔◌, ◌⊎◌, ◌<◌, ◌++◌, [], List, IsTrue, length, slice_get, All, IfOk};
+ghost use Rattle.std.specs.Prelude.{◌≡◌, ◌↔◌, ◌⊎◌, ◌<◌, ◌++◌, [], ℕ, List, IsTrue, length, map, slice_get, slice_index_or, All, IfOk};
 ghost use Rattle.net_base.specs.Members.{IsIn, IsDistinct};
 ghost use Rattle.net_base.specs.declared.ids.Place.{Place};
 ghost use Rattle.net_base.specs.declared.ids.SwitchId.{SwitchId};
+ghost use Rattle.mixed_walks.specs.Marked.{slot_number};
 ghost use Rattle.mixed_walks.specs.Walks.{switches_of};
 
 use crate::marked::SwitchSet;
@@ -10,10 +11,12 @@ use net_base::{Memory, Place, SwitchId};
 use std::alloc::Global;
 use std::marker::Model;
 
-/// Places, each once, in the order in which they were put.
+/// Places, each once, in the order in which they were put. Each slot has the number, from 1, of the place that was put
+/// last of those that share it, 0 where none was.
 #[derive(Drop)]
 pub(crate) struct Reached {
     places: Vec<Place>,
+    slots: Vec<u16>,
     switches: SwitchSet,
 }
 
@@ -26,7 +29,7 @@ impl Model for Reached {
 
     ghost view = { λ a. a.places.items };
 
-    ghost invariant = { λ a. IsPlaceList a.places.items (vec_capacity a.places) a.switches };
+    ghost invariant = { λ a. IsPlaceList 65536 a.places.items (vec_capacity a.places) a.slots.items a.switches };
 }
 
 /// Whether two places are the same.
@@ -48,6 +51,27 @@ fn is_among(places: &[Place], place: Place) -> bool
     false
 }
 
+/// The slot of a place. Places share one only where their switch is the same, and their ports are equal modulo 512.
+fn slot_number(place: &Place) -> usize
+    requires { place.now.switch.0 < 128 }
+    ensures number { result ≡ slot_number place.now }
+    ensures within { result < 65536 }
+{
+    place.switch.0 as usize * 512 + place.port.0 as usize % 512
+}
+
+/// Empties the slots of places.
+fn empty_slots(places: &[Place], slots: &mut Vec<u16>)
+    requires near { All (λ p. p.switch.0 < 128) places.now }
+    requires count { length slots.old.items ≡ 65536 }
+    ensures count { length slots.new.items ≡ length slots.old.items }
+    ensures taken { (n : ℕ) → 0 < slice_index_or slots.new.items n 0 → (0 < slice_index_or slots.old.items n 0) × ¬ IsIn n (map slot_number places.now) }
+{
+    for place in places {
+        slots[slot_number(place)] = 0;
+    }
+}
+
 impl Reached {
     /// No places, with room for all of any walks: the entry, and at most 64 ports of each of 128 switches.
     pub(crate) fn make(alloc: Global) -> Result<Reached, Memory>
@@ -55,6 +79,7 @@ impl Reached {
     {
         Ok(Reached {
             places: Vec::with_capacity(alloc, 8193)?,
+            slots: vec![in alloc; 0; 65536]?,
             switches: SwitchSet::make(alloc)?,
         })
     }
@@ -82,12 +107,17 @@ impl Reached {
         self.switches.list()
     }
 
-    /// Whether the place stands there. It looks at the places only where one is at the switch.
+    /// Whether the place stands there. It looks at one place, or none, but where another was put into its slot: then it
+    /// may look at all of them, as at a switch whose ports are multiples of 512.
     fn has(&self, place: Place) -> bool
         requires { place.switch.0 < 128 }
         ensures { IsTrue result ↔ IsIn place self.now }
     {
-        self.switches.has(place.switch) && is_among(&self.places, place)
+        let last = self.slots[slot_number(&place)] as usize;
+        if last == 0 {
+            return false;
+        }
+        is_same(place, self.places[last - 1]) || is_among(&self.places, place)
     }
 
     /// Puts a place, if it doesn't stand there.
@@ -99,15 +129,17 @@ impl Reached {
         ensures once { IsDistinct self.new }
     {
         if !self.has(place) {
+            self.slots[slot_number(&place)] = self.places.len() as u16 + 1;
             self.switches.put(place.switch);
             self.places.push_reserved(place);
         }
     }
 
-    /// Forgets the places, in time by how many switches they are at.
+    /// Forgets the places, in time by how many there are.
     pub(crate) fn clear(&mut self)
         ensures { self.new ≡ [] }
     {
+        empty_slots(&self.places, &mut self.slots);
         self.places.clear();
         self.switches.clear();
     }
