@@ -1,9 +1,9 @@
 -- The duties of a class from one demand more, and rows in the order of the classes.
 use Rattle.std.proofs.Common.{subst, ◌≡◌, ℕ, zero, suc, ◌+◌, ◌<◌, ◌≤◌, true, false, cond, List, [], ◌∷◌, ◌++◌, map, length, get_or, drop, refl, sym, ◌∙◌, ap, arith, drop-cons}
-use Rattle.std.specs.Prelude.{◌&&◌, ◌||◌, slice_get, Some}
+use Rattle.std.specs.Prelude.{◌&&◌, ◌||◌, slice_get, None, Some}
 use Rattle.std.specs.List.{AllByRecursion, list_any}
 use Rattle.std.proofs.lemmas.Bool.{cond_both}
-use Rattle.std.proofs.lemmas.Option.{same_Some, slice_get_read}
+use Rattle.std.proofs.lemmas.Option.{same_Some, slice_get_read, get_or_from_slice_get}
 use Rattle.net_base.specs.Blocks.{Block, in_block}
 use Rattle.net_base.specs.Members.{IsIn}
 use Rattle.net_base.specs.declared.ids.Place.{Place}
@@ -13,6 +13,7 @@ use Rattle.dest_classes.specs.Classes.{ClassList, IsClass, class_count}
 use Rattle.dest_classes.specs.declared.Class.{Class}
 use Rattle.demands.specs.Duties.{DemandView, PacketDuties, ClassDuties, first_of_each, chain_lt, with_chain, ascending_chains, duties_of, demands_on, demand_covers}
 use Rattle.demands.specs.OfClass.{AreCovered, AreStored, HasDutiesOfEachAddress}
+use Rattle.demands.specs.Sets.{set_of, members_of, duties_by}
 use Rattle.demands.proofs.DutyLaws.{duties_same}
 
 module _ (entry : Place) (dst : ℕ) where
@@ -77,11 +78,33 @@ each_address d n covered class is dst same =
     (each_weaker (λ (x : DemandView). IsIn x.dst d.classes.prefixes) (λ x. in_block x.dst dst ≡ in_block x.dst class.first)
     (λ x i. sym (each_at (λ block. in_block block class.first ≡ in_block block dst) d.classes.prefixes x.dst same i)) d.demands covered)
 
--- a stored row is the duties of its class
-pub row_is : (demands : List DemandView) (classes : ClassList) (rows : List PacketDuties) → AreStored demands classes rows → (n : ℕ) → n < class_count classes → (row : PacketDuties) → row ≡ get_or rows n row
-    → (class : Class) → IsClass classes n class → row ≡ duties_of demands class.entry class.first
-row_is demands classes rows stored n lt row at class is =
-    same_Some row (duties_of demands class.entry class.first) (sym (slice_get_read rows (class_count classes) n row (sym stored.count) lt at) ∙ stored.in_order n class is)
+-- the number of a class is that of a row with its duties
+pub row_at : (demands : List DemandView) (classes : ClassList) (rows : List PacketDuties) (numbers : List ℕ) → AreStored demands classes rows numbers → (n : ℕ) → n < class_count classes
+    → (i : ℕ) → i ≡ get_or numbers n i → (class : Class) → IsClass classes n class → slice_get rows i ≡ Some (duties_of demands class.entry class.first)
+row_at demands classes rows numbers stored n lt i at class is =
+    let (j, at_n, has) = stored.in_order n class is in
+    let same : i ≡ j = same_Some i j (sym (slice_get_read numbers (class_count classes) n i (sym stored.count) lt at) ∙ at_n) in
+    subst (λ m. slice_get rows m ≡ Some (duties_of demands class.entry class.first)) (sym same) has
+
+-- what is read of a row
+pub row_is : (rows : List PacketDuties) (i : ℕ) (duties row : PacketDuties) → slice_get rows i ≡ Some duties → row ≡ get_or rows i row → row ≡ duties
+row_is rows i duties row has at = at ∙ get_or_from_slice_get rows i duties row has
+
+-- a row stands behind more rows
+pub get_still : {A : Type 0} (xs : List A) (x y : A) (k : ℕ) → slice_get xs k ≡ Some y → slice_get (xs ++ x ∷ []) k ≡ Some y
+get_still [] x y k e = absurd (let f : None ≡ Some y = e in cc)
+get_still (z ∷ xs) x y zero e = e
+get_still (z ∷ xs) x y (suc k) e = get_still xs x y k e
+
+module _ (entry : Place) (dst : ℕ) where
+  members_are : (demands : List DemandView) → members_of demands (set_of demands entry dst) ≡ demands_on demands entry dst
+  members_are [] = refl
+  members_are (d ∷ demands) = ap (λ ds. cond (demand_covers d entry dst) (d ∷ ds) ds) (members_are demands)
+
+  -- the duties of an entry and an address are those of the set of the demands that cover it
+  pub duties_by_set : (demands : List DemandView) → duties_by demands (set_of demands entry dst) ≡ duties_of demands entry dst
+  duties_by_set demands =
+      ap (λ (ds : List DemandView). let x : PacketDuties = record { chains = ascending_chains (map (λ d. first_of_each d.through) ds); arrive = list_any (λ d. d.deliver) ds } in x) (members_are demands)
 
 pub length_push : {A : Type 0} (xs : List A) (x : A) → length (xs ++ x ∷ []) ≡ length xs + 1
 length_push [] x = refl

@@ -6,3 +6,4 @@ pub mod Policy
 pub mod Chains
 pub mod OfClass
 pub mod Covers
+pub mod Sets

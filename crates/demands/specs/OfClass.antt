@@ -21,13 +21,17 @@ HasDutiesOfEachAddress d n =
     (class : Class) → IsClass d.classes n class → (dst : ℕ) → IsSameClass d.classes.prefixes class.first dst
     → duties_of d.demands class.entry dst ≡ duties_of d.demands class.entry class.first
 
--- the rows are the duties of the classes, in the order of their numbers
-abbrev pub AreInOrder : List DemandView → ClassList → List PacketDuties → Type 0
-AreInOrder demands classes rows =
-    (n : ℕ) (class : Class) → IsClass classes n class → slice_get rows n ≡ Some (duties_of demands class.entry class.first)
+-- place n has the number of a row, which is the duties
+abbrev pub HasRow : List PacketDuties → List ℕ → ℕ → PacketDuties → Type 0
+HasRow rows numbers n duties = (i : ℕ) × (slice_get numbers n ≡ Some i) × (slice_get rows i ≡ Some duties)
+
+-- each class has the number of a row with its duties, in the order of the classes
+abbrev pub AreInOrder : List DemandView → ClassList → List PacketDuties → List ℕ → Type 0
+AreInOrder demands classes rows numbers =
+    (n : ℕ) (class : Class) → IsClass classes n class → HasRow rows numbers n (duties_of demands class.entry class.first)
 
 -- what stored duties keep
-pub record AreStored (demands : List DemandView) (classes : ClassList) (rows : List PacketDuties) : Type 0 where
+pub record AreStored (demands : List DemandView) (classes : ClassList) (rows : List PacketDuties) (numbers : List ℕ) : Type 0 where
   pub covered : AreCovered demands classes
-  pub count : length rows ≡ class_count classes
-  pub in_order : AreInOrder demands classes rows
+  pub count : length numbers ≡ class_count classes
+  pub in_order : AreInOrder demands classes rows numbers

@@ -6,6 +6,7 @@ mod fault;
 pub mod laws;
 mod policy;
 mod read;
+mod sets;
 mod stored;
 
 use dest_classes::ClassMap;
@@ -92,12 +93,14 @@ impl Model for Duty {
     ghost invariant = { λ d. length d.chains.items ≤ 512 };
 }
 
-/// The duties of each class of a map. It keeps copies of the demands and of the class map.
+/// The duties of each class of a map. It keeps copies of the demands and of the class map. Classes that the same demands
+/// cover share a row; of each class there is the number of its row, from 0.
 #[derive(Drop)]
 pub struct Duties {
     demands: Demands,
     classes: ClassMap,
     rows: Vec<Duty>,
+    row_numbers: Vec<usize>,
 }
 
 impl Model for Duties {
@@ -108,5 +111,5 @@ impl Model for Duties {
 
     ghost view = { λ d. record { demands = d.demands; classes = d.classes } };
 
-    ghost invariant = { λ d. AreStored d.demands d.classes d.rows.items };
+    ghost invariant = { λ d. AreStored d.demands d.classes d.rows.items d.row_numbers.items };
 }

@@ -1,11 +1,13 @@
 // The duties of the classes of a map.
-ghost use Rattle.std.specs.Prelude.{◌≡◌, ◌<◌, ◌&&◌, cond, length, slice_get, Some, IfOk, OnOk};
+ghost use Rattle.std.specs.Prelude.{◌≡◌, ◌<◌, ◌&&◌, ℕ, cond, length, map, slice_get, Some, IfOk, OnOk};
 ghost use Rattle.std.specs.List.{list_any};
 ghost use Rattle.dest_classes.specs.Classes.{class_count};
-ghost use Rattle.demands.specs.Duties.{demand_covers, duties_of, with_chain, first_of_each};
+ghost use Rattle.demands.specs.Duties.{PacketDuties, demand_covers, duties_of, with_chain, first_of_each};
 ghost use Rattle.demands.specs.OfClass.{AreCovered, OfClass, HasDutiesOfEachAddress, AreInOrder};
+ghost use Rattle.demands.specs.Sets.{duties_by};
 
 use crate::chains::put_chain;
+use crate::sets::{DemandSets, set_of};
 use crate::{Chain, Demand, Demands, Duties, Duty};
 use dest_classes::{Class, ClassMap};
 use net_base::{Memory, SwitchId};
@@ -14,7 +16,7 @@ use topology::Net;
 
 impl Demand {
     /// Whether it speaks of the packets of the class that go to its first address.
-    fn covers(&self, class: Class) -> bool
+    pub(crate) fn covers(&self, class: Class) -> bool
         ensures { result ≡ demand_covers self.now class.entry class.first }
     {
         self.cover.covers(class.entry, class.first)
@@ -71,21 +73,50 @@ fn duty_of(alloc: Global, demands: &Demands, class: Class) -> Result<Duty, Memor
     Ok(Duty { chains, arrive })
 }
 
-/// The duties of the classes in the order of their numbers.
-fn all_duties(alloc: Global, demands: &Demands, classes: &ClassMap) -> Result<Vec<Duty>, Memory>
-    ensures { IfOk result (λ v. (length v.items ≡ class_count classes.now) × AreInOrder demands.now classes.now v.items) }
+/// The number of the row of the class. A row is made where none of the same demands is there.
+fn put_row(
+    alloc: Global,
+    demands: &Demands,
+    class: Class,
+    sets: &mut DemandSets,
+    rows: &mut Vec<Duty>,
+) -> Result<usize, Memory>
+    requires { rows.old.items ≡ map (duties_by demands.now) sets.old }
+    ensures rows { OnOk result (rows.new.items ≡ map (duties_by demands.now) sets.new) }
+    ensures kept { OnOk result ((i : ℕ) (d : PacketDuties) → slice_get rows.old.items i ≡ Some d → slice_get rows.new.items i ≡ Some d) }
+    ensures row { IfOk result (λ i. slice_get rows.new.items i ≡ Some (duties_of demands.now class.entry class.first)) }
 {
-    let mut rows = Vec::new(alloc);
-    for n in 0..classes.count() {
-        let row = duty_of(alloc, demands, classes.class(n))?;
+    let set = set_of(alloc, demands.list(), class)?;
+    let (number, is_new) = sets.number(set)?;
+    if is_new {
+        let row = duty_of(alloc, demands, class)?;
         rows.push(row)?;
     }
-    Ok(rows)
+    Ok(number)
+}
+
+/// Rows of duties, and the number of the row of each class in the order of the classes.
+fn all_duties(
+    alloc: Global,
+    demands: &Demands,
+    classes: &ClassMap,
+) -> Result<(Vec<Duty>, Vec<usize>), Memory>
+    ensures { IfOk result (λ v. (length v.1.items ≡ class_count classes.now) × AreInOrder demands.now classes.now v.0.items v.1.items) }
+{
+    let mut sets = DemandSets::make(alloc);
+    let mut rows = Vec::new(alloc);
+    let mut numbers = Vec::new(alloc);
+    for n in 0..classes.count() {
+        let number = put_row(alloc, demands, classes.class(n), &mut sets, &mut rows)?;
+        numbers.push(number)?;
+    }
+    Ok((rows, numbers))
 }
 
 impl Duties {
-    /// The duties of the classes of a map. The prefix of each demand is one of the map's. It takes time and memory in
-    /// the product of classes and demands, and where many demands with chains cover a class, of their chains.
+    /// The duties of the classes of a map. The prefix of each demand is one of the map's. It takes time in the product of
+    /// classes and demands. Classes that the same demands cover have their chains once: that takes time by the square of
+    /// the chains, and memory by their length.
     pub fn make(
         alloc: Global,
         net: &Net,
@@ -96,12 +127,22 @@ impl Duties {
         ensures { IfOk result (λ d. d ≡ record { demands = demands.now; classes = classes.now }) }
     {
         let _ = net;
-        let rows = all_duties(alloc, demands, classes)?;
+        let (rows, row_numbers) = all_duties(alloc, demands, classes)?;
         Ok(Duties {
             demands: demands.copy()?,
             classes: classes.copy()?,
             rows,
+            row_numbers,
         })
+    }
+
+    /// The duties of the class.
+    fn duty(&self, class: u32) -> &Duty
+        requires { class < class_count self.now.classes }
+        ensures duty { OfClass self.now class (λ duties. result.now ≡ duties) }
+        ensures each_address { HasDutiesOfEachAddress self.now class }
+    {
+        &self.rows[self.row_numbers[class as usize]]
     }
 
     /// How many chains of waypoints the class has.
@@ -110,7 +151,7 @@ impl Duties {
         ensures count { OfClass self.now class (λ duties. result ≡ length duties.chains) }
         ensures each_address { HasDutiesOfEachAddress self.now class }
     {
-        self.rows[class as usize].chains.len() as u32
+        self.duty(class).chains.len() as u32
     }
 
     /// Chain `i` of the class, from 0, in ascending order.
@@ -120,7 +161,7 @@ impl Duties {
         ensures chain { OfClass self.now class (λ duties. slice_get duties.chains i ≡ Some result.now) }
         ensures each_address { HasDutiesOfEachAddress self.now class }
     {
-        self.rows[class as usize].chains[i as usize].list()
+        self.duty(class).chains[i as usize].list()
     }
 
     /// Whether the packets of the class must arrive.
@@ -129,6 +170,6 @@ impl Duties {
         ensures arrive { OfClass self.now class (λ duties. result ≡ duties.arrive) }
         ensures each_address { HasDutiesOfEachAddress self.now class }
     {
-        self.rows[class as usize].arrive
+        self.duty(class).arrive
     }
 }

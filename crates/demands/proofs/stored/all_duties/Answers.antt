@@ -1,4 +1,4 @@
-use Rattle.std.proofs.Common.{◌≡◌, ◌+◌, length, List, ◌∷◌, ◌++◌, [], ap, sym, subst, ◌∙◌, arith, inl, inr}
+use Rattle.std.proofs.Common.{◌≡◌, ℕ, ◌+◌, length, List, ◌∷◌, ◌++◌, [], ap, sym, subst, ◌∙◌, arith, inl, inr}
 use Rattle.std.specs.Prelude.{slice_get, Some}
 use Rattle.std.proofs.lemmas.Bool.{cases_lt}
 use Rattle.dest_classes.specs.Classes.{IsClass}
@@ -11,19 +11,28 @@ use Rattle.demands.proofs.stored.all_duties.Goals as goal
 pub loop-n-preserved : goal.loop-n-preserved
 loop-n-preserved c =
     let n = c.loop-n.n in
-    let rows : List PacketDuties = c.loop-n.rows.items in
-    let row : PacketDuties = c.in_ok-row.row in
-    let more : c.push.new.self.items ≡ rows ++ row ∷ [] = c.in_ok-push.ensures.items in
-    let count : length rows ≡ n = c.loop-n.invariant.count in
+    let numbers : List ℕ = c.loop-n.numbers.items in
+    let number : ℕ = c.in_ok-number.number in
+    let rows : List PacketDuties = c.put_row.new.rows.items in
+    let more : c.push.new.self.items ≡ numbers ++ number ∷ [] = c.in_ok-push.ensures.items in
+    let count : length numbers ≡ n = c.loop-n.invariant.count in
     record {
-      count = ap length more ∙ length_push rows row ∙ ap (λ m. m + 1) count;
+      count = ap length more ∙ length_push numbers number ∙ ap (λ m. m + 1) count;
+      rows = c.in_ok-number.ensures.rows;
       made = λ k class lt is. elim (cases_lt k n) [
-        | inl less ↦ ap (λ xs. slice_get xs k) more ∙ get_before rows row k (omega arith) ∙ c.loop-n.invariant.made k class less is
+        | inl less ↦ (
+            let (i, at, has) = c.loop-n.invariant.made k class less is in (
+              i,
+              ap (λ xs. slice_get xs k) more ∙ get_before numbers number k (omega arith) ∙ at,
+              c.in_ok-number.ensures.kept i (duties_of c.args.demands.now class.entry class.first) has,
+            ))
         | inr ge ↦ (
             let e : k ≡ n = omega arith in
-            let same : class ≡ c.class.result = c.class.ensures.only class (subst (λ m. IsClass c.args.classes.now m class) e is) in
-            ap (λ xs. slice_get xs k) more ∙ get_last rows row k (omega arith)
-            ∙ ap (λ (p : PacketDuties). Some p) (c.in_ok-row.ensures ∙ ap (λ (x : Class). duties_of c.args.demands.now x.entry x.first) (sym same)))
+            let same : class ≡ c.class.result = c.class.ensures.only class (subst (λ m. IsClass c.args.classes.now m class) e is) in (
+              number,
+              ap (λ xs. slice_get xs k) more ∙ get_last numbers number k (omega arith),
+              c.in_ok-number.ensures.row ∙ ap (λ (x : Class). Some (duties_of c.args.demands.now x.entry x.first)) (sym same),
+            ))
       ];
     }
 
