@@ -1,33 +1,30 @@
 -- What is found for the classes, class by class, and what the pick in force says of a class.
 use Rattle.std.proofs.Common.{◌≡◌, ◌≢◌, ◌⊎◌, ◌↔◌, ℕ, zero, suc, ◌+◌, ◌<◌, ◌≤◌, Bool, false, List, [], ◌∷◌, ◌++◌, length, get_or, Some, refl, sym, ◌∙◌, subst, ap, inl, inr, arith}
-use Rattle.std.specs.Prelude.{slice_get, ◌||◌}
+use Rattle.std.specs.Prelude.{slice_get, IsTrue}
 use Rattle.std.specs.List.{AllByRecursion, AllZip}
 use Rattle.std.proofs.lemmas.Option.{same_Some, slice_get-get_or}
 use Rattle.std.proofs.lemmas.Bool.{cases_lt}
-use Rattle.net_base.specs.Blocks.{in_block}
 use Rattle.net_base.specs.Members.{IsIn}
 use Rattle.net_base.proofs.WalkLaws.{reached_start, reached_more}
 use Rattle.net_base.specs.Walks.{IsWalk, end_of}
 use Rattle.net_base.specs.declared.ids.Place.{Place}
-use Rattle.topology.specs.Networks.{IsNetwork, switch_count}
+use Rattle.topology.specs.Networks.{Network, IsNetwork, switch_count}
 use Rattle.acyclic_numbering.specs.declared.Edge.{Edge}
 use Rattle.net_base.proofs.MemberLaws.{each_at, each_weaker, each_append, in_append_left, in_append_right}
-use Rattle.dest_classes.specs.Classes.{IsClass, class_count}
+use Rattle.dest_classes.specs.Classes.{ClassList, IsClass, class_count}
 use Rattle.dest_classes.specs.declared.Class.{Class}
 use Rattle.dest_classes.proofs.MapLaws.{class_exists}
-use Rattle.update_model.specs.Changes.{rule_of, round_after}
-use Rattle.update_model.specs.Mixtures.{Rollout, MayGo, IsOnMixedWalk}
+use Rattle.update_model.specs.Changes.{switch_of}
+use Rattle.update_model.specs.Mixtures.{Rollout, MayGo, IsOnMixedWalk, tables_before}
 use Rattle.certificates.specs.Steps.{IsMixedStep}
-use Rattle.mixed_walks.specs.Walks.{WalkState, IsWalked}
+use Rattle.round_mix.specs.Prepared.{MixedState}
+use Rattle.mixed_walks.specs.Walks.{WalkState, IsRoundOf, IsWalked, TablesKeepVlans, KeepVlansUpTo}
 use Rattle.update_model.specs.declared.Change.{Change}
 use Rattle.certificates.specs.Ordered.{IsSafe, IsPickInForce, IsMeant}
 use Rattle.certificates.specs.Valid.{IsChain, IsPickBefore, IsValidUse}
 use Rattle.certificates.specs.declared.Shared.{Shared}
 use Rattle.certificates.specs.declared.OrderedPick.{OrderedPick}
 use Rattle.certificates.specs.declared.OrderedEvidence.{OrderedEvidence}
-use Rattle.check_reasons.specs.Touched.{touches}
-use Rattle.check_reasons.proofs.SameWalks.{was_safe}
-use Rattle.check_reasons.proofs.TouchLaws.{possible_before}
 use Rattle.evidence_store.specs.Found.{IsSafeEvidence}
 use Rattle.evidence_store.specs.Stored.{IsStored}
 use Rattle.evidence_store.proofs.ListLaws.{chain_push}
@@ -35,7 +32,10 @@ use Rattle.ordered_check.proofs.MeaningLaws.{one_in_force, one_meaning, at_place
 use Rattle.round_planner.specs.declared.judging.Found.{Found}
 use Rattle.round_planner.specs.Search.{Aim, duties_in}
 use Rattle.round_planner.specs.declared.failing.UnsafeClass.{UnsafeClass}
+use Rattle.check_reasons.specs.Touched.{may_cover}
 use Rattle.round_planner.specs.Failures.{IsVisited}
+use Rattle.round_planner.specs.Visits.{HoldsTables}
+use Rattle.round_planner.proofs.VisitLaws.{safe_still, safe_after}
 use Rattle.round_planner.specs.Standing.{IsCertifiedClass, IsNextRound, HasPickOf, HasFound, HasNotFound, AreSafeBelow, IsUnsafe, HasUnsafe}
 
 -- ---- the pick in force
@@ -67,20 +67,21 @@ module _ (aim : Aim) (u : Rollout) (e : OrderedEvidence) (k n : ℕ) (class : Cl
         (subst (λ (xs : List ℕ). IsSafe u k class.first class.entry (duties_in aim class) xs h.sets) same_numbers h.safe),
   )
 
--- ---- a class that the change of a round doesn't cover
+-- ---- a class that the change of a round doesn't meet
 
 module _ (aim : Aim) (u : Rollout) (e : OrderedEvidence) (k : ℕ) (c : Change) (next : IsNextRound aim u e k c) where
   pub picks_up_to : AllByRecursion (λ p. p.round ≤ suc k) e.picks
   picks_up_to = each_weaker (λ (p : OrderedPick). (0 < p.round) × (p.round ≤ k)) (λ (p : OrderedPick). p.round ≤ suc k) (λ p h. let le = h.1 in omega arith) e.picks next.picks
 
   -- its certificate of the round before stands
-  pub stays_certified : (n : ℕ) (class : Class) → IsClass aim.classes n class → HasPickOf e n → in_block (rule_of c).key.pattern.dst class.first ≡ false → IsCertifiedClass aim u e k n class
-  stays_certified n class is (pick, stands, of_class) misses =
-      elim k as (λ j. IsNextRound aim u e j c → IsCertifiedClass aim u e j n class) [
-        | zero ↦ λ h. (let within = each_at (λ (p : OrderedPick). (0 < p.round) × (p.round ≤ 0)) e.picks pick h.picks stands in let low = within.0 in let high = within.1 in absurd (omega arith))
-        | suc j ↦ λ h.
+  pub stays_certified : TablesKeepVlans u.old → KeepVlansUpTo u k → (n : ℕ) (class : Class) (marks : List Bool) → IsClass aim.classes n class → HasPickOf e n
+      → HoldsTables u.net (tables_before u k) class marks → ¬ (IsVisited marks (switch_of c) × IsTrue (may_cover c class)) → IsCertifiedClass aim u e k n class
+  stays_certified rules keeps n class marks is (pick, stands, of_class) held apart =
+      elim k as (λ j. IsNextRound aim u e j c → KeepVlansUpTo u j → HoldsTables u.net (tables_before u j) class marks → IsCertifiedClass aim u e j n class) [
+        | zero ↦ λ h _ _. (let within = each_at (λ (p : OrderedPick). (0 < p.round) × (p.round ≤ 0)) e.picks pick h.picks stands in let low = within.0 in let high = within.1 in absurd (omega arith))
+        | suc j ↦ λ h keep hold.
             let cert = h.certificates j n class (omega arith) is in
-            let off : touches (round_after (suc j) u.rounds) class.first ≡ false = ap (λ r. touches r class.first) h.round ∙ ap (λ (b : Bool). b || false) misses in
+            let less : j < length u.rounds = (let within = h.within in omega arith) in
             record {
               pick = cert.pick;
               numbers = cert.numbers;
@@ -93,10 +94,10 @@ module _ (aim : Aim) (u : Rollout) (e : OrderedEvidence) (k : ℕ) (c : Change) 
                     cert.in_force.latest other i same (each_at (λ (p : OrderedPick). (0 < p.round) × (p.round ≤ suc j)) e.picks other h.picks i).1;
               };
               meant = cert.meant;
-              safe = was_safe u u j (suc j) class.first class.entry (λ place _. possible_before u j class.first h.within (h.good j (omega arith)) (h.good (suc j) (omega arith)) h.clear off place)
-                  (duties_in aim class) cert.numbers cert.sets cert.safe;
+              safe = safe_still u (suc j) class c h.round rules keep marks hold apart (duties_in aim class) cert.numbers cert.sets
+                  (safe_after u j class.first class.entry less (h.good j (omega arith)) (duties_in aim class) cert.numbers cert.sets cert.safe);
             }
-      ] next
+      ] next keeps held
 
 -- ---- what picks mean
 
@@ -218,3 +219,15 @@ module _ (u : Rollout) (k dst : ℕ) (entry : Place) (noted : WalkState) (walked
   steps_near net =
       each_weaker (λ (e : Edge). (e.from.0 < switch_count u.net) × (e.to.0 < switch_count u.net)) (λ (e : Edge). e.to.0 < 128)
       (λ e h. let few = net.few in let within = h.1 in omega arith) noted.steps walked.steps_within
+
+-- each switch of the network is one of 128
+pub near_switch : (net : Network) → IsNetwork net → (s : ℕ) → s < switch_count net → s < 128
+near_switch net is s less = let few = is.few in omega arith
+
+-- the switches are prepared for a round in the same network
+pub round_here : (net other : Network) → other ≡ net → (mixes : List MixedState) (u : Rollout) (k : ℕ) → IsRoundOf net mixes u k → IsRoundOf other mixes u k
+round_here net other is mixes u k round = subst (λ (n : Network). IsRoundOf n mixes u k) (sym is) round
+
+-- a number has the one class that was found for it
+pub this_class : (there here : ClassList) → here ≡ there → (n : ℕ) (found : Class) → ((class : Class) → IsClass here n class → class ≡ found) → (class : Class) → IsClass there n class → found ≡ class
+this_class there here same n found only class is = sym (only class (subst (λ (cs : ClassList). IsClass cs n class) (sym same) is))

@@ -15,6 +15,6 @@ pub mod OrderLaws
 pub mod OneSearch
 pub mod AnswerLaws
 pub mod CoveringLaws
-pub mod StillLaws
+pub mod VisitLaws
 pub mod FailureLaws
 pub mod LeftLaws

@@ -1,6 +1,7 @@
 -- A change that is tried, and what comes of it.
 use Rattle.std.proofs.Common.{◌≡◌, ℕ, zero, suc, ◌+◌, ◌<◌, ◌≤◌, List, [], ◌∷◌, ◌++◌, length, take, drop, get_or, refl, sym, ◌∙◌, subst, ap, inl, inr, arith, length-append}
-use Rattle.std.specs.Prelude.{Some, slice_get}
+use Rattle.std.proofs.lemmas.List.{append-nil}
+use Rattle.std.specs.Prelude.{Some, slice_get, Bool}
 use Rattle.std.specs.List.{AllByRecursion}
 use Rattle.net_base.specs.Members.{IsIn}
 use Rattle.net_base.proofs.MemberLaws.{each_weaker, each_append, each_from_in}
@@ -31,7 +32,7 @@ use Rattle.round_planner.specs.declared.judging.Found.{Found}
 use Rattle.round_planner.specs.Search.{Aim, duties_in, update_by, single_rounds, CanBeSafe, Qualifies, IsFirstQualifying}
 use Rattle.round_planner.specs.Standing.{Stands, IsCertifiedClass, IsNextRound, AreSafeBelow, HasUnsafe, AreWithPicks}
 use Rattle.round_planner.specs.declared.failing.UnsafeClass.{UnsafeClass}
-use Rattle.round_planner.specs.Failures.{IsUnsafeClass}
+use Rattle.round_planner.specs.Failures.{IsUnsafeClass, IsVisited}
 use Rattle.round_planner.specs.Searching.{SearchState, IsAt, IsTryingAt}
 use Rattle.round_planner.proofs.SameRound.{IsSameRound, same_back, same_alone, same_prefix, tables_at, held_same, on_walk_same, safe_same}
 use Rattle.table_difference.proofs.LengthLaws.{few_remain}
@@ -41,6 +42,9 @@ use Rattle.round_planner.proofs.SearchLaws.{first_remains}
 use Rattle.round_planner.proofs.StandingLaws.{begun, length_rounds, stands_none, stands_more}
 use Rattle.round_planner.proofs.UserTables.{AreUserTables, IsUserChange, keeps_user, user_start, user_along, changes_along, remaining_user, remaining_applies, remaining_count}
 use Rattle.dest_classes.proofs.MapLaws.{number_fits}
+use Rattle.config_check.proofs.JudgeLaws.{class_within}
+use Rattle.round_planner.specs.Visits.{marks_at, HoldTables}
+use Rattle.round_planner.proofs.VisitLaws.{all_held}
 
 -- ---- prepared switches and rounds
 
@@ -192,6 +196,15 @@ pub tables_more : (changes : List Change) (c : Change) (tables : List (List Rule
 tables_more [] c tables = refl
 tables_more (d ∷ changes) c tables = tables_more changes c (tables_after_change d tables)
 
+-- those after the last round
+pub tables_last : (aim : Aim) (old : List (List Rule)) (changes : List Change) (c : Change) → tables_before (update_by aim old (changes ++ c ∷ [])) (suc (length changes)) ≡ tables_after (changes ++ c ∷ []) old
+tables_last aim old changes c =
+    let all : changes ++ c ∷ [] ≡ (changes ++ c ∷ []) ++ [] = sym (append-nil (changes ++ c ∷ [])) in
+    let count : suc (length changes) ≡ length (changes ++ c ∷ []) = (let sum = length-append changes (c ∷ []) in omega arith) in
+    ap (λ n. tables_before (update_by aim old (changes ++ c ∷ [])) n) count
+    ∙ ap (λ cs. tables_before (update_by aim old cs) (length (changes ++ c ∷ []))) all
+    ∙ tables_at aim old (changes ++ c ∷ []) []
+
 -- so many rounds
 pub round_number : (rounds : List (List Change)) (changes : List Change) (c : Change) → rounds ≡ single_rounds changes → length (with_change c (rounds ++ [] ∷ [])) ≡ suc (length changes)
 round_number rounds changes c are =
@@ -214,9 +227,9 @@ pub made_at : (aim : Aim) (old : List (List Rule)) → IsUserConfig aim.net old 
     → IsFirstQualifying aim (tables_after changes old) (remaining (tables_after changes old) aim.new) c
     → between ≡ s.rounds ++ [] ∷ [] → new.rounds ≡ with_change c between → round ≡ length new.rounds
     → rules_of_all new.trial.tables ≡ tables_after_change c (rules_of_all s.trial.tables) → IsSettled aim.net new.trial
-    → AreWithPicks s.store.evidence round found new.store.evidence → new.store.classes ≡ s.store.classes → IsStored s.store.evidence → IsStored new.store.evidence
+    → AreWithPicks s.store.evidence round found new.store.evidence → new.store.classes ≡ s.store.classes → IsStored s.store.evidence → IsStored new.store.evidence → new.came ≡ s.came
     → IsAt aim old (changes ++ c ∷ []) new
-made_at aim old old_user new_user changes c s new found round between at safe first added_round put counted tables settled added classes stored_old stored =
+made_at aim old old_user new_user changes c s new found round between at safe first added_round put counted tables settled added classes stored_old stored came =
     let rounds_are : new.rounds ≡ with_change c (s.rounds ++ [] ∷ []) = put ∙ ap (with_change c) added_round in
     let round_is : round ≡ suc (length changes) = counted ∙ ap length rounds_are ∙ round_number s.rounds changes c at.rounds in
     let remains = first_remains aim (tables_after changes old) (remaining (tables_after changes old) aim.new) c first in
@@ -227,6 +240,7 @@ made_at aim old old_user new_user changes c s new found round between at safe fi
       stands = stands_more aim old changes c s.store.evidence new.store.evidence found at.stands first stored_old safe
           (subst (λ n. AreWithPicks s.store.evidence n found new.store.evidence) round_is added) stored;
       classes = classes ∙ at.classes;
+      came = subst (HoldTables aim (tables_after (changes ++ c ∷ []) old)) (sym came) at.came;
     }
 
 -- what a found change needs of the store
@@ -244,8 +258,24 @@ module _ (aim : Aim) (old : List (List Rule)) (old_user : IsUserConfig aim.net o
   pub tried_round : IsRoundOf aim.net trial.mixes (update_by aim old (changes ++ c ∷ [])) (length changes)
   tried_round = round_of aim old old_user new_user changes c s.store.evidence at.stands remains (rules_of_all trial.tables) (rules ∙ at.tables) trial.mixes trying.loaded
 
-  pub tried_at : IsTryingAt aim old changes c (record { trial = trial; rounds = s.rounds; store = s.store })
-  tried_at = record { rounds = at.rounds; tables = rules ∙ at.tables; trying = trying; stands = at.stands; classes = at.classes }
+  pub tried_at : (came : List (List Bool)) → HoldTables aim (tables_before (update_by aim old (changes ++ c ∷ [])) (suc (length changes))) came
+      → IsTryingAt aim old changes c (record { trial = trial; rounds = s.rounds; store = s.store; came = came })
+  tried_at came held = record {
+    rounds = at.rounds;
+    tables = rules ∙ at.tables;
+    trying = trying;
+    stands = at.stands;
+    classes = at.classes;
+    came = subst (λ (ts : List (List Rule)). HoldTables aim ts came) (tables_last aim old changes c) held;
+  }
+
+  -- where packets come to before it is marked
+  pub tried_came : HoldTables aim (tables_before (update_by aim old (changes ++ c ∷ [])) (length changes)) s.came
+  tried_came = subst (λ (ts : List (List Rule)). HoldTables aim ts s.came) (sym (tables_at aim old changes (c ∷ []))) at.came
+
+  -- and stays marked if it fails
+  pub failed_came : (came : List (List Bool)) → HoldTables aim (tables_before (update_by aim old (changes ++ c ∷ [])) (length changes)) came → HoldTables aim (tables_after changes old) came
+  failed_came came held = subst (λ (ts : List (List Rule)). HoldTables aim ts came) (tables_at aim old changes (c ∷ [])) held
 
   room_alone : HasRoomAlone aim.net (tables_after changes old) c
   room_alone = subst (λ ts. HasRoomAlone aim.net ts c) (rules ∙ at.tables) trying.stands
@@ -261,9 +291,17 @@ module _ (aim : Aim) (old : List (List Rule)) (old_user : IsUserConfig aim.net o
   tried_fails f unsafe = fails_by aim old old_user new_user changes c s.store.evidence at.stands remains f unsafe
 
 -- the tables are those before again
-pub given_up : (aim : Aim) (old : List (List Rule)) (changes : List Change) (s : SearchState) (trial : TrialState) → IsAt aim old changes s → rules_of_all trial.tables ≡ rules_of_all s.trial.tables → IsSettled aim.net trial
-    → IsAt aim old changes (record { trial = trial; rounds = s.rounds; store = s.store })
-given_up aim old changes s trial at rules settled = record { rounds = at.rounds; tables = rules ∙ at.tables; settled = settled; stands = at.stands; classes = at.classes }
+pub given_up : (aim : Aim) (old : List (List Rule)) (changes : List Change) (s : SearchState) (trial : TrialState) (came : List (List Bool)) → IsAt aim old changes s
+    → rules_of_all trial.tables ≡ rules_of_all s.trial.tables → IsSettled aim.net trial → HoldTables aim (tables_after changes old) came
+    → IsAt aim old changes (record { trial = trial; rounds = s.rounds; store = s.store; came = came })
+given_up aim old changes s trial came at rules settled held = record {
+  rounds = at.rounds;
+  tables = rules ∙ at.tables;
+  settled = settled;
+  stands = at.stands;
+  classes = at.classes;
+  came = held;
+}
 
 -- ---- a change among those that remain
 
@@ -284,11 +322,22 @@ module _ {A : Type 0} where
 -- ---- a search that begins
 
 pub begins_at : (aim : Aim) (old : List (List Rule)) (s : SearchState) → s.rounds ≡ [] → rules_of_all s.trial.tables ≡ old → IsSettled aim.net s.trial
-    → (classes : ℕ) → classes ≡ class_count aim.classes → s.store ≡ record { evidence = no_evidence; classes = classes } → IsAt aim old [] s
-begins_at aim old s rounds tables settled classes count store = record {
+    → (classes : ℕ) → classes ≡ class_count aim.classes → s.store ≡ record { evidence = no_evidence; classes = classes } → HoldTables aim old s.came → IsAt aim old [] s
+begins_at aim old s rounds tables settled classes count store came = record {
   rounds = rounds;
   tables = tables;
   settled = settled;
   stands = subst (λ (st : StoreState). Stands aim old [] st.evidence) (sym store) (stands_none aim old);
   classes = ap (λ (st : StoreState). st.classes) store ∙ count;
+  came = came;
+}
+
+-- where all switches are marked for each class
+pub all_come : (aim : Aim) (old : List (List Rule)) → IsNetwork aim.net → IsUserConfig aim.net old → aim.classes.hosts ≡ aim.net.hosts → (count : ℕ) → count ≡ class_count aim.classes → (came : List (List Bool))
+    → length came ≡ count → ((n : ℕ) (s : SwitchId) → n < count → s.0 < 128 → IsVisited (marks_at came n) s) → HoldTables aim old came
+all_come aim old net user hosts count count_is came length_is all = record {
+  count = length_is ∙ count_is;
+  each = λ n class is.
+      let number = number_fits aim.classes n class is in
+      all_held aim.net old class (marks_at came n) net (tables_keep aim.net old user) (class_within aim.net net aim.classes n class hosts is) (λ s less. all n s (omega arith) less);
 }

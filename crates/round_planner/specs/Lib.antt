@@ -1,5 +1,6 @@
 pub mod Search
 pub mod Ends
 pub mod Standing
-pub mod Searching
 pub mod Failures
+pub mod Visits
+pub mod Searching

@@ -21,6 +21,7 @@ use Rattle.round_planner.specs.declared.left.Left.{Left}
 use Rattle.round_planner.specs.Failures.{IsFailure, AreLeft}
 use Rattle.round_planner.specs.Search.{Aim, single_rounds, Qualifies, IsFirstQualifying, EndsOrdered, EndsStuck}
 use Rattle.round_planner.specs.Standing.{Stands}
+use Rattle.round_planner.specs.Visits.{HoldTables}
 
 -- the new tables are a user configuration, the classes are of the network, and the duties are theirs
 pub record IsGoal (net : Network) (new : List TableState) (duties : ClassDuties) (classes : ClassList) : Type 0 where
@@ -29,11 +30,12 @@ pub record IsGoal (net : Network) (new : List TableState) (duties : ClassDuties)
   pub hosts : classes.hosts ≡ net.hosts
   pub vlans : classes.vlans ≡ net.vlans
 
--- the tables with what is prepared of them, the rounds, and their evidence
+-- the tables with what is prepared of them, the rounds, their evidence, and for each class the switches that its packets come to
 pub record SearchState : Type 0 where
   pub trial : TrialState
   pub rounds : List (List Change)
   pub store : StoreState
+  pub came : List (List Bool)
 
 -- the search has made these changes, each as a round of its own, and no change is tried
 pub record IsAt (aim : Aim) (old : List (List Rule)) (changes : List Change) (s : SearchState) : Type 0 where
@@ -42,14 +44,16 @@ pub record IsAt (aim : Aim) (old : List (List Rule)) (changes : List Change) (s 
   pub settled : IsSettled aim.net s.trial
   pub stands : Stands aim old changes s.store.evidence
   pub classes : s.store.classes ≡ class_count aim.classes
+  pub came : HoldTables aim (tables_after changes old) s.came
 
--- the search has made these changes, and one that remains is tried
+-- the search has made these changes, and one that remains is tried; where packets come to after it is marked
 pub record IsTryingAt (aim : Aim) (old : List (List Rule)) (changes : List Change) (c : Change) (s : SearchState) : Type 0 where
   pub rounds : s.rounds ≡ single_rounds changes
   pub tables : rules_of_all s.trial.tables ≡ tables_after changes old
   pub trying : IsTrying aim.net c s.trial
   pub stands : Stands aim old changes s.store.evidence
   pub classes : s.store.classes ≡ class_count aim.classes
+  pub came : HoldTables aim (tables_after (changes ++ c ∷ []) old) s.came
 
 -- what trying a change leads to: it qualifies and, if it is the first that does, the search has made it;
 -- or it fails and the search is where it was

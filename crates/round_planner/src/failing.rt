@@ -3,6 +3,7 @@ ghost use Rattle.std.specs.Prelude.{◌≡◌, ◌↔◌, ◌<◌, IsTrue};
 ghost use Rattle.std.specs.List.{AllByRecursion};
 ghost use Rattle.net_base.specs.declared.ids.SwitchId.{SwitchId as Switch};
 ghost use Rattle.update_model.specs.Changes.{switch_of};
+ghost use Rattle.check_reasons.specs.Touched.{may_cover};
 ghost use Rattle.round_planner.specs.Failures.{IsVisited, IsTouched};
 
 use acyclic_numbering::Edge;
@@ -43,6 +44,13 @@ pub(crate) enum Failure {
 }
 
 impl Visited {
+    /// All switches.
+    pub(crate) fn all() -> Visited
+        ensures { (s : Switch) → s.0 < 128 → IsVisited result s }
+    {
+        Visited { marks: [true; 128] }
+    }
+
     /// One switch.
     fn of(switch: SwitchId) -> Visited
         requires { switch.0 < 128 }
@@ -64,10 +72,23 @@ impl Visited {
 
     /// Whether the switch is one of them.
     fn has(&self, switch: SwitchId) -> bool
-        requires { switch.0 < 128 }
         ensures { IsTrue result ↔ IsVisited self.now switch }
     {
-        self.marks[switch.0 as usize]
+        switch.0 < 128 && self.marks[switch.0 as usize]
+    }
+
+    /// The same switches.
+    pub(crate) fn copy(&self) -> Visited
+        ensures { result ≡ self.now }
+    {
+        Visited { marks: self.marks }
+    }
+
+    /// Whether a change covers the packets of a class at one of these switches.
+    pub(crate) fn meets(&self, class: Class, change: &Change) -> bool
+        ensures { IsTrue result ↔ (IsVisited self.now (switch_of change.now) × IsTrue (may_cover change.now class)) }
+    {
+        self.has(change.switch()) && may_cover(change, class)
     }
 }
 
@@ -94,9 +115,7 @@ impl Failure {
     {
         match self {
             Failure::Table => made.switch().0 == switch.0,
-            Failure::Class(failing) => {
-                failing.visited.has(made.switch()) && may_cover(made, failing.class)
-            }
+            Failure::Class(failing) => failing.visited.meets(failing.class, made),
         }
     }
 }

@@ -1,6 +1,7 @@
 //! Ordered plans: rounds of one change each, found by a search for changes that are safe.
 #![tactic(auto)]
 
+mod came;
 mod failing;
 mod goal;
 mod judging;
@@ -46,10 +47,10 @@ pub enum Ordered {
 /// remains, and stuck where none of them qualifies. After Mahajan and Wattenhofer (2013).
 ///
 /// A change that failed is tried again only after one that touches what its failure rests on: the table of its switch, or a
-/// class at a switch that the class's walks came to. Each try takes one walk for each class whose address the change covers,
-/// up to the first class that it doesn't keep safe; for the first change that is made, one for each class. A walk is that of
-/// a packet through the mixtures of the round. It holds some 200 bytes for each change that remains, of which there are at
-/// most 4096.
+/// class at a switch that the class's walks came to. Each try takes one walk for each class that the change covers, by its
+/// address and VLAN, at a switch that the last walk of the class came to, up to the first class that it doesn't keep safe;
+/// for the first change that is made, one more for each class. A walk is that of a packet through the mixtures of the round.
+/// It holds some 200 bytes for each change that remains, of which there are at most 4096, and 128 for each class.
 pub fn order(
     alloc: Global,
     net: &Net,

@@ -18,6 +18,7 @@ ghost use Rattle.round_planner.specs.Failures.{HasStanding, AreLeft};
 ghost use Rattle.round_planner.specs.Searching.{IsAt, IsTried, IsLeftTried, IsPlaced, IsMoved, IsTryingAt, IsEnded, plan_by, answer_by};
 
 use crate::Ordered;
+use crate::came::Came;
 use crate::failing::Failure;
 use crate::goal::Goal;
 use crate::judging::{Found, Tried, Verdict, judge_all};
@@ -35,13 +36,15 @@ use std::mem::replace;
 use table_difference::remaining;
 use update_model::{Change, Rounds};
 
-/// A search: the tables so far with what is prepared of them, the rounds that led to them, and their evidence.
+/// A search: the tables so far with what is prepared of them, the rounds that led to them, their evidence, and for each class
+/// the switches that its packets come to.
 #[derive(Drop)]
 pub(crate) struct Search {
     pub(crate) trial: TrialTables,
     pub(crate) rounds: Rounds,
     pub(crate) store: EvidenceStore,
     walk: WalkRoom,
+    came: Came,
 }
 
 impl Model for Search {
@@ -49,7 +52,7 @@ impl Model for Search {
 
     ghost Value = { SearchState };
 
-    ghost view = { λ s. record { trial = s.trial; rounds = s.rounds; store = s.store } };
+    ghost view = { λ s. record { trial = s.trial; rounds = s.rounds; store = s.store; came = s.came } };
 }
 
 impl Search {
@@ -59,16 +62,19 @@ impl Search {
         ensures at { IfOk result (IsAt goal.now (rules_of_all old.now) []) }
         ensures few { IfOk result (λ s. s.store.classes ≤ 8192) }
     {
+        goal.net.keeps_rules();
         let trial = TrialTables::make(alloc, goal.net, old)?;
         let rounds = Rounds::make(alloc)?;
         let count = goal.classes.count();
         let store = EvidenceStore::make(alloc, count)?;
         let walk = WalkRoom::make(alloc)?;
+        let came = Came::all(alloc, count)?;
         Ok(Search {
             trial,
             rounds,
             store,
             walk,
+            came,
         })
     }
 
@@ -118,8 +124,9 @@ impl Search {
         let tried = Tried {
             change,
             mixes: self.trial.mixes(),
+            store: &self.store,
         };
-        match judge_all(alloc, goal, &mut self.walk, tried, &self.store)? {
+        match judge_all(alloc, goal, &mut self.walk, &tried, &mut self.came)? {
             Verdict::Safe(found) => {
                 self.take(alloc, goal, change, found)?;
                 Ok(None)

@@ -1,11 +1,11 @@
-use Rattle.std.proofs.Common.{◌≤◌, sym, ◌∙◌, subst, ap}
-use Rattle.topology.specs.Networks.{Network}
+use Rattle.std.proofs.Common.{◌≡◌, ◌≤◌, sym, ◌∙◌, subst, ap}
+use Rattle.topology.specs.Networks.{Network, IsNetwork}
 use Rattle.flow_rules.specs.Tables.{rules_of_all}
 use Rattle.dest_classes.specs.Classes.{class_count}
 use Rattle.evidence_store.specs.State.{StoreState}
 use Rattle.round_tables.specs.Trials.{IsSettled}
 use Rattle.round_planner.specs.Search.{Aim}
-use Rattle.round_planner.proofs.SearchingLaws.{begins_at}
+use Rattle.round_planner.proofs.SearchingLaws.{begins_at, all_come}
 use Rattle.round_planner.proofs.searching.Search.make.Goals as goal
 
 pub returns-clause-at : goal.returns-clause-at
@@ -13,7 +13,10 @@ returns-clause-at c =
     let aim = c.args.goal.now in
     let settled = subst (λ (n : Network). IsSettled n c.in_ok-trial.trial) (ap (λ (a : Aim). a.net) c.goal.view_is) c.in_ok-trial.ensures.settled in
     let count = c.count-count.ensures.count ∙ ap (λ (a : Aim). class_count a.classes) c.goal.view_is in
+    let net = subst (λ (n : Network). IsNetwork n) (ap (λ (a : Aim). a.net) c.goal.view_is) c.keeps_rules.ensures in
+    let hosts = subst (λ (a : Aim). a.classes.hosts ≡ a.net.hosts) c.goal.view_is c.goal.invariant.hosts in
     begins_at aim (rules_of_all c.args.old.now) _ c.in_ok-rounds.ensures c.in_ok-trial.ensures.rules settled c.count-count.result count c.in_ok-store.ensures
+    (all_come aim (rules_of_all c.args.old.now) net c.requires hosts c.count-count.result count c.in_ok-came.came c.in_ok-came.ensures.count c.in_ok-came.ensures.each)
 
 pub returns-clause-few : goal.returns-clause-few
 returns-clause-few c = subst (λ (s : StoreState). s.classes ≤ 8192) (sym c.in_ok-store.ensures) c.count-count.ensures.few

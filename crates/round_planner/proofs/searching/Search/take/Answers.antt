@@ -1,4 +1,4 @@
-use Rattle.std.proofs.Common.{◌<◌, ◌∷◌, [], ◌++◌, length, sym, ap, ◌∙◌, subst, arith}
+use Rattle.std.proofs.Common.{◌<◌, ◌∷◌, [], ◌++◌, length, refl, sym, ap, ◌∙◌, subst, arith}
 use Rattle.std.specs.List.{AllByRecursion}
 use Rattle.topology.specs.Networks.{Network}
 use Rattle.path_walk.specs.UserConfigs.{IsUserConfig}
@@ -60,4 +60,4 @@ returns c old changes user at safe first =
     let classes = c.in_ok-store.ensures.classes ∙ ap (λ (s : StoreState). s.classes) c.replace-store.ensures.value in
     let stored_old = subst (λ (s : StoreState). IsStored s.evidence) c.replace-store.ensures.value c.keeps_once.ensures in
     made_at aim old user new_user changes c.args.change.now _ _ c.args.found.items c.count-round.result c.add_round.new.self here safe_here first c.in_ok-add_round.ensures.ok c.in_ok-add_change.ensures.ok
-    c.count-round.ensures c.in_ok-keep.ensures.rules settled added classes stored_old c.keeps_once-2.ensures
+    c.count-round.ensures c.in_ok-keep.ensures.rules settled added classes stored_old c.keeps_once-2.ensures refl

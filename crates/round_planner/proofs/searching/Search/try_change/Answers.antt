@@ -9,9 +9,10 @@ use Rattle.mixed_walks.specs.Walks.{IsRoundOf}
 use Rattle.round_tables.specs.Trials.{IsSettled, IsTrying, HasRoomAlone}
 use Rattle.round_planner.specs.Search.{Aim, update_by}
 use Rattle.round_planner.specs.Standing.{AreJudged}
+use Rattle.round_planner.specs.Visits.{HoldAfter}
 use Rattle.round_planner.specs.Searching.{IsAt}
 use Rattle.round_planner.proofs.FailureLaws.{no_room}
-use Rattle.round_planner.proofs.SearchingLaws.{applies_here, tried_round, tried_at, tried_next, tried_qualifies, tried_fails, given_up}
+use Rattle.round_planner.proofs.SearchingLaws.{applies_here, tried_round, tried_at, tried_next, tried_came, failed_came, tried_qualifies, tried_fails, given_up}
 use Rattle.round_planner.proofs.searching.Search.try_change.Goals as goal
 
 pub begin-requires-clause-applies : goal.begin-requires-clause-applies
@@ -46,12 +47,16 @@ take-requires c =
     let next = update_by aim old (changes ++ c.args.change.now ∷ []) in
     let prepared = subst (λ (ms : List MixedState). IsRoundOf aim.net ms next (length changes)) (sym c.mixes.ensures) round in
     let net = subst (λ (n : Network). IsNetwork n) (ap (λ (a : Aim). a.net) c.goal.view_is) c.keeps_rules.ensures in
-    let following = tried_next aim old user new_user changes c.args.change.now _ c.begin.new.self here i c.begin.ensures.rules trying net in (
+    let following = tried_next aim old user new_user changes c.args.change.now _ c.begin.new.self here i c.begin.ensures.rules trying net in
+    let came = tried_came aim old user new_user changes c.args.change.now _ c.begin.new.self here i c.begin.ensures.rules trying in
+    let (judged, marked) = c.in_ok-found.ensures next (length changes) prepared following came in
+    let safe = subst (AreJudged aim next c.self.inside.store.evidence (length changes)) c.in-Safe.is judged in
+    let held = subst (λ v. HoldAfter aim next (length changes) v c.judge_all.new.came) c.in-Safe.is marked in (
       old,
       changes,
       user,
-      tried_at aim old user new_user changes c.args.change.now _ c.begin.new.self here i c.begin.ensures.rules trying,
-      subst (AreJudged aim next c.self.inside.store.evidence (length changes)) c.in-Safe.is (c.in_ok-found.ensures next (length changes) prepared following),
+      tried_at aim old user new_user changes c.args.change.now _ c.begin.new.self here i c.begin.ensures.rules trying c.judge_all.new.came held,
+      safe,
     )
 
 pub returns-in_ok-take-in-Safe : goal.returns-in_ok-take-in-Safe
@@ -65,10 +70,13 @@ returns-in_ok-take-in-Safe c old changes user at i =
     let prepared = subst (λ (ms : List MixedState). IsRoundOf aim.net ms next (length changes)) (sym c.mixes.ensures) round in
     let net = subst (λ (n : Network). IsNetwork n) (ap (λ (a : Aim). a.net) c.goal.view_is) c.keeps_rules.ensures in
     let following = tried_next aim old user new_user changes c.args.change.now _ c.begin.new.self here i c.begin.ensures.rules trying net in
-    let safe = subst (AreJudged aim next c.self.inside.store.evidence (length changes)) c.in-Safe.is (c.in_ok-found.ensures next (length changes) prepared following) in (
+    let came = tried_came aim old user new_user changes c.args.change.now _ c.begin.new.self here i c.begin.ensures.rules trying in
+    let (judged, marked) = c.in_ok-found.ensures next (length changes) prepared following came in
+    let safe = subst (AreJudged aim next c.self.inside.store.evidence (length changes)) c.in-Safe.is judged in
+    let held = subst (λ v. HoldAfter aim next (length changes) v c.judge_all.new.came) c.in-Safe.is marked in (
       tried_qualifies aim old user new_user changes c.args.change.now _ c.begin.new.self here i c.begin.ensures.rules trying c.in-Safe.found.items safe,
       λ first.
-          c.in_ok-take-in-Safe.ensures old changes user (tried_at aim old user new_user changes c.args.change.now _ c.begin.new.self here i c.begin.ensures.rules trying) safe first,
+          c.in_ok-take-in-Safe.ensures old changes user (tried_at aim old user new_user changes c.args.change.now _ c.begin.new.self here i c.begin.ensures.rules trying c.judge_all.new.came held) safe first,
     )
 
 pub returns-in-Unsafe : goal.returns-in-Unsafe
@@ -82,10 +90,14 @@ returns-in-Unsafe c old changes user at i =
     let prepared = subst (λ (ms : List MixedState). IsRoundOf aim.net ms next (length changes)) (sym c.mixes.ensures) round in
     let net = subst (λ (n : Network). IsNetwork n) (ap (λ (a : Aim). a.net) c.goal.view_is) c.keeps_rules.ensures in
     let following = tried_next aim old user new_user changes c.args.change.now _ c.begin.new.self here i c.begin.ensures.rules trying net in
-    let unsafe = subst (AreJudged aim next c.self.inside.store.evidence (length changes)) c.in-Unsafe.is (c.in_ok-found.ensures next (length changes) prepared following) in (
+    let came = tried_came aim old user new_user changes c.args.change.now _ c.begin.new.self here i c.begin.ensures.rules trying in
+    let (judged, marked) = c.in_ok-found.ensures next (length changes) prepared following came in
+    let unsafe = subst (AreJudged aim next c.self.inside.store.evidence (length changes)) c.in-Unsafe.is judged in
+    let held = subst (λ v. HoldAfter aim next (length changes) v c.judge_all.new.came) c.in-Unsafe.is marked in (
       tried_fails aim old user new_user changes c.args.change.now _ c.begin.new.self here i c.begin.ensures.rules trying c.in-Unsafe.failing unsafe,
-      given_up aim old changes _ c.give_up.new.self here (c.give_up.ensures.rules ∙ c.begin.ensures.rules)
-          (subst (λ (n : Network). IsSettled n c.give_up.new.self) (ap (λ (a : Aim). a.net) c.goal.view_is) c.give_up.ensures.settled),
+      given_up aim old changes _ c.give_up.new.self c.judge_all.new.came here (c.give_up.ensures.rules ∙ c.begin.ensures.rules)
+          (subst (λ (n : Network). IsSettled n c.give_up.new.self) (ap (λ (a : Aim). a.net) c.goal.view_is) c.give_up.ensures.settled)
+          (failed_came aim old user new_user changes c.args.change.now _ c.begin.new.self here i c.begin.ensures.rules trying c.judge_all.new.came held),
     )
 
 pub returns-then-not-begin : goal.returns-then-not-begin
@@ -97,5 +109,10 @@ returns-then-not-begin c old changes user at i =
     let alone : ¬ HasRoomAlone aim.net (tables_after changes old) c.args.change.now =
     subst (λ (ts : List (List Rule)). ¬ HasRoomAlone aim.net ts c.args.change.now) here.tables (subst (λ (n : Network). ¬ HasRoomAlone n (rules_of_all c.self.inside.trial.tables) c.args.change.now) net none) in (
       no_room aim.net c.self.inside.trial (tables_after changes old) c.args.change.now here.settled here.tables alone,
-      given_up aim old changes _ c.begin.new.self here c.begin.ensures.rules (subst (λ (n : Network). IsSettled n c.begin.new.self) net (c.begin.ensures.no c.if-not-begin.true)),
+      given_up aim old changes _ c.begin.new.self _ here c.begin.ensures.rules (subst (λ (n : Network). IsSettled n c.begin.new.self) net (c.begin.ensures.no c.if-not-begin.true)) here.came,
     )
+
+pub judge_all-requires-clause-came : goal.judge_all-requires-clause-came
+judge_all-requires-clause-came c =
+    let (old, changes, user, at, i) = c.requires in
+    (subst (IsAt c.args.goal.now old changes) (sym c.self.view_is) at).came.count
