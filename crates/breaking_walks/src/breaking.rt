@@ -1,4 +1,4 @@
-// Mixed walks that break the duties of a class: by a discard, by a leave with a chain unmet, or by a switch that stands twice.
+//! Mixed walks that break the duties of a class: by a discard, by a leave with a chain unmet, or by a switch that stands twice.
 ghost use Rattle.std.specs.Prelude.{◌≡◌, ◌<◌, true, false, IfOk, IfSome, IfNone};
 ghost use Rattle.net_base.specs.Members.{IsIn};
 ghost use Rattle.net_base.specs.Walks.{end_of};

@@ -1,4 +1,4 @@
-// A walk up to the first switch that stands twice.
+//! A walk up to the first switch that stands twice.
 ghost use Rattle.std.specs.Prelude.{◌≡◌, ◌↔◌, ◌<◌, ◌≤◌, ◌==◌, ℕ, IsTrue, IfOk, MatchOption, Some, length, slice_get, take};
 ghost use Rattle.std.specs.List.{list_any};
 ghost use Rattle.net_base.specs.Members.{IsIn, IsDistinct};

@@ -1,4 +1,4 @@
-// A search among the mixed walks of a round.
+//! A search among the mixed walks of a round.
 ghost use Rattle.std.specs.Prelude.{◌≡◌, ◌↔◌, ◌<◌, length, IsTrue, IfOk, OnOk, IfSome, IfNone};
 ghost use Rattle.net_base.specs.Members.{IsIn};
 ghost use Rattle.topology.specs.Networks.{switch_count};

@@ -1,4 +1,4 @@
-// What one pass over the places of the mixed walks of a class shows: so most classes need no search.
+//! What one pass over the places of the mixed walks of a class shows: so most classes need no search.
 ghost use Rattle.std.specs.Prelude.{◌≡◌, ◌↔◌, ◌<◌, ℕ, List, IsTrue, true, false, length, slice_index, IfOk, OnOk};
 ghost use Rattle.net_base.specs.Members.{IsIn};
 ghost use Rattle.topology.specs.Networks.{switch_count};

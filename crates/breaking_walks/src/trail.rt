@@ -1,4 +1,4 @@
-// The nodes of a search, each once, in the order in which they are found, and which of them led to which.
+//! The nodes of a search, each once, in the order in which they are found, and which of them led to which.
 ghost use Rattle.std.specs.Prelude.{◌≡◌, ◌∷◌, ◌<◌, ◌^◌, [], length, slice_get, Some, IsTrue, ◌↔◌, IfOk, OnOk};
 ghost use Rattle.net_base.specs.Members.{IsIn};
 ghost use Rattle.breaking_walks.specs.Trails.{nodes_of, IsPut, IsWayTo};

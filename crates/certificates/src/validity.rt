@@ -1,4 +1,4 @@
-// Whether a plan is one that a plan file may hold.
+//! Whether a plan is one that a plan file may hold.
 ghost use Rattle.std.specs.Prelude.{◌≡◌, ◌↔◌, ◌≤◌, ◌<◌, ℕ, false, IsTrue, length, min, ◌^◌, ◌-◌, sum_by, slice_index_or};
 ghost use Rattle.std.specs.List.{AllByRecursion};
 ghost use Rattle.net_base.specs.Blocks.{IsBlock};

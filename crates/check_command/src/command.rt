@@ -1,4 +1,4 @@
-// The command that checks a plan.
+//! The command that checks a plan.
 ghost use Rattle.std.specs.Prelude.{◌≡◌, ◌≤◌};
 ghost use Rattle.command_base.specs.Replies.{Meets};
 ghost use Rattle.check_command.specs.Names.{names_seen};

@@ -1,4 +1,4 @@
-// The words of `check`.
+//! The words of `check`.
 ghost use Rattle.std.specs.Prelude.{◌≡◌, map, string_bytes, option_map};
 ghost use Rattle.check_command.specs.Names.{names_in, names_seen};
 

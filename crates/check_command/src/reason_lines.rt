@@ -1,4 +1,4 @@
-// The lines on plans.
+//! The lines on plans.
 ghost use Rattle.std.specs.Prelude.{◌≡◌, IfOk, Option, option_map, string_bytes};
 ghost use Rattle.check_command.specs.ReasonLines as lines;
 
@@ -10,7 +10,7 @@ use plan_checker::Reason;
 use std::alloc::Global;
 use topology::Net;
 
-// The word for the kind of a plan.
+/// The word for the kind of a plan.
 fn kind_word(evidence: &Evidence) -> &'static str
     ensures { result.now ≡ lines.kind_word evidence.now }
 {
@@ -85,7 +85,7 @@ pub fn class_named(reason: Reason) -> Option<u32>
     }
 }
 
-// The name of a reason, with its round or its configuration.
+/// The name of a reason, with its round or its configuration.
 fn reason_name(alloc: Global, reason: Reason) -> Result<String, Memory>
     ensures { IfOk result (λ t. string_bytes t ≡ lines.reason_name reason) }
 {
@@ -137,7 +137,7 @@ fn reason_name(alloc: Global, reason: Reason) -> Result<String, Memory>
     Ok(text)
 }
 
-// The number of a reason and its name.
+/// The number of a reason and its name.
 fn reason_head(alloc: Global, reason: Reason) -> Result<Vec<u8>, Memory>
     ensures { IfOk result (λ t. t.items ≡ lines.reason_head reason) }
 {
@@ -146,7 +146,7 @@ fn reason_head(alloc: Global, reason: Reason) -> Result<Vec<u8>, Memory>
     Ok(format!(in alloc; "{number} {name}")?.into_bytes())
 }
 
-// A switch, behind its word.
+/// A switch, behind its word.
 fn at_switch(alloc: Global, net: &Net, switch: SwitchId) -> Result<Vec<u8>, Memory>
     ensures { IfOk result (λ t. t.items ≡ lines.at_switch net.now switch) }
 {
@@ -154,7 +154,7 @@ fn at_switch(alloc: Global, net: &Net, switch: SwitchId) -> Result<Vec<u8>, Memo
     Ok(format!(in alloc; " switch {name}")?.into_bytes())
 }
 
-// The rest of what a reason names.
+/// The rest of what a reason names.
 fn reason_tail(alloc: Global, net: &Net, reason: Reason) -> Result<Vec<u8>, Memory>
     ensures { IfOk result (λ t. t.items ≡ lines.reason_tail net.now reason) }
 {
@@ -214,7 +214,7 @@ fn reason_tail(alloc: Global, net: &Net, reason: Reason) -> Result<Vec<u8>, Memo
     }
 }
 
-// The class that a reason names, if it names one.
+/// The class that a reason names, if it names one.
 fn at_class(alloc: Global, net: &Net, class: Option<Class>) -> Result<Vec<u8>, Memory>
     ensures { IfOk result (λ t. t.items ≡ lines.at_class net.now class) }
 {

@@ -1,4 +1,4 @@
-// The verdict on a plan: too many classes, certified, or the first reason why it isn't.
+//! The verdict on a plan: too many classes, certified, or the first reason why it isn't.
 ghost use Rattle.std.specs.Prelude.{◌≡◌, ◌≤◌, ◌<◌, IfOk, IfSome, length};
 ghost use Rattle.flow_rules.specs.Tables.{rules_of_all};
 ghost use Rattle.path_walk.specs.UserConfigs.{IsUserConfig};
@@ -56,7 +56,7 @@ pub fn class_of(classes: &ClassMap, reason: Reason) -> Option<Class>
     }
 }
 
-// What is said of the plan, in a room for its check.
+/// What is said of the plan, in a room for its check.
 fn judge_plan(
     alloc: Global,
     files: &UpdateFiles,

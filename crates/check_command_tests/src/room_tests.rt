@@ -1,4 +1,4 @@
-// One room for two checks. Each step owns one value, so that its proof is short.
+//! One room for two checks. Each step owns one value, so that its proof is short.
 ghost use Rattle.flow_rules.specs.Tables.{rules_of_all};
 ghost use Rattle.path_walk.specs.UserConfigs.{IsUserConfig};
 ghost use Rattle.certificates.specs.Valid.{IsValidPlan};
@@ -10,7 +10,7 @@ use plan_checker::{CheckRoom, Verdict, check};
 use std::alloc::Global;
 use std::test::Fail;
 
-// The verdicts of two checks in one room.
+/// The verdicts of two checks in one room.
 fn checked_twice(
     alloc: Global,
     files: &UpdateFiles,
@@ -34,7 +34,7 @@ fn checked_twice(
     Ok((first, second))
 }
 
-// The verdicts on the plan of the square.
+/// The verdicts on the plan of the square.
 fn verdicts(alloc: Global) -> Result<(Verdict, Verdict), Fail> {
     let mut source = update_source(alloc, &square::update(), square::plan(), 4096, 0)?;
     let Ok(files) = read_update(alloc, &mut source, &update_names()) else {

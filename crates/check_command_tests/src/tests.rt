@@ -1,4 +1,4 @@
-// `check` over files in memory.
+//! `check` over files in memory.
 use check_command::{CheckNames, check};
 use command_base::Status;
 use example_files::{
@@ -8,7 +8,7 @@ use example_files::{
 use std::alloc::Global;
 use std::test::Fail;
 
-// What is answered, where the call of the given number fails.
+/// What is answered, where the call of the given number fails.
 fn answered(
     alloc: Global,
     texts: &UpdateTexts<'_>,
@@ -23,7 +23,7 @@ fn answered(
     Ok(answer_of(alloc, check(alloc, &mut source, &names)))
 }
 
-// The first of the plans that isn't answered so, with this text.
+/// The first of the plans that isn't answered so, with this text.
 fn first_other(
     alloc: Global,
     rows: &[(UpdateTexts<'_>, &[u8], &[u8])],

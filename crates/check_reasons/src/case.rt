@@ -1,4 +1,4 @@
-// What is checked.
+//! What is checked.
 use certificates::Plan;
 use demands::Demands;
 use flow_rules::Config;

@@ -1,4 +1,4 @@
-// The least of switches.
+//! The least of switches.
 ghost use Rattle.std.specs.Prelude.{◌≡◌};
 ghost use Rattle.check_reasons.specs.Least.{lesser};
 

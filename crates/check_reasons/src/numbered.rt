@@ -1,4 +1,4 @@
-// Classes with their numbers.
+//! Classes with their numbers.
 use dest_classes::Class;
 
 /// A class of a map, with its number there.

@@ -1,4 +1,4 @@
-// The positions of the chains of a class, and their before sets by their numbers.
+//! The positions of the chains of a class, and their before sets by their numbers.
 ghost use Rattle.std.specs.Prelude.{◌≡◌, ◌↔◌, ◌<◌, ◌≤◌, length, drop, slice_get, Some, All, IsTrue};
 ghost use Rattle.std.specs.Option.{option_copied};
 ghost use Rattle.dest_classes.specs.Classes.{class_count};

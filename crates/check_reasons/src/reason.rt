@@ -1,4 +1,4 @@
-// Why a plan is refused.
+//! Why a plan is refused.
 ghost use Rattle.std.specs.Prelude.{◌≡◌};
 ghost use Rattle.check_reasons.specs.Ranks.{number_of};
 

@@ -1,4 +1,4 @@
-// Which addresses and classes a round touches.
+//! Which addresses and classes a round touches.
 ghost use Rattle.std.specs.Prelude.{◌≡◌};
 ghost use Rattle.check_reasons.specs.Touched.{touches, may_cover};
 

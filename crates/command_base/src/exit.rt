@@ -1,4 +1,4 @@
-// Why a command ends early.
+//! Why a command ends early.
 ghost use Rattle.std.specs.Prelude.{◌≡◌};
 ghost use Rattle.command_base.specs.declared.exit.Exit.TheVariants.{Memory};
 

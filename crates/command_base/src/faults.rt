@@ -1,4 +1,4 @@
-// What is printed of a file's fault.
+//! What is printed of a file's fault.
 ghost use Rattle.std.specs.Prelude.{◌≡◌};
 ghost use Rattle.command_base.specs.Lines.{net_words, config_words, demand_words, plan_words};
 ghost use Rattle.command_base.specs.Replies.{words_of};

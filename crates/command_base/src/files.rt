@@ -1,4 +1,4 @@
-// Files of each kind, fetched whole.
+//! Files of each kind, fetched whole.
 ghost use Rattle.std.specs.Prelude.{◌≡◌, ◌≤◌, length, IfOk, IfErr, OnOk, Some, Option};
 ghost use Rattle.net_base.specs.Outside.{IsFile};
 ghost use Rattle.command_base.specs.Kinds.{limit_of};

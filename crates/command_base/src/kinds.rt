@@ -1,4 +1,4 @@
-// The kinds of files.
+//! The kinds of files.
 ghost use Rattle.std.specs.Prelude.{◌≡◌};
 ghost use Rattle.command_base.specs.Kinds.{limit_of, kind_name};
 

@@ -1,4 +1,4 @@
-// The lines that the program prints.
+//! The lines that the program prints.
 ghost use Rattle.std.specs.Prelude.{◌≡◌, IfOk};
 ghost use Rattle.command_base.specs.Lines as lines;
 ghost use Rattle.command_base.specs.Replies.{words_of};
@@ -63,7 +63,7 @@ pub fn class_text(alloc: Global, net: &Net, class: Class) -> Result<Vec<u8>, Mem
     Ok(text)
 }
 
-// The word for how a path breaks its duties.
+/// The word for how a path breaks its duties.
 fn how_word(how: How) -> &'static str
     ensures { result.now ≡ lines.how_word how }
 {
@@ -74,7 +74,7 @@ fn how_word(how: How) -> &'static str
     }
 }
 
-// The switch that it names.
+/// The switch that it names.
 fn how_switch(how: How) -> SwitchId
     ensures { result ≡ lines.how_switch how }
 {

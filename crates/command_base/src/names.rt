@@ -1,4 +1,4 @@
-// The names of files that several commands take.
+//! The names of files that several commands take.
 ghost use Rattle.std.specs.Prelude.{◌≡◌, map, string_bytes, option_map};
 ghost use Rattle.command_base.specs.Names.{update_names_in, names_seen, plan_names_in, plan_names_seen};
 

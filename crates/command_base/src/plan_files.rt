@@ -1,4 +1,4 @@
-// A topology and a plan of it.
+//! A topology and a plan of it.
 ghost use Rattle.std.specs.Prelude.{◌≡◌, ◌≤◌, IfOk, IfErr, OnOk, Some, Option};
 ghost use Rattle.certificates.specs.Valid.{IsValidPlan};
 ghost use Rattle.command_base.specs.declared.kinds.FileKind.{FileKind};

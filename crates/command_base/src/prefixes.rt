@@ -1,4 +1,4 @@
-// The prefixes of configurations and policies, which tell classes apart, and the reply on too many classes.
+//! The prefixes of configurations and policies, which tell classes apart, and the reply on too many classes.
 ghost use Rattle.std.specs.Prelude.{◌≡◌, ◌++◌, length, map, IfOk, OnOk};
 ghost use Rattle.topology.specs.Networks.{switch_count};
 ghost use Rattle.flow_rules.specs.Tables.{rules_of_all, table_blocks};
@@ -14,7 +14,7 @@ use net_base::{Memory, Prefix, SwitchId};
 use std::alloc::Global;
 use topology::Net;
 
-// Adds the prefixes of the rules.
+/// Adds the prefixes of the rules.
 fn add_rules(prefixes: &mut Vec<Prefix>, rules: &[Rule]) -> Result<(), Memory>
     ensures { OnOk result (prefixes.new.items ≡ prefixes.old.items ++ map (λ r. r.key.pattern.dst) rules.now) }
 {

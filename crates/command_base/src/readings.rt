@@ -1,4 +1,4 @@
-// What the files mean: each is fetched and then read.
+//! What the files mean: each is fetched and then read.
 ghost use Rattle.std.specs.Prelude.{◌≡◌, ◌≤◌, IfOk, IfErr, OnOk, Ok, Some, Option, option_map};
 ghost use Rattle.topology.specs.Topology.{network_in};
 ghost use Rattle.flow_rules.specs.Tables.{rules_of_all};
@@ -39,7 +39,7 @@ pub fn bad_reply(alloc: Global, kind: FileKind, fault: Fault) -> Result<Reply, M
     })
 }
 
-// The network that the bytes mean.
+/// The network that the bytes mean.
 fn network_of(alloc: Global, bytes: &[u8]) -> Result<Net, Exit>
     ensures ok { IfOk result (λ net. network_in bytes.now ≡ Ok net) }
     ensures bad { IfErr result (λ e. IsBad FileKind.Topology net_words (network_in bytes.now) e) }
@@ -51,7 +51,7 @@ fn network_of(alloc: Global, bytes: &[u8]) -> Result<Net, Exit>
     }
 }
 
-// The configuration that the bytes mean.
+/// The configuration that the bytes mean.
 fn configuration_of(alloc: Global, kind: FileKind, net: &Net, bytes: &[u8]) -> Result<Config, Exit>
     ensures ok { IfOk result (λ c. configuration_in net.now bytes.now ≡ Ok (rules_of_all c)) }
     ensures user { IfOk result (λ c. IsUserConfig net.now (rules_of_all c)) }
@@ -64,7 +64,7 @@ fn configuration_of(alloc: Global, kind: FileKind, net: &Net, bytes: &[u8]) -> R
     }
 }
 
-// The policy that the bytes mean.
+/// The policy that the bytes mean.
 fn demands_of(alloc: Global, net: &Net, bytes: &[u8]) -> Result<Demands, Exit>
     ensures ok { IfOk result (λ d. demands_in net.now bytes.now ≡ Ok d) }
     ensures bad { IfErr result (λ e. IsBad FileKind.Policy demand_words (demands_in net.now bytes.now) e) }
@@ -76,7 +76,7 @@ fn demands_of(alloc: Global, net: &Net, bytes: &[u8]) -> Result<Demands, Exit>
     }
 }
 
-// The plan that the bytes mean.
+/// The plan that the bytes mean.
 fn plan_of(alloc: Global, net: &Net, bytes: &[u8]) -> Result<Plan, Exit>
     ensures ok { IfOk result (λ p. plan_in net.now bytes.now ≡ Ok p) }
     ensures valid { IfOk result (IsValidPlan net.now) }

@@ -1,4 +1,4 @@
-// What a command replies, built whole before any of it is written.
+//! What a command replies, built whole before any of it is written.
 ghost use Rattle.std.specs.Prelude.{◌≢◌};
 ghost use Rattle.command_base.specs.declared.status.Status.TheVariants as status_is;
 

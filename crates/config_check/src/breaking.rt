@@ -1,4 +1,4 @@
-// How the path of a class breaks its duties.
+//! How the path of a class breaks its duties.
 ghost use Rattle.std.specs.Prelude.{◌≡◌, ◌<◌, length, IfSome, IfNone};
 ghost use Rattle.std.specs.List.{AllByRecursion};
 ghost use Rattle.net_base.specs.Members.{IsSubsequence};

@@ -1,4 +1,4 @@
-// What the good paths of classes are for. The law is a function that does nothing: its contract is the law.
+//! What the good paths of classes are for. The law is a function that does nothing: its contract is the law.
 ghost use Rattle.std.specs.Prelude.{◌≡◌};
 ghost use Rattle.dest_classes.specs.Classes.{classes_of};
 ghost use Rattle.flow_rules.specs.Tables.{rules_of_all};

@@ -1,4 +1,4 @@
-// Chains of waypoints along a path.
+//! Chains of waypoints along a path.
 ghost use Rattle.std.specs.Prelude.{◌≡◌, IfSome, IfNone};
 ghost use Rattle.net_base.specs.Members.{IsSubsequence};
 ghost use Rattle.demands.specs.Good.{switches_of};

@@ -1,4 +1,4 @@
-// The command that says whether a configuration's paths are good.
+//! The command that says whether a configuration's paths are good.
 ghost use Rattle.std.specs.Prelude.{◌≡◌, ◌≤◌};
 ghost use Rattle.command_base.specs.Replies.{Meets};
 ghost use Rattle.config_command.specs.Names.{names_seen};

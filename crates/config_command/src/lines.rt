@@ -1,4 +1,4 @@
-// The lines of `config`.
+//! The lines of `config`.
 ghost use Rattle.std.specs.Prelude.{◌≡◌, IfOk};
 ghost use Rattle.config_command.specs.Lines as lines;
 

@@ -1,4 +1,4 @@
-// The words of `config`.
+//! The words of `config`.
 ghost use Rattle.std.specs.Prelude.{◌≡◌, map, string_bytes, option_map};
 ghost use Rattle.config_command.specs.Names.{names_in, names_seen};
 

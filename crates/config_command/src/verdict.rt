@@ -1,4 +1,4 @@
-// The verdict on a configuration: too many classes, good paths, or the first class whose path isn't good.
+//! The verdict on a configuration: too many classes, good paths, or the first class whose path isn't good.
 ghost use Rattle.std.specs.Prelude.{◌≡◌, ◌++◌, ◌<◌, ◌≤◌, length, map, IfOk};
 ghost use Rattle.topology.specs.Networks.{switch_count};
 ghost use Rattle.flow_rules.specs.Tables.{rules_of_all, table_blocks};
@@ -23,7 +23,7 @@ use path_walk::PathRoom;
 use std::alloc::Global;
 use topology::Net;
 
-// The prefixes of the configuration, and then of the demands.
+/// The prefixes of the configuration, and then of the demands.
 fn prefixes_of(
     alloc: Global,
     net: &Net,
@@ -57,7 +57,7 @@ fn breaks_reply(alloc: Global, net: &Net, class: Class, how: How) -> Result<Repl
     })
 }
 
-// The verdict on few enough classes.
+/// The verdict on few enough classes.
 fn judge(
     alloc: Global,
     net: &Net,

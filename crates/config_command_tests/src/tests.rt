@@ -1,4 +1,4 @@
-// `config` over files in memory.
+//! `config` over files in memory.
 use command_base::Status;
 use config_command::{ConfigNames, config};
 use example_files::{
@@ -7,7 +7,7 @@ use example_files::{
 use std::alloc::Global;
 use std::test::Fail;
 
-// What is answered, where the call of the given number fails.
+/// What is answered, where the call of the given number fails.
 fn answered(alloc: Global, texts: &ConfigTexts<'_>, failing: u64) -> Result<Answer, Fail> {
     let mut source = config_source(alloc, texts, 4096, failing)?;
     let names = ConfigNames {
@@ -18,7 +18,7 @@ fn answered(alloc: Global, texts: &ConfigTexts<'_>, failing: u64) -> Result<Answ
     Ok(answer_of(alloc, config(alloc, &mut source, &names)))
 }
 
-// The texts, without a policy.
+/// The texts, without a policy.
 fn free<'a>(topology: &'a [u8], config: &'a [u8]) -> ConfigTexts<'a> {
     ConfigTexts {
         topology,
@@ -27,7 +27,7 @@ fn free<'a>(topology: &'a [u8], config: &'a [u8]) -> ConfigTexts<'a> {
     }
 }
 
-// The texts, with a policy.
+/// The texts, with a policy.
 fn under<'a>(topology: &'a [u8], config: &'a [u8], policy: &'a [u8]) -> ConfigTexts<'a> {
     ConfigTexts {
         topology,
@@ -36,7 +36,7 @@ fn under<'a>(topology: &'a [u8], config: &'a [u8], policy: &'a [u8]) -> ConfigTe
     }
 }
 
-// The first of the configurations that isn't answered so, with this text.
+/// The first of the configurations that isn't answered so, with this text.
 fn first_other(
     alloc: Global,
     rows: &[(ConfigTexts<'_>, &[u8])],

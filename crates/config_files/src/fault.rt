@@ -1,4 +1,4 @@
-// Why bytes are no configuration.
+//! Why bytes are no configuration.
 ghost use Rattle.std.specs.Prelude.{◌≡◌};
 ghost use Rattle.config_files.specs.declared.fault.ConfigFault.TheVariants.{Memory};
 ghost use Rattle.config_files.specs.Faults.{of_json, fault_number, fault_name, fault_field, fault_place};

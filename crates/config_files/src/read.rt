@@ -1,4 +1,4 @@
-// The reader of a configuration.
+//! The reader of a configuration.
 ghost use Rattle.std.specs.Prelude.{◌≡◌, ◌<◌, ◌↔◌, [], IsTrue, IfOk, Ok, MatchResult, MatchOption, find, length, map, replicate, option_map};
 ghost use Rattle.std.specs.List.{list_any};
 ghost use Rattle.serde_json.specs.View.{view};

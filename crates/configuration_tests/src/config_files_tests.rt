@@ -1,4 +1,4 @@
-// Configurations that are read, and each refusal.
+//! Configurations that are read, and each refusal.
 use config_files::{ConfigFault, read_config};
 use flow_rules::{Action, Config, Key, Pattern, Rewrite, Rule, VlanTest};
 use net_base::{Field, Port, SwitchId, read_prefix};
@@ -10,13 +10,13 @@ const NETWORK: &str =
     "{\"switches\":[{\"name\":\"a\",\"capacity\":2048},{\"name\":\"b\",\"capacity\":1}],\"links\":[],\
 \"hosts\":[\"a:1\",\"a:2\",\"b:1\"],\"vlans\":[\"untagged\",3001],\"tags\":[3000,3009]}";
 
-// 100 10.0.0.0/24 -> 2 at a.
+/// 100 10.0.0.0/24 -> 2 at a.
 const FIRST: &str = "{\"switch\":\"a\",\"priority\":100,\"dst\":\"10.0.0.0/24\",\"out\":2}";
 
-// The same at b, with port 1.
+/// The same at b, with port 1.
 const OTHER: &str = "{\"switch\":\"b\",\"priority\":100,\"dst\":\"10.0.0.0/24\",\"out\":1}";
 
-// 200 port 1 VLAN 3001 10.0.0.0/8 -> drop at a.
+/// 200 port 1 VLAN 3001 10.0.0.0/8 -> drop at a.
 const DROP: &str =
     "{\"switch\":\"a\",\"priority\":200,\"in_port\":1,\"vlan\":3001,\"dst\":\"10.0.0.0/8\",\"out\":\"drop\"}";
 

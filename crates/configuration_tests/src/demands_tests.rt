@@ -1,4 +1,4 @@
-// The reader, refusal by refusal, and the duties of a small network's classes.
+//! The reader, refusal by refusal, and the duties of a small network's classes.
 use demands::{DemandFault, Demands, Duties, no_demands, read_demands};
 use dest_classes::class_map;
 use net_base::Field;

@@ -1,4 +1,4 @@
-// Atoms of lists of prefixes: where each begins, and the atom of an address.
+//! Atoms of lists of prefixes: where each begins, and the atom of an address.
 use dest_classes::Atoms;
 use net_base::{Prefix, read_prefix};
 use std::alloc::Global;

@@ -1,11 +1,11 @@
-// What is printed of each refusal of a configuration and of a policy: its number, its word, its member and its place.
+//! What is printed of each refusal of a configuration and of a policy: its number, its word, its member and its place.
 use config_files::ConfigFault;
 use demands::DemandFault;
 use net_base::{Field, SwitchId};
 use std::alloc::Global;
 use std::process::Abort;
 
-// A refusal as it stands in a line on a bad file.
+/// A refusal as it stands in a line on a bad file.
 fn line_of(
     rt: &impl Abort,
     alloc: Global,
@@ -23,7 +23,7 @@ fn line_of(
     text.expect(rt, "memory")
 }
 
-// By the message of its error type.
+/// By the message of its error type.
 fn config_line(rt: &impl Abort, alloc: Global, fault: ConfigFault) -> String {
     let number = fault.number();
     let start = format!(in alloc; "{number} {fault}").expect(rt, "memory");

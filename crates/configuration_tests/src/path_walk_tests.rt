@@ -1,4 +1,4 @@
-// Walks in a ring of three switches, with a fourth one that has the host.
+//! Walks in a ring of three switches, with a fourth one that has the host.
 ghost use Rattle.std.specs.Prelude.{◌≡◌};
 ghost use Rattle.topology.specs.Networks.{switch_count};
 

@@ -1,4 +1,4 @@
-// Runs that show a breaking walk.
+//! Runs that show a breaking walk.
 ghost use Rattle.std.specs.Prelude.{◌≡◌, ◌^◌, ◌<◌, ◌≤◌, ◌++◌, ◌∷◌, [], None, length, map, take, IfOk, IfSome, OnOk};
 ghost use Rattle.net_base.specs.Walks.{end_of};
 ghost use Rattle.topology.specs.Networks.{switch_count, IsEntry};

@@ -1,4 +1,4 @@
-// Chains of waypoints, and their order.
+//! Chains of waypoints, and their order.
 ghost use Rattle.std.specs.Prelude.{◌≡◌, ◌<◌, ◌≤◌, ◌==◌, ◌∷◌, ◌≢◌, [], length, slice_get, slice_index_or, IfOk, OnOk};
 ghost use Rattle.std.specs.List.{list_any};
 ghost use Rattle.demands.specs.Duties.{first_of_each, chain_lt, with_chain};

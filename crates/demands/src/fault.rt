@@ -1,4 +1,4 @@
-// Why bytes are no policy.
+//! Why bytes are no policy.
 ghost use Rattle.std.specs.Prelude.{◌≡◌};
 ghost use Rattle.demands.specs.declared.fault.DemandFault.TheVariants.{Memory};
 ghost use Rattle.demands.specs.Faults.{of_json, fault_number, fault_name, fault_field, fault_place};

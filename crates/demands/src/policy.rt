@@ -1,4 +1,4 @@
-// Policies as lists of demands, and what a demand covers.
+//! Policies as lists of demands, and what a demand covers.
 ghost use Rattle.std.specs.Prelude.{◌≡◌, ◌<◌, ◌≤◌, ◌++◌, ◌∷◌, [], Some, true, length, map, option_map, slice_get, IfOk, if◌then◌else◌, is_ok};
 ghost use Rattle.std.specs.List.{AllByRecursion};
 ghost use Rattle.net_base.specs.Members.{IsIn};

@@ -1,4 +1,4 @@
-// The reader of a policy.
+//! The reader of a policy.
 ghost use Rattle.std.specs.Prelude.{◌≡◌, Ok, [], map, option_map, IfOk, MatchResult};
 ghost use Rattle.serde_json.specs.View.{view};
 ghost use Rattle.net_base.specs.Reading.{Gives, Fails, in_turn};

@@ -1,4 +1,4 @@
-// Sets of demands, each once, as they are looked up.
+//! Sets of demands, each once, as they are looked up.
 ghost use Rattle.std.specs.Prelude.{◌≡◌, ◌++◌, ◌∷◌, [], slice_get, Some, IfOk, if◌then◌else◌};
 ghost use Rattle.demands.specs.Sets.{set_of};
 

@@ -1,4 +1,4 @@
-// The duties of the classes of a map.
+//! The duties of the classes of a map.
 ghost use Rattle.std.specs.Prelude.{◌≡◌, ◌<◌, ◌&&◌, ℕ, cond, length, map, slice_get, Some, IfOk, OnOk};
 ghost use Rattle.std.specs.List.{list_any};
 ghost use Rattle.dest_classes.specs.Classes.{class_count};

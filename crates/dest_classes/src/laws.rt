@@ -1,4 +1,4 @@
-// What the atoms of prefixes are for. The law is a function that does nothing: its contract is the law.
+//! What the atoms of prefixes are for. The law is a function that does nothing: its contract is the law.
 ghost use Rattle.std.specs.Prelude.{List};
 ghost use Rattle.net_base.specs.Blocks.{Block};
 ghost use Rattle.dest_classes.specs.Atoms.{OneAtomIsOneClass, FirstIsOfTheClass};

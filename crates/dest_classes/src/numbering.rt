@@ -1,4 +1,4 @@
-// Class maps: the classes of a network for a list of prefixes, and their numbers.
+//! Class maps: the classes of a network for a list of prefixes, and their numbers.
 ghost use Rattle.std.specs.Prelude.{◌≡◌, ℕ, ◌<◌, ◌≤◌, ◌↔◌, IfOk, IfErr, IfSome, IfNone, IsNone, Some, slice_get, ◌≢◌, All};
 ghost use Rattle.net_base.specs.Blocks.{IsSameClass};
 ghost use Rattle.topology.specs.Networks.{IsEntry};

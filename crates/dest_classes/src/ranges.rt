@@ -1,4 +1,4 @@
-// Atoms of a list of prefixes, and the atom of an address.
+//! Atoms of a list of prefixes, and the atom of an address.
 ghost use Rattle.std.specs.Prelude.{◌≡◌, ℕ, ◌+◌, ◌*◌, ◌^◌, ◌<◌, ◌≤◌, ◌∷◌, ◌++◌, nat_lt, length, filter, flat_map, slice_index, List, IfOk, OnOk, IfSome, IfNone};
 ghost use Rattle.net_base.specs.Blocks.{Block, block_size, IsSameClass};
 ghost use Rattle.dest_classes.specs.Classes.{boundaries, block_ends};

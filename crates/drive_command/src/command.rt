@@ -1,4 +1,4 @@
-// The command that drives a plan.
+//! The command that drives a plan.
 ghost use Rattle.std.specs.Prelude.{◌≡◌, ◌≤◌};
 ghost use Rattle.command_base.specs.Replies.{Meets};
 ghost use Rattle.drive_command.specs.Names.{names_seen};

@@ -1,4 +1,4 @@
-// A driver that is given the inputs of a file.
+//! A driver that is given the inputs of a file.
 ghost use Rattle.std.specs.Prelude.{◌≡◌, Ok, MatchResult};
 ghost use Rattle.net_base.specs.Reading.{Fails};
 ghost use Rattle.driver_input.specs.Inputs.{AreInputs};
@@ -27,7 +27,7 @@ impl From<Memory> for DriveFault {
     }
 }
 
-// Begins the next round, as this line wants it.
+/// Begins the next round, as this line wants it.
 fn give_start(driver: &mut Driver<'_>, line: u32) -> Result<(), DriveFault>
     ensures read { let read = driving.after_input driver.old.net driver.old.rounds line Input.Start driver.old.state in
         MatchResult result (λ _. read ≡ Ok driver.new.state) (λ e. Fails fault.Memory e read) }
@@ -43,7 +43,7 @@ fn give_start(driver: &mut Driver<'_>, line: u32) -> Result<(), DriveFault>
     }
 }
 
-// Gives the driver the input of a line.
+/// Gives the driver the input of a line.
 fn give(driver: &mut Driver<'_>, line: &InputLine) -> Result<(), DriveFault>
     requires { IsInput driver.old.net line.now.input }
     ensures read { let read = driving.after_input driver.old.net driver.old.rounds line.now.line line.now.input driver.old.state in

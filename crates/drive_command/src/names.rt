@@ -1,4 +1,4 @@
-// The words of `drive`.
+//! The words of `drive`.
 ghost use Rattle.std.specs.Prelude.{◌≡◌, map, string_bytes, option_map};
 ghost use Rattle.drive_command.specs.Names.{names_in, names_seen};
 

@@ -1,4 +1,4 @@
-// An update with its plan, and inputs, fetched and read.
+//! An update with its plan, and inputs, fetched and read.
 ghost use Rattle.std.specs.Prelude.{◌≡◌, ◌≤◌, IfOk, IfErr, OnOk, Ok, Some, Option};
 ghost use Rattle.flow_rules.specs.Tables.{rules_of_all};
 ghost use Rattle.path_walk.specs.UserConfigs.{IsUserConfig};
@@ -54,7 +54,7 @@ pub fn read_check_files<S: Source>(
     Ok(CheckFiles { update, plan })
 }
 
-// What is printed of a fault of inputs.
+/// What is printed of a fault of inputs.
 fn input_fault(fault: InputFault) -> Fault
     ensures { words_of result ≡ input_words fault }
 {
@@ -66,7 +66,7 @@ fn input_fault(fault: InputFault) -> Fault
     }
 }
 
-// The inputs that the bytes mean.
+/// The inputs that the bytes mean.
 fn inputs_of(alloc: Global, net: &Net, bytes: &[u8]) -> Result<Inputs, Exit>
     ensures ok { IfOk result (λ s. inputs_in net.now bytes.now ≡ Ok s) }
     ensures within { IfOk result (AreInputs net.now) }

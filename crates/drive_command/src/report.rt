@@ -1,4 +1,4 @@
-// The report on a driver.
+//! The report on a driver.
 ghost use Rattle.std.specs.Prelude.{◌≡◌, ◌<◌, ◌++◌, IfOk, OnOk, slice_index_or, [], length};
 ghost use Rattle.topology.specs.Networks.{switch_count};
 ghost use Rattle.net_base.specs.Lines.{text_of};
@@ -11,7 +11,7 @@ use std::alloc::Global;
 use topology::Net;
 use update_driver::{Cause, Driver, Session};
 
-// The line on what was sent to a switch of this name.
+/// The line on what was sent to a switch of this name.
 fn sent_line(alloc: Global, name: &str, bytes: &[u8]) -> Result<Vec<u8>, Memory>
     ensures { IfOk result (λ t. t.items ≡ reports.sent_line name.now bytes.now) }
 {
@@ -21,7 +21,7 @@ fn sent_line(alloc: Global, name: &str, bytes: &[u8]) -> Result<Vec<u8>, Memory>
     Ok(text)
 }
 
-// Why a session failed.
+/// Why a session failed.
 fn cause_text(alloc: Global, cause: Cause) -> Result<Vec<u8>, Memory>
     ensures { IfOk result (λ t. t.items ≡ reports.cause_text cause) }
 {
@@ -34,7 +34,7 @@ fn cause_text(alloc: Global, cause: Cause) -> Result<Vec<u8>, Memory>
     }
 }
 
-// The line on a session that failed, with a switch of this name.
+/// The line on a session that failed, with a switch of this name.
 fn failed_line(alloc: Global, name: &str, cause: Cause) -> Result<Vec<u8>, Memory>
     ensures { IfOk result (λ t. t.items ≡ reports.failed_line name.now cause) }
 {
@@ -43,7 +43,7 @@ fn failed_line(alloc: Global, name: &str, cause: Cause) -> Result<Vec<u8>, Memor
     Ok(text)
 }
 
-// Adds the line on a session, if it failed.
+/// Adds the line on a session, if it failed.
 fn add_session(
     text: &mut Vec<u8>,
     alloc: Global,
@@ -58,7 +58,7 @@ fn add_session(
     }
 }
 
-// Adds what was sent to each switch.
+/// Adds what was sent to each switch.
 fn add_sent(text: &mut Vec<u8>, alloc: Global, net: &Net, driver: &Driver<'_>) -> Result<(), Memory>
     requires { driver.now.net ≡ net.now }
     ensures { OnOk result (text.new.items ≡ text.old.items ++ text_of (reports.by_switch (reports.sent_to driver.now.state) 0 net.now.names)) }
@@ -71,7 +71,7 @@ fn add_sent(text: &mut Vec<u8>, alloc: Global, net: &Net, driver: &Driver<'_>) -
     Ok(())
 }
 
-// Adds which sessions failed.
+/// Adds which sessions failed.
 fn add_sessions(
     text: &mut Vec<u8>,
     alloc: Global,
@@ -93,7 +93,7 @@ fn add_sessions(
     Ok(())
 }
 
-// Adds the log, and how far the update of so many rounds is.
+/// Adds the log, and how far the update of so many rounds is.
 fn add_log(
     text: &mut Vec<u8>,
     alloc: Global,

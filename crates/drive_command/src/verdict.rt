@@ -1,4 +1,4 @@
-// What is said of a plan and its inputs: too many classes, what the driver does, or the first reason why the plan isn't certified.
+//! What is said of a plan and its inputs: too many classes, what the driver does, or the first reason why the plan isn't certified.
 ghost use Rattle.certificates.specs.Updates.{rollout, task_for};
 ghost use Rattle.std.specs.Prelude.{◌≡◌, ◌≤◌, List, Ok, IfOk};
 ghost use Rattle.flow_rules.specs.Tables.{rules_of_all};
@@ -27,7 +27,7 @@ use schedule_pilot::laws::certified_begins_safely;
 use std::alloc::Global;
 use update_driver::Driver;
 
-// The report on the driver of a certified plan.
+/// The report on the driver of a certified plan.
 fn report_reply(
     alloc: Global,
     files: &UpdateFiles,
@@ -51,7 +51,7 @@ fn report_reply(
     })
 }
 
-// What the driver of a certified plan does with the inputs.
+/// What the driver of a certified plan does with the inputs.
 fn driven_reply(
     alloc: Global,
     files: &UpdateFiles,
@@ -73,7 +73,7 @@ fn driven_reply(
     }
 }
 
-// What is said of the plan and its inputs, in a room for the plan's check.
+/// What is said of the plan and its inputs, in a room for the plan's check.
 fn judge_plan(
     alloc: Global,
     files: &UpdateFiles,

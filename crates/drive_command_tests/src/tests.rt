@@ -1,5 +1,5 @@
-// `drive` over files in memory. In the plan of the square network s1 is changed in round 1 and s3 in round 2; in that of the
-// detour round 1 changes s, x, w, y and d, and round 5 nothing.
+//! `drive` over files in memory. In the plan of the square network s1 is changed in round 1 and s3 in round 2; in that of the
+//! detour round 1 changes s, x, w, y and d, and round 5 nothing.
 use check_command::CheckNames;
 use command_base::Status;
 use drive_command::{DriveNames, drive};
@@ -10,18 +10,18 @@ use example_files::{
 use std::alloc::Global;
 use std::process::Abort;
 
-// What is sent to s1: HELLO, the change of round 1, and its barrier request.
+/// What is sent to s1: HELLO, the change of round 1, and its barrier request.
 const SENT_S1: &str =
     "# sent s1 0100000800000000010e005000000001003220ef000000000000000000000000000000000000080000000000000000000a0000000000000000000000000000000002000000000064ffffffffffff000000000008000400000112000800000002";
 
-// Both rounds of the square.
+/// Both rounds of the square.
 const SQUARE_REPORT: &str =
     "# sent s1 0100000800000000010e005000000001003220ef000000000000000000000000000000000000080000000000000000000a0000000000000000000000000000000002000000000064ffffffffffff000000000008000400000112000800000002\n# sent s2 0100000800000000\n# sent s3 0100000800000000010e005000000003003220ef000000000000000000000000000000000000080000000000000000000a0000000000000000000000000000000002000000000064ffffffffffff000000000008000300000112000800000004\n# sent s4 0100000800000000\nstart\nchange 0\nsettle\nstart\nchange 0\nsettle\n# settled 2 of 2\n";
 
-// HELLO comes from s1 and s3, of version 1 and 4.
+/// HELLO comes from s1 and s3, of version 1 and 4.
 const HELLOS: &str = "feed s1 0100000800000000\nfeed s3 0400000800000000\n";
 
-// HELLO comes from each switch of the detour.
+/// HELLO comes from each switch of the detour.
 const DETOUR_HELLOS: &str =
     "feed s 0100000800000000\nfeed x 0100000800000000\nfeed w 0100000800000000\nfeed y 0100000800000000\nfeed d 0100000800000000\n";
 
@@ -35,7 +35,7 @@ fn names(input: &str) -> DriveNames<'_> {
     }
 }
 
-// What is answered.
+/// What is answered.
 fn answered(
     rt: &impl Abort,
     alloc: Global,
@@ -48,12 +48,12 @@ fn answered(
     answer_of(alloc, drive(alloc, &mut source, &names("input")))
 }
 
-// What is answered for the square.
+/// What is answered for the square.
 fn square_answer(rt: &impl Abort, alloc: Global, input: &[u8]) -> Answer {
     answered(rt, alloc, &square::update(), square::plan(), input)
 }
 
-// These lines, one text behind the other.
+/// These lines, one text behind the other.
 fn joined(rt: &impl Abort, alloc: Global, parts: &[&str]) -> Vec<u8> {
     let mut text = Vec::new(alloc);
     for part in parts {
@@ -77,7 +77,7 @@ fn a_plan_is_carried_out(rt: HostRuntime) {
     assert!(rt; answer.is(Status::Done, SQUARE_REPORT.as_bytes()));
 }
 
-// A line that feeds these digits, cut behind so many of them.
+/// A line that feeds these digits, cut behind so many of them.
 fn cut(rt: &impl Abort, alloc: Global, name: &str, digits: &str, at: usize) -> Vec<u8> {
     match digits.split_at_checked(at) {
         Some((first, rest)) => {
@@ -225,7 +225,7 @@ fn switches_answer_in_any_order(rt: HostRuntime) {
     }
 }
 
-// A round without changes, over an update that changes nothing.
+/// A round without changes, over an update that changes nothing.
 const EMPTY_ROUND: &[u8] =
     br#"{"befores": [], "format": 2, "kind": "ordered", "numberings": [[0, 0, 0, 0], [3, 2, 1, 0], [0, 2, 1, 0], [0, 0, 1, 0]], "picks": [[1, 0, 0], [1, 1, 1], [1, 2, 0], [1, 3, 0], [1, 4, 2], [1, 5, 0], [1, 6, 0], [1, 7, 3], [1, 8, 0], [1, 9, 0], [1, 10, 0], [1, 11, 0]], "rounds": [[]], "rules": [], "uses": [[0, []], [1, []], [2, []], [3, []]]}"#;
 

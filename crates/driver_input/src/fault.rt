@@ -1,4 +1,4 @@
-// Why bytes are no file of inputs.
+//! Why bytes are no file of inputs.
 ghost use Rattle.std.specs.Prelude.{◌≡◌};
 ghost use Rattle.driver_input.specs.declared.fault.InputFault.TheVariants.{Memory};
 ghost use Rattle.driver_input.specs.Faults.{fault_number, fault_name, fault_place};

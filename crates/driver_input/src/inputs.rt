@@ -1,4 +1,4 @@
-// Inputs with the lines in which they stand.
+//! Inputs with the lines in which they stand.
 ghost use Rattle.std.specs.Prelude.{◌≡◌, ◌++◌, ◌∷◌, [], IfOk, OnErr, length, not, nat_lt};
 
 use net_base::{Memory, SwitchId};

@@ -1,4 +1,4 @@
-// The input that a line spells: `start`, or `feed`, the name of a switch and bytes in hexadecimal digits.
+//! The input that a line spells: `start`, or `feed`, the name of a switch and bytes in hexadecimal digits.
 ghost use Rattle.std.specs.Prelude.{◌≡◌, ◌==◌, IfOk};
 ghost use Rattle.net_base.specs.Reading.{Gives, need};
 ghost use Rattle.driver_input.specs.declared.fault.InputFault.TheVariants.{BadLine, Memory};

@@ -1,4 +1,4 @@
-// The reader of a file of inputs.
+//! The reader of a file of inputs.
 ghost use Rattle.std.specs.Prelude.{◌≡◌, Ok, OnOk, IfOk, MatchResult};
 ghost use Rattle.net_base.specs.Reading.{Gives, Fails};
 ghost use Rattle.driver_input.specs.declared.fault.InputFault.TheVariants.{Memory};

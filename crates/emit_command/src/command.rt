@@ -1,4 +1,4 @@
-// The command that writes the messages of a plan.
+//! The command that writes the messages of a plan.
 ghost use Rattle.std.specs.Prelude.{◌≡◌, ◌≤◌, IfOk};
 ghost use Rattle.certificates.specs.Valid.{IsValidPlan};
 ghost use Rattle.command_base.specs.Names.{plan_names_seen};

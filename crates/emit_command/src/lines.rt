@@ -1,4 +1,4 @@
-// Writing the lines: one text grows, and nothing is kept besides.
+//! Writing the lines: one text grows, and nothing is kept besides.
 ghost use Rattle.std.specs.Prelude.{◌≡◌, ◌≤◌, ◌<◌, ◌+◌, ◌*◌, ◌++◌, ◌^◌, ◌∷◌, [], ℕ, length, map, filter, sum_by, slice_index_or, false, IfOk, OnOk};
 ghost use Rattle.std.specs.List.{AllByRecursion};
 ghost use Rattle.topology.specs.Networks.{switch_count};
@@ -21,7 +21,7 @@ pub struct Lines {
     pub xid: u32,
 }
 
-// Appends the line of a message to a switch in a round, which counts from 0.
+/// Appends the line of a message to a switch in a round, which counts from 0.
 fn push_line(
     text: &mut Vec<u8>,
     alloc: Global,
@@ -41,7 +41,7 @@ fn push_line(
     Ok(())
 }
 
-// Which switches have a change in the round, by their numbers.
+/// Which switches have a change in the round, by their numbers.
 fn changed_switches(alloc: Global, net: &Net, changes: &[Change]) -> Result<Vec<bool>, Memory>
     requires { AllByRecursion (IsPlanChange net.now) changes.now }
     ensures long { IfOk result (λ marks. length marks.items ≡ switch_count net.now) }
@@ -57,7 +57,7 @@ fn changed_switches(alloc: Global, net: &Net, changes: &[Change]) -> Result<Vec<
 }
 
 impl Lines {
-    // The line of a change.
+    /// The line of a change.
     fn add_change(
         &mut self,
         alloc: Global,
@@ -77,7 +77,7 @@ impl Lines {
         Ok(())
     }
 
-    // The line of a barrier request.
+    /// The line of a barrier request.
     fn add_barrier(
         &mut self,
         alloc: Global,
@@ -96,7 +96,7 @@ impl Lines {
         Ok(())
     }
 
-    // The lines of changes.
+    /// The lines of changes.
     fn add_changes(
         &mut self,
         alloc: Global,
@@ -115,7 +115,7 @@ impl Lines {
         Ok(())
     }
 
-    // The lines of a barrier request for each switch that is marked, ascending.
+    /// The lines of a barrier request for each switch that is marked, ascending.
     fn add_barriers(
         &mut self,
         alloc: Global,
@@ -136,7 +136,7 @@ impl Lines {
         Ok(())
     }
 
-    // The lines of a round.
+    /// The lines of a round.
     fn add_round(
         &mut self,
         alloc: Global,

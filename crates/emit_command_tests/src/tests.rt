@@ -1,4 +1,4 @@
-// `emit` over files in memory.
+//! `emit` over files in memory.
 use command_base::Status;
 use emit_command::emit;
 use example_files::{
@@ -8,14 +8,14 @@ use net_base::MemorySource;
 use std::alloc::Global;
 use std::test::Fail;
 
-// What is answered to the plan, with the topology of the texts.
+/// What is answered to the plan, with the topology of the texts.
 fn answered(alloc: Global, texts: &UpdateTexts<'_>, plan: &[u8]) -> Result<Answer, Fail> {
     let mut source = update_source(alloc, texts, plan, 4096, 0)?;
     let result = emit(alloc, &mut source, &plan_names());
     Ok(answer_of(alloc, result))
 }
 
-// Replace 10.0.0.0/24 of priority 100 by an output to port 4, a barrier, the same to port 3, a barrier.
+/// Replace 10.0.0.0/24 of priority 100 by an output to port 4, a barrier, the same to port 3, a barrier.
 const SQUARE_LINES: &str =
     "1 s1 010e005000000001003220ef000000000000000000000000000000000000080000000000000000000a0000000000000000000000000000000002000000000064ffffffffffff00000000000800040000
 1 s1 0112000800000002
@@ -32,7 +32,7 @@ fn each_round_is_its_changes_and_then_its_barriers(rt: HostRuntime) -> Result<()
     Ok(())
 }
 
-// The first of the lines that the text doesn't have at its place, which counts from 0.
+/// The first of the lines that the text doesn't have at its place, which counts from 0.
 fn first_other_line(text: &[u8], rows: &[(usize, Option<&str>)]) -> Result<Option<usize>, Fail> {
     let Ok(text) = std::str::from_utf8(text) else {
         return Err(Fail::from("no text"));

@@ -1,4 +1,4 @@
-// Evidence that keeps a class safe in a round of an ordered plan.
+//! Evidence that keeps a class safe in a round of an ordered plan.
 ghost use Rattle.std.specs.Prelude.{◌≡◌, ◌↔◌, ℕ, ◌<◌, ◌≤◌, List, length, All, IsTrue, IfOk, slice_get, Some};
 ghost use Rattle.std.specs.List.{AllByRecursion, AllZip};
 ghost use Rattle.topology.specs.Networks.{switch_count};

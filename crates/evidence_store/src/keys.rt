@@ -1,4 +1,4 @@
-// The members of lists in which each stands once, as they are looked up.
+//! The members of lists in which each stands once, as they are looked up.
 ghost use Rattle.std.specs.Prelude.{◌≡◌, [], IfOk, MatchBool};
 ghost use Rattle.evidence_store.specs.Numbers.{IsFound, IsAdded};
 ghost use Rattle.evidence_store.specs.UseKeys.{use_of};

@@ -1,4 +1,4 @@
-// The least before sets of the positions of a class.
+//! The least before sets of the positions of a class.
 ghost use Rattle.std.specs.Prelude.{◌≡◌, ◌<◌, ◌≤◌, ◌++◌, ℕ, List, length, IfOk, Some, None};
 ghost use Rattle.std.specs.List.{AllByRecursion, last_or};
 ghost use Rattle.std.specs.Option.{option_copied};

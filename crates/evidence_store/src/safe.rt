@@ -1,4 +1,4 @@
-// Whether a numbering and before sets keep a class safe.
+//! Whether a numbering and before sets keep a class safe.
 ghost use Rattle.std.specs.Prelude.{◌≡◌, ◌↔◌, ◌<◌, ◌≤◌, length, None, All, IsTrue};
 ghost use Rattle.std.specs.List.{AllByRecursion};
 ghost use Rattle.net_base.specs.Members.{IsIn};

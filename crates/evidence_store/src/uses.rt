@@ -1,4 +1,4 @@
-// One use more of a numbering and before sets: what stands there is found, and what doesn't is added.
+//! One use more of a numbering and before sets: what stands there is found, and what doesn't is added.
 ghost use Rattle.std.specs.Prelude.{◌≡◌, ◌<◌, ◌^◌, length, IfOk, OnOk};
 ghost use Rattle.evidence_store.specs.Keys.{AreKeysOf};
 ghost use Rattle.evidence_store.specs.Numbers.{IsNumbered, AreNumbered, IsWithUse};

@@ -1,4 +1,4 @@
-// Heights along edges, and the cycles among them.
+//! Heights along edges, and the cycles among them.
 use acyclic_numbering::{Edge, Numbered, number};
 use net_base::SwitchId;
 use std::process::Abort;
@@ -33,7 +33,7 @@ const RING: [Edge; 3] = [
     },
 ];
 
-// The steps of packets in the first round of the square's plan.
+/// The steps of packets in the first round of the square's plan.
 const STEPS: [Edge; 4] = [
     Edge {
         from: SwitchId(0),
@@ -53,7 +53,7 @@ const STEPS: [Edge; 4] = [
     },
 ];
 
-// One step more leads back to the first switch.
+/// One step more leads back to the first switch.
 const ROUND: [Edge; 5] = [
     Edge {
         from: SwitchId(0),
@@ -119,7 +119,7 @@ fn steps_lead_to_lower_heights(rt: HostRuntime) {
     are_heights(&rt, &found, &[3, 2, 1, 0]);
 }
 
-// The only cycle joins three switches; a walk may begin at each of them.
+/// The only cycle joins three switches; a walk may begin at each of them.
 #[test]
 fn steps_lead_round_a_cycle(rt: HostRuntime) {
     let found = number(rt.alloc(), 4, &ROUND).expect(&rt, "memory");

@@ -1,4 +1,4 @@
-// Sets before waypoints, and ways round these.
+//! Sets before waypoints, and ways round these.
 ghost use Rattle.std.specs.Prelude.{◌<◌, All};
 
 use acyclic_numbering::Edge;
@@ -7,7 +7,7 @@ use std::alloc::Global;
 use std::process::Abort;
 use waypoint_evidence::{Before, Befored, before_set};
 
-// A line 0, 1, 2, 3, and a way round 1.
+/// A line 0, 1, 2, 3, and a way round 1.
 const LINE: [Edge; 4] = [
     Edge {
         from: SwitchId(0),
@@ -27,7 +27,7 @@ const LINE: [Edge; 4] = [
     },
 ];
 
-// The detour: its switches s, x, w, y and d are 0 to 4, and w is its waypoint.
+/// The detour: its switches s, x, w, y and d are 0 to 4, and w is its waypoint.
 const STEPS: [Edge; 4] = [
     Edge {
         from: SwitchId(0),
@@ -47,7 +47,7 @@ const STEPS: [Edge; 4] = [
     },
 ];
 
-// One step more leads from s past w to y.
+/// One step more leads from s past w to y.
 const PAST: [Edge; 5] = [
     Edge {
         from: SwitchId(0),

@@ -1,4 +1,4 @@
-// What a command answers.
+//! What a command answers.
 use command_base::{Exit, Reply, Status};
 use std::alloc::Global;
 

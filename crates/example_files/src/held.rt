@@ -1,4 +1,4 @@
-// A source in memory that holds the files of a command.
+//! A source in memory that holds the files of a command.
 ghost use Rattle.std.specs.Prelude.{◌≤◌};
 
 use command_base::{PlanNames, UpdateNames};

@@ -1,4 +1,4 @@
-// The schedule of a run that breaks the duties of a class, or that there is none.
+//! The schedule of a run that breaks the duties of a class, or that there is none.
 ghost use Rattle.certificates.specs.Updates.{rollout, task_for};
 ghost use Rattle.std.specs.Prelude.{IfOk};
 ghost use Rattle.path_walk.specs.UserConfigs.{IsUserConfig};
@@ -21,7 +21,7 @@ use schedule_replay::{runs_have_lines, schedule_text};
 use std::alloc::Global;
 use update_model::Events;
 
-// The schedule of the events.
+/// The schedule of the events.
 fn breaking_schedule(
     alloc: Global,
     files: &UpdateFiles,

@@ -1,4 +1,4 @@
-// The first round that isn't good and clear.
+//! The first round that isn't good and clear.
 ghost use Rattle.certificates.specs.Updates.{rollout, task_for};
 ghost use Rattle.std.specs.Prelude.{IfOk, IfNone, IfSome};
 ghost use Rattle.certificates.specs.Valid.{IsValidPlan};

@@ -1,5 +1,5 @@
-// What is said of the plan that is explained: too many classes, why its mixed walks aren't looked at, a run that breaks the duties of a
-// class, or that there is none.
+//! What is said of the plan that is explained: too many classes, why its mixed walks aren't looked at, a run that breaks the duties of a
+//! class, or that there is none.
 ghost use Rattle.certificates.specs.Updates.{rollout, task_for};
 ghost use Rattle.std.specs.Prelude.{◌≤◌, IfOk};
 ghost use Rattle.flow_rules.specs.Tables.{rules_of_all};
@@ -24,7 +24,7 @@ use net_base::Memory;
 use plan_checker::{CheckRoom, RoomFault, end_reason};
 use std::alloc::Global;
 
-// What is said of a plan whose configurations and rounds are good.
+/// What is said of a plan whose configurations and rounds are good.
 fn judge_walks(
     alloc: Global,
     files: &UpdateFiles,
@@ -52,7 +52,7 @@ fn judge_walks(
     }
 }
 
-// What is said of a plan whose configurations are good.
+/// What is said of a plan whose configurations are good.
 fn judge_rounds(
     alloc: Global,
     files: &UpdateFiles,
@@ -72,7 +72,7 @@ fn judge_rounds(
     }
 }
 
-// What is said of the plan, in a room for its check.
+/// What is said of the plan, in a room for its check.
 fn judge_plan(
     alloc: Global,
     files: &UpdateFiles,

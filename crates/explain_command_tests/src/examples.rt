@@ -1,4 +1,4 @@
-// Updates and plans in which a packet breaks the policy, or whose rounds aren't good.
+//! Updates and plans in which a packet breaks the policy, or whose rounds aren't good.
 use example_files::{UpdateTexts, detour, none, single};
 
 /// Two switches a and b with two links.

@@ -1,4 +1,4 @@
-// `explain` over files in memory.
+//! `explain` over files in memory.
 use crate::examples;
 use check_command::CheckNames;
 use command_base::Status;
@@ -13,13 +13,13 @@ use std::test::Fail;
 
 const NO_RUN: &[u8] = b"no run: every mixed walk is good\n";
 
-// s3 sends back to s1 before s1 sends to s4.
+/// s3 sends back to s1 before s1 sends to s4.
 const BACK_TO_S1: &[u8] = b"start\nenter s1:1 untagged 10.0.0.0\nhop 0\nhop 0\nchange 1\nhop 0\n";
 
-// s sends past w.
+/// s sends past w.
 const PAST_W: &[u8] = b"start\nenter s:1 untagged 10.0.0.0\nchange 0\nhop 0\nhop 0\nhop 0\n";
 
-// What is answered, where the call of the given number fails.
+/// What is answered, where the call of the given number fails.
 fn answered(
     alloc: Global,
     texts: &UpdateTexts<'_>,
@@ -34,7 +34,7 @@ fn answered(
     Ok(answer_of(alloc, explain(alloc, &mut source, &names)))
 }
 
-// The first of the plans that isn't answered so, with this text.
+/// The first of the plans that isn't answered so, with this text.
 fn first_other(
     alloc: Global,
     rows: &[(UpdateTexts<'_>, &[u8], &[u8])],
@@ -249,8 +249,8 @@ fn a_read_that_fails_is_a_read_fault(rt: HostRuntime) -> Result<(), Fail> {
     Ok(())
 }
 
-// What `replay` answers to the schedule, over the update and the plan. The schedule is held in the place of the policy, which
-// `replay` doesn't read.
+/// What `replay` answers to the schedule, over the update and the plan. The schedule is held in the place of the policy, which
+/// `replay` doesn't read.
 fn replayed(
     alloc: Global,
     texts: &UpdateTexts<'_>,
@@ -273,7 +273,7 @@ fn replayed(
     Ok(answer_of(alloc, replay(alloc, &mut source, &names)))
 }
 
-// The first of the updates where `replay` of what `explain` writes isn't answered by this text.
+/// The first of the updates where `replay` of what `explain` writes isn't answered by this text.
 fn first_replayed_otherwise(
     alloc: Global,
     rows: &[(UpdateTexts<'_>, &[u8], &[u8])],

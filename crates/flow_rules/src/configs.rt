@@ -1,4 +1,4 @@
-// The tables of all switches.
+//! The tables of all switches.
 ghost use Rattle.std.specs.Prelude.{◌≡◌, ◌<◌, [], length, replicate, slice_get, Some, IfOk};
 ghost use Rattle.std.specs.Borrow.{sem};
 ghost use Rattle.flow_rules.specs.Lending.{LendsTable};

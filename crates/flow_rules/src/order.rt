@@ -1,4 +1,4 @@
-// The order of keys.
+//! The order of keys.
 ghost use Rattle.std.specs.Prelude.{◌≡◌};
 ghost use Rattle.flow_rules.specs.Order.{port_rank, vlan_rank, key_cmp};
 

@@ -1,4 +1,4 @@
-// The search for two rules that clash.
+//! The search for two rules that clash.
 ghost use Rattle.std.specs.Prelude.{◌<◌, length, ℕ, MatchOption};
 ghost use Rattle.flow_rules.specs.Frees.{IsFree, IsFirstAfter};
 ghost use Rattle.flow_rules.specs.Overlaps.{IsLeastClash};

@@ -1,4 +1,4 @@
-// Patterns, keys, actions and rules.
+//! Patterns, keys, actions and rules.
 ghost use Rattle.std.specs.Prelude.{◌≡◌, ◌↔◌, ◌==◌, IsTrue};
 ghost use Rattle.std.specs.Option.{option_eq};
 ghost use Rattle.net_base.specs.declared.ids.Port.{Port};

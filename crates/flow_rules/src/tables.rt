@@ -1,4 +1,4 @@
-// Flow tables.
+//! Flow tables.
 ghost use Rattle.std.specs.Prelude.{◌≡◌, ◌↔◌, ◌+◌, ◌≤◌, ◌++◌, ◌∷◌, [], filter, map, cond, not, IsTrue, IsNone, IfSome, IfOk, OnOk, OnErr, length, vec_len, vec_capacity};
 ghost use Rattle.std.specs.List.{list_any};
 ghost use Rattle.net_base.specs.Members.{IsIn};

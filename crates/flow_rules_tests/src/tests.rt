@@ -1,4 +1,4 @@
-// Tables at work on worked values.
+//! Tables at work on worked values.
 use flow_rules::{Action, Config, Key, Pattern, Rewrite, Rule, Table, VlanTest};
 use net_base::{Port, SwitchId, Vlan, read_prefix};
 use std::alloc::Global;

@@ -1,4 +1,4 @@
-// Rules of entries, added to the tables of their switches.
+//! Rules of entries, added to the tables of their switches.
 ghost use Rattle.std.specs.Prelude.{◌≡◌, ◌+◌, ◌<◌, ◌≤◌, ◌^◌, ◌++◌, ◌∷◌, [], Ok, OnOk, MatchResult, length};
 ghost use Rattle.net_base.specs.Blocks.{IsBlock};
 ghost use Rattle.net_base.specs.Reading.{Fails, in_turn};

@@ -1,4 +1,4 @@
-// The entries of a message.
+//! The entries of a message.
 ghost use Rattle.std.specs.Prelude.{◌≡◌, ◌+◌, ◌<◌, ◌≤◌, length, option_map, IfOk, IfSome};
 ghost use Rattle.flow_stats.specs.Entries.{actions_in, actions_of, entry_in, entries_in, is_entry, is_output};
 

@@ -1,4 +1,4 @@
-// Why lines of flow statistics give no configuration.
+//! Why lines of flow statistics give no configuration.
 ghost use Rattle.std.specs.Prelude.{◌≡◌};
 ghost use Rattle.flow_stats.specs.declared.fault.StatsFault.TheVariants.{Memory};
 ghost use Rattle.flow_stats.specs.Faults.{field_name, fault_number, fault_name, fault_place};

@@ -1,4 +1,4 @@
-// Structs of flow statistics, field by field (OpenFlow 1.0.0, section 5.3.5).
+//! Structs of flow statistics, field by field (OpenFlow 1.0.0, section 5.3.5).
 ghost use Rattle.std.specs.Prelude.{◌≡◌, ◌+◌, ◌≤◌, length};
 ghost use Rattle.flow_stats.specs.Layout.{stats_reply_at, flow_stats_at};
 

@@ -1,4 +1,4 @@
-// Rules by what they could clash with.
+//! Rules by what they could clash with.
 ghost use Rattle.std.specs.Prelude.{◌≡◌, ◌≤◌, ◌<◌, [], ◌&&◌, OnOk, List, ℕ, true, false, MatchBool};
 ghost use Rattle.std.specs.List.{list_any};
 ghost use Rattle.net_base.specs.Blocks.{IsBlock};

@@ -1,4 +1,4 @@
-// Lines: a switch's name, one space, and the bytes of a message in hexadecimal digits.
+//! Lines: a switch's name, one space, and the bytes of a message in hexadecimal digits.
 ghost use Rattle.std.specs.Prelude.{◌≡◌, ◌==◌, ◌<◌, IfOk};
 ghost use Rattle.net_base.specs.Reading.{Gives, need};
 ghost use Rattle.topology.specs.Networks.{switch_count};

@@ -1,4 +1,4 @@
-// The statistics reply that bytes are.
+//! The statistics reply that bytes are.
 ghost use Rattle.std.specs.Prelude.{◌≡◌, length, option_map, IfOk};
 ghost use Rattle.flow_stats.specs.Messages.{is_flow_reply, progress_of, reply_in, reply_seen};
 

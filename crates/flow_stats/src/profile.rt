@@ -1,4 +1,4 @@
-// What an entry has to be, field by field, so that it is a rule.
+//! What an entry has to be, field by field, so that it is a rule.
 ghost use Rattle.std.specs.Prelude.{◌≡◌, ◌==◌, ◌≤◌, ◌-◌, ◌*◌, ◌/◌, ◌^◌, min};
 ghost use Rattle.std.specs.Int.{bit_at};
 ghost use Rattle.net_base.specs.Reading.{Gives};

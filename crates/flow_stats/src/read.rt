@@ -1,4 +1,4 @@
-// The reader of flow statistics.
+//! The reader of flow statistics.
 ghost use Rattle.std.specs.Prelude.{◌≡◌, ◌==◌, ◌<◌, ◌≤◌, ◌+◌, Ok, OnOk, IfOk, IfSome, MatchResult, length, option_map, slice_index_or};
 ghost use Rattle.net_base.specs.Reading.{Gives, Fails, in_turn};
 ghost use Rattle.topology.specs.Networks.{switch_count};

@@ -1,4 +1,4 @@
-// The text of a configuration.
+//! The text of a configuration.
 ghost use Rattle.std.specs.Prelude.{◌≡◌, ◌<◌, ◌++◌, ◌∷◌, [], Ok, IfOk, OnOk, length, map, option_map, slice_index_or, string_bytes};
 ghost use Rattle.serde_json.specs.View.{view, members_view};
 ghost use Rattle.net_base.specs.Text.{prefix_text};

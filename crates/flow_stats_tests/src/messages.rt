@@ -4,7 +4,7 @@ use net_base::SwitchId;
 use std::alloc::Global;
 use std::process::Abort;
 
-// A refusal as it stands in a line on a bad file.
+/// A refusal as it stands in a line on a bad file.
 fn line_of(rt: &impl Abort, alloc: Global, fault: StatsFault) -> String {
     let (number, name, place) = (fault.number(), fault.name(), fault.place());
     let text = format!(in alloc; "{number} {name} at {place}");

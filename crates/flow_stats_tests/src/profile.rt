@@ -1,4 +1,4 @@
-// Entries with a field outside the profile.
+//! Entries with a field outside the profile.
 use crate::tests::{ENTRY, EntryText, alone, refusal};
 use flow_stats::StatsField::{Actions, DlType, InPort, Priority, Timeouts, Vlan, Wildcards};
 use flow_stats::{StatsFault, StatsField};

@@ -306,7 +306,7 @@ const REST: &[Message<'static>] = &[
     },
 ];
 
-// Entries of two messages of one switch, with a comment and the other switch between them; the last line has no end.
+/// Entries of two messages of one switch, with a comment and the other switch between them; the last line has no end.
 #[test]
 fn a_reply_goes_on_where_more_follows(rt: HostRuntime) {
     let alloc = rt.alloc();
@@ -328,7 +328,7 @@ fn a_file_without_messages_tells_empty_tables(rt: HostRuntime) {
     }
 }
 
-// An output behind another one; 4 bytes of actions.
+/// An output behind another one; 4 bytes of actions.
 const OTHER_ACTIONS: &[Refused<'static>] = &[
     (
         &[Message {
@@ -419,7 +419,7 @@ fn what_is_no_flow_statistics_reply_is_a_bad_message(rt: HostRuntime) {
     }
 }
 
-// A whole reply and a second one; two replies that go on.
+/// A whole reply and a second one; two replies that go on.
 const UNENDED: &[Refused<'static>] = &[
     (
         &[
@@ -533,7 +533,7 @@ const TWO_OF_A: Message<'static> = Message {
     ],
 };
 
-// Entries are numbered over all lines; the switch `b` has room for two, which is a matter of the end.
+/// Entries are numbered over all lines; the switch `b` has room for two, which is a matter of the end.
 const NUMBERED: &[Refused<'static>] = &[
     (
         &[

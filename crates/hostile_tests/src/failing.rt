@@ -1,4 +1,4 @@
-// Sources whose calls fail, one after the other: until a run meets no failure, each ends as a fault of reading and writes nothing.
+//! Sources whose calls fail, one after the other: until a run meets no failure, each ends as a fault of reading and writes nothing.
 use check_command::{CheckNames, check};
 use command_base::{PlanNames, Status};
 use emit_command::emit;
@@ -8,10 +8,10 @@ use simulate_command::{SimulateNames, simulate};
 use std::alloc::Global;
 use std::process::Abort;
 
-// More calls than any of these runs makes.
+/// More calls than any of these runs makes.
 const MANY: u64 = 100;
 
-// A source with the files of the square network and its plan, whose call of this number fails.
+/// A source with the files of the square network and its plan, whose call of this number fails.
 fn failing_at(rt: &impl Abort, alloc: Global, call: u64) -> MemorySource {
     let source = update_source(alloc, &square::update(), square::plan(), 4096, call);
     source.expect(rt, "a source")
@@ -24,7 +24,7 @@ fn check_names() -> CheckNames<'static> {
     }
 }
 
-// Whether a run failed at reading, without a text.
+/// Whether a run failed at reading, without a text.
 fn is_read_fault(answer: &Answer) -> bool {
     answer.is(Status::ReadFault, b"")
 }

@@ -1,11 +1,11 @@
-// `check` over the plan of the square network, damaged in one place.
+//! `check` over the plan of the square network, damaged in one place.
 use check_command::{CheckNames, check};
 use command_base::Status;
 use example_files::{Answer, answer_of, square, update_names, update_source};
 use std::alloc::Global;
 use std::process::Abort;
 
-// What `check` answers over the square network to these bytes in the place of a plan.
+/// What `check` answers over the square network to these bytes in the place of a plan.
 fn answered(rt: &impl Abort, alloc: Global, plan: &[u8]) -> Answer {
     let source = update_source(alloc, &square::update(), plan, 4096, 0);
     let mut source = source.expect(rt, "a source");
@@ -16,14 +16,14 @@ fn answered(rt: &impl Abort, alloc: Global, plan: &[u8]) -> Answer {
     answer_of(alloc, check(alloc, &mut source, &names))
 }
 
-// The plan in format 1 as text.
+/// The plan in format 1 as text.
 fn plan_text(rt: &impl Abort) -> &'static str {
     str::from_utf8(square::plan_in_format_1())
         .ok()
         .expect(rt, "text")
 }
 
-// A text with another part in the place of the first one like this.
+/// A text with another part in the place of the first one like this.
 fn with_part(rt: &impl Abort, alloc: Global, text: &str, part: &str, other: &str) -> Vec<u8> {
     let (front, rest) = text.split_once(part).expect(rt, "the part");
     let text = format!(in alloc; "{front}{other}{rest}");
@@ -80,7 +80,7 @@ fn a_plan_with_another_part_is_refused(rt: HostRuntime) {
     }
 }
 
-// As many brackets that open as brackets that close.
+/// As many brackets that open as brackets that close.
 fn brackets(rt: &impl Abort, alloc: Global, count: usize) -> Vec<u8> {
     let mut text = vec![in alloc; b'['; count].expect(rt, "memory");
     let rest = vec![in alloc; b']'; count].expect(rt, "memory");

@@ -1,11 +1,11 @@
-// `replay` of schedules that are damaged or can't have happened, over the square network and its plan.
+//! `replay` of schedules that are damaged or can't have happened, over the square network and its plan.
 use command_base::Status;
 use example_files::{Answer, UpdateTexts, answer_of, square, update_source};
 use replay_command::{ReplayNames, replay};
 use std::alloc::Global;
 use std::process::Abort;
 
-// What `replay` answers to the schedule. It is held in the place of a policy, which `replay` doesn't read.
+/// What `replay` answers to the schedule. It is held in the place of a policy, which `replay` doesn't read.
 fn answered(rt: &impl Abort, alloc: Global, schedule: &[u8]) -> Answer {
     let texts = UpdateTexts {
         topology: square::topology(),

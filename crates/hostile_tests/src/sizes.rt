@@ -1,4 +1,4 @@
-// How many bytes a file of each kind may have.
+//! How many bytes a file of each kind may have.
 use command_base::{FileKind, Status, fetch_file};
 use example_files::{Answer, answer_of};
 use net_base::MemorySource;
@@ -24,7 +24,7 @@ fn each_kind_has_its_limit(rt: HostRuntime) {
     }
 }
 
-// A source with a file of as many spaces as the kind may have bytes, and then more.
+/// A source with a file of as many spaces as the kind may have bytes, and then more.
 fn holding(rt: &impl Abort, alloc: Global, kind: FileKind, more: &[u8]) -> MemorySource {
     let none = Vec::new(alloc);
     let mut source = MemorySource::make(alloc, 4096, none).expect(rt, "memory");
@@ -36,21 +36,21 @@ fn holding(rt: &impl Abort, alloc: Global, kind: FileKind, more: &[u8]) -> Memor
     source
 }
 
-// How many bytes of the longest file are fetched.
+/// How many bytes of the longest file are fetched.
 fn fetched(rt: &impl Abort, alloc: Global, kind: FileKind) -> Option<u64> {
     let mut source = holding(rt, alloc, kind, b"");
     let bytes = fetch_file(alloc, &mut source, kind, "file").ok()?;
     Some(bytes.len() as u64)
 }
 
-// What is said of a file with one byte more.
+/// What is said of a file with one byte more.
 fn said(rt: &impl Abort, alloc: Global, kind: FileKind) -> Answer {
     let mut source = holding(rt, alloc, kind, b"x");
     let fetched = fetch_file(alloc, &mut source, kind, "file");
     answer_of(alloc, Err(fetched.err().expect(rt, "a refusal")))
 }
 
-// The longest plan takes more than 1 GB here.
+/// The longest plan takes more than 1 GB here.
 #[test]
 fn a_file_is_fetched_up_to_its_limit(rt: HostRuntime) {
     let alloc = rt.alloc();

@@ -1,4 +1,4 @@
-// The command that makes a configuration from flow statistics.
+//! The command that makes a configuration from flow statistics.
 ghost use Rattle.std.specs.Prelude.{◌≡◌, ◌≤◌, IfOk};
 ghost use Rattle.flow_rules.specs.Tables.{rules_of_all};
 ghost use Rattle.path_walk.specs.UserConfigs.{IsUserConfig};
@@ -15,7 +15,7 @@ use net_base::{Memory, Source};
 use std::alloc::Global;
 use topology::Net;
 
-// The text of a configuration.
+/// The text of a configuration.
 fn config_reply(alloc: Global, net: &Net, config: &Config) -> Result<Reply, Memory>
     requires { IsUserConfig net.now (rules_of_all config.now) }
     ensures { IfOk result (λ r. SaysConfig net.now (rules_of_all config.now) (answer_of r)) }

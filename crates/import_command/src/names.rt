@@ -1,4 +1,4 @@
-// The words of `import`.
+//! The words of `import`.
 ghost use Rattle.std.specs.Prelude.{◌≡◌, map, string_bytes, option_map};
 ghost use Rattle.import_command.specs.Names.{names_in, names_seen};
 

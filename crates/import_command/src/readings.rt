@@ -1,4 +1,4 @@
-// Flow statistics, fetched and read.
+//! Flow statistics, fetched and read.
 ghost use Rattle.std.specs.Prelude.{◌≡◌, ◌≤◌, IfOk, IfErr, OnOk, Ok, Some, Option};
 ghost use Rattle.flow_rules.specs.Tables.{rules_of_all};
 ghost use Rattle.path_walk.specs.UserConfigs.{IsUserConfig};
@@ -15,7 +15,7 @@ use net_base::Source;
 use std::alloc::Global;
 use topology::Net;
 
-// What is printed of a fault of flow statistics.
+/// What is printed of a fault of flow statistics.
 fn stats_fault(fault: StatsFault) -> Fault
     ensures { words_of result ≡ replies_words fault }
 {
@@ -27,7 +27,7 @@ fn stats_fault(fault: StatsFault) -> Fault
     }
 }
 
-// The configuration that the bytes tell.
+/// The configuration that the bytes tell.
 fn replies_of(alloc: Global, net: &Net, bytes: &[u8]) -> Result<Config, Exit>
     ensures ok { IfOk result (λ c. replies_in net.now bytes.now ≡ Ok (rules_of_all c)) }
     ensures user { IfOk result (λ c. IsUserConfig net.now (rules_of_all c)) }

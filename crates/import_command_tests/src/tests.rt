@@ -1,4 +1,4 @@
-// `import` over files in memory.
+//! `import` over files in memory.
 use command_base::Status;
 use config_command::{ConfigNames, config};
 use example_files::{Answer, answer_of, square};
@@ -19,7 +19,7 @@ const HIGH: &str =
 const BEGUN: &str =
     "s1 0111006c000000000001000100600000003220ef000000000000000000000000000000000000080000000000000000000a0000000000000000000000000000000064000000000000000000000000000000000000000000000000000000000000000000000000000800020000\n";
 
-// What `import` answers to these lines.
+/// What `import` answers to these lines.
 fn answered(alloc: Global, replies: &[u8]) -> Result<Answer, Fail> {
     let mut source = MemorySource::make(alloc, 4096, Vec::new(alloc))?;
     let topology = square::topology().to_vec(alloc)?;
@@ -33,7 +33,7 @@ fn answered(alloc: Global, replies: &[u8]) -> Result<Answer, Fail> {
     Ok(answer_of(alloc, result))
 }
 
-// What `config` answers to this configuration.
+/// What `config` answers to this configuration.
 fn judged(alloc: Global, text: &[u8]) -> Result<Answer, Fail> {
     let mut source = MemorySource::make(alloc, 4096, Vec::new(alloc))?;
     let topology = square::topology().to_vec(alloc)?;

@@ -1,11 +1,11 @@
-// How many classes there may be.
+//! How many classes there may be.
 use dest_classes::{ClassFault, class_map};
 use net_base::{Prefix, read_prefix};
 use std::alloc::Global;
 use std::process::Abort;
 use topology::{Net, read_net};
 
-// A network of so many host ports, 64 at each switch but the last, and one VLAN.
+/// A network of so many host ports, 64 at each switch but the last, and one VLAN.
 fn network(rt: &impl Abort, alloc: Global, hosts: u32) -> Net {
     let mut switches = String::new(alloc);
     let mut ports = String::new(alloc);
@@ -28,7 +28,7 @@ fn network(rt: &impl Abort, alloc: Global, hosts: u32) -> Net {
     net.ok().expect(rt, "a network")
 }
 
-// How many classes there are for one prefix, or why there is no map of them.
+/// How many classes there are for one prefix, or why there is no map of them.
 fn counted(rt: &impl Abort, alloc: Global, hosts: u32, prefix: Prefix) -> Result<u32, ClassFault> {
     let net = network(rt, alloc, hosts);
     Ok(class_map(alloc, &net, &[prefix])?.count())

@@ -1,9 +1,9 @@
-// How many lists and objects of a file may be open at once.
+//! How many lists and objects of a file may be open at once.
 use net_base::parse_json;
 use std::alloc::Global;
 use std::process::Abort;
 
-// Whether a text of so many lists in one another is read.
+/// Whether a text of so many lists in one another is read.
 fn is_read(rt: &impl Abort, alloc: Global, levels: usize) -> bool {
     let mut text = vec![in alloc; b'['; levels].expect(rt, "memory");
     let rest = vec![in alloc; b']'; levels].expect(rt, "memory");

@@ -1,15 +1,15 @@
-// How many ports of a switch links may use, and how long a name may be.
+//! How many ports of a switch links may use, and how long a name may be.
 use net_base::Field;
 use std::alloc::Global;
 use std::process::Abort;
 use topology::{NetFault, read_net};
 
-// Why this text isn't read.
+/// Why this text isn't read.
 fn fault_of(alloc: Global, text: &str) -> Option<NetFault> {
     read_net(alloc, text.as_bytes()).err()
 }
 
-// A topology of the switches a and b, which so many links join by the ports from 1 on.
+/// A topology of the switches a and b, which so many links join by the ports from 1 on.
 fn joined(rt: &impl Abort, alloc: Global, count: u32) -> String {
     let mut text = String::new(alloc);
     let mut front =

@@ -1,11 +1,11 @@
-// How many rounds, changes and rules a plan may have, and how great its numbers may be.
+//! How many rounds, changes and rules a plan may have, and how great its numbers may be.
 use crate::texts::{pair, repeated};
 use net_base::Field;
 use plan_format::{PlanFault, read_plan};
 use std::alloc::Global;
 use std::process::Abort;
 
-// Whether a text in three parts is read, or refused by this fault.
+/// Whether a text in three parts is read, or refused by this fault.
 fn is_answered(
     rt: &impl Abort,
     alloc: Global,
@@ -23,7 +23,7 @@ const ROUNDS: &str = "{\"format\":1,\"kind\":\"ordered\",\"rounds\":[";
 
 const NUMBERED_ROUNDS: &str = "{\"format\":2,\"kind\":\"ordered\",\"rules\":[],\"rounds\":[";
 
-// So many rounds, in both formats. What is read comes to the member that lacks.
+/// So many rounds, in both formats. What is read comes to the member that lacks.
 fn rounds_are(rt: &impl Abort, alloc: Global, count: u32, fault: PlanFault) {
     let rounds = repeated(rt, alloc, "[]", count);
     is_answered(rt, alloc, ROUNDS, rounds.as_str(), "]}", Some(fault));
@@ -50,7 +50,7 @@ const TRIED: &str =
 const NUMBERED_TRIED: &str =
     "{\"format\":2,\"kind\":\"two-phase\",\"rules\":[],\"rounds\":[],\"labels\":[],\"picks\":[],\"tried\":[";
 
-// So many rounds that were tried, in both formats.
+/// So many rounds that were tried, in both formats.
 fn tried_are(rt: &impl Abort, alloc: Global, count: u32, fault: Option<PlanFault>) {
     let tried = repeated(rt, alloc, "[]", count);
     is_answered(rt, alloc, TRIED, tried.as_str(), "]}", fault);
@@ -67,13 +67,13 @@ fn a_plan_has_at_most_4096_tried_rounds(rt: HostRuntime) {
 const CHANGES: &str =
     "{\"format\":2,\"kind\":\"two-phase\",\"labels\":[],\"picks\":[],\"rules\":[{\"dst\":\"0.0.0.0/0\",\"out\":1,\"priority\":1,\"switch\":\"a\"}],\"rounds\":[[";
 
-// The most changes in one round, and this behind them.
+/// The most changes in one round, and this behind them.
 fn most_changes_are(rt: &impl Abort, alloc: Global, end: &str, fault: Option<PlanFault>) {
     let changes = repeated(rt, alloc, "[\"insert\",0]", 2_200_000);
     is_answered(rt, alloc, CHANGES, changes.as_str(), end, fault);
 }
 
-// Changes that are tried count behind those of the rounds.
+/// Changes that are tried count behind those of the rounds.
 #[test]
 fn a_plan_has_at_most_2200000_changes(rt: HostRuntime) {
     let alloc = rt.alloc();
@@ -88,7 +88,7 @@ const RULES: &str = "{\"format\":2,\"kind\":\"ordered\",\"rules\":[";
 
 const RULE: &str = "{\"dst\":\"0.0.0.0/0\",\"out\":1,\"priority\":1,\"switch\":\"a\"}";
 
-// What is read comes to the member that lacks. The tree of this file takes more than 2 GB.
+/// What is read comes to the member that lacks. The tree of this file takes more than 2 GB.
 #[test]
 fn a_plan_has_at_most_2200000_rules(rt: HostRuntime) {
     let alloc = rt.alloc();
@@ -99,7 +99,7 @@ fn a_plan_has_at_most_2200000_rules(rt: HostRuntime) {
     is_answered(&rt, alloc, RULES, rules.as_str(), ",0]}", Some(fault));
 }
 
-// One round, one set, and a pick in it.
+/// One round, one set, and a pick in it.
 const EVIDENCE: &str =
     "{\"format\":1,\"kind\":\"ordered\",\"rounds\":[[]],\"befores\":[[0,1]],\"numberings\":[[0,";
 
@@ -131,7 +131,7 @@ fn numbers_of_evidence_end_at_their_greatest(rt: HostRuntime) {
     }
 }
 
-// A change with these members beside its switch, in the first round.
+/// A change with these members beside its switch, in the first round.
 const CHANGE: &str =
     "{\"format\":1,\"kind\":\"ordered\",\"numberings\":[],\"befores\":[],\"picks\":[],\"rounds\":[[{\"do\":\"insert\",\"switch\":\"a\",";
 

@@ -1,4 +1,4 @@
-// How many demands a policy may have, and how many waypoints a demand.
+//! How many demands a policy may have, and how many waypoints a demand.
 use crate::texts::{pair, repeated};
 use demands::{DemandFault, read_demands};
 use net_base::Field;

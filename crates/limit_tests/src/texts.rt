@@ -1,9 +1,9 @@
-// Texts that repeat, and a network of two switches.
+//! Texts that repeat, and a network of two switches.
 use std::alloc::Global;
 use std::process::Abort;
 use topology::{Net, read_net};
 
-// Port 1 of each of two switches is a host port; their ports 2 are linked.
+/// Port 1 of each of two switches is a host port; their ports 2 are linked.
 const PAIR: &str =
     r#"{"switches":[{"name":"a","capacity":10},{"name":"b","capacity":10}],"links":[["a:2","b:2"]],"hosts":["a:1","b:1"],"vlans":["untagged"],"tags":[3000,3000]}"#;
 

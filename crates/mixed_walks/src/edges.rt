@@ -1,4 +1,4 @@
-// Steps between switches, each of them once, with a mark for each that may stand there.
+//! Steps between switches, each of them once, with a mark for each that may stand there.
 ghost use Rattle.std.specs.Prelude.{◌≡◌, ◌↔◌, ◌⊎◌, ◌<◌, [], ℕ, length, map, true, false, slice_index_or, All, IfOk};
 ghost use Rattle.net_base.specs.Members.{IsIn};
 ghost use Rattle.acyclic_numbering.specs.declared.Edge.{Edge};

@@ -1,4 +1,4 @@
-// Switches, each of them once, with a mark for each that may stand there.
+//! Switches, each of them once, with a mark for each that may stand there.
 ghost use Rattle.std.specs.Prelude.{◌≡◌, ◌↔◌, ◌⊎◌, ◌<◌, [], ℕ, length, map, true, false, slice_index_or, All, IfOk};
 ghost use Rattle.net_base.specs.Members.{IsIn};
 ghost use Rattle.net_base.specs.declared.ids.SwitchId.{SwitchId};

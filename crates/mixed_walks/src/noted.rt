@@ -1,4 +1,4 @@
-// What is noted while the mixed walks of a class are walked.
+//! What is noted while the mixed walks of a class are walked.
 ghost use Rattle.std.specs.Prelude.{◌≡◌, ◌↔◌, ◌<◌, ◌∷◌, [], length, slice_get, All, IfOk};
 ghost use Rattle.net_base.specs.Members.{IsIn, IsDistinct};
 ghost use Rattle.net_base.specs.declared.ids.Place.{Place};

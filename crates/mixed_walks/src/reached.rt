@@ -1,4 +1,4 @@
-// The places that the walks of a class come to, each of them once.
+//! The places that the walks of a class come to, each of them once.
 ghost use Rattle.std.specs.Prelude.{◌≡◌, ◌↔◌, ◌⊎◌, ◌<◌, ◌++◌, [], ℕ, List, IsTrue, length, map, slice_get, slice_index_or, All, IfOk};
 ghost use Rattle.net_base.specs.Members.{IsIn, IsDistinct};
 ghost use Rattle.net_base.specs.declared.ids.Place.{Place};

@@ -1,4 +1,4 @@
-// The members of files.
+//! The members of files.
 ghost use Rattle.std.specs.Prelude.{◌≡◌};
 ghost use Rattle.net_base.specs.Fields.{field_name};
 

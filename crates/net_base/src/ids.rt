@@ -1,4 +1,4 @@
-// Numbers of switches and ports, VLANs, and the places of a packet.
+//! Numbers of switches and ports, VLANs, and the places of a packet.
 
 /// A switch, by its number from 0 in file order.
 #[derive(Clone, Copy, Debug, PartialEq, Eq, PartialOrd, Ord, Hash)]

@@ -1,4 +1,4 @@
-// The lines of a text: which are comments.
+//! The lines of a text: which are comments.
 ghost use Rattle.std.specs.Prelude.{◌≡◌};
 ghost use Rattle.net_base.specs.Lines as lines;
 

@@ -1,4 +1,4 @@
-// Address prefixes.
+//! Address prefixes.
 ghost use Rattle.std.specs.Prelude.{◌≡◌, ◌≢◌, ◌<◌, ◌≤◌, ◌^◌, ◌%◌, ◌-◌, ℕ, IfSome, IfOk, OnErr};
 ghost use Rattle.std.specs.Result.{result_ok};
 ghost use Rattle.net_base.specs.Blocks.{in_block, Block, IsBlock};

@@ -1,4 +1,4 @@
-// The files and the standard output of the system. They tell nothing of what they hold.
+//! The files and the standard output of the system. They tell nothing of what they hold.
 ghost use Rattle.std.specs.Prelude.{◌≡◌, [], None, is_some, string_bytes};
 
 use crate::{Failed, Sink, Source};

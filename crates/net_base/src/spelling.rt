@@ -1,4 +1,4 @@
-// How addresses, prefixes and VLANs are written.
+//! How addresses, prefixes and VLANs are written.
 ghost use Rattle.std.specs.Prelude.{◌≡◌, IfOk};
 ghost use Rattle.net_base.specs.Text as texts;
 

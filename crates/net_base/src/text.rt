@@ -1,4 +1,4 @@
-// Decimals, and the parts of a text round a character.
+//! Decimals, and the parts of a text round a character.
 ghost use Rattle.std.specs.Prelude.{◌≡◌, ◌≢◌, ◌<◌, ◌≤◌, ◌^◌, ℕ, option_map, IfSome, IfNone, decimal};
 ghost use Rattle.std.specs.Char.{is_ascii_digit};
 ghost use Rattle.std.specs.List.{list_all};

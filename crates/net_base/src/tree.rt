@@ -1,4 +1,4 @@
-// JSON trees, as `serde_json` reads and writes them.
+//! JSON trees, as `serde_json` reads and writes them.
 ghost use Rattle.std.specs.Prelude.{◌≡◌, ◌≤◌, ◌++◌, ◌∷◌, [], false, Ok, Some, IfOk, option_map, map};
 ghost use Rattle.serde_json.specs.Data.{depth};
 ghost use Rattle.serde_json.specs.View.{view};

@@ -1,4 +1,4 @@
-// What no clause says: the small texts by outside values, that calls succeed, and the outside failing at each call in turn.
+//! What no clause says: the small texts by outside values, that calls succeed, and the outside failing at each call in turn.
 ghost use Rattle.std.specs.Prelude.{◌≤◌};
 
 use net_base::{
@@ -99,7 +99,7 @@ fn reads_json_as_the_library_does(rt: HostRuntime) -> Result<(), Fail> {
     Ok(())
 }
 
-// One file of 40 bytes, given in pieces. The call of this number fails.
+/// One file of 40 bytes, given in pieces. The call of this number fails.
 fn one_file(alloc: Global, piece: usize, failing: u64) -> Result<MemorySource, Fail>
     requires { 1 ≤ piece }
 {

@@ -1,4 +1,4 @@
-// What holds of the wire texts of all messages.
+//! What holds of the wire texts of all messages.
 ghost use Rattle.std.specs.Prelude.{◌≡◌, ◌++◌, ℕ, List};
 ghost use Rattle.openflow10.specs.Layout.{Holds, Spans};
 ghost use Rattle.openflow10.specs.Messages.{BeginsWith, IsMessage, length_of, message_table, wire_text};

@@ -1,4 +1,4 @@
-// Big-endian numbers in messages.
+//! Big-endian numbers in messages.
 ghost use Rattle.std.specs.Prelude.{◌≡◌, ◌+◌, ◌≤◌, ◌++◌, length, replicate, IfOk};
 ghost use Rattle.openflow10.specs.Layout.{number_at, number_bytes};
 

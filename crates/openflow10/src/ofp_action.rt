@@ -1,4 +1,4 @@
-// The actions of a flow message (OpenFlow 1.0.0, section 5.2.4).
+//! The actions of a flow message (OpenFlow 1.0.0, section 5.2.4).
 ghost use Rattle.std.specs.Prelude.{◌≡◌, ◌+◌, ◌*◌, ◌≤◌, length};
 ghost use Rattle.openflow10.specs.Actions.{action_at, actions_at, action_in, output_in, rewrite_in, is_port, is_vlan_id, is_output, is_set_vlan_vid, is_strip_vlan};
 

@@ -1,4 +1,4 @@
-// The fixed part of a flow message (OpenFlow 1.0.0, section 5.3.3).
+//! The fixed part of a flow message (OpenFlow 1.0.0, section 5.3.3).
 ghost use Rattle.std.specs.Prelude.{◌≡◌, ◌≤◌, true, None, length};
 ghost use Rattle.std.specs.Result.{result_err};
 ghost use Rattle.openflow10.specs.FlowMod.{flow_mod_at, key_in};

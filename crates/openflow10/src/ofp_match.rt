@@ -1,4 +1,4 @@
-// The flow match, struct ofp_match (OpenFlow 1.0.0, section 5.2.3).
+//! The flow match, struct ofp_match (OpenFlow 1.0.0, section 5.2.3).
 ghost use Rattle.std.specs.Prelude.{◌≡◌, ◌+◌, ◌-◌, ◌%◌, ◌^◌, ◌==◌, ◌≤◌, None, length};
 ghost use Rattle.std.specs.Result.{result_err};
 ghost use Rattle.std.specs.Int.{bit_at};

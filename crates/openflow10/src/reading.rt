@@ -1,4 +1,4 @@
-// Reading messages.
+//! Reading messages.
 ghost use Rattle.std.specs.Prelude.{◌≡◌, ◌+◌, ◌*◌, ◌≤◌, ◌∷◌, ℕ, [], true, None, is_some, length, IfOk, IfSome, Ok};
 ghost use Rattle.std.specs.Result.{result_err};
 ghost use Rattle.openflow10.specs.Layout.{number_at};

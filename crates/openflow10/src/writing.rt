@@ -1,4 +1,4 @@
-// Writing messages.
+//! Writing messages.
 ghost use Rattle.std.specs.Prelude.{◌≡◌, ◌+◌, ◌*◌, ◌≤◌, ◌++◌, ℕ, List, length, replicate, vec_len, IfOk};
 ghost use Rattle.openflow10.specs.Layout.{text_of};
 ghost use Rattle.openflow10.specs.Match.{match_table, match_of};

@@ -1,4 +1,4 @@
-// A case of an ordered plan, with what is made of it once, and a round of it.
+//! A case of an ordered plan, with what is made of it once, and a round of it.
 ghost use Rattle.std.specs.Prelude.{◌≡◌, ◌<◌, ◌≤◌, length, slice_get, Some};
 ghost use Rattle.topology.specs.Networks.{switch_count, IsNetwork};
 ghost use Rattle.path_walk.specs.UserConfigs.{IsUserConfig};

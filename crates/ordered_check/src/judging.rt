@@ -1,4 +1,4 @@
-// One class of a round of an ordered plan.
+//! One class of a round of an ordered plan.
 ghost use Rattle.certificates.specs.Updates.{rollout};
 ghost use Rattle.std.specs.Prelude.{◌<◌, suc, length, IsTrue, IfSome, IfNone};
 ghost use Rattle.net_base.specs.Members.{IsIn};

@@ -1,4 +1,4 @@
-// The least switches at which something is wrong.
+//! The least switches at which something is wrong.
 ghost use Rattle.std.specs.Prelude.{◌↔◌, ◌<◌, length, All, IsTrue};
 ghost use Rattle.std.specs.Option.{option_copied};
 ghost use Rattle.net_base.specs.Members.{IsIn};

@@ -1,4 +1,4 @@
-// The classes of the rounds of an ordered plan.
+//! The classes of the rounds of an ordered plan.
 ghost use Rattle.certificates.specs.Updates.{rollout};
 ghost use Rattle.std.specs.Prelude.{◌≡◌, ◌≢◌, ◌↔◌, ℕ, ◌<◌, ◌≤◌, suc, true, false, List, Bool, length, All, IsTrue, IsSomeAnd, slice_get, Some, IfOk, IfSome, IfNone};
 ghost use Rattle.net_base.specs.Members.{IsIn};

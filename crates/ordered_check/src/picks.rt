@@ -1,4 +1,4 @@
-// The picks of an ordered plan that are in force.
+//! The picks of an ordered plan that are in force.
 ghost use Rattle.std.specs.Prelude.{◌≡◌, ℕ, ◌≤◌, ◌<◌, length, replicate, slice_get, slice_set, Some, None, IfOk};
 ghost use Rattle.certificates.specs.Valid.{IsChain, IsPickBefore};
 ghost use Rattle.ordered_check.specs.Picks.{PicksStand};

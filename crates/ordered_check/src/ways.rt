@@ -1,4 +1,4 @@
-// The positions of the chains of a class that before sets don't guard.
+//! The positions of the chains of a class that before sets don't guard.
 ghost use Rattle.std.specs.Prelude.{◌≡◌, ◌<◌, ◌≤◌, length, None, All, IfSome, IfNone};
 ghost use Rattle.net_base.specs.Members.{IsIn};
 ghost use Rattle.acyclic_numbering.specs.Heights.{IsEdge};

@@ -1,4 +1,4 @@
-// The room for the stops of a path.
+//! The room for the stops of a path.
 ghost use Rattle.std.specs.Prelude.{◌≡◌, ◌<◌, ◌≤◌, ◌++◌, ◌∷◌, [], length, IfOk};
 ghost use Rattle.net_base.specs.Places.{stop_of};
 ghost use Rattle.topology.specs.Networks.{switch_count};

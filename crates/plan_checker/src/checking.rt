@@ -1,4 +1,4 @@
-// Whether a plan is certified, and otherwise the first reason why not.
+//! Whether a plan is certified, and otherwise the first reason why not.
 ghost use Rattle.certificates.specs.Updates.{rollout};
 ghost use Rattle.std.specs.Prelude.{◌≡◌, ◌↔◌, suc, ◌<◌, length, IfSome, IfNone, if◌then◌else◌};
 ghost use Rattle.topology.specs.Networks.{switch_count};

@@ -1,4 +1,4 @@
-// The prefixes that tell the addresses of an update apart.
+//! The prefixes that tell the addresses of an update apart.
 ghost use Rattle.std.specs.Prelude.{◌≡◌, ◌++◌, length, map, IfOk, OnOk};
 ghost use Rattle.topology.specs.Networks.{switch_count};
 ghost use Rattle.flow_rules.specs.Tables.{rules_of_all, table_blocks};

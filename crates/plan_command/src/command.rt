@@ -1,4 +1,4 @@
-// The command that plans an update.
+//! The command that plans an update.
 ghost use Rattle.std.specs.Prelude.{◌≡◌, ◌≤◌};
 ghost use Rattle.command_base.specs.Names.{names_seen};
 ghost use Rattle.command_base.specs.Readings.{reading_update};

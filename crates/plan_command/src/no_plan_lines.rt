@@ -1,4 +1,4 @@
-// The lines on an update for which there is no plan.
+//! The lines on an update for which there is no plan.
 ghost use Rattle.std.specs.Prelude.{◌≡◌, IfOk};
 ghost use Rattle.plan_command.specs.NoPlanLines as lines;
 
@@ -9,7 +9,7 @@ use std::alloc::Global;
 use topology::Net;
 use update_model::Rounds;
 
-// The rounds that were tried.
+/// The rounds that were tried.
 fn tried_line(alloc: Global, net: &Net, tried: &Rounds) -> Result<Vec<u8>, Memory>
     ensures { IfOk result (λ t. t.items ≡ lines.tried_line net.now tried.now) }
 {

@@ -1,4 +1,4 @@
-// What is said of an update that is to be planned.
+//! What is said of an update that is to be planned.
 ghost use Rattle.std.specs.Prelude.{◌≡◌, ◌≤◌, Bool, IfOk};
 ghost use Rattle.flow_rules.specs.Tables.{rules_of_all};
 ghost use Rattle.path_walk.specs.UserConfigs.{IsUserConfig};
@@ -46,7 +46,7 @@ pub fn update_prefixes(alloc: Global, files: &UpdateFiles) -> Result<Vec<Prefix>
     Ok(prefixes)
 }
 
-// The reply on an end that isn't good.
+/// The reply on an end that isn't good.
 fn end_reply(
     alloc: Global,
     files: &UpdateFiles,
@@ -69,7 +69,7 @@ fn end_reply(
     )
 }
 
-// The reply by a new plan.
+/// The reply by a new plan.
 fn new_plan_reply(alloc: Global, files: &UpdateFiles, plan: &Plan) -> Result<Reply, Memory>
     requires old { IsUserConfig files.now.net (rules_of_all files.now.old) }
     requires new { IsUserConfig files.now.net (rules_of_all files.now.new) }
@@ -84,7 +84,7 @@ fn new_plan_reply(alloc: Global, files: &UpdateFiles, plan: &Plan) -> Result<Rep
     plan_reply(alloc, &files.net, plan)
 }
 
-// The reply on too few tags, after a search that was stuck.
+/// The reply on too few tags, after a search that was stuck.
 fn too_few_reply(
     alloc: Global,
     files: &UpdateFiles,
@@ -102,7 +102,7 @@ fn too_few_reply(
     })
 }
 
-// The reply on a switch that is too small, after a search that was stuck.
+/// The reply on a switch that is too small, after a search that was stuck.
 fn too_small_reply(
     alloc: Global,
     files: &UpdateFiles,
@@ -121,7 +121,7 @@ fn too_small_reply(
     })
 }
 
-// The reply by two phases, after a search that was stuck.
+/// The reply by two phases, after a search that was stuck.
 fn two_phase_reply(alloc: Global, files: &UpdateFiles, tried: &Rounds) -> Result<Reply, Memory>
     requires old { IsUserConfig files.now.net (rules_of_all files.now.old) }
     requires new { IsUserConfig files.now.net (rules_of_all files.now.new) }
@@ -144,7 +144,7 @@ fn two_phase_reply(alloc: Global, files: &UpdateFiles, tried: &Rounds) -> Result
     }
 }
 
-// The reply by an ordered plan, or by two phases where the search is stuck.
+/// The reply by an ordered plan, or by two phases where the search is stuck.
 fn search_reply(
     alloc: Global,
     files: &UpdateFiles,
@@ -165,7 +165,7 @@ fn search_reply(
     }
 }
 
-// The reply over few enough classes.
+/// The reply over few enough classes.
 fn classed_reply(alloc: Global, files: &UpdateFiles, classes: &ClassMap) -> Result<Reply, Memory>
     requires old { IsUserConfig files.now.net (rules_of_all files.now.old) }
     requires new { IsUserConfig files.now.net (rules_of_all files.now.new) }

@@ -1,42 +1,42 @@
-// Updates in which the first change fails at first by a class: a sends straight to c, and then by b, which has no rule for it yet.
+//! Updates in which the first change fails at first by a class: a sends straight to c, and then by b, which has no rule for it yet.
 use example_files::UpdateTexts;
 
-// From a packets must arrive.
+/// From a packets must arrive.
 fn policy() -> &'static [u8] {
     br#"{"demands":[{"from":"a:1","dst":"10.0.0.0/24","deliver":true}]}"#
 }
 
-// a sends straight to c.
+/// a sends straight to c.
 fn straight() -> &'static [u8] {
     br#"{"rules":[{"switch":"a","priority":100,"dst":"10.0.0.0/24","out":3},{"switch":"c","priority":100,"dst":"10.0.0.0/24","out":1}]}"#
 }
 
-// Three switches in a triangle.
+/// Three switches in a triangle.
 fn triangle() -> &'static [u8] {
     br#"{"switches":[{"name":"a","capacity":8},{"name":"b","capacity":8},{"name":"c","capacity":8}],"links":[["a:2","b:1"],["b:2","c:2"],["a:3","c:3"]],"hosts":["a:1","c:1"],"vlans":["untagged"],"tags":[]}"#
 }
 
-// The triangle, and a switch z that no packet from a comes to.
+/// The triangle, and a switch z that no packet from a comes to.
 fn triangle_beside_z() -> &'static [u8] {
     br#"{"switches":[{"name":"a","capacity":8},{"name":"z","capacity":8},{"name":"b","capacity":8},{"name":"c","capacity":8}],"links":[["a:2","b:1"],["b:2","c:2"],["a:3","c:3"],["z:1","c:4"]],"hosts":["a:1","c:1"],"vlans":["untagged"],"tags":[]}"#
 }
 
-// a sends by b.
+/// a sends by b.
 fn by_b() -> &'static [u8] {
     br#"{"rules":[{"switch":"a","priority":100,"dst":"10.0.0.0/24","out":2},{"switch":"b","priority":100,"dst":"10.0.0.0/24","out":2},{"switch":"c","priority":100,"dst":"10.0.0.0/24","out":1}]}"#
 }
 
-// The same, and z has a rule for the address.
+/// The same, and z has a rule for the address.
 fn by_b_with_z() -> &'static [u8] {
     br#"{"rules":[{"switch":"a","priority":100,"dst":"10.0.0.0/24","out":2},{"switch":"z","priority":100,"dst":"10.0.0.0/24","out":1},{"switch":"b","priority":100,"dst":"10.0.0.0/24","out":2},{"switch":"c","priority":100,"dst":"10.0.0.0/24","out":1}]}"#
 }
 
-// The same, and b has a rule for other addresses.
+/// The same, and b has a rule for other addresses.
 fn by_b_with_others() -> &'static [u8] {
     br#"{"rules":[{"switch":"a","priority":100,"dst":"10.0.0.0/24","out":2},{"switch":"b","priority":200,"dst":"10.9.0.0/24","out":"drop"},{"switch":"b","priority":100,"dst":"10.0.0.0/24","out":2},{"switch":"c","priority":100,"dst":"10.0.0.0/24","out":1}]}"#
 }
 
-// The change at a qualifies after the one at b, which is on the walk by which it failed.
+/// The change at a qualifies after the one at b, which is on the walk by which it failed.
 pub(crate) fn after_the_walk() -> UpdateTexts<'static> {
     UpdateTexts {
         topology: triangle(),
@@ -51,7 +51,7 @@ pub(crate) fn after_the_walk_plan() -> &'static [u8] {
 "#
 }
 
-// The change at z comes between, off the walk.
+/// The change at z comes between, off the walk.
 pub(crate) fn beside_the_walk() -> UpdateTexts<'static> {
     UpdateTexts {
         topology: triangle_beside_z(),
@@ -66,7 +66,7 @@ pub(crate) fn beside_the_walk_plan() -> &'static [u8] {
 "#
 }
 
-// A change at b comes between, on the walk and for other addresses.
+/// A change at b comes between, on the walk and for other addresses.
 pub(crate) fn other_addresses() -> UpdateTexts<'static> {
     UpdateTexts {
         topology: triangle(),

@@ -1,4 +1,4 @@
-// `plan` over files in memory, and `check` of what it planned.
+//! `plan` over files in memory, and `check` of what it planned.
 use crate::retried;
 use check_command::{CheckNames, check};
 use command_base::Status;
@@ -10,13 +10,13 @@ use plan_command::plan;
 use std::alloc::Global;
 use std::test::Fail;
 
-// What is answered, where the call of the given number fails.
+/// What is answered, where the call of the given number fails.
 fn planned(alloc: Global, texts: &UpdateTexts<'_>, failing: u64) -> Result<Answer, Fail> {
     let mut source = update_source(alloc, texts, b"", 4096, failing)?;
     Ok(answer_of(alloc, plan(alloc, &mut source, &update_names())))
 }
 
-// What `check` answers to the update and the plan.
+/// What `check` answers to the update and the plan.
 fn checked(alloc: Global, texts: &UpdateTexts<'_>, plan: &[u8]) -> Result<Answer, Fail> {
     let mut source = update_source(alloc, texts, plan, 4096, 0)?;
     let names = CheckNames {
@@ -26,7 +26,7 @@ fn checked(alloc: Global, texts: &UpdateTexts<'_>, plan: &[u8]) -> Result<Answer
     Ok(answer_of(alloc, check(alloc, &mut source, &names)))
 }
 
-// The first of the updates whose plan isn't this text, or isn't accepted by this line.
+/// The first of the updates whose plan isn't this text, or isn't accepted by this line.
 fn first_other_plan(
     alloc: Global,
     rows: &[(UpdateTexts<'_>, &[u8], &[u8])],
@@ -44,7 +44,7 @@ fn first_other_plan(
     Ok(None)
 }
 
-// The first of the updates that isn't answered so.
+/// The first of the updates that isn't answered so.
 fn first_other_answer(
     alloc: Global,
     rows: &[(UpdateTexts<'_>, Status, &[u8])],

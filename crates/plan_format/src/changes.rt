@@ -1,4 +1,4 @@
-// The changes and the rounds of a plan.
+//! The changes and the rounds of a plan.
 ghost use Rattle.std.specs.Prelude.{◌≡◌, ◌+◌, ◌-◌, ◌<◌, ◌≤◌, slice_get, IfErr, ◌++◌, ◌∷◌, [], Ok, length, sum_by, map, option_map, IfOk, OnOk, MatchResult};
 ghost use Rattle.std.specs.Option.{option_and_then};
 ghost use Rattle.serde_json.specs.View.{view};

@@ -1,4 +1,4 @@
-// The numberings and the before sets of a plan, and the evidence that names them.
+//! The numberings and the before sets of a plan, and the evidence that names them.
 ghost use Rattle.std.specs.Prelude.{◌≡◌, ◌≤◌, [], Ok, true, map, nat_lt, MatchResult};
 ghost use Rattle.serde_json.specs.View.{view};
 ghost use Rattle.net_base.specs.Reading.{Gives, Fails, in_turn};

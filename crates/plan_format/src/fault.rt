@@ -1,4 +1,4 @@
-// Why bytes are no plan.
+//! Why bytes are no plan.
 ghost use Rattle.std.specs.Prelude.{◌≡◌};
 ghost use Rattle.plan_format.specs.declared.fault.PlanFault.TheVariants.{Memory};
 ghost use Rattle.plan_format.specs.Faults.{of_json, fault_number, fault_name, fault_field, fault_place};

@@ -1,4 +1,4 @@
-// The picks of an ordered plan of format 1, which carry their evidence.
+//! The picks of an ordered plan of format 1, which carry their evidence.
 ghost use Rattle.std.specs.Prelude.{◌≡◌, ◌≤◌, ◌<◌, [], Ok, length, IfErr, not, map, option_map, IfOk, OnOk, MatchResult};
 ghost use Rattle.serde_json.specs.View.{view};
 ghost use Rattle.net_base.specs.Reading.{Gives, Fails, in_turn};

@@ -1,4 +1,4 @@
-// Label tables, and the picks of a two-phase plan.
+//! Label tables, and the picks of a two-phase plan.
 ghost use Rattle.std.specs.Prelude.{◌≡◌, ◌≤◌, [], Ok, map, MatchResult};
 ghost use Rattle.serde_json.specs.View.{view};
 ghost use Rattle.net_base.specs.Reading.{Gives, Fails, in_turn};

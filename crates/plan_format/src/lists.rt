@@ -1,4 +1,4 @@
-// Lists of numbers, and what stands beside them.
+//! Lists of numbers, and what stands beside them.
 ghost use Rattle.std.specs.Prelude.{◌≡◌, ◌≤◌, ◌<◌, [], Ok, true, map, nat_lt, nat_le, option_map, IfOk, OnOk, MatchResult};
 ghost use Rattle.serde_json.specs.View.{view};
 ghost use Rattle.net_base.specs.Reading.{Gives, Fails, in_turn};

@@ -1,4 +1,4 @@
-// The picks of an ordered plan of format 2, and the evidence that they name.
+//! The picks of an ordered plan of format 2, and the evidence that they name.
 ghost use Rattle.std.specs.Prelude.{◌≡◌, ◌≤◌, ◌&&◌, [], Ok, true, map, nat_le, option_map, IfOk, IfErr, MatchResult};
 ghost use Rattle.serde_json.specs.View.{view};
 ghost use Rattle.net_base.specs.Reading.{Gives, Fails, in_turn};

@@ -1,4 +1,4 @@
-// One rule of a plan, by the table of its members.
+//! One rule of a plan, by the table of its members.
 ghost use Rattle.std.specs.Prelude.{◌≡◌, ◌≤◌, true, option_map, IfOk, MatchResult};
 ghost use Rattle.serde_json.specs.View.{view};
 ghost use Rattle.net_base.specs.Reading.{Gives};

@@ -1,4 +1,4 @@
-// The reader, refusal by refusal, and the evidence that the picks of format 1 share.
+//! The reader, refusal by refusal, and the evidence that the picks of format 1 share.
 use certificates::{Evidence, OrderedEvidence};
 use net_base::Field;
 use plan_format::{PlanFault, read_plan};

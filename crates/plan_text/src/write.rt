@@ -1,4 +1,4 @@
-// The text of plans and of rounds.
+//! The text of plans and of rounds.
 ghost use Rattle.std.specs.Prelude.{◌≡◌, ◌++◌, ◌∷◌, [], Ok, IfOk, OnOk, OnErr, map};
 ghost use Rattle.serde_json.specs.View.{view, members_view};
 ghost use Rattle.certificates.specs.Valid.{IsValidPlan};

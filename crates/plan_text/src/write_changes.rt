@@ -1,4 +1,4 @@
-// Rules and changes as JSON objects.
+//! Rules and changes as JSON objects.
 ghost use Rattle.std.specs.Prelude.{◌≡◌, IfOk, OnOk, option_map, string_bytes, map};
 ghost use Rattle.serde_json.specs.View.{view, members_view};
 ghost use Rattle.net_base.specs.Text.{prefix_text};

@@ -1,4 +1,4 @@
-// The evidence of plans as JSON values.
+//! The evidence of plans as JSON values.
 ghost use Rattle.std.specs.Prelude.{◌≡◌, ◌++◌, IfOk, map};
 ghost use Rattle.serde_json.specs.View.{view};
 ghost use Rattle.waypoint_evidence.specs.Befores.{marked_from};

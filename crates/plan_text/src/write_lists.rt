@@ -1,4 +1,4 @@
-// Lists in JSON trees.
+//! Lists in JSON trees.
 ghost use Rattle.std.specs.Prelude.{◌≡◌, IfOk, map};
 ghost use Rattle.serde_json.specs.Data.{Data};
 ghost use Rattle.serde_json.specs.View.{view};

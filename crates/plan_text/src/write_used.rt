@@ -1,4 +1,4 @@
-// The rules that a plan uses, each once, with their numbers.
+//! The rules that a plan uses, each once, with their numbers.
 ghost use Rattle.std.specs.Prelude.{◌≡◌, ◌++◌, ◌∷◌, [], length, take, slice_get, map, IfOk, OnOk, OnErr};
 ghost use Rattle.plan_text.specs.PlanText.{rules_of, tried_of, used_rules, plan_rule_of, rule_number};
 ghost use Rattle.plan_text.specs.Uses.{with_use, with_uses};

@@ -1,4 +1,4 @@
-// The text of the plan of the square network, and of changes with rewrites.
+//! The text of the plan of the square network, and of changes with rewrites.
 use acyclic_numbering::Numbering;
 use certificates::{
     Befores, Evidence, IndexList, Numberings, OrderedEvidence, OrderedPick, OrderedPicks, Plan,

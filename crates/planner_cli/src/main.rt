@@ -8,7 +8,7 @@ use std::process::ExitCode;
 use std::rt::Env;
 use std::{env, io};
 
-// The words after the program's name, and a text with room for the longest of them; or how a run without these ends.
+/// The words after the program's name, and a text with room for the longest of them; or how a run without these ends.
 fn words_of<R: Env + AllocGlobal>(rt: &R) -> Result<(Vec<String>, String), Status> {
     let args = match env::args(rt) {
         Ok(args) => args,

@@ -1,4 +1,4 @@
-// The top call.
+//! The top call.
 ghost use Rattle.std.specs.Prelude.{◌≡◌, ◌≢◌, ◌⊎◌, ◌↔◌, ◌≤◌, ℕ, None, Some, IfOk, IfErr, map, string_bytes};
 ghost use Rattle.std.specs.Io.KnownBytes.{Appends, Keeps};
 ghost use Rattle.net_base.specs.Causes.{Rose};
@@ -56,7 +56,7 @@ use upgrade_command::upgrade;
 
 const USAGE_LINE: &[u8] = b"unknown command or wrong words\n";
 
-// The reply to a sample, which reads no file.
+/// The reply to a sample, which reads no file.
 fn sample_reply(alloc: Global, size: RingSize) -> Result<Reply, Exit>
     ensures says { IfOk result (λ r. SaysSummary size.switches (answer_of r)) }
     ensures memory { IfErr result (λ e. e ≡ Exit.Memory) }
@@ -67,7 +67,7 @@ fn sample_reply(alloc: Global, size: RingSize) -> Result<Reply, Exit>
     }
 }
 
-// The reply to a command. A sample leaves the source as it is, so it has no fault of reading.
+/// The reply to a command. A sample leaves the source as it is, so it has no fault of reading.
 fn reply_to<S: Source>(alloc: Global, command: &Command<'_>, source: &mut S) -> Result<Reply, Exit>
     ensures meets { Meets IsSaid (S.held source.old) (dialogue_of (seen command.now)) (S.faults source.old) (S.faults source.new) result (S.selected source.new) (S.taken source.new) }
     ensures later { S.faults source.old ≤ S.faults source.new }
@@ -89,7 +89,7 @@ fn reply_to<S: Source>(alloc: Global, command: &Command<'_>, source: &mut S) -> 
     }
 }
 
-// Writes an answer, whose status is no fault of writing, and says how the run ends.
+/// Writes an answer, whose status is no fault of writing, and says how the run ends.
 fn write_answer<K: Sink>(sink: &mut K, status: Status, text: &[u8]) -> Status
     requires { status ≢ Status.WriteFault }
     ensures done { result ≡ Status.WriteFault ⊎ ((result ≡ status) × Appends (K.written sink.old) (K.written sink.new) text.now) }
@@ -103,7 +103,7 @@ fn write_answer<K: Sink>(sink: &mut K, status: Status, text: &[u8]) -> Status
     }
 }
 
-// Does what the words ask for, with the files of the source, and writes the text to the sink.
+/// Does what the words ask for, with the files of the source, and writes the text to the sink.
 fn respond<S: Source, K: Sink>(
     alloc: Global,
     words: &[String],

@@ -1,4 +1,4 @@
-// Runs of the program over files and a sink in memory.
+//! Runs of the program over files and a sink in memory.
 ghost use Rattle.std.specs.Prelude.{◌≤◌};
 
 use command_base::Status;
@@ -10,7 +10,7 @@ use planner_run::run::run;
 use std::alloc::Global;
 use std::process::Abort;
 
-// The messages of the plan of the square: s1 to port 4, s3 to port 3, each behind a barrier of its own.
+/// The messages of the plan of the square: s1 to port 4, s3 to port 3, each behind a barrier of its own.
 const SQUARE_LINES: &str =
     "1 s1 010e005000000001003220ef000000000000000000000000000000000000080000000000000000000a0000000000000000000000000000000002000000000064ffffffffffff00000000000800040000
 1 s1 0112000800000002
@@ -18,14 +18,14 @@ const SQUARE_LINES: &str =
 2 s3 0112000800000004
 ";
 
-// A simulation without packets.
+/// A simulation without packets.
 const SQUARE_RECORD: &[u8] =
     b"start\nchange 0\nsettle\nstart\nchange 0\nsettle\n# settled 2 of 2\n";
 
-// Each mixed walk of the plan of the square is good.
+/// Each mixed walk of the plan of the square is good.
 const NO_RUN: &[u8] = b"no run: every mixed walk is good\n";
 
-// The ring of four switches.
+/// The ring of four switches.
 const SAMPLE_LINE: &[u8] =
     b"sample 4: ordered, 12 rounds, 24 classes, 21 numberings, 32 picks, accepted\n";
 

@@ -1,4 +1,4 @@
-// Which plans a plan file may hold, each row with another part of a plan.
+//! Which plans a plan file may hold, each row with another part of a plan.
 use crate::parts::{numbering_of, set_of};
 use certificates::{
     Evidence, Label, LabelPick, OrderedEvidence, OrderedPick, Plan, Shared, TwoPhaseEvidence, valid,

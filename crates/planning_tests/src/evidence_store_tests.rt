@@ -1,4 +1,4 @@
-// Equal numberings, before sets and uses of picks, by their numbers.
+//! Equal numberings, before sets and uses of picks, by their numbers.
 ghost use Rattle.std.specs.Prelude.{◌≡◌, ◌<◌, ◌≤◌, ◌↔◌, IsTrue};
 ghost use Rattle.std.specs.List.{AllByRecursion};
 ghost use Rattle.certificates.specs.Valid.{IsPickBefore};

@@ -1,4 +1,4 @@
-// The changes between two small configurations.
+//! The changes between two small configurations.
 use flow_rules::{Action, Config, Key, Pattern, Rewrite, Rule, VlanTest, key_order};
 use net_base::{Port, SwitchId, read_prefix};
 use std::cmp::Ordering;

@@ -1,4 +1,4 @@
-// The tags of declared VLANs, and too few of them.
+//! The tags of declared VLANs, and too few of them.
 use std::process::Abort;
 use tag_allocator::{TagFault, allot};
 use topology::{Net, read_net};

@@ -1,4 +1,4 @@
-// The needs and the plan between configurations without rules, and why there is no plan.
+//! The needs and the plan between configurations without rules, and why there is no plan.
 use crate::empty_tables::no_rules;
 use certificates::{Evidence, Plan, TwoPhaseEvidence};
 use net_base::SwitchId;

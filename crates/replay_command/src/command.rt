@@ -1,4 +1,4 @@
-// The command that carries out a recorded schedule.
+//! The command that carries out a recorded schedule.
 ghost use Rattle.std.specs.Prelude.{◌≡◌, ◌≤◌};
 ghost use Rattle.command_base.specs.Replies.{Meets};
 ghost use Rattle.replay_command.specs.Names.{names_seen};

@@ -1,4 +1,4 @@
-// The words of `replay`.
+//! The words of `replay`.
 ghost use Rattle.std.specs.Prelude.{◌≡◌, map, string_bytes, option_map};
 ghost use Rattle.replay_command.specs.Names.{names_in, names_seen};
 

@@ -1,4 +1,4 @@
-// Schedules, fetched and read.
+//! Schedules, fetched and read.
 ghost use Rattle.std.specs.Prelude.{◌≡◌, ◌≤◌, IfOk, IfErr, OnOk, Ok, Some, Option};
 ghost use Rattle.schedule_replay.specs.Schedules.{schedule_in};
 ghost use Rattle.command_base.specs.declared.kinds.FileKind.TheVariants as «kind»;
@@ -12,7 +12,7 @@ use schedule_replay::{Schedule, ScheduleFault, read_schedule};
 use std::alloc::Global;
 use topology::Net;
 
-// What is printed of a schedule's fault.
+/// What is printed of a schedule's fault.
 fn schedule_fault(fault: ScheduleFault) -> Fault
     ensures { words_of result ≡ schedule_words fault }
 {
@@ -24,7 +24,7 @@ fn schedule_fault(fault: ScheduleFault) -> Fault
     }
 }
 
-// The schedule that the bytes mean.
+/// The schedule that the bytes mean.
 fn schedule_of(alloc: Global, net: &Net, bytes: &[u8]) -> Result<Schedule, Exit>
     ensures ok { IfOk result (λ s. schedule_in net.now bytes.now ≡ Ok s) }
     ensures bad { IfErr result (λ e. IsBad FileKind.Schedule schedule_words (schedule_in net.now bytes.now) e) }

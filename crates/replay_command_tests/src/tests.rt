@@ -1,11 +1,11 @@
-// `replay` over files in memory.
+//! `replay` over files in memory.
 use command_base::Status;
 use example_files::{Answer, UpdateTexts, answer_of, square, update_source};
 use replay_command::{ReplayNames, replay, replay_names};
 use std::alloc::Global;
 use std::test::Fail;
 
-// The schedule is held in the place of a policy, which `replay` doesn't read.
+/// The schedule is held in the place of a policy, which `replay` doesn't read.
 fn names() -> ReplayNames<'static> {
     ReplayNames {
         topology: "topology",
@@ -24,7 +24,7 @@ fn texts(schedule: &[u8]) -> UpdateTexts<'_> {
     }
 }
 
-// What is answered to the schedule, over the square and its plan in format 1, where the call of the number fails.
+/// What is answered to the schedule, over the square and its plan in format 1, where the call of the number fails.
 fn answered(alloc: Global, schedule: &[u8], failing: u64) -> Result<Answer, Fail> {
     let mut source = update_source(
         alloc,
@@ -37,7 +37,7 @@ fn answered(alloc: Global, schedule: &[u8], failing: u64) -> Result<Answer, Fail
     Ok(answer_of(alloc, result))
 }
 
-// The first of the schedules that isn't answered so.
+/// The first of the schedules that isn't answered so.
 fn first_other(
     alloc: Global,
     status: Status,
@@ -102,7 +102,7 @@ fn a_bad_line_is_named(rt: HostRuntime) -> Result<(), Fail> {
     Ok(())
 }
 
-// Four files are opened, each with a take of its bytes and one at its end.
+/// Four files are opened, each with a take of its bytes and one at its end.
 #[test]
 fn each_call_of_the_source_may_fail(rt: HostRuntime) -> Result<(), Fail> {
     for failing in 1..=12u64 {

@@ -1,4 +1,4 @@
-// The texts of the ring's configurations.
+//! The texts of the ring's configurations.
 ghost use Rattle.std.specs.Prelude.{◌≡◌, ◌<◌, ◌≤◌, ◌++◌, Ok, IfOk, OnOk, map, flat_map};
 ghost use Rattle.serde_json.specs.View.{view};
 ghost use Rattle.config_files.specs.Configuration.{configuration_in};

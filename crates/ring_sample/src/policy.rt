@@ -1,4 +1,4 @@
-// The text of the ring's policy.
+//! The text of the ring's policy.
 ghost use Rattle.std.specs.Prelude.{◌≡◌, ◌<◌, ◌++◌, Ok, IfOk, OnOk, map, flat_map};
 ghost use Rattle.serde_json.specs.View.{view};
 ghost use Rattle.demands.specs.Policy.{demands_in};

@@ -1,4 +1,4 @@
-// How large a ring is.
+//! How large a ring is.
 ghost use Rattle.std.specs.Prelude.{◌≤◌};
 
 /// A number of switches in a ring, from 4 to 128.

@@ -1,4 +1,4 @@
-// The text of the ring's topology.
+//! The text of the ring's topology.
 ghost use Rattle.std.specs.Prelude.{◌≡◌, ◌<◌, [], ◌∷◌, Ok, IfOk, map, codes};
 ghost use Rattle.serde_json.specs.Data.{string};
 ghost use Rattle.serde_json.specs.View.{view};

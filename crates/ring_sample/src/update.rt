@@ -1,4 +1,4 @@
-// The update of the ring, as the program's readers read its texts.
+//! The update of the ring, as the program's readers read its texts.
 ghost use Rattle.std.specs.Prelude.{◌≡◌, ◌≤◌, ◌*◌, ◌-◌, [], IfOk, length};
 ghost use Rattle.flow_rules.specs.Tables.{rules_of_all};
 ghost use Rattle.path_walk.specs.UserConfigs.{IsUserConfig};

@@ -1,4 +1,4 @@
-// The names of switches, ports and prefixes.
+//! The names of switches, ports and prefixes.
 ghost use Rattle.std.specs.Prelude.{◌≡◌, ◌<◌, IfOk, string_bytes};
 ghost use Rattle.serde_json.specs.View.{view};
 ghost use Rattle.serde_json.specs.Data.{string};

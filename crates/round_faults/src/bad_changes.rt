@@ -1,4 +1,4 @@
-// The first bad change of a round.
+//! The first bad change of a round.
 ghost use Rattle.std.specs.Prelude.{◌≡◌, ◌⊎◌, ◌+◌, ◌<◌, ◌≤◌, true, false, Some, IfOk, OnOk, length, slice_get};
 ghost use Rattle.flow_rules.specs.Tables.{rules_of_all};
 ghost use Rattle.update_model.specs.Changes.{switch_of};

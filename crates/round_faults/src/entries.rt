@@ -1,4 +1,4 @@
-// The entries of tables that changes name.
+//! The entries of tables that changes name.
 ghost use Rattle.std.specs.Prelude.{◌≡◌, [], IfOk};
 ghost use Rattle.update_model.specs.Changes.{entry_named};
 ghost use Rattle.round_faults.specs.Entries.{IsAdded};

@@ -1,4 +1,4 @@
-// The changes of a round by switch.
+//! The changes of a round by switch.
 ghost use Rattle.std.specs.Prelude.{◌≡◌, ◌++◌, ◌∷◌, ◌<◌, [], List, length, slice_get, slice_set, slice_index_or, Some, IfOk, OnOk};
 ghost use Rattle.update_model.specs.declared.Change.{Change as ChangeOf};
 ghost use Rattle.round_faults.specs.Groups.{AreGroups, lists_of};

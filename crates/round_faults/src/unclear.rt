@@ -1,4 +1,4 @@
-// The first switch with a table that isn't clear while the changes of a round are made.
+//! The first switch with a table that isn't clear while the changes of a round are made.
 ghost use Rattle.std.specs.Prelude.{◌≡◌, ◌↔◌, ◌+◌, ◌<◌, [], length, true, false, IsTrue, IfOk};
 ghost use Rattle.flow_rules.specs.Tables.{IsTable, rules_at, rules_of_all};
 ghost use Rattle.update_model.specs.Changes.{IsGoodRound};

@@ -1,4 +1,4 @@
-// Each switch is prepared for a round.
+//! Each switch is prepared for a round.
 ghost use Rattle.std.specs.Prelude.{◌≡◌, ◌+◌, ◌<◌, [], length, IfOk};
 ghost use Rattle.flow_rules.specs.Tables.{IsTable, rules_at, rules_of_all};
 ghost use Rattle.update_model.specs.Changes.{changes_at, IsGoodRound};

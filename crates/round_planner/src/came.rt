@@ -1,4 +1,4 @@
-// For each class the switches that its packets come to.
+//! For each class the switches that its packets come to.
 ghost use Rattle.std.specs.Prelude.{◌≡◌, ◌<◌, length, set, ℕ, IfOk};
 ghost use Rattle.net_base.specs.declared.ids.SwitchId.{SwitchId as Switch};
 ghost use Rattle.round_planner.specs.Failures.{IsVisited};

@@ -1,4 +1,4 @@
-// Why a change that remains doesn't qualify, and which changes touch that.
+//! Why a change that remains doesn't qualify, and which changes touch that.
 ghost use Rattle.std.specs.Prelude.{◌≡◌, ◌↔◌, ◌<◌, IsTrue};
 ghost use Rattle.std.specs.List.{AllByRecursion};
 ghost use Rattle.net_base.specs.declared.ids.SwitchId.{SwitchId as Switch};

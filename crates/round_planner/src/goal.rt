@@ -1,4 +1,4 @@
-// What a search is for.
+//! What a search is for.
 use demands::Duties;
 use dest_classes::ClassMap;
 use flow_rules::Config;

@@ -1,4 +1,4 @@
-// What is found for the classes while a change is tried.
+//! What is found for the classes while a change is tried.
 ghost use Rattle.std.specs.Prelude.{◌≡◌, ◌≢◌, ◌↔◌, ℕ, ◌+◌, ◌<◌, ◌≤◌, suc, true, List, length, IsTrue, IfOk, IfSome, OnOk, slice_get, Some};
 ghost use Rattle.std.specs.List.{AllByRecursion};
 ghost use Rattle.topology.specs.Networks.{switch_count};

@@ -1,4 +1,4 @@
-// The changes that remain, each with why it failed.
+//! The changes that remain, each with why it failed.
 ghost use Rattle.std.specs.Prelude.{◌≡◌, ◌↔◌, ◌<◌, ◌++◌, ◌∷◌, List, length, map, vec_len, IsTrue, IsSomeAnd, IfOk};
 ghost use Rattle.std.specs.Prelude.{None};
 ghost use Rattle.std.specs.List.{AllByRecursion};

@@ -1,4 +1,4 @@
-// The picks of a round.
+//! The picks of a round.
 ghost use Rattle.std.specs.Prelude.{◌≡◌, ◌<◌, ◌≤◌, IfOk};
 ghost use Rattle.std.specs.List.{AllByRecursion};
 ghost use Rattle.certificates.specs.Valid.{IsChain};

@@ -1,4 +1,4 @@
-// Single changes: the preparation of their switch for them, and the tables after them.
+//! Single changes: the preparation of their switch for them, and the tables after them.
 ghost use Rattle.std.specs.Prelude.{◌≡◌, ◌≢◌, ◌+◌, ◌<◌, ◌≤◌, [], ◌∷◌, true, false, length};
 ghost use Rattle.net_base.specs.declared.ids.SwitchId.{SwitchId as Switch};
 ghost use Rattle.update_model.specs.Changes.{AppliesTo};

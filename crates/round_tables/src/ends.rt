@@ -1,4 +1,4 @@
-// The comparison of the tables after the last round with the new ones.
+//! The comparison of the tables after the last round with the new ones.
 ghost use Rattle.certificates.specs.Updates.{rollout};
 ghost use Rattle.std.specs.Prelude.{◌≡◌, ◌↔◌, ℕ, ◌<◌, ◌^◌, length, IsTrue, IfNone, IfSome, MatchOption};
 ghost use Rattle.std.specs.List.{AllByRecursion};

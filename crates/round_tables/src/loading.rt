@@ -1,4 +1,4 @@
-// Each switch is prepared for a round, up to the first bad change.
+//! Each switch is prepared for a round, up to the first bad change.
 ghost use Rattle.certificates.specs.Updates.{rollout};
 ghost use Rattle.std.specs.Prelude.{◌≡◌, ◌≢◌, ℕ, suc, ◌+◌, ◌<◌, ◌≤◌, ◌^◌, [], true, false, None, Some, take, length, slice_get, vec_len, vec_capacity, IfOk, IfErr, OnOk, IfNone, IfSome};
 ghost use Rattle.net_base.specs.declared.ids.SwitchId.{SwitchId as Switch};

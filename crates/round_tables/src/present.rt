@@ -1,4 +1,4 @@
-// The tables before a round, and each switch prepared for it.
+//! The tables before a round, and each switch prepared for it.
 ghost use Rattle.certificates.specs.Updates.{rollout};
 ghost use Rattle.std.specs.Prelude.{◌≡◌, ℕ, ◌+◌, ◌<◌, ◌≤◌, ◌^◌, ◌∷◌, [], true, length, vec_len, vec_capacity, slice_index_or, max, IfOk};
 ghost use Rattle.net_base.specs.declared.ids.SwitchId.{SwitchId as Switch};

@@ -1,4 +1,4 @@
-// What the changes of a round give a reason for, and the tables after them.
+//! What the changes of a round give a reason for, and the tables after them.
 ghost use Rattle.certificates.specs.Updates.{rollout};
 ghost use Rattle.std.specs.Prelude.{◌≡◌, ◌↔◌, ◌⊎◌, Some, suc, ◌<◌, ◌≤◌, List, [], ◌∷◌, ◌++◌, true, cond, ◌==◌, length, IsTrue, IfNone, IfSome};
 ghost use Rattle.net_base.specs.declared.ids.SwitchId.{SwitchId as Switch};

@@ -1,4 +1,4 @@
-// The tables of a network between rounds, on which single changes are tried.
+//! The tables of a network between rounds, on which single changes are tried.
 ghost use Rattle.std.specs.Prelude.{◌≡◌, ◌∷◌, [], List, true, false, ◌↔◌, ◌≤◌, IsTrue, IsSome, IfOk, OnOk, OnErr};
 ghost use Rattle.topology.specs.Networks.{capacity_of};
 ghost use Rattle.flow_rules.specs.Tables.{rules_of_all};

@@ -1,4 +1,4 @@
-// The command that plans and checks a ring.
+//! The command that plans and checks a ring.
 ghost use Rattle.std.specs.Prelude.{◌≡◌, IfOk, ◌*◌, ◌-◌, length};
 ghost use Rattle.round_planner.specs.Ends.{IsPlanOf};
 ghost use Rattle.command_base.specs.Replies.{answer_of};
@@ -16,7 +16,7 @@ use net_base::Memory;
 use ring_sample::{RingSize, ring_update};
 use std::alloc::Global;
 
-// The line on a plan of the ring and its classes.
+/// The line on a plan of the ring and its classes.
 fn summary(alloc: Global, size: RingSize, plan: &Plan, classes: u32) -> Result<Vec<u8>, Memory>
     requires searched { IsPlanOf (update_aim (the_ring size.switches)) (ring_tables size.switches 2) plan.now }
     requires keeps { KeepsConsistent (the_ring size.switches) plan.now }

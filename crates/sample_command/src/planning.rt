@@ -1,4 +1,4 @@
-// The plan of an update of destination trees, and its check.
+//! The plan of an update of destination trees, and its check.
 ghost use Rattle.std.specs.Prelude.{◌≡◌, ◌≤◌, IfOk, length};
 ghost use Rattle.flow_rules.specs.Tables.{rules_of_all};
 ghost use Rattle.path_walk.specs.UserConfigs.{IsUserConfig};
@@ -25,7 +25,7 @@ use plan_command::update_prefixes;
 use round_planner::{Ordered, order};
 use std::alloc::Global;
 
-// The classes of an update that hasn't too many.
+/// The classes of an update that hasn't too many.
 fn few_classes(alloc: Global, files: &UpdateFiles) -> Result<ClassMap, Memory>
     requires old { IsUserConfig files.now.net (rules_of_all files.now.old) }
     requires new { IsUserConfig files.now.net (rules_of_all files.now.new) }
@@ -60,7 +60,7 @@ pub fn tree_plan(alloc: Global, files: &UpdateFiles) -> Result<Plan, Memory>
     }
 }
 
-// The room for a check over few enough classes.
+/// The room for a check over few enough classes.
 fn check_room(alloc: Global, files: &UpdateFiles, plan: &Plan) -> Result<CheckRoom, Memory>
     requires old { IsUserConfig files.now.net (rules_of_all files.now.old) }
     requires new { IsUserConfig files.now.net (rules_of_all files.now.new) }

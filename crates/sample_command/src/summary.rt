@@ -1,4 +1,4 @@
-// The line of `sample`.
+//! The line of `sample`.
 ghost use Rattle.std.specs.Prelude.{◌≡◌, IfOk, length};
 ghost use Rattle.sample_command.specs.Summaries as lines;
 
@@ -6,7 +6,7 @@ use certificates::OrderedEvidence;
 use net_base::Memory;
 use std::alloc::Global;
 
-// The ring, and the rounds and classes of its update.
+/// The ring, and the rounds and classes of its update.
 fn update_part(alloc: Global, switches: u32, rounds: usize, classes: u32) -> Result<Vec<u8>, Memory>
     ensures { IfOk result (λ t. t.items ≡ lines.update_part switches rounds classes) }
 {
@@ -15,7 +15,7 @@ fn update_part(alloc: Global, switches: u32, rounds: usize, classes: u32) -> Res
     )?.into_bytes())
 }
 
-// The lengths of the plan's lists.
+/// The lengths of the plan's lists.
 fn evidence_part(alloc: Global, numberings: usize, picks: usize) -> Result<Vec<u8>, Memory>
     ensures { IfOk result (λ t. t.items ≡ lines.evidence_part numberings picks) }
 {

@@ -1,4 +1,4 @@
-// The words of `sample`.
+//! The words of `sample`.
 ghost use Rattle.std.specs.Prelude.{◌≡◌, map, string_bytes, option_map};
 ghost use Rattle.net_base.specs.Text.{decimal_in};
 ghost use Rattle.sample_command.specs.Sizes as spelled;
@@ -10,7 +10,7 @@ const FEWEST: u64 = 4;
 
 const MOST: u64 = 128;
 
-// The number of switches that the word spells.
+/// The number of switches that the word spells.
 fn size_of(word: &str) -> Option<RingSize>
     ensures { option_map (λ s. s.switches) result ≡ spelled.from_four (decimal_in word.now 128) }
 {

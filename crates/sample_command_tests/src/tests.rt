@@ -1,4 +1,4 @@
-// `sample` for rings of several sizes, and the words that it takes.
+//! `sample` for rings of several sizes, and the words that it takes.
 use command_base::Status;
 use sample_command::{ring_size, sample};
 use std::alloc::Global;
@@ -12,7 +12,7 @@ fn words(alloc: Global, texts: &[&str]) -> Result<Vec<String>, Fail> {
     Ok(words)
 }
 
-// The line on the ring of so many switches; none where the words name no size.
+/// The line on the ring of so many switches; none where the words name no size.
 fn line_of(alloc: Global, word: &str) -> Result<Option<Vec<u8>>, Fail> {
     let Some(size) = ring_size(&words(alloc, &[word])?) else {
         return Ok(None);
@@ -24,7 +24,7 @@ fn line_of(alloc: Global, word: &str) -> Result<Option<Vec<u8>>, Fail> {
     Ok(Some(reply.text))
 }
 
-// The first of the words whose line is another.
+/// The first of the words whose line is another.
 fn first_other(alloc: Global, rows: &[(&str, &[u8])]) -> Result<Option<usize>, Fail> {
     for (i, (word, line)) in rows.iter().enumerate() {
         match line_of(alloc, word)? {

@@ -1,4 +1,4 @@
-// The event that a line of a schedule spells.
+//! The event that a line of a schedule spells.
 ghost use Rattle.std.specs.Prelude.{◌≡◌, IfSome, ◌≤◌, ◌<◌, ◌^◌};
 ghost use Rattle.schedule_replay.specs.EventLines as spelled;
 ghost use Rattle.update_model.specs.declared.Event.TheVariants as event;

@@ -1,4 +1,4 @@
-// The texts of places and events.
+//! The texts of places and events.
 ghost use Rattle.std.specs.Prelude.{◌≡◌, ◌≤◌, ◌^◌, ◌++◌, ◌∷◌, [], IfOk, OnOk, Ok, length};
 ghost use Rattle.std.specs.List.{AllByRecursion};
 ghost use Rattle.flow_rules.specs.Tables.{rules_of_all};

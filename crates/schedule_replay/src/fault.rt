@@ -1,4 +1,4 @@
-// Why bytes are no schedule.
+//! Why bytes are no schedule.
 ghost use Rattle.std.specs.Prelude.{◌≡◌};
 ghost use Rattle.schedule_replay.specs.declared.fault.ScheduleFault.TheVariants.{Memory};
 ghost use Rattle.schedule_replay.specs.Faults.{fault_number, fault_name, fault_field, fault_place};

@@ -1,4 +1,4 @@
-// The reader of a schedule.
+//! The reader of a schedule.
 ghost use Rattle.std.specs.Prelude.{◌≡◌, ◌==◌, Ok, MatchResult, []};
 ghost use Rattle.net_base.specs.Reading.{Gives, Fails, in_turn};
 ghost use Rattle.schedule_replay.specs.declared.fault.ScheduleFault.TheVariants.{Memory};

@@ -1,4 +1,4 @@
-// Carrying out a schedule.
+//! Carrying out a schedule.
 ghost use Rattle.std.specs.Prelude.{[], OnOk, IfErr};
 ghost use Rattle.schedule_replay.specs.Replays.{IsCarriedOut, StopsBy, StepsOrStops};
 

@@ -1,4 +1,4 @@
-// Events with the lines in which they stand.
+//! Events with the lines in which they stand.
 ghost use Rattle.std.specs.Prelude.{◌≡◌, ◌<◌, ◌++◌, ◌∷◌, [], IsTrue, ◌↔◌, IfOk, OnErr, length, not, nat_lt};
 
 use net_base::Memory;

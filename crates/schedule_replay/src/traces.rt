@@ -1,4 +1,4 @@
-// The traces of the packets of a world, as text.
+//! The traces of the packets of a world, as text.
 ghost use Rattle.std.specs.Prelude.{◌≡◌, ◌≤◌, ◌++◌, ◌∷◌, [], IfOk, OnOk, Ok, length};
 ghost use Rattle.std.specs.List.{AllByRecursion};
 ghost use Rattle.schedule_replay.specs.EventTexts.{HasLine};

@@ -1,4 +1,4 @@
-// The command that simulates a plan.
+//! The command that simulates a plan.
 ghost use Rattle.std.specs.Prelude.{◌≡◌, ◌≤◌};
 ghost use Rattle.command_base.specs.Replies.{Meets};
 ghost use Rattle.check_command.specs.Names as files;

@@ -1,4 +1,4 @@
-// The names that `simulate` takes.
+//! The names that `simulate` takes.
 ghost use Rattle.std.specs.Prelude.{◌≤◌};
 
 use check_command::CheckNames;

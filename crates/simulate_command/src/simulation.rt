@@ -1,4 +1,4 @@
-// A driven run of a plan, and its record.
+//! A driven run of a plan, and its record.
 ghost use Rattle.std.specs.Prelude.{◌≡◌, ◌+◌, ◌*◌, ◌≤◌, IfOk, length, sum_by};
 ghost use Rattle.flow_rules.specs.Tables.{rules_of_all};
 ghost use Rattle.path_walk.specs.UserConfigs.{IsUserConfig};
@@ -26,7 +26,7 @@ use std::alloc::Global;
 use topology::Net;
 use update_model::{Rounds, World};
 
-// Which of so many offered events is made at a step.
+/// Which of so many offered events is made at a step.
 fn place_at(start: u64, step: u64, count: u64) -> u64
     requires { 1 ≤ count }
     ensures { result ≡ place_named start step count }
@@ -34,7 +34,7 @@ fn place_at(start: u64, step: u64, count: u64) -> u64
     start.wrapping_add(step.wrapping_mul(7)) % count
 }
 
-// How many changes the rounds have in all.
+/// How many changes the rounds have in all.
 fn change_count(rounds: &Rounds) -> u64
     requires { sum_by length rounds.now ≤ 2200000 }
     ensures { result ≡ sum_by length rounds.now }
@@ -46,7 +46,7 @@ fn change_count(rounds: &Rounds) -> u64
     changes
 }
 
-// A number of events within which the run is over.
+/// A number of events within which the run is over.
 fn budget_of(net: &Net, rounds: &Rounds, entries: &[Entry]) -> u64
     requires rounds { length rounds.now ≤ 4200 }
     requires changes { sum_by length rounds.now ≤ 2200000 }
@@ -58,7 +58,7 @@ fn budget_of(net: &Net, rounds: &Rounds, entries: &[Entry]) -> u64
     visits + change_count(rounds) + 2 * rounds.count() as u64
 }
 
-// Drives the world over the entries, to its end.
+/// Drives the world over the entries, to its end.
 fn driven_by<'a>(
     alloc: Global,
     world: World<'a>,

@@ -1,4 +1,4 @@
-// The packets of a simulation.
+//! The packets of a simulation.
 ghost use Rattle.std.specs.Prelude.{◌<◌, IfOk};
 ghost use Rattle.dest_classes.specs.Classes.{class_count};
 ghost use Rattle.simulate_command.specs.Simulations.{IsEntryFor, IsTraffic};
@@ -8,7 +8,7 @@ use net_base::Memory;
 use schedule_pilot::Entry;
 use std::alloc::Global;
 
-// A packet of the class with this number, to the first address of its atom.
+/// A packet of the class with this number, to the first address of its atom.
 fn entry_for(classes: &ClassMap, number: u32) -> Entry
     requires { number < class_count classes.now }
     ensures { IsEntryFor classes.now number result }

@@ -1,4 +1,4 @@
-// What is said of the plan that is simulated: too many classes, the record of a simulation, or the first reason why the plan isn't certified.
+//! What is said of the plan that is simulated: too many classes, the record of a simulation, or the first reason why the plan isn't certified.
 ghost use Rattle.std.specs.Prelude.{◌≤◌, IfOk};
 ghost use Rattle.flow_rules.specs.Tables.{rules_of_all};
 ghost use Rattle.path_walk.specs.UserConfigs.{IsUserConfig};
@@ -20,7 +20,7 @@ use net_base::Memory;
 use plan_checker::{CheckRoom, RoomFault, Verdict};
 use std::alloc::Global;
 
-// What is said of the plan, in a room for its check.
+/// What is said of the plan, in a room for its check.
 fn judge_plan(
     alloc: Global,
     files: &UpdateFiles,

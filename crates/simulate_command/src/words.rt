@@ -1,4 +1,4 @@
-// The words of `simulate`.
+//! The words of `simulate`.
 ghost use Rattle.std.specs.Prelude.{◌≡◌, map, string_bytes, option_map};
 ghost use Rattle.net_base.specs.Text.{decimal_in};
 ghost use Rattle.check_command.specs.Names as files;
@@ -11,7 +11,7 @@ use net_base::read_decimal;
 
 const MAX_COUNT: u64 = 1000;
 
-// The names with the numbers that the two words spell.
+/// The names with the numbers that the two words spell.
 fn with_numbers<'a>(check: CheckNames<'a>, start: &str, count: &str) -> Option<SimulateNames<'a>>
     ensures { option_map spelled.names_seen result ≡ spelled.with_numbers (files.names_seen check.entry) (decimal_in start.now 18446744073709551615) (decimal_in count.now 1000) }
 {

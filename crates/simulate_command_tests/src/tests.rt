@@ -1,4 +1,4 @@
-// `simulate` over files in memory.
+//! `simulate` over files in memory.
 use check_command::CheckNames;
 use command_base::Status;
 use example_files::{
@@ -9,15 +9,15 @@ use simulate_command::{SimulateNames, simulate, simulate_names};
 use std::alloc::Global;
 use std::test::Fail;
 
-// START is 0, and two packets enter.
+/// START is 0, and two packets enter.
 const SQUARE_RECORD: &[u8] =
     b"start\nenter s1:1 untagged 0.0.0.0\nhop 0\nenter s1:1 untagged 10.0.0.0\nchange 0\nhop 1\nsettle\nhop 1\nstart\nchange 0\nsettle\n# packet 0 s1:1 untagged 0.0.0.0 born 0: s1:1 dropped s1\n# packet 1 s1:1 untagged 10.0.0.0 born 0: s1:1 s4:2 left s4:3 untagged\n# settled 2 of 2\n";
 
-// START is the greatest number of 64 bits, and two packets enter.
+/// START is the greatest number of 64 bits, and two packets enter.
 const GREATEST_RECORD: &[u8] =
     b"enter s1:1 untagged 0.0.0.0\nstart\nenter s1:1 untagged 10.0.0.0\nhop 1\nchange 0\nhop 0\nhop 1\nsettle\nhop 1\nhop 1\nstart\nchange 0\nsettle\n# packet 0 s1:1 untagged 0.0.0.0 born 0: s1:1 dropped s1\n# packet 1 s1:1 untagged 10.0.0.0 born 0: s1:1 s2:1 s3:1 s4:1 left s4:3 untagged\n# settled 2 of 2\n";
 
-// No packet enters.
+/// No packet enters.
 const CHANGES_ALONE: &[u8] =
     b"start\nchange 0\nsettle\nstart\nchange 0\nsettle\n# settled 2 of 2\n";
 
@@ -30,7 +30,7 @@ fn no_switches() -> UpdateTexts<'static> {
     }
 }
 
-// What is answered.
+/// What is answered.
 fn answered(
     alloc: Global,
     texts: &UpdateTexts<'_>,
@@ -53,7 +53,7 @@ fn answered(
     Ok(answer_of(alloc, simulate(alloc, &mut source, &names)))
 }
 
-// The first of the simulations whose record isn't this text.
+/// The first of the simulations whose record isn't this text.
 fn first_other(
     alloc: Global,
     rows: &[(UpdateTexts<'_>, &[u8], u64, u64, &[u8])],
@@ -122,7 +122,7 @@ fn an_update_has_at_most_8192_classes(rt: HostRuntime) -> Result<(), Fail> {
     Ok(())
 }
 
-// What `replay` answers to the schedule, over the square. It is held in the place of a policy, which `replay` doesn't read.
+/// What `replay` answers to the schedule, over the square. It is held in the place of a policy, which `replay` doesn't read.
 fn replayed(alloc: Global, schedule: &[u8]) -> Result<Answer, Fail> {
     let texts = UpdateTexts {
         topology: square::topology(),
@@ -152,7 +152,7 @@ fn the_record_is_a_schedule(rt: HostRuntime) -> Result<(), Fail> {
     Ok(())
 }
 
-// START and COUNT in the words, if they are those of the command.
+/// START and COUNT in the words, if they are those of the command.
 fn numbers(alloc: Global, start: &str, count: &str) -> Result<Option<(u64, u64)>, Fail> {
     let mut words = Vec::new(alloc);
     for text in ["topology", "old", "new", "policy", "plan", start, count] {

@@ -1,4 +1,4 @@
-// The changes of one switch: both tables are sorted by key, and the sorted lists are gone through side by side.
+//! The changes of one switch: both tables are sorted by key, and the sorted lists are gone through side by side.
 ghost use Rattle.std.specs.Prelude.{◌≡◌, ◌++◌, IfOk, OnOk, IfSome, IfNone, [], Some, IsPermutation};
 ghost use Rattle.std.specs.List.{cons_option};
 ghost use Rattle.flow_rules.specs.Tables.{IsTable};

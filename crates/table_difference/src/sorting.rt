@@ -1,4 +1,4 @@
-// Rules in key order.
+//! Rules in key order.
 ghost use Rattle.std.specs.Prelude.{◌≡◌, IsPermutation, vec_capacity};
 ghost use Rattle.flow_rules.specs.Tables.{IsTable};
 ghost use Rattle.table_difference.specs.KeyOrder.{AreInKeyOrder, AreAscending};

@@ -1,4 +1,4 @@
-// Why bytes are no topology.
+//! Why bytes are no topology.
 ghost use Rattle.std.specs.Prelude.{◌≡◌};
 ghost use Rattle.topology.specs.declared.fault.NetFault.TheVariants.{Memory};
 ghost use Rattle.topology.specs.Faults.{of_json, fault_number, fault_name, fault_field, fault_place};

@@ -1,4 +1,4 @@
-// The network that contracts see, and what is at a port.
+//! The network that contracts see, and what is at a port.
 
 ghost use Rattle.std.specs.Prelude.{◌≡◌, ◌≢◌, ◌↔◌, ◌<◌, ◌≤◌, ◌++◌, ◌∷◌, [], IsTrue, ◌&&◌, not, length, count_by, option_map, slice_get, IfSome, IfOk, None, Some, true, false};
 ghost use Rattle.std.specs.List.{list_any};

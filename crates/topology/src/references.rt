@@ -1,4 +1,4 @@
-// Port references.
+//! Port references.
 ghost use Rattle.std.specs.Prelude.{◌≡◌, option_map};
 ghost use Rattle.topology.specs.References as references;
 

@@ -1,4 +1,4 @@
-// Names, capacities, VLANs and tag ranges as a topology spells them.
+//! Names, capacities, VLANs and tag ranges as a topology spells them.
 ghost use Rattle.std.specs.Prelude.{◌≡◌, ◌≤◌, ◌<◌, ◌^◌, ◌&&◌, Some, map, option_map, IfSome, nat_le, true};
 ghost use Rattle.std.specs.List.{list_all};
 ghost use Rattle.std.specs.Option.{option_and_then};

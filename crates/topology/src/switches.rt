@@ -1,4 +1,4 @@
-// The switches by name, numbered in the order of the file.
+//! The switches by name, numbered in the order of the file.
 ghost use Rattle.std.specs.Prelude.{◌≡◌, ◌<◌, ◌≤◌, ◌++◌, ◌∷◌, [], None, Some, length, option_map, slice_get, slice_index_or, IfSome, OnOk, OnErr};
 ghost use Rattle.topology.specs.Networks.{switch_named};
 

@@ -1,10 +1,10 @@
-// Topologies that are read, and each refusal.
+//! Topologies that are read, and each refusal.
 use net_base::{Field, Place, Port, Stop, SwitchId, Vlan};
 use std::alloc::Global;
 use std::process::Abort;
 use topology::{End, Net, NetFault, read_net, reference_parts};
 
-// The square: four switches in a ring with one chord, and a host at each.
+/// The square: four switches in a ring with one chord, and a host at each.
 const SWITCHES: &str =
     "{\"switches\":[{\"name\":\"s1\",\"capacity\":8},{\"name\":\"s2\",\"capacity\":8},\
 {\"name\":\"s3\",\"capacity\":8},{\"name\":\"s4\",\"capacity\":8}],";
@@ -248,7 +248,7 @@ fn add(rt: &impl Abort, text: &mut String, part: &str) {
     text.push_str(part).expect(rt, "room");
 }
 
-// So many numbers from one on, each between these.
+/// So many numbers from one on, each between these.
 fn add_list(
     rt: &impl Abort,
     alloc: Global,

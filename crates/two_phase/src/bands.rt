@@ -1,4 +1,4 @@
-// The tagged rules and the ingress rules of a switch.
+//! The tagged rules and the ingress rules of a switch.
 ghost use Rattle.std.specs.Prelude.{◌≡◌, ◌≤◌, ◌++◌, [], Some, None, OnOk, IfOk, map, flat_map};
 ghost use Rattle.std.specs.List.{AllByRecursion};
 ghost use Rattle.flow_rules.specs.declared.rules.VlanTest.TheVariants as test;

@@ -1,4 +1,4 @@
-// Rules in key order, and the block of those of one priority.
+//! Rules in key order, and the block of those of one priority.
 ghost use Rattle.std.specs.Prelude.{◌≡◌, ◌==◌, filter, List};
 ghost use Rattle.flow_rules.specs.Tables.{IsTable};
 ghost use Rattle.flow_rules.specs.declared.rules.Rule.{Rule};

@@ -1,4 +1,4 @@
-// The copies of a new rule that the two-phase plan makes for a declared VLAN and its tag.
+//! The copies of a new rule that the two-phase plan makes for a declared VLAN and its tag.
 ghost use Rattle.std.specs.Prelude.{◌≡◌, ◌≤◌, ◌++◌, OnOk};
 ghost use Rattle.flow_rules.specs.Patterns.{admits_port, admits_vlan};
 ghost use Rattle.table_difference.specs.SameClasses.{every_address};

@@ -1,4 +1,4 @@
-// The label tables of the two-phase plan, and their picks.
+//! The label tables of the two-phase plan, and their picks.
 ghost use Rattle.std.specs.Prelude.{◌≡◌, ◌≤◌, ◌++◌, ◌∷◌, [], IfOk, OnOk, flat_map, length, map, true};
 ghost use Rattle.tag_allocator.specs.Tags.{tags_of, available_tags};
 ghost use Rattle.two_phase.specs.TwoPhasePlan.{label, label_table, vlan_number};

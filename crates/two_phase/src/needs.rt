@@ -1,4 +1,4 @@
-// The entries that the two-phase plan needs.
+//! The entries that the two-phase plan needs.
 ghost use Rattle.std.specs.Prelude.{◌≡◌, ◌<◌, ◌≤◌, ◌+◌, ◌*◌, cond, length, count_by, sum_by};
 ghost use Rattle.topology.specs.Networks.{switch_count};
 ghost use Rattle.flow_rules.specs.Patterns.{admits_port, admits_vlan};

@@ -1,4 +1,4 @@
-// The bands of all switches in key order, and the ranks.
+//! The bands of all switches in key order, and the ranks.
 ghost use Rattle.std.specs.Prelude.{◌≡◌, ◌<◌, ◌≤◌, ◌∷◌, IfOk, length, map, flat_map};
 ghost use Rattle.topology.specs.Networks.{switch_count};
 ghost use Rattle.flow_rules.specs.Tables.{rules_of_all, rules_at};

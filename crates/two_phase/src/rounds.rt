@@ -1,4 +1,4 @@
-// The rounds of the two-phase plan.
+//! The rounds of the two-phase plan.
 ghost use Rattle.std.specs.Prelude.{◌≡◌, ◌==◌, ◌<◌, ◌≤◌, ◌^◌, ◌++◌, ◌∷◌, [], List, not, IfOk, OnOk, length, map, reverse, filter};
 ghost use Rattle.net_base.specs.declared.ids.SwitchId.{SwitchId};
 ghost use Rattle.topology.specs.Networks.{switch_count};

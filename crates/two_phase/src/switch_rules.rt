@@ -1,4 +1,4 @@
-// The rules of each switch in key order, and the rounds that lay them or take them away.
+//! The rules of each switch in key order, and the rounds that lay them or take them away.
 ghost use Rattle.std.specs.Prelude.{◌≡◌, ◌==◌, ◌<◌, ◌++◌, ◌∷◌, [], List, IfOk, OnOk, length, map, filter, flat_map};
 ghost use Rattle.topology.specs.Networks.{switch_count};
 ghost use Rattle.flow_rules.specs.Tables.{rules_at};

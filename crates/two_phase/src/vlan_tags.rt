@@ -1,4 +1,4 @@
-// The declared VLANs with their tags.
+//! The declared VLANs with their tags.
 ghost use Rattle.std.specs.Prelude.{◌≡◌, ◌≤◌, IfOk, length, map};
 ghost use Rattle.tag_allocator.specs.Tags.{tags_of, available_tags};
 

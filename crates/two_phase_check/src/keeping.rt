@@ -1,4 +1,4 @@
-// Places from which a packet was found to keep to the path of a version, so that they aren't looked at again.
+//! Places from which a packet was found to keep to the path of a version, so that they aren't looked at again.
 ghost use Rattle.std.specs.Prelude.{◌≡◌, ℕ, ◌+◌, ◌<◌, true, None, length, replicate};
 ghost use Rattle.topology.specs.Networks.{switch_count};
 ghost use Rattle.certificates.specs.Updates.{Task};

@@ -1,4 +1,4 @@
-// Whether an outcome agrees with a version by its label, and the label table in force.
+//! Whether an outcome agrees with a version by its label, and the label table in force.
 ghost use Rattle.std.specs.Prelude.{◌≡◌, ◌↔◌, ◌<◌, ◌≤◌, ℕ, IsTrue, Some, slice_get, length};
 ghost use Rattle.topology.specs.Networks.{Network};
 ghost use Rattle.certificates.specs.Valid.{IsChain};

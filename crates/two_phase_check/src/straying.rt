@@ -1,4 +1,4 @@
-// Where a packet may stray from a path in a round.
+//! Where a packet may stray from a path in a round.
 ghost use Rattle.certificates.specs.Updates.{rollout};
 ghost use Rattle.std.specs.Prelude.{◌≡◌, ◌≢◌, ◌+◌, ◌<◌, ℕ, IfSome, IfNone, length};
 ghost use Rattle.std.specs.Bool.{MatchBool};

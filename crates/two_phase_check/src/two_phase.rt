@@ -1,4 +1,4 @@
-// The classes of a round of a two-phase plan.
+//! The classes of a round of a two-phase plan.
 ghost use Rattle.certificates.specs.Updates.{rollout};
 ghost use Rattle.std.specs.Prelude.{◌≡◌, suc, true, false, ◌+◌, ◌<◌, ◌≤◌, IfOk, IfSome, IfNone, length};
 ghost use Rattle.topology.specs.Networks.{Network, switch_count};

@@ -1,4 +1,4 @@
-// The command that writes a plan in format 2.
+//! The command that writes a plan in format 2.
 ghost use Rattle.std.specs.Prelude.{◌≡◌, ◌≤◌, IfOk};
 ghost use Rattle.certificates.specs.Valid.{IsValidPlan};
 ghost use Rattle.command_base.specs.Names.{plan_names_seen};

@@ -1,4 +1,4 @@
-// `upgrade` over files in memory.
+//! `upgrade` over files in memory.
 use command_base::Status;
 use example_files::{
     Answer, UpdateTexts, answer_of, detour, detour_plans, plan_names, square, update_source,
@@ -7,14 +7,14 @@ use std::alloc::Global;
 use std::test::Fail;
 use upgrade_command::upgrade;
 
-// What is answered to the plan, with the topology of the texts.
+/// What is answered to the plan, with the topology of the texts.
 fn answered(alloc: Global, texts: &UpdateTexts<'_>, plan: &[u8]) -> Result<Answer, Fail> {
     let mut source = update_source(alloc, texts, plan, 4096, 0)?;
     let result = upgrade(alloc, &mut source, &plan_names());
     Ok(answer_of(alloc, result))
 }
 
-// The first of the plans that isn't upgraded to its text.
+/// The first of the plans that isn't upgraded to its text.
 fn first_other_text(
     alloc: Global,
     rows: &[(UpdateTexts<'_>, &[u8], &[u8])],
@@ -43,7 +43,7 @@ fn a_plan_is_upgraded_to_format_2(rt: HostRuntime) -> Result<(), Fail> {
     Ok(())
 }
 
-// The plan with something else in the place of a part.
+/// The plan with something else in the place of a part.
 fn damaged(alloc: Global, plan: &[u8], part: &str, other: &str) -> Result<Vec<u8>, Fail> {
     let Ok(text) = std::str::from_utf8(plan) else {
         return Err(Fail::from("no text"));
@@ -54,7 +54,7 @@ fn damaged(alloc: Global, plan: &[u8], part: &str, other: &str) -> Result<Vec<u8
     Ok(format!(in alloc; "{front}{other}{back}")?.into_bytes())
 }
 
-// The first of the damages that is answered otherwise.
+/// The first of the damages that is answered otherwise.
 fn first_unseen(
     alloc: Global,
     plan: &[u8],
