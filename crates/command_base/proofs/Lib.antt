@@ -2,4 +2,3 @@ pub mod DialogueLaws
 pub mod MeaningLaws
 pub mod RunLaws
 pub mod JudgementLaws
-pub mod PrefixLaws

@@ -9,10 +9,10 @@ mod kinds;
 mod lines;
 mod names;
 mod plan_files;
-mod prefixes;
 mod readings;
 mod reply;
 mod status;
+mod too_many;
 mod updates;
 
 pub use crate::exit::Exit;
@@ -22,10 +22,10 @@ pub use crate::kinds::FileKind;
 pub use crate::lines::{bad_line, class_text, classes_line, how_text, switch_name};
 pub use crate::names::{PlanNames, UpdateNames, plan_names, update_names};
 pub use crate::plan_files::{PlanFiles, read_plan_files};
-pub use crate::prefixes::{add_demands, add_tables, too_many_reply};
 pub use crate::readings::{
     bad_reply, read_configuration, read_plan_file, read_policy, read_topology,
 };
 pub use crate::reply::Reply;
 pub use crate::status::Status;
+pub use crate::too_many::too_many_reply;
 pub use crate::updates::{UpdateFiles, read_update};

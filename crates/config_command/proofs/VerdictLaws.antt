@@ -18,7 +18,7 @@ use Rattle.demands.specs.OfClass.{AreCovered}
 use Rattle.config_check.specs.declared.Breaks.{Breaks}
 use Rattle.config_check.specs.Broken.{IsFirstBreak}
 use Rattle.config_check.specs.Everywhere.{HasPrefixes, HasGoodPathEverywhere}
-use Rattle.command_base.proofs.PrefixLaws.{each_there}
+use Rattle.demands.proofs.RowLaws.{each_there}
 use Rattle.command_base.specs.declared.status.Status.TheVariants as status
 use Rattle.command_base.specs.Lines.{classes_line}
 use Rattle.command_base.specs.Answers.{Answer}

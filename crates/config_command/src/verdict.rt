@@ -12,7 +12,7 @@ ghost use Rattle.config_command.specs.Lines as lines;
 ghost use Rattle.config_command.specs.Verdicts.{IsVerdict, classes_under, count_under};
 
 use crate::lines::{breaks_line, holds_line};
-use command_base::{Reply, Status, add_demands, add_tables, too_many_reply};
+use command_base::{Reply, Status, too_many_reply};
 use config_check::laws::classes_speak_for_addresses;
 use config_check::{How, check_config};
 use demands::{Demands, Duties};
@@ -24,18 +24,11 @@ use std::alloc::Global;
 use topology::Net;
 
 /// The prefixes of the configuration, and then of the demands.
-fn prefixes_of(
-    alloc: Global,
-    net: &Net,
-    config: &Config,
-    demands: &Demands,
-) -> Result<Vec<Prefix>, Memory>
-    requires { length config.now ≡ switch_count net.now }
+fn prefixes_of(config: &Config, demands: &Demands) -> Result<Vec<Prefix>, Memory>
     ensures { IfOk result (λ v. v.items ≡ table_blocks (rules_of_all config.now) ++ map (λ d. d.dst) demands.now) }
 {
-    let mut prefixes = Vec::new(alloc);
-    add_tables(&mut prefixes, net, config)?;
-    add_demands(&mut prefixes, demands)?;
+    let mut prefixes = config.prefixes()?;
+    prefixes.extend_from_slice(&demands.prefixes()?)?;
     Ok(prefixes)
 }
 
@@ -91,7 +84,7 @@ pub fn verdict(
     requires { IsUserConfig net.now (rules_of_all config.now) }
     ensures { IfOk result (λ r. IsVerdict net.now (rules_of_all config.now) demands.now (answer_of r)) }
 {
-    let prefixes = prefixes_of(alloc, net, config, demands)?;
+    let prefixes = prefixes_of(config, demands)?;
     match class_map(alloc, net, &prefixes) {
         Ok(classes) => judge(alloc, net, config, demands, &classes),
         Err(ClassFault::TooManyClasses(classes)) => too_many_reply(alloc, classes),

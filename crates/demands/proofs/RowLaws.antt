@@ -1,5 +1,5 @@
 -- The duties of a class from one demand more, and rows in the order of the classes.
-use Rattle.std.proofs.Common.{subst, ◌≡◌, ℕ, zero, suc, ◌+◌, ◌<◌, ◌≤◌, true, false, cond, List, [], ◌∷◌, ◌++◌, map, length, get_or, drop, refl, sym, ◌∙◌, ap, arith, drop-cons}
+use Rattle.std.proofs.Common.{subst, ◌≡◌, ℕ, zero, suc, ◌+◌, ◌<◌, ◌≤◌, true, false, cond, List, [], ◌∷◌, ◌++◌, map, length, get_or, drop, refl, sym, ◌∙◌, ap, arith, drop-cons, inl, inr}
 use Rattle.std.specs.Prelude.{◌&&◌, ◌||◌, slice_get, None, Some}
 use Rattle.std.specs.List.{AllByRecursion, list_any}
 use Rattle.std.proofs.lemmas.Bool.{cond_both}
@@ -8,7 +8,7 @@ use Rattle.net_base.specs.Blocks.{Block, in_block}
 use Rattle.net_base.specs.Members.{IsIn}
 use Rattle.net_base.specs.declared.ids.Place.{Place}
 use Rattle.net_base.specs.declared.ids.SwitchId.{SwitchId}
-use Rattle.net_base.proofs.MemberLaws.{each_at, each_weaker, each_from_in, in_map}
+use Rattle.net_base.proofs.MemberLaws.{each_at, each_weaker}
 use Rattle.dest_classes.specs.Classes.{ClassList, IsClass, class_count}
 use Rattle.dest_classes.specs.declared.Class.{Class}
 use Rattle.demands.specs.Duties.{DemandView, PacketDuties, ClassDuties, first_of_each, chain_lt, with_chain, ascending_chains, duties_of, demands_on, demand_covers}
@@ -110,8 +110,11 @@ pub length_push : {A : Type 0} (xs : List A) (x : A) → length (xs ++ x ∷ [])
 length_push [] x = refl
 length_push (y ∷ xs) x = let h = length_push xs x in omega arith
 
+-- the prefix of each demand stands where all of them stand
+pub each_there : (demands : List DemandView) (blocks : List Block) → ((b : Block) → IsIn b (map (λ (d : DemandView). d.dst) demands) → IsIn b blocks) → AllByRecursion (λ d. IsIn d.dst blocks) demands
+each_there [] blocks there = tt
+each_there (d ∷ demands) blocks there = (there d.dst (inl refl), each_there demands blocks (λ b i. there b (inr i)))
+
 -- the prefix of each demand is one of the prefixes of the demands
 pub covered_by : (demands : List DemandView) (blocks : List Block) → blocks ≡ map (λ (d : DemandView). d.dst) demands → AllByRecursion (λ (d : DemandView). IsIn d.dst blocks) demands
-covered_by demands blocks e =
-    subst (λ bs. AllByRecursion (λ (d : DemandView). IsIn d.dst bs) demands) (sym e)
-    (each_from_in (λ (d : DemandView). IsIn d.dst (map (λ (x : DemandView). x.dst) demands)) demands (λ d i. in_map (λ (x : DemandView). x.dst) d demands i))
+covered_by demands blocks e = each_there demands blocks (λ b i. subst (IsIn b) (sym e) i)

@@ -1,5 +1,5 @@
 -- Which packets a pattern covers, and when two patterns are the same.
-use Rattle.std.specs.Prelude.{ℕ, ◌==◌, ◌&&◌, Bool, true, false, Option, Some, None}
+use Rattle.std.specs.Prelude.{ℕ, ◌==◌, ◌&&◌, Bool, true, false, Option}
 use Rattle.std.specs.Option.{option_eq, option_map_or}
 use Rattle.net_base.specs.Blocks.{in_block}
 use Rattle.net_base.specs.declared.ids.Port.{Port}

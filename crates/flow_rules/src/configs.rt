@@ -1,11 +1,12 @@
 //! The tables of all switches.
-ghost use Rattle.std.specs.Prelude.{◌≡◌, ◌<◌, [], length, replicate, slice_get, Some, IfOk};
+ghost use Rattle.std.specs.Prelude.{◌≡◌, ◌<◌, ◌++◌, [], length, map, replicate, slice_get, Some, IfOk, OnOk};
 ghost use Rattle.std.specs.Borrow.{sem};
 ghost use Rattle.flow_rules.specs.Lending.{LendsTable};
-ghost use Rattle.flow_rules.specs.Tables.{rules_of_all};
+ghost use Rattle.flow_rules.specs.Tables.{rules_of_all, table_blocks};
 
+use crate::rules::Rule;
 use crate::tables::Table;
-use net_base::{Memory, SwitchId};
+use net_base::{Memory, Prefix, SwitchId};
 use std::alloc::Global;
 use std::marker::Model;
 
@@ -46,6 +47,27 @@ fn copies_of(alloc: Global, tables: &[Table]) -> Result<Vec<Table>, Memory>
     Ok(copies)
 }
 
+/// Adds the prefixes of the rules.
+fn add_prefixes(prefixes: &mut Vec<Prefix>, rules: &[Rule]) -> Result<(), Memory>
+    ensures { OnOk result (prefixes.new.items ≡ prefixes.old.items ++ map (λ r. r.key.pattern.dst) rules.now) }
+{
+    for rule in rules {
+        prefixes.push(rule.key.pattern.dst)?;
+    }
+    Ok(())
+}
+
+/// The prefixes of the rules of all tables.
+fn prefixes_of(alloc: Global, tables: &[Table]) -> Result<Vec<Prefix>, Memory>
+    ensures { IfOk result (λ v. v.items ≡ table_blocks (rules_of_all tables.now)) }
+{
+    let mut prefixes = Vec::new(alloc);
+    for table in tables {
+        add_prefixes(&mut prefixes, table.rules())?;
+    }
+    Ok(prefixes)
+}
+
 impl Config {
     /// A table without rules for each of so many switches.
     pub fn make(alloc: Global, switches: u32) -> Result<Config, Memory>
@@ -54,6 +76,13 @@ impl Config {
     {
         let tables = empty_tables(alloc, switches)?;
         Ok(Config { tables })
+    }
+
+    /// The prefixes of the rules, table by table and in each table in its order.
+    pub fn prefixes(&self) -> Result<Vec<Prefix>, Memory>
+        ensures { IfOk result (λ v. v.items ≡ table_blocks (rules_of_all self.now)) }
+    {
+        prefixes_of(*self.tables.allocator(), self.tables.as_slice())
     }
 
     /// How many tables there are.

@@ -90,7 +90,7 @@ impl CheckRoom {
         ensures few { IfOk result (λ _. class_count (classes_for (task_of net.now old.now new.now demands.now plan.now)) ≤ 8192) }
         ensures too_many { IfErr result (IsCauseFor (classes_for (task_of net.now old.now new.now demands.now plan.now))) }
     {
-        let prefixes = prefixes_of(alloc, net, old, new, demands, plan)?;
+        let prefixes = prefixes_of(old, new, demands, &plan.rounds)?;
         let classes = class_map(alloc, net, &prefixes)?;
         let duties = Duties::make(alloc, net, demands, &classes)?;
         let present = Present::make(alloc, net, &plan.rounds)?;

@@ -7,7 +7,7 @@ use Rattle.dest_classes.proofs.MapLaws.{number_fits}
 use Rattle.net_base.proofs.MemberLaws.{in_append_left, in_append_right}
 use Rattle.update_model.specs.Changes.{round_blocks}
 use Rattle.demands.specs.OfClass.{AreCovered}
-use Rattle.command_base.proofs.PrefixLaws.{each_there}
+use Rattle.demands.proofs.RowLaws.{each_there}
 use Rattle.dest_classes.specs.declared.Class.{Class}
 use Rattle.demands.specs.Duties.{ClassDuties}
 use Rattle.demands.specs.Good.{HasGoodPaths}

@@ -20,7 +20,7 @@ use crate::no_plan_lines::{too_few_lines, too_small_lines};
 use certificates::Plan;
 use certificates::laws::certified_consistent;
 use check_command::refused_reply;
-use command_base::{Reply, Status, UpdateFiles, add_demands, add_tables, too_many_reply};
+use command_base::{Reply, Status, UpdateFiles, too_many_reply};
 use config_check::{Breaks, check_config};
 use demands::Duties;
 use dest_classes::{ClassFault, ClassMap, class_map};
@@ -34,15 +34,12 @@ use update_model::Rounds;
 use upgrade_command::plan_reply;
 
 /// The prefixes of both configurations, and then of the demands.
-pub fn update_prefixes(alloc: Global, files: &UpdateFiles) -> Result<Vec<Prefix>, Memory>
-    requires old { IsUserConfig files.now.net (rules_of_all files.now.old) }
-    requires new { IsUserConfig files.now.net (rules_of_all files.now.new) }
+pub fn update_prefixes(files: &UpdateFiles) -> Result<Vec<Prefix>, Memory>
     ensures { IfOk result (λ v. v.items ≡ (update_classes (meaning_of files.now)).prefixes) }
 {
-    let mut prefixes = Vec::new(alloc);
-    add_tables(&mut prefixes, &files.net, &files.old)?;
-    add_tables(&mut prefixes, &files.net, &files.new)?;
-    add_demands(&mut prefixes, &files.demands)?;
+    let mut prefixes = files.old.prefixes()?;
+    prefixes.extend_from_slice(&files.new.prefixes()?)?;
+    prefixes.extend_from_slice(&files.demands.prefixes()?)?;
     Ok(prefixes)
 }
 
@@ -190,7 +187,7 @@ pub fn new_plan(alloc: Global, files: &UpdateFiles) -> Result<Reply, Memory>
     requires new { IsUserConfig files.now.net (rules_of_all files.now.new) }
     ensures { IfOk result (λ r. IsPlanned (meaning_of files.now) (answer_of r)) }
 {
-    let prefixes = update_prefixes(alloc, files)?;
+    let prefixes = update_prefixes(files)?;
     match class_map(alloc, &files.net, &prefixes) {
         Ok(classes) => classed_reply(alloc, files, &classes),
         Err(ClassFault::TooManyClasses(classes)) => too_many_reply(alloc, classes),

@@ -32,7 +32,7 @@ fn few_classes(alloc: Global, files: &UpdateFiles) -> Result<ClassMap, Memory>
     requires few { update_count (meaning_of files.now) ≤ most_classes }
     ensures { IfOk result (λ m. m ≡ update_classes (meaning_of files.now)) }
 {
-    let prefixes = update_prefixes(alloc, files)?;
+    let prefixes = update_prefixes(files)?;
     match class_map(alloc, &files.net, &prefixes) {
         Ok(classes) => Ok(classes),
         Err(ClassFault::Memory) => Err(Memory),

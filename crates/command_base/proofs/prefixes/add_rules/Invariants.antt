@@ -1,5 +1,0 @@
-use Rattle.std.proofs.Common.{◌≡◌, ◌++◌, map, take}
-use Rattle.command_base.proofs.prefixes.add_rules.Given as goal
-
-abbrev pub invariant-loop-rule : goal.invariant-loop-rule
-invariant-loop-rule l = l.prefixes.items ≡ l.fn.prefixes.items ++ map (λ r. r.key.pattern.dst) (take l.rule-index l.rules)
