@@ -23,6 +23,7 @@ pub(crate) struct PickTable {
 }
 
 impl PickTable {
+    /// No picks.
     pub fn empty(alloc: Global) -> Result<PickTable, PlanFault>
         ensures ok { IfOk result (λ t. t ≡ record { uses = []; picks = [] }) }
         ensures err { IfErr result (λ e. e ≡ Memory) }

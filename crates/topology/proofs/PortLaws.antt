@@ -1,6 +1,7 @@
 -- The used ports as the code holds them.
 use Rattle.std.proofs.Common.{◌≡◌, ◌≢◌, ◌↔◌, ℕ, zero, suc, ◌+◌, ◌≤◌, ◌<◌, ◌==◌, ◌||◌, get_or, set, replicate, Bool, true, false, cond, IsTrue, List, [], ◌∷◌, ◌++◌, map, length, Option, Some, None, is_some, refl, sym, ◌∙◌, ap, subst, inl, inr, arith, length-append}
-use Rattle.std.specs.Prelude.{count_by, filter, unwrap_or}
+use Rattle.std.specs.Prelude.{count_by, filter, unwrap_or, slice_get}
+use Rattle.std.specs.Cmp.{IsEquivalence}
 use Rattle.std.specs.List.{list_any}
 use Rattle.std.specs.Map.{lookup}
 use Rattle.std.proofs.lemmas.Bool.{false≢true, cond-false, false_from_ne_true, eqb-true, eqb-false}
@@ -10,13 +11,14 @@ use Rattle.std.proofs.lemmas.List.Folds.{list_any-append}
 use Rattle.std.proofs.lemmas.List.Sums.{length-filter}
 use Rattle.std.proofs.lemmas.List.Elements.{filter-append}
 use Rattle.std.proofs.lemmas.Map.Made.{is_some-lookup}
-use Rattle.indexmap.specs.IndexMap.{IndexMap, insert_entry}
+use Rattle.std.proofs.lemmas.Map.Entries.{hash_map_get_place}
+use Rattle.indexmap.specs.IndexMap.{IndexMap, IsUnique, insert_entry}
 use Rattle.indexmap.proofs.CallerLemmas.{insert_entry-new}
 use Rattle.net_base.specs.Members.{IsIn}
 use Rattle.net_base.proofs.MemberLaws.{in_append_left, in_append_right, in_append_cases, map-push}
 use Rattle.net_base.specs.declared.ids.SwitchId.{SwitchId}
 use Rattle.net_base.specs.declared.ids.Stop.{Stop}
-use Rattle.topology.proofs.LinkLaws.{stop_eq-refl, stop_ne, any_from_in, in_from_any, ends_of, not_both}
+use Rattle.topology.proofs.LinkLaws.{stop_eq-true, stop_eq-refl, stop_ne, any_from_in, in_from_any, ends_of, not_both}
 use Rattle.topology.specs.Networks.{Network, IsNetwork, IsUsed, stop_eq, far_end, end_at, used_ports, is_used, is_host}
 use Rattle.topology.specs.Topology.{is_on}
 use Rattle.topology.specs.Ends.{port_ends, is_host_end, AreCounts, IsPort}
@@ -218,6 +220,25 @@ module _ (stop : Stop) where
 -- the ports, with one more
 pub map_added : (es : List Entry) (a : Stop) (e : End) → map port_of (es ++ (a, e) ∷ []) ≡ map port_of es ++ a ∷ []
 map_added es a e = map-push port_of es (a, e)
+
+turned : (x y : Stop) → stop_eq x y ≡ true → stop_eq y x ≡ true
+turned x y e = subst (λ s. stop_eq s x ≡ true) (stop_eq-true x y e) (stop_eq-refl x)
+
+either_way : (x y : Stop) → stop_eq x y ≡ stop_eq y x
+either_way x y =
+    elim (stop_eq x y) as (λ b. stop_eq x y ≡ b → b ≡ stop_eq y x) [
+      | true ↦ λ e. sym (turned x y e)
+      | false ↦ λ e. sym (false_from_ne_true (stop_eq y x) (λ t. false≢true (sym e ∙ turned y x t)))
+    ] refl
+
+same_stops : IsEquivalence stop_eq
+same_stops = record { refl = stop_eq-refl; symm = either_way; congr = λ x y z e. ap (λ s. stop_eq s z) (stop_eq-true x y e) }
+
+-- the entry at a place, of that port, is what a look-up of the port gives
+pub found_at : {S : Type 0} (m : IndexMap Stop End S) (i : ℕ) (stop port : Stop) (there : End) → IsUnique stop_eq m → slice_get m.entries i ≡ Some (port, there) → stop_eq port stop ≡ true
+    → lookup (stop_eq stop) m.entries ≡ Some there
+found_at m i stop port there unique at same =
+    subst (λ s. lookup (stop_eq s) m.entries ≡ Some there) (stop_eq-true port stop same) (hash_map_get_place same_stops m i port there unique at)
 
 none_from : {A : Type 0} (o : Option A) → is_some o ≡ false → o ≡ None
 none_from None e = refl

@@ -124,7 +124,8 @@ impl Net {
         self.switches.find(name)
     }
 
-    /// What is at a port. The cost is that of a look-up in a hash table.
+    /// What is at a port. The cost is that of a look-up by number, or of one in a hash table for a port that isn't used or
+    /// shares its number's last six bits with another one of its switch.
     pub fn end(&self, s: SwitchId, p: Port) -> End
         ensures { result ≡ end_at self.now (record { switch = s; port = p }) }
     {

@@ -1,5 +1,5 @@
 //! The used ports and what is at each.
-ghost use Rattle.std.specs.Prelude.{◌≡◌, ◌<◌, ◌^◌, ◌++◌, ◌∷◌, [], count_by, map, unwrap_or, OnOk, false};
+ghost use Rattle.std.specs.Prelude.{◌≡◌, ◌<◌, ◌^◌, ◌++◌, ◌∷◌, [], count_by, map, unwrap_or, IfSome, Some, OnOk, false};
 ghost use Rattle.std.specs.List.{list_any};
 ghost use Rattle.std.specs.Map.{lookup};
 ghost use Rattle.topology.specs.Networks.{stop_eq};
@@ -13,11 +13,29 @@ use std::alloc::{AllocError, Global};
 use std::marker::Model;
 
 /// The used ports, each with what is there, in the order of their use, and for each switch how many of its ports are
-/// used.
+/// used. A port's slot names the entry of the port that was last put there, so that most ports are found without a hash.
 #[derive(Drop)]
 pub struct Ports {
     ends: IndexMap<Stop, End>,
     counts: [u16; 128],
+    slots: Vec<u16>,
+}
+
+/// The slot of a port: 64 for each switch, the port's by the last six bits of its number.
+fn slot_of(stop: Stop) -> usize
+    ensures { result < 2 ^ 39 }
+{
+    stop.switch.0 as usize * 64 + stop.port.0 as usize % 64
+}
+
+/// Has the slot of a port name the entry at a place.
+fn point_slot(slots: &mut Vec<u16>, stop: Stop, place: usize) -> Result<(), AllocError> {
+    let slot = slot_of(stop);
+    if slots.len() <= slot {
+        slots.resize(slot + 1, 0)?;
+    }
+    slots[slot] = u16::try_from(place).unwrap_or(u16::MAX);
+    Ok(())
 }
 
 impl Model for Ports {
@@ -41,13 +59,27 @@ impl Ports {
         Ports {
             ends: IndexMap::new(alloc),
             counts: [0; 128],
+            slots: Vec::new(alloc),
         }
     }
 
-    /// What is at the port. The cost is that of a look-up in a hash table.
+    /// What is at the port, where its slot names it.
+    fn at_slot(&self, stop: Stop) -> Option<End>
+        ensures { IfSome result (λ end. lookup (stop_eq stop) self.now ≡ Some end) }
+    {
+        let place = *self.slots.get(slot_of(stop))?;
+        let (port, end) = self.ends.as_slice().get_index(place as usize)?;
+        if *port == stop { Some(*end) } else { None }
+    }
+
+    /// What is at the port. The cost is that of one look-up by number, or of one in a hash table where its slot doesn't
+    /// name it.
     pub fn end(&self, stop: Stop) -> End
         ensures { result ≡ unwrap_or (lookup (stop_eq stop) self.now) at.Nothing }
     {
+        if let Some(end) = self.at_slot(stop) {
+            return end;
+        }
         match self.ends.get(&stop) {
             Some(end) => *end,
             None => End::Nothing,
@@ -79,6 +111,7 @@ impl Ports {
         requires room { count_by (is_on stop.switch) (map (λ p. p.0) self.old) < 64 }
         ensures { OnOk result (self.new ≡ self.old ++ (stop, end) ∷ []) }
     {
+        point_slot(&mut self.slots, stop, self.ends.len())?;
         self.ends.insert(stop, end)?;
         self.counts[stop.switch.0 as usize] += 1;
         Ok(())

@@ -80,6 +80,24 @@ fn tells_what_is_at_a_port(rt: HostRuntime) {
     }
 }
 
+/// Ports whose numbers have the same last six bits, so that they share a slot.
+#[test]
+fn tells_ports_apart_that_share_a_slot(rt: HostRuntime) {
+    let text = "{\"switches\":[{\"name\":\"a\",\"capacity\":8},{\"name\":\"b\",\"capacity\":8}],\
+\"links\":[[\"a:2\",\"b:1\"],[\"a:66\",\"b:65279\"]],\"hosts\":[\"a:130\",\"b:63\"],\"vlans\":[\"untagged\"],\"tags\":[3000,3000]}";
+    let net = read_net(rt.alloc(), text.as_bytes()).expect(&rt, "a network");
+    for (at, end) in [
+        (stop(0, 2), End::Link(SwitchId(1), Port(1))),
+        (stop(0, 66), End::Link(SwitchId(1), Port(65279))),
+        (stop(0, 130), End::Host),
+        (stop(0, 194), End::Nothing),
+        (stop(1, 63), End::Host),
+        (stop(1, 65279), End::Link(SwitchId(0), Port(66))),
+    ] {
+        has_end(&rt, &net, at, end);
+    }
+}
+
 #[test]
 fn tells_tags(rt: HostRuntime) {
     let net = square(&rt, rt.alloc());

@@ -22,6 +22,11 @@ returns-in_err-plan-clause-meets g c =
           (ends_first _ (c.in_err-plan.ensures.stops _)));
     })
 
+pub returns-in_err-plan_verdict-clause-meets : goal.returns-in_err-plan_verdict-clause-meets
+returns-in_err-plan_verdict-clause-meets g c =
+    let p = err_from_is_err_and c.from_residual-in_err-plan_verdict.result c.from_residual-in_err-plan_verdict.ensures.1 in
+    rw (p.1, p.2) (record { met = record { ended = tt {0} } })
+
 pub returns-clause-meets : goal.returns-clause-meets
 unfolding check_dialogue
 returns-clause-meets g c = record {

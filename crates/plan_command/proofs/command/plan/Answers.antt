@@ -10,6 +10,11 @@ returns-in_err-files-clause-meets g c =
           (c.in_err-files.ensures.stops _);
     })
 
+pub returns-in_err-new_plan-clause-meets : goal.returns-in_err-new_plan-clause-meets
+returns-in_err-new_plan-clause-meets g c =
+    let p = err_from_is_err_and c.from_residual-in_err-new_plan.result c.from_residual-in_err-new_plan.ensures.1 in
+    rw (p.1, p.2) (record { met = record { ended = tt {0} } })
+
 pub returns-clause-meets : goal.returns-clause-meets
 returns-clause-meets g c = record {
   met =
