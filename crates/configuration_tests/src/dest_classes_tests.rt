@@ -1,8 +1,11 @@
-//! Atoms of lists of prefixes: where each begins, and the atom of an address.
-use dest_classes::Atoms;
+//! Atoms of lists of prefixes: where each begins, the atom of an address, and the atoms of a prefix.
+ghost use Rattle.std.specs.Prelude.{◌≡◌};
+
+use dest_classes::{AtomRange, Atoms, ClassMap, class_map};
 use net_base::{Prefix, read_prefix};
 use std::alloc::Global;
 use std::process::Abort;
+use topology::read_net;
 
 /// Prefixes, the first addresses of their atoms, and the atoms of other addresses.
 #[derive(Clone, Copy)]
@@ -72,5 +75,76 @@ fn an_atom_begins_at_each_boundary(rt: HostRuntime) {
         for (address, i) in row.inside {
             is_in(&rt, &atoms, *address, *i);
         }
+    }
+}
+
+/// Prefixes, how many atoms their map has, and for each prefix the first atom in it and the one after the last.
+#[derive(Clone, Copy)]
+struct Touching {
+    prefixes: &'static [&'static str],
+    atoms: u32,
+    touched: &'static [(u32, u32)],
+}
+
+const TOUCHING: [Touching; 4] = [
+    Touching {
+        prefixes: &["10.0.0.0/24"],
+        atoms: 3,
+        touched: &[(1, 2)],
+    },
+    // Boundaries 0.0.0.0, 10.0.0.0, 10.0.1.0 and 11.0.0.0.
+    Touching {
+        prefixes: &["10.0.0.0/8", "10.0.0.0/24"],
+        atoms: 4,
+        touched: &[(1, 3), (1, 2)],
+    },
+    // Boundaries 0.0.0.0, 9.255.255.255, 10.0.0.0, 10.255.255.255 and 11.0.0.0: prefixes of one address before another and at its end.
+    Touching {
+        prefixes: &["9.255.255.255/32", "10.0.0.0/8", "10.255.255.255/32"],
+        atoms: 5,
+        touched: &[(1, 2), (2, 4), (3, 4)],
+    },
+    // The last address has no boundary after it.
+    Touching {
+        prefixes: &["0.0.0.0/0", "128.0.0.0/1", "255.255.255.255/32"],
+        atoms: 3,
+        touched: &[(0, 3), (1, 3), (2, 3)],
+    },
+];
+
+const NET: &str =
+    r#"{"switches":[{"name":"a","capacity":10}],"links":[],"hosts":["a:1","a:2"],"vlans":["untagged",10],"tags":[]}"#;
+
+/// The prefix at a place of a map's list touches the atoms from one up to another.
+fn touches(rt: &impl Abort, map: &ClassMap, prefixes: &[Prefix], i: usize, from: u32, to: u32)
+    requires { map.now.prefixes ≡ prefixes.now }
+{
+    assert!(rt; map.count() > 0);
+    assert!(rt; i < prefixes.len());
+    assert!(rt;
+        map.touched(prefixes[i]) == AtomRange { from, to },
+        "at {i}"
+    );
+}
+
+fn touch_in_turn(rt: &impl Abort, map: &ClassMap, prefixes: &[Prefix], touched: &[(u32, u32)])
+    requires { map.now.prefixes ≡ prefixes.now }
+{
+    assert!(rt; touched.len() == prefixes.len());
+    for (i, (from, to)) in touched.iter().enumerate() {
+        touches(rt, map, prefixes, i, *from, *to);
+    }
+}
+
+#[test]
+fn a_prefix_touches_the_atoms_in_it(rt: HostRuntime) {
+    let net = read_net(rt.alloc(), NET.as_bytes()).expect(&rt, "a network");
+    for row in TOUCHING {
+        let prefixes = prefixes_of(&rt, rt.alloc(), row.prefixes);
+        let map = class_map(rt.alloc(), &net, prefixes.as_slice()).expect(&rt, "classes");
+        assert!(rt; map.count() > 0);
+        assert!(rt; map.atoms() == row.atoms);
+        assert!(rt; map.count() / map.atoms() == 4);
+        touch_in_turn(&rt, &map, prefixes.as_slice(), row.touched);
     }
 }

@@ -1,6 +1,6 @@
 -- Each entry and address has a class.
-use Rattle.std.proofs.Common.{◌≡◌, ℕ, zero, suc, ◌+◌, ◌*◌, ◌^◌, ◌<◌, ◌≤◌, ◌&&◌, cond, List, [], ◌∷◌, length, refl, sym, ◌∙◌, subst, ap, arith, inl, inr}
-use Rattle.std.specs.Prelude.{◌==◌, nat_lt, nat_le, filter, flat_map, slice_get, Some}
+use Rattle.std.proofs.Common.{◌≡◌, ℕ, ◌+◌, ◌*◌, ◌^◌, ◌<◌, ◌≤◌, ◌&&◌, cond, List, [], ◌∷◌, length, refl, sym, ◌∙◌, subst, ap, arith, inl, inr}
+use Rattle.std.specs.Prelude.{◌==◌, nat_lt, nat_le, filter, flat_map}
 use Rattle.std.proofs.lemmas.Bool.{lt-ltb, le-ltb, le-leb, lt-leb, eqb-true, cases_lt, cond_both}
 use Rattle.net_base.specs.Blocks.{Block, block_size, in_block, IsSameClass}
 use Rattle.net_base.specs.Members.{IsIn}
@@ -87,7 +87,8 @@ in_flat x b (c ∷ blocks) (inl e) j = in_append_left x (block_ends c) (flat_map
 in_flat x b (c ∷ blocks) (inr i) j = in_append_right x (block_ends c) (flat_map block_ends blocks) (in_flat x b blocks i j)
 
 module _ (blocks : List Block) (a : ℕ) (fits : a < 2 ^ 32) where
-  is_boundary : (b : Block) → IsIn b blocks → (x : ℕ) → IsIn x (block_ends b) → x ≤ a → IsIn x (boundaries blocks)
+  -- an end of a block that isn't above an address is a boundary
+  pub is_boundary : (b : Block) → IsIn b blocks → (x : ℕ) → IsIn x (block_ends b) → x ≤ a → IsIn x (boundaries blocks)
   is_boundary b i x j le =
       in_ascending x (0 ∷ filter (λ y. nat_lt y (2 ^ 32)) (flat_map block_ends blocks))
       (inr (in_filter (λ y. nat_lt y (2 ^ 32)) x (flat_map block_ends blocks) (in_flat x b blocks i j) (lt-ltb x (2 ^ 32) (omega arith))))

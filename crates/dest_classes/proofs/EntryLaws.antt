@@ -1,5 +1,5 @@
 -- The classes are those of entries and of addresses.
-use Rattle.std.proofs.Common.{◌≡◌, ℕ, ◌<◌, ◌^◌, List, ◌∷◌, inl, inr, arith}
+use Rattle.std.proofs.Common.{ℕ, ◌<◌, ◌^◌, List, ◌∷◌, inl, inr, arith}
 use Rattle.std.specs.Prelude.{filter, flat_map, nat_lt}
 use Rattle.std.proofs.lemmas.Bool.{ltb-true}
 use Rattle.net_base.proofs.MemberLaws.{in_from_filter}

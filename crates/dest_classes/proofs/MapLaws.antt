@@ -15,7 +15,7 @@ use Rattle.net_base.specs.declared.ids.SwitchId.{SwitchId}
 use Rattle.net_base.specs.declared.ids.Place.{Place}
 use Rattle.net_base.specs.declared.ids.Vlan.{Vlan}
 use Rattle.net_base.specs.declared.ids.Vlan.TheVariants.{Untagged}
-use Rattle.net_base.proofs.MemberLaws.{in_append_left, each_first, each_weaker, each_from_in, in_from_filter}
+use Rattle.net_base.proofs.MemberLaws.{each_first, each_weaker, each_from_in, in_from_filter}
 use Rattle.topology.specs.Networks.{Network, IsNetwork, IsPortNumber}
 use Rattle.topology.specs.declared.net.Link.{Link}
 use Rattle.dest_classes.specs.Classes.{ClassList, IsClass, atom_count, class_count, boundaries}

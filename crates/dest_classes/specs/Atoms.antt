@@ -4,6 +4,7 @@ use Rattle.std.specs.List.{AllByRecursion}
 use Rattle.std.specs.List.Sorted.{IsStrictlyIncreasing}
 use Rattle.net_base.specs.Blocks.{Block, IsSameClass}
 use Rattle.dest_classes.specs.Classes.{boundaries}
+use Rattle.dest_classes.specs.declared.AtomRange.{AtomRange}
 
 -- the first addresses of atoms: 0, then each above the one before, all of 32 bits
 pub record AreFirsts (firsts : List ℕ) : Type 0 where
@@ -17,6 +18,10 @@ pub record IsAtomOf (firsts : List ℕ) (i address : ℕ) : Type 0 where
   pub within : i < length firsts
   pub below : slice_index firsts i ≤ address
   pub greatest : (k : ℕ) → k < length firsts → slice_index firsts k ≤ address → slice_index firsts k ≤ slice_index firsts i
+
+-- atom i is one of the range
+abbrev pub IsAmong : AtomRange → ℕ → Type 0
+IsAmong range i = (range.from ≤ i) × (i < range.to)
 
 -- no prefix tells apart two addresses of one atom
 abbrev pub OneAtomIsOneClass : List Block → Type 0

@@ -60,6 +60,15 @@ impl Model for ClassMap {
     ghost invariant = { λ m. (m.atoms ≡ boundaries m.prefixes.items) × (length m.hosts.items * length m.vlans.items * length m.atoms ≤ 8192) };
 }
 
+/// The atoms from one up to but not including another, by their numbers from 0.
+#[derive(Clone, Copy, Debug, PartialEq, Eq)]
+pub struct AtomRange {
+    /// The first atom.
+    pub from: u32,
+    /// The atom after the last one.
+    pub to: u32,
+}
+
 /// Why there is no class map.
 #[derive(Clone, Copy, Debug, PartialEq, Eq)]
 pub enum ClassFault {

@@ -1,12 +1,15 @@
 //! Class maps: the classes of a network for a list of prefixes, and their numbers.
-ghost use Rattle.std.specs.Prelude.{◌≡◌, ℕ, ◌<◌, ◌≤◌, ◌↔◌, IfOk, IfErr, IfSome, IfNone, IsNone, Some, slice_get, ◌≢◌, All};
-ghost use Rattle.net_base.specs.Blocks.{IsSameClass};
+ghost use Rattle.std.specs.Prelude.{◌≡◌, ℕ, ◌*◌, ◌%◌, ◌^◌, ◌<◌, ◌≤◌, ◌↔◌, true, IfOk, IfErr, IfSome, IfNone, IsNone, Some, length, slice_get, slice_index, ◌≢◌, All};
+ghost use Rattle.net_base.specs.Blocks.{IsSameClass, in_block};
+ghost use Rattle.net_base.specs.Members.{IsIn};
 ghost use Rattle.topology.specs.Networks.{IsEntry};
-ghost use Rattle.dest_classes.specs.Classes.{classes_of, class_count, IsClass};
+ghost use Rattle.dest_classes.specs.Classes.{classes_of, class_count, atom_count, boundaries, IsClass};
+ghost use Rattle.dest_classes.specs.Atoms.{IsAtomOf, IsAmong};
 ghost use Rattle.dest_classes.specs.declared.Class.{Class};
 ghost use Rattle.dest_classes.specs.Numbered.{IsClassOf, IsCauseOf};
 
-use crate::{Atoms, Class, ClassFault, ClassMap};
+use crate::ranges::end_of;
+use crate::{AtomRange, Atoms, Class, ClassFault, ClassMap};
 use net_base::{Memory, Place, Prefix, Stop, Vlan};
 use std::alloc::Global;
 use topology::Net;
@@ -89,6 +92,37 @@ impl ClassMap {
                 vlan,
             },
             first: self.atoms.first(n % self.atoms.count()),
+        }
+    }
+
+    /// How many atoms there are, at least one; the map has at least one class. The classes of a host port and a VLAN have
+    /// as many numbers in a row, one for each atom, in the atoms' order.
+    pub fn atoms(&self) -> u32
+        requires some { 0 < class_count self.now }
+        ensures count { result ≡ atom_count self.now }
+        ensures some { 0 < result }
+        ensures few { result ≤ 8192 }
+        ensures classes { class_count self.now ≡ length self.now.hosts * length self.now.vlans * result }
+        ensures first { (n : ℕ) (class : Class) → IsClass self.now n class → slice_get (boundaries self.now.prefixes) (n % result) ≡ Some class.first }
+    {
+        self.atoms.count() as u32
+    }
+
+    /// The atoms whose addresses lie in a prefix of the map, at least one; the map has at least one class. It takes time
+    /// log n.
+    pub fn touched(&self, p: Prefix) -> AtomRange
+        requires some { 0 < class_count self.now }
+        requires known { IsIn p self.now.prefixes }
+        ensures within { result.to ≤ atom_count self.now }
+        ensures some { result.from < result.to }
+        ensures first { (i : ℕ) → i < atom_count self.now → IsAmong result i ↔ (in_block p (slice_index (boundaries self.now.prefixes) i) ≡ true) }
+        ensures address { (i address : ℕ) → address < 2 ^ 32 → IsAtomOf (boundaries self.now.prefixes) i address → IsAmong result i ↔ (in_block p address ≡ true) }
+        // By a class's number: its first address lies in the prefix exactly where the range has its atom.
+        ensures class { (n : ℕ) (class : Class) → IsClass self.now n class → IsAmong result (n % atom_count self.now) ↔ (in_block p class.first ≡ true) }
+    {
+        AtomRange {
+            from: self.atoms.begun_before(u64::from(p.base)) as u32,
+            to: self.atoms.begun_before(end_of(&p)) as u32,
         }
     }
 

@@ -1,5 +1,5 @@
 //! Atoms of a list of prefixes, and the atom of an address.
-ghost use Rattle.std.specs.Prelude.{◌≡◌, ℕ, ◌+◌, ◌*◌, ◌^◌, ◌<◌, ◌≤◌, ◌∷◌, ◌++◌, nat_lt, length, filter, flat_map, slice_index, List, IfOk, OnOk, IfSome, IfNone};
+ghost use Rattle.std.specs.Prelude.{◌≡◌, ℕ, ◌+◌, ◌*◌, ◌^◌, ◌<◌, ◌≤◌, ◌↔◌, ◌∷◌, ◌++◌, nat_lt, length, filter, flat_map, slice_index, List, IfOk, OnOk, IfSome, IfNone};
 ghost use Rattle.net_base.specs.Blocks.{Block, block_size, IsSameClass};
 ghost use Rattle.dest_classes.specs.Classes.{boundaries, block_ends};
 ghost use Rattle.dest_classes.specs.Atoms.{IsAtomOf};
@@ -8,12 +8,19 @@ use crate::Atoms;
 use net_base::{Memory, Prefix};
 use std::alloc::Global;
 
+/// The number after the last address of a prefix, at most 2^32.
+pub(crate) fn end_of(prefix: &Prefix) -> u64
+    ensures { result ≡ prefix.now.base + block_size prefix.now }
+{
+    u64::from(prefix.base) + (1u64 << (32 - prefix.len))
+}
+
 /// The address after the last one of a prefix, where it is below 2^32.
 fn address_after(prefix: &Prefix) -> Option<u32>
     ensures some { IfSome result (λ a. (a ≡ prefix.now.base + block_size prefix.now) × (a < 2 ^ 32)) }
     ensures none { IfNone result (2 ^ 32 ≤ prefix.now.base + block_size prefix.now) }
 {
-    let after = u64::from(prefix.base) + (1u64 << (32 - prefix.len));
+    let after = end_of(prefix);
     if after <= u64::from(u32::MAX) {
         Some(after as u32)
     } else {
@@ -82,6 +89,15 @@ impl Atoms {
         ensures class { (blocks : List Block) → self.now ≡ boundaries blocks → IsSameClass blocks (slice_index self.now result) addr }
     {
         self.firsts.partition_point(|first| *first <= addr) - 1
+    }
+
+    /// How many atoms begin before an address, which may be 2^32. It takes time log n.
+    pub(crate) fn begun_before(&self, addr: u64) -> usize
+        ensures within { result ≤ length self.now }
+        ensures each { (i : ℕ) → i < length self.now → (i < result) ↔ (slice_index self.now i < addr) }
+    {
+        self.firsts
+            .partition_point(|first| u64::from(*first) < addr)
     }
 
     /// The same atoms again.
