@@ -1,15 +1,14 @@
 -- A walk that comes to a switch it has visited closes there.
-use Rattle.std.proofs.Common.{◌≡◌, ◌⊎◌, ℕ, zero, suc, Bool, true, false, List, [], ◌∷◌, ◌++◌, length, length-set, set, drop, replicate, refl, sym, ◌∙◌, subst, ap, inl, inr, arith}
+use Rattle.std.proofs.Common.{◌≡◌, ◌⊎◌, ℕ, zero, suc, Bool, false, List, [], ◌∷◌, ◌++◌, length-set, set, drop, refl, sym, ◌∙◌, subst, ap, inl, inr}
 use Rattle.std.specs.Prelude.{slice_get, Some, None}
 use Rattle.std.proofs.lemmas.Bool.{cases_eq}
-use Rattle.std.proofs.lemmas.List.{get_or-set_other, get_or-replicate, length-replicate}
+use Rattle.std.proofs.lemmas.List.{get_or-set_other}
 use Rattle.net_base.specs.Members.{IsIn}
 use Rattle.net_base.specs.Walks.{IsWalk, end_of}
 use Rattle.net_base.proofs.WalkLaws.{IsWalk-push, end_of-push}
 use Rattle.net_base.proofs.MemberLaws.{in_append_left, in_append_right}
 use Rattle.net_base.specs.declared.ids.SwitchId.{SwitchId}
-use Rattle.acyclic_numbering.specs.Heights.{AreHeights}
-use Rattle.acyclic_numbering.specs.Numbered.{IsOpen, AreHeightsSoFar, IsWalkedSoFar, IsClosedWalk}
+use Rattle.acyclic_numbering.specs.Numbered.{IsOpen, IsWalkedSoFar, IsClosedWalk}
 use Rattle.net_base.proofs.NameLaws.{same_switch}
 
 module _ (edge : SwitchId → SwitchId → Type 0) where

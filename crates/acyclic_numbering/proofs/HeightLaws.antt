@@ -21,7 +21,7 @@ count_most (true ∷ marks) = let h = count_most marks in omega arith
 count_most (false ∷ marks) = let h = count_most marks in omega arith
 
 module _ (edge : SwitchId → SwitchId → Type 0) (numbers : List ℕ) (s : SwitchId) (number : ℕ) (next : IsNextNumber edge numbers s number) where
-  height_next : ((t : SwitchId) → edge s t → IsHeight edge t (number_of numbers t)) → IsHeight edge s number
+  pub height_next : ((t : SwitchId) → edge s t → IsHeight edge t (number_of numbers t)) → IsHeight edge s number
   height_next each =
       elim next.reached [
         | inl e ↦ record { longest = []; walk = tt; length_is = sym e; most = most }

@@ -1,5 +1,5 @@
 -- Numbering switches one by one, each after all that its edges lead to.
-use Rattle.std.specs.Prelude.{◌≡◌, ◌⊎◌, ℕ, zero, suc, ◌+◌, ◌<◌, ◌≤◌, Bool, true, false, List, [], ◌∷◌, length, slice_index_or}
+use Rattle.std.specs.Prelude.{◌≡◌, ◌⊎◌, ℕ, zero, suc, ◌+◌, ◌<◌, ◌≤◌, Bool, true, false, List, [], ◌∷◌, length, set, slice_index_or}
 use Rattle.net_base.specs.Members.{IsIn}
 use Rattle.net_base.specs.Walks.{IsWalk, end_of}
 use Rattle.net_base.specs.declared.ids.SwitchId.{SwitchId}
@@ -32,6 +32,14 @@ pub record IsRaised (numbers : List ℕ) (s : SwitchId) (edge : Edge) (number ra
   pub above : number ≤ raised
   pub past : (edge.from ≡ s) → number_of numbers edge.to < raised
   pub reached : (raised ≡ number) ⊎ ((edge.from ≡ s) × (raised ≡ number_of numbers edge.to + 1))
+
+-- the numbers as before, or that of the switch which the edge leaves raised to one more than that to which it leads
+abbrev pub IsRaisedAlong : Edge → List ℕ → List ℕ → Type 0
+IsRaisedAlong edge old new = (new ≡ old) ⊎ ((number_of old edge.from ≤ number_of old edge.to) × (new ≡ set old edge.from.0 (number_of old edge.to + 1)))
+
+-- each number is 0, or at most one more than one to which an edge of its switch leads
+pub record AreReached (edge : SwitchId → SwitchId → Type 0) (numbers : List ℕ) : Type 0 where
+  pub each : (s : SwitchId) → (number_of numbers s ≡ 0) ⊎ ((t : SwitchId) × edge s t × number_of numbers s ≤ number_of numbers t + 1)
 
 -- the numbers so far are heights, and are below the count of switches that have one
 pub record AreHeightsSoFar (edge : SwitchId → SwitchId → Type 0) (open_marks : List Bool) (numbers : List ℕ) : Type 0 where

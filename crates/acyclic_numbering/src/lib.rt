@@ -2,8 +2,8 @@
 #![tactic(auto)]
 
 ghost use Rattle.std.specs.Prelude.{◌≡◌, ◌↔◌, ◌<◌, ◌≤◌, ◌+◌, ◌++◌, ◌∷◌, [], length, IsTrue, All, MatchOption, IfOk, OnOk, OnErr, slice_get, Some};
-ghost use Rattle.acyclic_numbering.specs.Heights.{IsLower, IsEdge, number_of};
-ghost use Rattle.acyclic_numbering.specs.Numbered.{IsOpen, open_count, IsReady, IsNextNumber, IsRaised, AreHeightsSoFar, IsNumbered, IsStuck, IsWalkedSoFar, IsClosedWalk};
+ghost use Rattle.acyclic_numbering.specs.Heights.{IsLower, IsEdge, AreHeights, number_of};
+ghost use Rattle.acyclic_numbering.specs.Numbered.{IsOpen, open_count, IsReady, IsNextNumber, IsRaised, IsRaisedAlong, AreReached, AreHeightsSoFar, IsNumbered, IsStuck, IsWalkedSoFar, IsClosedWalk};
 ghost use Rattle.net_base.specs.Members.{IsIn};
 ghost use Rattle.net_base.specs.declared.ids.SwitchId.{SwitchId};
 
@@ -225,9 +225,9 @@ fn first_open(pending: &[bool]) -> Option<SwitchId>
     None
 }
 
-/// The heights of the switches, where the edges have no cycle, or a closed walk of edges.
-/// For each switch it looks at the edges once for each switch at most.
-pub fn number(alloc: Global, switches: u32, edges: &[Edge]) -> Result<Numbered, Memory>
+/// The heights, found switch by switch, each after those to which its edges lead; or a closed walk of edges.
+/// It looks at each edge once for each pair of switches at most.
+fn number_each(alloc: Global, switches: u32, edges: &[Edge]) -> Result<Numbered, Memory>
     requires switches { switches ≤ 128 }
     requires edges { All (λ e. (e.from.0 < switches) × (e.to.0 < switches)) edges.now }
     ensures { IfOk result (λ found. IsNumbered (IsEdge edges.now) switches found) }
@@ -246,4 +246,88 @@ pub fn number(alloc: Global, switches: u32, edges: &[Edge]) -> Result<Numbered, 
             Ok(Numbered::Cycle(SwitchList::of(walk)))
         }
     }
+}
+
+/// Raises the number of the switch that an edge leaves to one more than that to which it leads, where it isn't higher already.
+/// The result is false, and the numbers stay, where it would reach the count of switches. It would only where there is a cycle.
+fn raise(numbers: &mut [u16], edge: &Edge) -> bool
+    requires few { length numbers.old ≤ 128 }
+    requires from { edge.now.from.0 < length numbers.old }
+    requires to { edge.now.to.0 < length numbers.old }
+    ensures { IsRaisedAlong edge.now numbers.old numbers.new }
+{
+    let from = edge.from.0 as usize;
+    let below = numbers[edge.to.0 as usize];
+    if below < numbers[from] {
+        return true;
+    }
+    if below as usize + 1 >= numbers.len() {
+        return false;
+    }
+    numbers[from] = below + 1;
+    true
+}
+
+/// Raises the numbers along each edge, from the last to the first. The result is false where one would reach the count of
+/// switches.
+fn raise_once(numbers: &mut [u16], edges: &[Edge]) -> bool
+    requires few { length numbers.old ≤ 128 }
+    requires edges { All (λ e. (e.from.0 < length numbers.old) × (e.to.0 < length numbers.old)) edges.now }
+    requires reached { AreReached (IsEdge edges.now) numbers.old }
+    ensures { AreReached (IsEdge edges.now) numbers.new }
+{
+    for edge in edges.iter().rev() {
+        if !raise(numbers, edge) {
+            return false;
+        }
+    }
+    true
+}
+
+/// Whether the numbers fall along each edge.
+fn fall_along(numbers: &[u16], edges: &[Edge]) -> bool
+    requires { All (λ e. (e.from.0 < length numbers.now) × (e.to.0 < length numbers.now)) edges.now }
+    ensures { IsTrue result ↔ All (λ e. IsLower numbers.now e.from e.to) edges.now }
+{
+    for edge in edges {
+        if numbers[edge.from.0 as usize] <= numbers[edge.to.0 as usize] {
+            return false;
+        }
+    }
+    true
+}
+
+/// Raises the numbers until they fall along each edge, and so are the heights. The result is false where they don't after a
+/// pass for each switch, or where one would reach the count of switches.
+fn raise_all(numbers: &mut [u16], edges: &[Edge]) -> bool
+    requires few { length numbers.old ≤ 128 }
+    requires edges { All (λ e. (e.from.0 < length numbers.old) × (e.to.0 < length numbers.old)) edges.now }
+    requires reached { AreReached (IsEdge edges.now) numbers.old }
+    ensures { IsTrue result → AreHeights (IsEdge edges.now) (length numbers.old) numbers.new }
+{
+    for _ in 0..numbers.len() {
+        if !raise_once(numbers, edges) {
+            return false;
+        }
+        if fall_along(numbers, edges) {
+            return true;
+        }
+    }
+    false
+}
+
+/// The heights of the switches, where the edges have no cycle, or a closed walk of edges.
+/// It looks at each edge twice where the edges that leave a switch stand after those that lead to it, as in the order of a walk;
+/// in another order at most twice for each switch. Where there is a cycle, it looks at each edge once more for each pair of
+/// switches at most.
+pub fn number(alloc: Global, switches: u32, edges: &[Edge]) -> Result<Numbered, Memory>
+    requires switches { switches ≤ 128 }
+    requires edges { All (λ e. (e.from.0 < switches) × (e.to.0 < switches)) edges.now }
+    ensures { IfOk result (λ found. IsNumbered (IsEdge edges.now) switches found) }
+{
+    let mut numbers = vec![in alloc; 0u16; switches as usize]?;
+    if raise_all(&mut numbers, edges) {
+        return Ok(Numbered::Heights(Numbering { numbers }));
+    }
+    number_each(alloc, switches, edges)
 }

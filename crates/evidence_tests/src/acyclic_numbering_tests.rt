@@ -18,6 +18,22 @@ const LINE: [Edge; 3] = [
     },
 ];
 
+/// The edges of a line, the last of them first.
+const BACKWARDS: [Edge; 3] = [
+    Edge {
+        from: SwitchId(2),
+        to: SwitchId(3),
+    },
+    Edge {
+        from: SwitchId(1),
+        to: SwitchId(2),
+    },
+    Edge {
+        from: SwitchId(0),
+        to: SwitchId(1),
+    },
+];
+
 const RING: [Edge; 3] = [
     Edge {
         from: SwitchId(0),
@@ -105,6 +121,12 @@ fn is_walk(rt: &impl Abort, found: &Numbered, want: &[SwitchId]) {
 fn a_line_has_heights(rt: HostRuntime) {
     let found = number(rt.alloc(), 3, &LINE).expect(&rt, "memory");
     are_heights(&rt, &found, &[2, 1, 0]);
+}
+
+#[test]
+fn edges_in_any_order_have_heights(rt: HostRuntime) {
+    let found = number(rt.alloc(), 4, &BACKWARDS).expect(&rt, "memory");
+    are_heights(&rt, &found, &[3, 2, 1, 0]);
 }
 
 #[test]
