@@ -5,7 +5,8 @@ ghost use Rattle.net_base.specs.Walks.{end_of};
 ghost use Rattle.net_base.specs.declared.ids.Port.{Port as PortOf};
 ghost use Rattle.net_base.specs.declared.ids.Vlan.{Vlan as VlanOf};
 ghost use Rattle.topology.specs.Networks.{switch_count};
-ghost use Rattle.dest_classes.specs.Classes.{IsClass, class_count};
+ghost use Rattle.dest_classes.specs.Classes.{class_count};
+ghost use Rattle.dest_classes.specs.Numbered.{IsNumbered};
 ghost use Rattle.demands.specs.Duties.{PacketDuties, duties_of};
 ghost use Rattle.update_model.specs.Mixtures.{IsPossible};
 ghost use Rattle.round_outcomes.specs.Rounds.{alone};
@@ -18,7 +19,7 @@ use crate::BreakingWalk;
 use crate::search::{Aim, find};
 use crate::surveying::{Survey, look_over};
 use demands::Duties;
-use dest_classes::Class;
+use dest_classes::{Class, NumberedClass};
 use net_base::{Memory, Place, Port, SwitchId, Vlan};
 use path_walk::Outcome;
 use round_outcomes::RoundOutcomes;
@@ -70,19 +71,18 @@ fn find_drop(
     alloc: Global,
     round: &RoundOutcomes<'_>,
     duties: &Duties,
-    number: u32,
-    class: Class,
+    numbered: NumberedClass,
 ) -> Result<Option<BreakingWalk>, Memory>
-    requires number { number < class_count duties.now.classes }
-    requires class { IsClass duties.now.classes number class }
-    requires entry { class.entry.switch.0 < switch_count round.now.net }
-    ensures some { IfOk result (λ found. IfSome found (λ w. IsBroken (alone round.now) 0 class.first class.entry (duties_of duties.now.demands class.entry class.first) w.rest w.end)) }
-    ensures none { IfOk result (λ found. IfNone found (IsNoneDropped (alone round.now) 0 class.first class.entry (duties_of duties.now.demands class.entry class.first))) }
+    requires number { numbered.number < class_count duties.now.classes }
+    requires class { IsNumbered duties.now.classes numbered }
+    requires entry { numbered.class.entry.switch.0 < switch_count round.now.net }
+    ensures some { IfOk result (λ found. IfSome found (λ w. IsBroken (alone round.now) 0 numbered.class.first numbered.class.entry (duties_of duties.now.demands numbered.class.entry numbered.class.first) w.rest w.end)) }
+    ensures none { IfOk result (λ found. IfNone found (IsNoneDropped (alone round.now) 0 numbered.class.first numbered.class.entry (duties_of duties.now.demands numbered.class.entry numbered.class.first))) }
 {
-    if !duties.must_arrive(number) {
+    if !duties.must_arrive(numbered.number) {
         return Ok(None);
     }
-    match find(alloc, round, class, &[], Aim::Drop)? {
+    match find(alloc, round, numbered.class, &[], Aim::Drop)? {
         Some(rest) => Ok(Some(BreakingWalk {
             rest,
             end: Some(Outcome::Discard),
@@ -121,17 +121,21 @@ fn find_miss(
     alloc: Global,
     round: &RoundOutcomes<'_>,
     duties: &Duties,
-    number: u32,
-    class: Class,
+    numbered: NumberedClass,
 ) -> Result<Option<BreakingWalk>, Memory>
-    requires number { number < class_count duties.now.classes }
-    requires class { IsClass duties.now.classes number class }
-    requires entry { class.entry.switch.0 < switch_count round.now.net }
-    ensures some { IfOk result (λ found. IfSome found (λ w. IsBroken (alone round.now) 0 class.first class.entry (duties_of duties.now.demands class.entry class.first) w.rest w.end)) }
-    ensures none { IfOk result (λ found. IfNone found (IsNoneUnmet (alone round.now) 0 class.first class.entry (duties_of duties.now.demands class.entry class.first))) }
+    requires number { numbered.number < class_count duties.now.classes }
+    requires class { IsNumbered duties.now.classes numbered }
+    requires entry { numbered.class.entry.switch.0 < switch_count round.now.net }
+    ensures some { IfOk result (λ found. IfSome found (λ w. IsBroken (alone round.now) 0 numbered.class.first numbered.class.entry (duties_of duties.now.demands numbered.class.entry numbered.class.first) w.rest w.end)) }
+    ensures none { IfOk result (λ found. IfNone found (IsNoneUnmet (alone round.now) 0 numbered.class.first numbered.class.entry (duties_of duties.now.demands numbered.class.entry numbered.class.first))) }
 {
-    for i in 0..duties.chains(number) {
-        let found = find_unmet(alloc, round, class, duties.chain(number, i))?;
+    for i in 0..duties.chains(numbered.number) {
+        let found = find_unmet(
+            alloc,
+            round,
+            numbered.class,
+            duties.chain(numbered.number, i),
+        )?;
         if let Some(walk) = found {
             return Ok(Some(walk));
         }
@@ -165,21 +169,20 @@ fn find_seen_drop(
     alloc: Global,
     round: &RoundOutcomes<'_>,
     duties: &Duties,
-    number: u32,
-    class: Class,
+    numbered: NumberedClass,
     seen: Survey,
 ) -> Result<Option<BreakingWalk>, Memory>
-    requires number { number < class_count duties.now.classes }
-    requires class { IsClass duties.now.classes number class }
-    requires entry { class.entry.switch.0 < switch_count round.now.net }
-    requires seen { seen.may_drop ≡ false → NeverDrops (alone round.now) 0 class.first class.entry }
-    ensures some { IfOk result (λ found. IfSome found (λ w. IsBroken (alone round.now) 0 class.first class.entry (duties_of duties.now.demands class.entry class.first) w.rest w.end)) }
-    ensures none { IfOk result (λ found. IfNone found (IsNoneDropped (alone round.now) 0 class.first class.entry (duties_of duties.now.demands class.entry class.first))) }
+    requires number { numbered.number < class_count duties.now.classes }
+    requires class { IsNumbered duties.now.classes numbered }
+    requires entry { numbered.class.entry.switch.0 < switch_count round.now.net }
+    requires seen { seen.may_drop ≡ false → NeverDrops (alone round.now) 0 numbered.class.first numbered.class.entry }
+    ensures some { IfOk result (λ found. IfSome found (λ w. IsBroken (alone round.now) 0 numbered.class.first numbered.class.entry (duties_of duties.now.demands numbered.class.entry numbered.class.first) w.rest w.end)) }
+    ensures none { IfOk result (λ found. IfNone found (IsNoneDropped (alone round.now) 0 numbered.class.first numbered.class.entry (duties_of duties.now.demands numbered.class.entry numbered.class.first))) }
 {
     if !seen.may_drop {
         return Ok(None);
     }
-    find_drop(alloc, round, duties, number, class)
+    find_drop(alloc, round, duties, numbered)
 }
 
 /// A mixed walk of the class on which a switch stands twice; there is none where a survey saw numbers that fall along each step.
@@ -206,24 +209,23 @@ pub(crate) fn find_breaking(
     alloc: Global,
     round: &RoundOutcomes<'_>,
     duties: &Duties,
-    number: u32,
-    class: Class,
+    numbered: NumberedClass,
 ) -> Result<Option<BreakingWalk>, Memory>
-    requires number { number < class_count duties.now.classes }
-    requires class { IsClass duties.now.classes number class }
-    requires entry { class.entry.switch.0 < switch_count round.now.net }
-    ensures some { IfOk result (λ found. IfSome found (λ w. IsBroken (alone round.now) 0 class.first class.entry (duties_of duties.now.demands class.entry class.first) w.rest w.end)) }
-    ensures none { IfOk result (λ found. IfNone found (¬ HasBreakingWalk (alone round.now) 0 class.first class.entry (duties_of duties.now.demands class.entry class.first))) }
+    requires number { numbered.number < class_count duties.now.classes }
+    requires class { IsNumbered duties.now.classes numbered }
+    requires entry { numbered.class.entry.switch.0 < switch_count round.now.net }
+    ensures some { IfOk result (λ found. IfSome found (λ w. IsBroken (alone round.now) 0 numbered.class.first numbered.class.entry (duties_of duties.now.demands numbered.class.entry numbered.class.first) w.rest w.end)) }
+    ensures none { IfOk result (λ found. IfNone found (¬ HasBreakingWalk (alone round.now) 0 numbered.class.first numbered.class.entry (duties_of duties.now.demands numbered.class.entry numbered.class.first))) }
 {
-    let seen = look_over(alloc, round, class)?;
-    let dropped = find_seen_drop(alloc, round, duties, number, class, seen)?;
+    let seen = look_over(alloc, round, numbered.class)?;
+    let dropped = find_seen_drop(alloc, round, duties, numbered, seen)?;
     if let Some(walk) = dropped {
         return Ok(Some(walk));
     }
-    let missed = find_miss(alloc, round, duties, number, class)?;
+    let missed = find_miss(alloc, round, duties, numbered)?;
     if let Some(walk) = missed {
         return Ok(Some(walk));
     }
     round.net().keeps_rules();
-    find_seen_repeat(alloc, round, class, seen)
+    find_seen_repeat(alloc, round, numbered.class, seen)
 }

@@ -3,7 +3,8 @@
 
 ghost use Rattle.std.specs.Prelude.{◌≡◌, ◌<◌, IfOk, IfSome, IfNone};
 ghost use Rattle.topology.specs.Networks.{switch_count};
-ghost use Rattle.dest_classes.specs.Classes.{IsClass, class_count};
+ghost use Rattle.dest_classes.specs.Classes.{class_count};
+ghost use Rattle.dest_classes.specs.Numbered.{IsNumbered};
 ghost use Rattle.demands.specs.Duties.{duties_of};
 ghost use Rattle.round_outcomes.specs.Rounds.{alone};
 ghost use Rattle.breaking_walks.specs.Breaking.{HasBreakingWalk, IsBreakingWalk};
@@ -17,7 +18,7 @@ mod trail;
 use breaking::find_breaking;
 use cutting::cut;
 use demands::Duties;
-use dest_classes::Class;
+use dest_classes::NumberedClass;
 use net_base::{ListOf, Memory, Place};
 use path_walk::Outcome;
 use round_outcomes::RoundOutcomes;
@@ -36,17 +37,16 @@ pub fn breaking_walk(
     alloc: Global,
     round: &RoundOutcomes<'_>,
     duties: &Duties,
-    number: u32,
-    class: Class,
+    numbered: NumberedClass,
 ) -> Result<Option<BreakingWalk>, Memory>
-    requires number { number < class_count duties.now.classes }
-    requires class { IsClass duties.now.classes number class }
-    requires entry { class.entry.switch.0 < switch_count round.now.net }
-    ensures some { IfOk result (λ found. IfSome found (λ w. IsBreakingWalk (alone round.now) 0 class.first class.entry (duties_of duties.now.demands class.entry class.first) w.rest w.end)) }
-    ensures none { IfOk result (λ found. IfNone found (¬ HasBreakingWalk (alone round.now) 0 class.first class.entry (duties_of duties.now.demands class.entry class.first))) }
+    requires number { numbered.number < class_count duties.now.classes }
+    requires class { IsNumbered duties.now.classes numbered }
+    requires entry { numbered.class.entry.switch.0 < switch_count round.now.net }
+    ensures some { IfOk result (λ found. IfSome found (λ w. IsBreakingWalk (alone round.now) 0 numbered.class.first numbered.class.entry (duties_of duties.now.demands numbered.class.entry numbered.class.first) w.rest w.end)) }
+    ensures none { IfOk result (λ found. IfNone found (¬ HasBreakingWalk (alone round.now) 0 numbered.class.first numbered.class.entry (duties_of duties.now.demands numbered.class.entry numbered.class.first))) }
 {
-    match find_breaking(alloc, round, duties, number, class)? {
-        Some(walk) => Ok(Some(cut(alloc, class.entry, walk)?)),
+    match find_breaking(alloc, round, duties, numbered)? {
+        Some(walk) => Ok(Some(cut(alloc, numbered.class.entry, walk)?)),
         None => Ok(None),
     }
 }

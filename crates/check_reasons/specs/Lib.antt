@@ -4,6 +4,5 @@ pub mod Cases
 pub mod Passed
 pub mod Loaded
 pub mod Touched
-pub mod Numbered
 pub mod Positions
 pub mod Least

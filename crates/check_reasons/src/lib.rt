@@ -4,14 +4,12 @@
 
 mod case;
 mod least;
-mod numbered;
 mod positions;
 mod reason;
 mod touched;
 
 pub use case::Case;
 pub use least::lesser;
-pub use numbered::NumberedClass;
 pub use positions::{earlier_set, from_place, has_positions, set_at};
 pub use reason::{Reason, Verdict};
 pub use touched::{is_touched, may_cover};

@@ -3,11 +3,11 @@ ghost use Rattle.std.specs.Prelude.{◌≡◌, ◌↔◌, ◌<◌, ◌≤◌, le
 ghost use Rattle.std.specs.Option.{option_copied};
 ghost use Rattle.dest_classes.specs.Classes.{class_count};
 ghost use Rattle.demands.specs.Duties.{duties_of};
-ghost use Rattle.check_reasons.specs.Numbered.{IsNumbered};
+ghost use Rattle.dest_classes.specs.Numbered.{IsNumbered};
 ghost use Rattle.check_reasons.specs.Positions.{position_count, sets_of, set_before};
 
-use crate::numbered::NumberedClass;
 use demands::Duties;
+use dest_classes::NumberedClass;
 use waypoint_evidence::Before;
 
 /// Whether there are so many positions in the chains of a class.

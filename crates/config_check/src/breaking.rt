@@ -4,7 +4,8 @@ ghost use Rattle.std.specs.List.{AllByRecursion};
 ghost use Rattle.net_base.specs.Members.{IsSubsequence};
 ghost use Rattle.topology.specs.Networks.{switch_count};
 ghost use Rattle.flow_rules.specs.Tables.{rules_of_all};
-ghost use Rattle.dest_classes.specs.Classes.{class_count, IsClass};
+ghost use Rattle.dest_classes.specs.Classes.{class_count};
+ghost use Rattle.dest_classes.specs.Numbered.{IsNumbered};
 ghost use Rattle.demands.specs.Duties.{duties_of};
 ghost use Rattle.demands.specs.Good.{switches_of, HasGoodPath};
 ghost use Rattle.demands.specs.OfClass.{OfClass};
@@ -13,7 +14,7 @@ ghost use Rattle.config_check.specs.Broken.{MissesAt, BreaksSo};
 use crate::How;
 use crate::waypoints::missed_waypoint;
 use demands::Duties;
-use dest_classes::Class;
+use dest_classes::NumberedClass;
 use flow_rules::Config;
 use net_base::{Stop, SwitchId};
 use path_walk::{PathEnd, PathRoom, walk};
@@ -33,24 +34,24 @@ fn missed(duties: &Duties, class: u32, stops: &[Stop]) -> Option<SwitchId>
     None
 }
 
-/// How the path of a class, the one with this number, breaks its duties, where it does.
+/// How the path of a class breaks its duties, where it does.
 pub(crate) fn how_broken(
     net: &Net,
     config: &Config,
     duties: &Duties,
-    number: u32,
-    class: Class,
+    numbered: NumberedClass,
     room: &mut PathRoom,
 ) -> Option<How>
     requires tables { length config.now ≡ switch_count net.now }
-    requires entry { class.entry.switch.0 < switch_count net.now }
+    requires entry { numbered.class.entry.switch.0 < switch_count net.now }
     requires room { room.old.switches ≡ switch_count net.now }
-    requires number { number < class_count duties.now.classes }
-    requires class { IsClass duties.now.classes number class }
-    ensures none { IfNone result (HasGoodPath net.now (rules_of_all config.now) duties.now.demands class.entry class.first) }
-    ensures some { IfSome result (BreaksSo net.now (rules_of_all config.now) (duties_of duties.now.demands class.entry class.first) class.entry class.first) }
+    requires number { numbered.number < class_count duties.now.classes }
+    requires class { IsNumbered duties.now.classes numbered }
+    ensures none { IfNone result (HasGoodPath net.now (rules_of_all config.now) duties.now.demands numbered.class.entry numbered.class.first) }
+    ensures some { IfSome result (BreaksSo net.now (rules_of_all config.now) (duties_of duties.now.demands numbered.class.entry numbered.class.first) numbered.class.entry numbered.class.first) }
     ensures same_room { room.new.switches ≡ room.old.switches }
 {
+    let NumberedClass { number, class } = numbered;
     match walk(net, config, class.entry, class.first, room) {
         PathEnd::Repeats(switch) => Some(How::Loop(switch)),
         PathEnd::Dropped(switch) => {

@@ -8,7 +8,7 @@ ghost use Rattle.config_check.specs.Broken.{IsFirstBreak};
 use crate::Breaks;
 use crate::breaking::how_broken;
 use demands::Duties;
-use dest_classes::ClassMap;
+use dest_classes::{ClassMap, NumberedClass};
 use flow_rules::Config;
 use path_walk::PathRoom;
 use topology::Net;
@@ -34,7 +34,8 @@ pub fn check_config(
     net.keeps_rules();
     for number in 0..classes.count() {
         let class = classes.class(number);
-        if let Some(how) = how_broken(net, config, duties, number, class, room) {
+        let numbered = NumberedClass { number, class };
+        if let Some(how) = how_broken(net, config, duties, numbered, room) {
             return Err(Breaks { class: number, how });
         }
     }

@@ -4,7 +4,8 @@
 ghost use Rattle.std.specs.Prelude.{◌≡◌, ℕ, ◌<◌, true, false, length, IfOk, IfSome, IfNone};
 ghost use Rattle.topology.specs.Networks.{switch_count, IsEntry};
 ghost use Rattle.flow_rules.specs.Tables.{rules_of_all};
-ghost use Rattle.dest_classes.specs.Classes.{IsClass, class_count};
+ghost use Rattle.dest_classes.specs.Classes.{class_count};
+ghost use Rattle.dest_classes.specs.Numbered.{IsNumbered};
 ghost use Rattle.update_model.specs.Mixtures.{Rollout, AreGoodRounds, AreClearRounds};
 ghost use Rattle.check_reasons.specs.Touched.{touches};
 ghost use Rattle.counter_run.specs.Showing.{update_in};
@@ -18,7 +19,7 @@ use crate::showing::{Stage, breaking_run};
 use breaking_walks::breaking_walk;
 use check_reasons::is_touched;
 use demands::Duties;
-use dest_classes::{Class, ClassMap};
+use dest_classes::{ClassMap, NumberedClass};
 use flow_rules::Config;
 use net_base::Memory;
 use round_faults::make_round;
@@ -50,24 +51,23 @@ fn class_run(
     stage: Stage<'_>,
     view: &RoundOutcomes<'_>,
     duties: &Duties,
-    number: u32,
-    class: Class,
+    numbered: NumberedClass,
 ) -> Result<Option<Events>, Memory>
     requires stage { IsStage stage }
     requires view { view.now ≡ view_of stage }
-    requires number { number < class_count duties.now.classes }
-    requires class { IsClass duties.now.classes number class }
-    requires entry { IsEntry stage.net.now class.entry }
-    requires before { (k : ℕ) → k < stage.number → ¬ ClassBreaks (update_in stage) duties.now.demands k class }
-    ensures some { IfOk result (λ found. IfSome found (λ events. IsShownAt stage.entry duties.now.demands class events)) }
-    ensures none { IfOk result (λ found. IfNone found (¬ ClassBreaks (update_in stage.entry) duties.now.demands stage.entry.number class)) }
+    requires number { numbered.number < class_count duties.now.classes }
+    requires class { IsNumbered duties.now.classes numbered }
+    requires entry { IsEntry stage.net.now numbered.class.entry }
+    requires before { (k : ℕ) → k < stage.number → ¬ ClassBreaks (update_in stage) duties.now.demands k numbered.class }
+    ensures some { IfOk result (λ found. IfSome found (λ events. IsShownAt stage.entry duties.now.demands numbered.class events)) }
+    ensures none { IfOk result (λ found. IfNone found (¬ ClassBreaks (update_in stage.entry) duties.now.demands stage.entry.number numbered.class)) }
 {
-    if is_unchanged(stage.number, view.round(), class.first) {
+    if is_unchanged(stage.number, view.round(), numbered.class.first) {
         return Ok(None);
     }
     stage.net.keeps_rules();
-    match breaking_walk(alloc, view, duties, number, class)? {
-        Some(walk) => Ok(Some(breaking_run(alloc, stage, duties, class, &walk)?)),
+    match breaking_walk(alloc, view, duties, numbered)? {
+        Some(walk) => Ok(Some(breaking_run(alloc, stage, duties, numbered.class, &walk)?)),
         None => Ok(None),
     }
 }
@@ -91,7 +91,8 @@ fn round_run(
     let view = RoundOutcomes::prepare(alloc, stage.net, stage.tables, changes)?;
     for number in 0..classes.count() {
         let class = classes.class(number);
-        if let Some(events) = class_run(alloc, stage, &view, duties, number, class)? {
+        let numbered = NumberedClass { number, class };
+        if let Some(events) = class_run(alloc, stage, &view, duties, numbered)? {
             return Ok(Some(events));
         }
     }

@@ -39,6 +39,15 @@ pub struct Class {
     pub first: u32,
 }
 
+/// A class of a map, with its number there.
+#[derive(Clone, Copy, Debug, PartialEq, Eq)]
+pub struct NumberedClass {
+    /// Its number, from 0.
+    pub number: u32,
+    /// The class.
+    pub class: Class,
+}
+
 /// The classes of a network for a list of prefixes. Class `((host * vlans) + vlan) * atoms + atom` is made of the host
 /// port, the declared VLAN and the atom with these numbers, where `vlans` and `atoms` are counts.
 #[derive(Drop)]

@@ -6,12 +6,12 @@ ghost use Rattle.topology.specs.Networks.{switch_count};
 ghost use Rattle.dest_classes.specs.Classes.{class_count};
 ghost use Rattle.demands.specs.Duties.{duties_of};
 ghost use Rattle.certificates.specs.Valid.{IsChain};
-ghost use Rattle.check_reasons.specs.Numbered.{IsNumbered};
+ghost use Rattle.dest_classes.specs.Numbered.{IsNumbered};
 ghost use Rattle.evidence_store.specs.Guards.{AreWithin, IsGuardFound, IsChainFound, AreGuardsFound};
 
 use certificates::Befores;
-use check_reasons::NumberedClass;
 use demands::Duties;
+use dest_classes::NumberedClass;
 use mixed_walks::WalkRoom;
 use net_base::{Memory, SwitchId};
 use std::alloc::Global;

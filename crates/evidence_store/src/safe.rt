@@ -7,13 +7,14 @@ ghost use Rattle.acyclic_numbering.specs.Heights.{IsEdge, Falls};
 ghost use Rattle.dest_classes.specs.Classes.{class_count};
 ghost use Rattle.demands.specs.Duties.{duties_of};
 ghost use Rattle.certificates.specs.Ordered.{chain_positions, positions};
-ghost use Rattle.check_reasons.specs.Numbered.{IsNumbered};
+ghost use Rattle.dest_classes.specs.Numbered.{IsNumbered};
 ghost use Rattle.check_reasons.specs.Positions.{position_count, sets_of};
 ghost use Rattle.evidence_store.specs.Guards.{AreWithin, IsGuarded};
 
 use acyclic_numbering::{Edge, Numbering, lowers};
-use check_reasons::{NumberedClass, earlier_set, from_place, set_at};
+use check_reasons::{earlier_set, from_place, set_at};
 use demands::Duties;
+use dest_classes::NumberedClass;
 use mixed_walks::WalkRoom;
 use net_base::SwitchId;
 use waypoint_evidence::{Before, closed};

@@ -9,8 +9,8 @@ use Rattle.breaking_walks.proofs.breaking_walk.Goals as goal
 pub returns-in_ok-cut-in-Some-clause-some : goal.returns-in_ok-cut-in-Some-clause-some
 returns-in_ok-cut-in-Some-clause-some c =
     let u = alone c.args.round.now in
-    let entry = c.args.class.entry in
-    let dst = c.args.class.first in
+    let entry = c.args.numbered.class.entry in
+    let dst = c.args.numbered.class.first in
     let duties = duties_of c.args.duties.now.demands entry dst in
     let broken : IsBroken u 0 dst entry duties c.in-Some.walk.rest c.in-Some.walk.end =
     subst (λ (o : Option BreakingWalk). IfSome o (λ w. IsBroken u 0 dst entry duties w.rest w.end)) c.in-Some.is c.in_ok-walk.ensures.some in

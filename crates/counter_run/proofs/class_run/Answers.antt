@@ -16,24 +16,24 @@ pub returns-then-is_unchanged-clause-none : goal.returns-then-is_unchanged-claus
 returns-then-is_unchanged-clause-none c =
     let stage = c.args.stage in
     let off = c.is_unchanged.ensures c.if-is_unchanged.true in
-    class_unchanged (update_in stage) c.requires.stage.good c.requires.stage.clear c.args.duties.now.demands stage.number c.args.class c.requires.stage.within off.0
-    (subst (λ (round : List Change). touches round c.args.class.first ≡ false) (c.round.ensures ∙ ap (λ (v : RoundView). v.round) c.requires.view) off.1) c.requires.before
+    class_unchanged (update_in stage) c.requires.stage.good c.requires.stage.clear c.args.duties.now.demands stage.number c.args.numbered.class c.requires.stage.within off.0
+    (subst (λ (round : List Change). touches round c.args.numbered.class.first ≡ false) (c.round.ensures ∙ ap (λ (v : RoundView). v.round) c.requires.view) off.1) c.requires.before
 
 pub breaking_walk-requires-clause-entry : goal.breaking_walk-requires-clause-entry
 breaking_walk-requires-clause-entry c =
-    subst (λ (v : RoundView). c.args.class.entry.switch.0 < switch_count v.net) (sym c.requires.view)
-    (entry_within c.args.stage.net.now c.keeps_rules.ensures c.args.class.entry c.requires.entry)
+    subst (λ (v : RoundView). c.args.numbered.class.entry.switch.0 < switch_count v.net) (sym c.requires.view)
+    (entry_within c.args.stage.net.now c.keeps_rules.ensures c.args.numbered.class.entry c.requires.entry)
 
 pub breaking_run-requires-clause-walk : goal.breaking_run-requires-clause-walk
 breaking_run-requires-clause-walk c =
-    let class = c.args.class in
+    let class = c.args.numbered.class in
     let duties = duties_of c.args.duties.now.demands class.entry class.first in
     let said = subst (λ (o : Option BreakingWalk). IfSome o (λ w. IsBreakingWalk (alone c.args.view.now) 0 class.first class.entry duties w.rest w.end)) c.in-Some.is c.in_ok-walk.ensures.some in
     walk_shown c.args.stage c.requires.stage c.args.view.now c.requires.view c.args.duties.now.demands class c.in-Some.walk.rest c.in-Some.walk.end said
 
 pub returns-in_ok-breaking_run-in-Some-clause-some : goal.returns-in_ok-breaking_run-in-Some-clause-some
 returns-in_ok-breaking_run-in-Some-clause-some c =
-    let class = c.args.class in
+    let class = c.args.numbered.class in
     let duties = duties_of c.args.duties.now.demands class.entry class.first in
     let said = subst (λ (o : Option BreakingWalk). IfSome o (λ w. IsBreakingWalk (alone c.args.view.now) 0 class.first class.entry duties w.rest w.end)) c.in-Some.is c.in_ok-walk.ensures.some in
     let walk = walk_shown c.args.stage c.requires.stage c.args.view.now c.requires.view c.args.duties.now.demands class c.in-Some.walk.rest c.in-Some.walk.end said in
@@ -45,7 +45,7 @@ returns-in_ok-breaking_run-in-Some-clause-some c =
 
 pub returns-in-None-clause-none : goal.returns-in-None-clause-none
 returns-in-None-clause-none c =
-    let class = c.args.class in
+    let class = c.args.numbered.class in
     let duties = duties_of c.args.duties.now.demands class.entry class.first in
     let said = subst (λ (o : Option BreakingWalk). IfNone o (¬ HasBreakingWalk (alone c.args.view.now) 0 class.first class.entry duties)) c.in-None.is c.in_ok-walk.ensures.none in
     none_shown c.args.stage c.requires.stage c.args.view.now c.requires.view c.args.duties.now.demands class said

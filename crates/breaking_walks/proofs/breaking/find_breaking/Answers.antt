@@ -15,8 +15,8 @@ use Rattle.breaking_walks.proofs.breaking.find_breaking.Goals as goal
 pub returns-clause-some : goal.returns-clause-some
 returns-clause-some c =
     let u = alone c.args.round.now in
-    let entry = c.args.class.entry in
-    let dst = c.args.class.first in
+    let entry = c.args.numbered.class.entry in
+    let dst = c.args.numbered.class.first in
     let duties = duties_of c.args.duties.now.demands entry dst in
     IfOk-weaker c.find_seen_repeat.result (λ (found : Option BreakingWalk). IfSome found (λ w. (d : PacketDuties) → IsBroken u 0 dst entry d w.rest w.end))
     (λ (found : Option BreakingWalk). IfSome found (λ w. IsBroken u 0 dst entry duties w.rest w.end)) (λ found broken. IfSome_then found broken (λ w all. all duties)) c.find_seen_repeat.ensures.some
@@ -25,8 +25,8 @@ pub returns-clause-none : goal.returns-clause-none
 returns-clause-none c =
     let r = c.args.round.now in
     let u = alone r in
-    let entry = c.args.class.entry in
-    let dst = c.args.class.first in
+    let entry = c.args.numbered.class.entry in
+    let dst = c.args.numbered.class.first in
     let duties = duties_of c.args.duties.now.demands entry dst in
     let n = switch_count r.net in
     let valid : IsNetwork r.net = subst IsNetwork c.net.ensures c.keeps_rules.ensures in

@@ -10,11 +10,11 @@ use Rattle.config_check.proofs.breaking.how_broken.Goals as goal
 
 pub returns-in_err-missed-in-Left-clause-none : goal.returns-in_err-missed-in-Left-clause-none
 returns-in_err-missed-in-Left-clause-none c =
-    let entry = c.args.class.entry in
-    let first = c.args.class.first in
+    let entry = c.args.numbered.class.entry in
+    let first = c.args.numbered.class.first in
     let duties = duties_of c.args.duties.now.demands entry first in
     let (vlan, so) = c.in-Left.ensures.path in
     let met = subst (λ (stops : List Stop). AllByRecursion (λ chain. IsSubsequence chain (switches_of stops)) duties.chains) c.stops.ensures
-    (c.in_err-missed-in-Left.ensures.none c.args.class c.requires.class) in
+    (c.in_err-missed-in-Left.ensures.none c.args.numbered.class c.requires.class) in
     none_holds c.from_residual.result (HasGoodPath c.args.net.now (rules_of_all c.args.config.now) c.args.duties.now.demands entry first)
     (good_left c.args.net.now (rules_of_all c.args.config.now) c.args.duties.now.demands entry first c.walk.new.room.stops c.in-Left.field-0 c.in-Left.field-1 vlan so met)
