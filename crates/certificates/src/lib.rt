@@ -2,10 +2,12 @@
 #![tactic(auto)]
 
 pub mod laws;
+mod shared_key;
 mod validity;
 
 use acyclic_numbering::Numbering;
 use net_base::{ListOf, Vlan};
+pub use shared_key::SharedKey;
 use update_model::Rounds;
 pub use validity::valid;
 use waypoint_evidence::Before;

@@ -2,7 +2,7 @@
 ghost use Rattle.std.specs.Prelude.{◌≡◌, ◌↔◌, ◌≤◌, ◌<◌, ℕ, false, IsTrue, length, min, ◌^◌, ◌-◌, sum_by, slice_index_or};
 ghost use Rattle.std.specs.List.{AllByRecursion};
 ghost use Rattle.net_base.specs.Blocks.{IsBlock};
-ghost use Rattle.topology.specs.Networks.{IsPortNumber, IsVlanId, IsVlan, switch_count};
+ghost use Rattle.topology.specs.Networks.{IsPortNumber, IsVlan, switch_count};
 ghost use Rattle.update_model.specs.Ranges.{IsPlanPort, IsPlanVlan, IsPlanAction, IsPlanRewrite, IsPlanChange};
 ghost use Rattle.update_model.specs.Changes.{rule_of};
 ghost use Rattle.certificates.specs.Valid.{IsChain, IsPickBefore, IsVlanBefore, IsValidOrdered, IsValidTwoPhase, IsValidEvidence, IsValidPlan, IsValidNumbering, IsValidBefore, IsValidUse, IsValidPick, IsValidTable, IsValidLabelPick};
@@ -14,7 +14,7 @@ use crate::{
 use acyclic_numbering::Numbering;
 use flow_rules::{Action, Rewrite, Rule, VlanTest};
 use net_base::{Port, Prefix, Vlan};
-use topology::Net;
+use topology::{Net, is_vlan_id};
 use update_model::{Change, Rounds};
 use waypoint_evidence::Before;
 
@@ -32,18 +32,12 @@ fn is_port_number(port: u16) -> bool
     1 <= port && port <= 65279
 }
 
-fn is_vlan_id(id: u16) -> bool
-    ensures { IsTrue result ↔ IsVlanId id }
-{
-    1 <= id && id <= 4094
-}
-
 fn is_vlan(vlan: Vlan) -> bool
     ensures { IsTrue result ↔ IsVlan vlan }
 {
     match vlan {
         Vlan::Untagged => true,
-        Vlan::Id(id) => is_vlan_id(id),
+        Vlan::Id(id) => is_vlan_id(u64::from(id)),
     }
 }
 
@@ -62,7 +56,7 @@ fn is_plan_vlan(vlan: VlanTest) -> bool
     match vlan {
         VlanTest::Any => true,
         VlanTest::Untagged => true,
-        VlanTest::Id(id) => is_vlan_id(id),
+        VlanTest::Id(id) => is_vlan_id(u64::from(id)),
     }
 }
 
@@ -71,7 +65,7 @@ fn is_plan_rewrite(rewrite: Rewrite) -> bool
 {
     match rewrite {
         Rewrite::Keep => true,
-        Rewrite::Set(id) => is_vlan_id(id),
+        Rewrite::Set(id) => is_vlan_id(u64::from(id)),
         Rewrite::Strip => true,
     }
 }

@@ -12,7 +12,7 @@ use Rattle.net_base.specs.declared.field.Field.TheVariants as field
 use Rattle.net_base.specs.Reading.{◌>>=◌, check, need, in_turn}
 use Rattle.net_base.specs.Text.{prefix_in}
 use Rattle.net_base.specs.Tree.{is_object, text_at, whole_at, whole_in, list_at, tree_in}
-use Rattle.topology.specs.Networks.{Network, switch_count, switch_named, capacity_of, is_used, is_tag}
+use Rattle.topology.specs.Networks.{Network, switch_count, switch_named, capacity_of, is_used, is_tag, is_vlan_id}
 use Rattle.flow_rules.specs.Patterns.{key_eq}
 use Rattle.flow_rules.specs.Overlaps.{keys_clash}
 use Rattle.flow_rules.specs.Tables.{rules_at}
@@ -57,7 +57,7 @@ in_port_in place net s (Some d) = port_or (codes "any") field.InPort place net s
 unfoldable pub id_in : ℕ → Network → Data → Result VlanTest ConfigFault
 id_in place net d = do
   id ← need (whole_in d) (Shape field.Vlan place)
-  _ ← check (nat_le 1 id && nat_le id 4094) (BadVlan place)
+  _ ← check (is_vlan_id id) (BadVlan place)
   _ ← check (not (is_tag net id)) (ReservedVlan place)
   Ok (test.Id id)
 

@@ -1,5 +1,5 @@
 //! One rule of a configuration, by the table of its members.
-ghost use Rattle.std.specs.Prelude.{◌≡◌, ◌≤◌, ◌&&◌, nat_le, option_map, true};
+ghost use Rattle.std.specs.Prelude.{◌≡◌, ◌≤◌, option_map, true};
 ghost use Rattle.serde_json.specs.View.{view};
 ghost use Rattle.net_base.specs.Reading.{Gives};
 ghost use Rattle.topology.specs.Networks.{is_used};
@@ -10,13 +10,11 @@ use crate::fault::ConfigFault;
 use flow_rules::{Action, Key, Pattern, Rewrite, Rule, VlanTest};
 use net_base::{Field, Port, SwitchId, read_prefix, text_at, whole, whole_at};
 use serde_json::Value;
-use topology::Net;
+use topology::{Net, is_vlan_id};
 
 const MAX_PRIORITY: u64 = 16383;
 
 const MAX_PORT: u64 = 65279;
-
-const MAX_VLAN: u64 = 4094;
 
 /// Whether the value is this text.
 fn is_text(item: &Value, word: &str) -> bool
@@ -87,13 +85,6 @@ fn read_in_port(
         Some(item) => read_port_or(net, "any", Field::InPort, place, switch, item),
         None => Ok(None),
     }
-}
-
-fn is_vlan_id(id: u64) -> bool
-    ensures value { result ≡ (nat_le 1 id && nat_le id 4094) }
-    ensures small { result ≡ true → id ≤ 4094 }
-{
-    1 <= id && id <= MAX_VLAN
 }
 
 /// Reads an id of a VLAN.

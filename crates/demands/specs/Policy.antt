@@ -10,7 +10,7 @@ use Rattle.net_base.specs.declared.field.Field.TheVariants.{Top, Demands, From, 
 use Rattle.net_base.specs.Reading.{◌>>=◌, check, need, in_turn}
 use Rattle.net_base.specs.Text.{prefix_in}
 use Rattle.net_base.specs.Tree.{is_object, text_at, whole_in, list_in, list_at, tree_in}
-use Rattle.topology.specs.Networks.{Network, switch_named, is_host}
+use Rattle.topology.specs.Networks.{Network, switch_named, is_host, is_vlan_id}
 use Rattle.topology.specs.References.{reference_parts}
 use Rattle.flow_rules.specs.declared.rules.VlanTest.{VlanTest}
 use Rattle.flow_rules.specs.declared.rules.VlanTest.TheVariants as test
@@ -59,7 +59,7 @@ test_word d = option_or (option_and_then word_of_text (as_str d)) (option_map wo
 abbrev pub test_of : TestWord → Option VlanTest
 test_of word.Any = Some test.Any
 test_of word.Untagged = Some test.Untagged
-test_of (word.Number n) = if nat_le 1 n && nat_le n 4094 then Some (test.Id n) else None
+test_of (word.Number n) = if is_vlan_id n then Some (test.Id n) else None
 
 -- the member `vlan`, any VLAN where it is absent
 unfoldable pub test_in : ℕ → Option Data → Result VlanTest DemandFault

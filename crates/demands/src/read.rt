@@ -16,7 +16,7 @@ use net_base::{
 };
 use serde_json::Value;
 use std::alloc::Global;
-use topology::{Net, reference_parts};
+use topology::{Net, is_vlan_id, reference_parts};
 
 /// The greatest number of demands of a policy.
 const MAX_DEMANDS: usize = 512;
@@ -25,8 +25,6 @@ const MAX_DEMANDS: usize = 512;
 const MAX_WAYPOINTS: usize = 16;
 
 const MAX_PORT: u64 = 65279;
-
-const MAX_VLAN: u64 = 4094;
 
 /// A VLAN test as it is spelled.
 #[derive(Clone, Copy)]
@@ -117,7 +115,7 @@ fn test_of(word: TestWord) -> Option<VlanTest>
     match word {
         TestWord::Any => Some(VlanTest::Any),
         TestWord::Untagged => Some(VlanTest::Untagged),
-        TestWord::Number(n) if 1 <= n && n <= MAX_VLAN => Some(VlanTest::Id(n as u16)),
+        TestWord::Number(n) if is_vlan_id(n) => Some(VlanTest::Id(n as u16)),
         TestWord::Number(_) => None,
     }
 }

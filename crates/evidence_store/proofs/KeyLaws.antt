@@ -9,8 +9,8 @@ use Rattle.net_base.proofs.MemberLaws.{map-push}
 use Rattle.indexmap.specs.IndexSet.{insert_key}
 use Rattle.certificates.specs.declared.Shared.{Shared}
 use Rattle.evidence_store.specs.Numbers.{IsFound, IsAdded}
-use Rattle.evidence_store.specs.UseKeys.{use_of}
-use Rattle.evidence_store.specs.declared.keys.UseKey.{UseKey}
+use Rattle.certificates.specs.SharedKeys.{shared_of}
+use Rattle.certificates.specs.declared.shared_key.SharedKey.{SharedKey}
 
 module _ {K S : Type 0} (f : K → S) (eq : K → K → Bool) (told : (a b : K) → MatchBool (eq a b) (f a ≡ f b) (f a ≢ f b)) where
   -- where a key that is equal stands, or that there is none
@@ -53,12 +53,12 @@ pub told_lists : (xs ys : List ℕ) → MatchBool (pointwise nat_eq xs ys) (xs �
 told_lists xs ys = told_text xs ys (pointwise nat_eq xs ys) refl
 
 -- uses are told apart by their numberings and before sets
-pub told_uses : (a b : UseKey) → MatchBool (a.numbering == b.numbering && pointwise nat_eq a.befores.items b.befores.items) (use_of a ≡ use_of b) (use_of a ≢ use_of b)
+pub told_uses : (a b : SharedKey) → MatchBool (a.numbering == b.numbering && pointwise nat_eq a.befores.items b.befores.items) (shared_of a ≡ shared_of b) (shared_of a ≢ shared_of b)
 told_uses a b =
     by (a.numbering == b.numbering) refl (pointwise nat_eq a.befores.items b.befores.items) (told_lists a.befores.items b.befores.items)
   where
     by : (n : Bool) → (a.numbering == b.numbering) ≡ n → (l : Bool) → MatchBool l (a.befores.items ≡ b.befores.items) (a.befores.items ≢ b.befores.items)
-        → MatchBool (n && l) (use_of a ≡ use_of b) (use_of a ≢ use_of b)
+        → MatchBool (n && l) (shared_of a ≡ shared_of b) (shared_of a ≢ shared_of b)
     by true is true same = let e = eqb-true a.numbering b.numbering is in cc
     by true is false other = λ e. other (ap (λ (u : Shared). u.befores) e)
     by false is l _ = λ e. both_ways (a.numbering == b.numbering) is (eq-eqb a.numbering b.numbering (ap (λ (u : Shared). u.numbering) e))

@@ -1,7 +1,6 @@
 pub mod Stored
 pub mod State
 pub mod Numbers
-pub mod UseKeys
 pub mod Keys
 pub mod Kept
 pub mod Found

@@ -1,10 +1,9 @@
 //! The members of lists in which each stands once, as they are looked up.
 ghost use Rattle.std.specs.Prelude.{◌≡◌, [], IfOk, MatchBool};
 ghost use Rattle.evidence_store.specs.Numbers.{IsFound, IsAdded};
-ghost use Rattle.evidence_store.specs.UseKeys.{use_of};
 
 use acyclic_numbering::Numbering;
-use certificates::Shared;
+use certificates::{Shared, SharedKey};
 use indexmap::IndexSet;
 use net_base::Memory;
 use std::alloc::Global;
@@ -95,37 +94,20 @@ impl BeforeKeys {
     }
 }
 
-/// A use, as it is looked up.
-#[derive(PartialEq, Eq, Hash, Drop)]
-struct UseKey {
-    numbering: u32,
-    befores: Vec<u64>,
-}
-
 /// Uses, each once, in the order of first use.
 #[derive(Drop)]
 pub(crate) struct UseKeys {
-    keys: IndexSet<UseKey>,
+    keys: IndexSet<SharedKey>,
 }
 
 impl Model for UseKeys {
     ghost use Rattle.std.specs.Prelude.{List, map};
     ghost use Rattle.certificates.specs.declared.Shared.{Shared};
-    ghost use Rattle.evidence_store.specs.UseKeys.{use_of};
+    ghost use Rattle.certificates.specs.SharedKeys.{shared_of};
 
     ghost Value = { List Shared };
 
-    ghost view = { λ s. map use_of s.keys.keys };
-}
-
-/// The key of a use.
-fn key_of(alloc: Global, shared: &Shared) -> Result<UseKey, Memory>
-    ensures { IfOk result (λ key. use_of key ≡ shared.now) }
-{
-    Ok(UseKey {
-        numbering: shared.numbering,
-        befores: Vec::from_slice(alloc, shared.befores.list())?,
-    })
+    ghost view = { λ s. map shared_of s.keys.keys };
 }
 
 impl UseKeys {
@@ -142,7 +124,7 @@ impl UseKeys {
     pub(crate) fn number(&mut self, alloc: Global, shared: &Shared) -> Result<(usize, bool), Memory>
         ensures { IfOk result (λ n. MatchBool n.1 (IsAdded self.old shared.now n.0 self.new) (IsFound self.old shared.now n.0 self.new)) }
     {
-        let key = key_of(alloc, shared)?;
+        let key = SharedKey::of(alloc, shared)?;
         Ok(self.keys.insert_full(key)?)
     }
 }

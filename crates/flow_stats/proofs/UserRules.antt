@@ -7,7 +7,7 @@ use Rattle.net_base.specs.Reading.{◌>>=◌, check, need}
 use Rattle.net_base.specs.declared.ids.SwitchId.{SwitchId}
 use Rattle.net_base.specs.declared.ids.Port.{Port}
 use Rattle.net_base.proofs.Turns.{bind_ok, ok_is}
-use Rattle.topology.specs.Networks.{Network, IsAvailableTag, is_tag}
+use Rattle.topology.specs.Networks.{Network, IsAvailableTag, is_tag, is_vlan_id}
 use Rattle.topology.proofs.EntryLaws.{tag_found}
 use Rattle.flow_rules.specs.declared.rules.Key.{Key}
 use Rattle.flow_rules.specs.declared.rules.VlanTest.{VlanTest}
@@ -17,7 +17,6 @@ use Rattle.flow_rules.specs.declared.rules.Action.{Action}
 use Rattle.flow_rules.specs.declared.rules.Action.TheVariants.{Discard, Out}
 use Rattle.flow_rules.specs.declared.rules.Rule.{Rule}
 use Rattle.openflow10.specs.Match.{any_vlan, vlan_in, vlan_none}
-use Rattle.openflow10.specs.Actions.{is_vlan_id}
 use Rattle.openflow10.specs.declared.ofp_match.MatchFields.{MatchFields}
 use Rattle.path_walk.specs.UserConfigs.{IsUserPort, IsUserVlan, IsUserAction, IsUserRule}
 use Rattle.config_files.proofs.Ports.{used_shown}
@@ -87,7 +86,7 @@ id_when false false n id e = (refl, refl, (let f : test.Id n ≡ test.Id id = e 
 
 -- an id that is tested is one from 1 to 4094
 id_shown : (m : MatchFields) (id : ℕ) → has_vlan m ≡ true → vlan_in m ≡ test.Id id → (1 ≤ id) × (id ≤ 4094)
-unfolding has_vlan is_vlan_id
+unfolding has_vlan
 id_shown m id h is =
     let (not_any, tagged, same) = id_when (any_vlan m.wildcards) (m.dl_vlan == vlan_none) m.dl_vlan id is in
     let in_range : (nat_le 1 m.dl_vlan && nat_le m.dl_vlan 4094) ≡ true =

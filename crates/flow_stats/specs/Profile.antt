@@ -6,7 +6,7 @@ use Rattle.net_base.specs.Blocks.{Block}
 use Rattle.net_base.specs.declared.ids.SwitchId.{SwitchId}
 use Rattle.net_base.specs.declared.ids.Port.{Port}
 use Rattle.net_base.specs.Reading.{◌>>=◌, check, need}
-use Rattle.topology.specs.Networks.{Network, is_used, is_tag}
+use Rattle.topology.specs.Networks.{Network, is_used, is_tag, is_vlan_id}
 use Rattle.flow_rules.specs.declared.rules.VlanTest.{VlanTest}
 use Rattle.flow_rules.specs.declared.rules.VlanTest.TheVariants as test
 use Rattle.flow_rules.specs.declared.rules.Key.{Key}
@@ -15,7 +15,7 @@ use Rattle.flow_rules.specs.declared.rules.Action.{Action}
 use Rattle.flow_rules.specs.declared.rules.Action.TheVariants.{Discard, Out}
 use Rattle.flow_rules.specs.declared.rules.Rule.{Rule}
 use Rattle.openflow10.specs.Match.{any_port, any_vlan, ignored_bits, port_in, vlan_in, vlan_none}
-use Rattle.openflow10.specs.Actions.{is_port, is_vlan_id}
+use Rattle.openflow10.specs.Actions.{is_port}
 use Rattle.openflow10.specs.declared.ofp_match.MatchFields.{MatchFields}
 use Rattle.flow_stats.specs.declared.entries.Entry.{Entry}
 use Rattle.flow_stats.specs.declared.entries.EntryActions.{EntryActions}

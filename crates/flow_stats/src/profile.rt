@@ -10,8 +10,8 @@ use crate::fault::{StatsFault, StatsField};
 use crate::fields::FlowStatsFields;
 use flow_rules::{Action, Key, Pattern, Rewrite, Rule, VlanTest};
 use net_base::{Port, Prefix, SwitchId};
-use openflow10::{MatchFields, is_port, is_vlan_id};
-use topology::Net;
+use openflow10::{MatchFields, is_port};
+use topology::{Net, is_vlan_id};
 
 /// The bits of enum ofp_flow_wildcards, each of the field that any packet matches where it is set.
 const DL_SRC: u32 = 2;
@@ -81,7 +81,7 @@ fn has_in_port(fields: &MatchFields) -> bool
 fn has_vlan(fields: &MatchFields) -> bool
     ensures { result ≡ profile.has_vlan fields.now }
 {
-    fields.any_vlan() || fields.dl_vlan == VLAN_NONE || is_vlan_id(fields.dl_vlan)
+    fields.any_vlan() || fields.dl_vlan == VLAN_NONE || is_vlan_id(u64::from(fields.dl_vlan))
 }
 
 #[tactic(auto, unfolding(crate::specs::Profile::has_priority))]

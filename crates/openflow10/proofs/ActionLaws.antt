@@ -4,7 +4,7 @@ use Rattle.std.specs.Prelude.{◌==◌, ◌||◌, Option, Some, None, option_and
 use Rattle.std.specs.Option.{option_map}
 use Rattle.std.proofs.lemmas.Bool.{eqb-true, and_parts, or_cases}
 use Rattle.net_base.specs.declared.ids.Port.{Port}
-use Rattle.topology.specs.Networks.{IsPortNumber, IsVlanId}
+use Rattle.topology.specs.Networks.{IsPortNumber, IsVlanId, is_vlan_id}
 use Rattle.update_model.specs.Ranges.{IsPlanAction, IsPlanRewrite}
 use Rattle.flow_rules.specs.declared.rules.Rewrite.{Rewrite}
 use Rattle.flow_rules.specs.declared.rules.Rewrite.TheVariants.{Keep, Set, Strip}
@@ -12,7 +12,7 @@ use Rattle.flow_rules.specs.declared.rules.Action.{Action}
 use Rattle.flow_rules.specs.declared.rules.Action.TheVariants.{Discard, Out}
 use Rattle.openflow10.specs.Layout.{Row, Spans, Holds}
 use Rattle.openflow10.specs.FlowMod.{command_of}
-use Rattle.openflow10.specs.Actions.{action_table, actions_table, action_at, actions_at, output, set_vlan_vid, strip_vlan, rewrite_actions, actions_of, verb_actions, is_port, is_vlan_id, is_output, is_set_vlan_vid, is_strip_vlan, output_in, rewrite_in, action_in, verb_in}
+use Rattle.openflow10.specs.Actions.{action_table, actions_table, action_at, actions_at, output, set_vlan_vid, strip_vlan, rewrite_actions, actions_of, verb_actions, is_port, is_output, is_set_vlan_vid, is_strip_vlan, output_in, rewrite_in, action_in, verb_in}
 use Rattle.openflow10.specs.Messages.{IsVerb}
 use Rattle.openflow10.specs.declared.ofp_action.ActionFields.{ActionFields}
 use Rattle.openflow10.specs.declared.Verb.{Verb}

@@ -4,12 +4,12 @@ use Rattle.std.specs.Prelude.{◌==◌, Option, Some, None, is_none, nat_le}
 use Rattle.std.proofs.lemmas.Bool.{eqb-true, eq-eqb, ne_eqb, leb-true, le-leb, and_parts, and_from, or_right}
 use Rattle.net_base.specs.Blocks.{IsBlock}
 use Rattle.net_base.specs.declared.ids.Port.{Port}
-use Rattle.topology.specs.Networks.{IsPortNumber, IsVlanId}
+use Rattle.topology.specs.Networks.{IsPortNumber, IsVlanId, is_vlan_id}
 use Rattle.update_model.specs.Ranges.{IsPlanPort, IsPlanVlan}
 use Rattle.flow_rules.specs.declared.rules.VlanTest.{VlanTest}
 use Rattle.flow_rules.specs.declared.rules.VlanTest.TheVariants as test
 use Rattle.flow_rules.specs.declared.rules.Pattern.{Pattern}
-use Rattle.openflow10.specs.Actions.{is_port, is_vlan_id}
+use Rattle.openflow10.specs.Actions.{is_port}
 use Rattle.openflow10.specs.Match.{match_of, pattern_in, port_in, vlan_in, in_port_of, dl_vlan_of, is_any, wildcards_of, any_port, any_vlan, ignored_bits, vlan_none}
 use Rattle.openflow10.specs.Refusals.{first_failed, match_tests, has_wildcards, has_in_port, has_layer_two, has_vlan, has_vlan_priority, has_network, has_address, has_transport}
 use Rattle.openflow10.specs.declared.ofp_match.MatchFields.{MatchFields}
@@ -178,11 +178,9 @@ unfolding is_port
 is_port-from n h = and_from (nat_le 1 n) (nat_le n 65279) (le-leb 1 n h.0) (le-leb n 65279 h.1)
 
 pub is_vlan_id-true : (n : ℕ) → is_vlan_id n ≡ true → IsVlanId n
-unfolding is_vlan_id
 is_vlan_id-true n e = let (low, high) = and_parts (nat_le 1 n) (nat_le n 4094) e in (leb-true 1 n low, leb-true n 4094 high)
 
 pub is_vlan_id-from : (n : ℕ) → IsVlanId n → is_vlan_id n ≡ true
-unfolding is_vlan_id
 is_vlan_id-from n h = and_from (nat_le 1 n) (nat_le n 4094) (le-leb 1 n h.0) (le-leb n 4094 h.1)
 
 port-cond : (b t : Bool) (n : ℕ) → cond b t (is_port n) ≡ true → IsPlanPort (cond b None (Some (record { 0 = n })))

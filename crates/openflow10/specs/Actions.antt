@@ -6,6 +6,7 @@ use Rattle.flow_rules.specs.declared.rules.Rewrite.{Rewrite}
 use Rattle.flow_rules.specs.declared.rules.Rewrite.TheVariants.{Keep, Set, Strip}
 use Rattle.flow_rules.specs.declared.rules.Action.{Action}
 use Rattle.flow_rules.specs.declared.rules.Action.TheVariants.{Discard, Out}
+use Rattle.topology.specs.Networks.{is_vlan_id}
 use Rattle.openflow10.specs.Layout.{Row, field, number_at}
 use Rattle.openflow10.specs.declared.ofp_action.ActionFields.{ActionFields}
 use Rattle.openflow10.specs.declared.Verb.{Verb}
@@ -75,10 +76,6 @@ verb_actions Remove = []
 -- whether a number is that of a port of a switch (section 5.2.1)
 unfoldable pub is_port : ℕ → Bool
 is_port p = nat_le 1 p && nat_le p 65279
-
--- whether a number is the id of a VLAN
-unfoldable pub is_vlan_id : ℕ → Bool
-is_vlan_id id = nat_le 1 id && nat_le id 4094
 
 -- whether the action is an output to a port
 unfoldable pub is_output : ActionFields → Bool

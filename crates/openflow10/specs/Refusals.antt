@@ -3,7 +3,8 @@ use Rattle.std.specs.Prelude.{ℕ, ◌%◌, ◌^◌, ◌==◌, ◌&&◌, ◌||�
 use Rattle.openflow10.specs.Layout.{number_at}
 use Rattle.openflow10.specs.Match.{any_port, any_vlan, ignored_bits, wildcards_of, vlan_none}
 use Rattle.openflow10.specs.FlowMod.{flow_mod_at}
-use Rattle.openflow10.specs.Actions.{is_port, is_vlan_id, actions_in, verb_in}
+use Rattle.topology.specs.Networks.{is_vlan_id}
+use Rattle.openflow10.specs.Actions.{is_port, actions_in, verb_in}
 use Rattle.openflow10.specs.declared.ofp_match.MatchFields.{MatchFields}
 use Rattle.openflow10.specs.declared.ofp_flow_mod.FlowModFields.{FlowModFields}
 use Rattle.openflow10.specs.declared.ofp_action.ActionFields.{ActionFields}

@@ -12,7 +12,7 @@ mod writing;
 use flow_rules::{Action, Key};
 pub use laws::{each_message_has_its_own_text, fields_stand_at_their_offsets, texts_are_read_back};
 pub use numbers::{u8_at, u16_at, u32_at, u48_at, u64_at};
-pub use ofp_action::{ActionFields, is_port, is_vlan_id};
+pub use ofp_action::{ActionFields, is_port};
 pub use ofp_match::MatchFields;
 pub use reading::decode;
 pub use writing::{encode_barrier, encode_change};

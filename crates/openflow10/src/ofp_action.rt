@@ -1,10 +1,11 @@
 //! The actions of a flow message (OpenFlow 1.0.0, section 5.2.4).
 ghost use Rattle.std.specs.Prelude.{◌≡◌, ◌+◌, ◌*◌, ◌≤◌, length};
-ghost use Rattle.openflow10.specs.Actions.{action_at, actions_at, action_in, output_in, rewrite_in, is_port, is_vlan_id, is_output, is_set_vlan_vid, is_strip_vlan};
+ghost use Rattle.openflow10.specs.Actions.{action_at, actions_at, action_in, output_in, rewrite_in, is_port, is_output, is_set_vlan_vid, is_strip_vlan};
 
 use crate::numbers::u16_at;
 use flow_rules::{Action, Rewrite};
 use net_base::Port;
+use topology::is_vlan_id;
 
 /// OFPAT_OUTPUT: sends to a port.
 pub(crate) const OUTPUT: u16 = 0;
@@ -35,14 +36,6 @@ pub fn is_port(number: u16) -> bool
     1 <= number && number <= 65279
 }
 
-/// Whether the number is a VLAN id, 1 to 4094.
-#[tactic(auto, unfolding(crate::specs::Actions::is_vlan_id))]
-pub fn is_vlan_id(number: u16) -> bool
-    ensures { result ≡ is_vlan_id number }
-{
-    1 <= number && number <= 4094
-}
-
 impl ActionFields {
     /// The action in the 8 bytes from an offset on.
     pub fn read(bytes: &[u8], at: usize) -> ActionFields
@@ -70,7 +63,7 @@ impl ActionFields {
     {
         self.kind == SET_VLAN_VID
             && self.len == ACTION_LENGTH
-            && is_vlan_id(self.argument)
+            && is_vlan_id(u64::from(self.argument))
             && self.rest == 0
     }
 

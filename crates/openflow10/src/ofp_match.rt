@@ -3,15 +3,16 @@ ghost use Rattle.std.specs.Prelude.{◌≡◌, ◌+◌, ◌-◌, ◌%◌, ◌^�
 ghost use Rattle.std.specs.Result.{result_err};
 ghost use Rattle.std.specs.Int.{bit_at};
 ghost use Rattle.openflow10.specs.Match.{match_at, wildcards_of, any_port, any_vlan, ignored_bits, port_in, vlan_in, pattern_in};
-ghost use Rattle.openflow10.specs.Actions.{is_port, is_vlan_id};
+ghost use Rattle.openflow10.specs.Actions.{is_port};
 ghost use Rattle.openflow10.specs.Refusals.{first_failed, match_tests, has_wildcards, has_in_port, has_layer_two, has_vlan, has_vlan_priority, has_network, has_address, has_transport};
 
 use crate::numbers::{u8_at, u16_at, u32_at, u48_at};
-use crate::ofp_action::{is_port, is_vlan_id};
+use crate::ofp_action::is_port;
 use crate::reading::want;
 use crate::{WireFault, WireField};
 use flow_rules::{Pattern, VlanTest};
 use net_base::{Port, Prefix};
+use topology::is_vlan_id;
 
 /// The bits of `wildcards` that are set for every pattern: all but those of the ingress port, the VLAN, the frame type and
 /// the destination (OFPFW_DL_SRC, DL_DST, NW_PROTO, TP_SRC, TP_DST, 32 for NW_SRC, DL_VLAN_PCP, NW_TOS).
@@ -175,7 +176,7 @@ impl MatchFields {
         if self.any_vlan() {
             self.dl_vlan == 0
         } else {
-            self.dl_vlan == VLAN_NONE || is_vlan_id(self.dl_vlan)
+            self.dl_vlan == VLAN_NONE || is_vlan_id(u64::from(self.dl_vlan))
         }
     }
 

@@ -9,7 +9,7 @@ use Rattle.net_base.proofs.Turns.{ok_is}
 use Rattle.certificates.specs.declared.Shared.{Shared}
 use Rattle.certificates.specs.declared.OrderedPick.{OrderedPick}
 use Rattle.plan_format.specs.Evidence.{follows, pick_before, picks_with, shared_eq, with_shared, number_of_shared}
-use Rattle.plan_format.specs.SharedKeys.{rank_of, HasFew}
+use Rattle.plan_format.specs.FewPicks.{rank_of, HasFew}
 use Rattle.plan_format.specs.declared.picks.PickTable.{PickTable}
 use Rattle.plan_format.specs.declared.fault.PlanFault.{PlanFault}
 use Rattle.plan_format.specs.declared.fault.PlanFault.TheVariants.{Memory, BadIndex}

@@ -19,7 +19,7 @@ use Rattle.net_base.specs.Tree.{is_object, text_at, whole_at, list_in, list_at}
 use Rattle.net_base.proofs.Prefixes.{address_in-some}
 use Rattle.net_base.proofs.Decimals.{decimal_in-some}
 use Rattle.net_base.proofs.Turns.{ok_is, in_turn-keeps}
-use Rattle.topology.specs.Networks.{Network, switch_count, switch_named}
+use Rattle.topology.specs.Networks.{Network, switch_count, switch_named, is_vlan_id}
 use Rattle.flow_rules.specs.declared.rules.VlanTest.{VlanTest}
 use Rattle.flow_rules.specs.declared.rules.VlanTest.TheVariants as test
 use Rattle.flow_rules.specs.declared.rules.Rewrite.{Rewrite}
@@ -38,7 +38,7 @@ use Rattle.plan_format.specs.declared.changes.Spelling.{Spelling}
 use Rattle.plan_format.specs.declared.changes.Spelling.TheVariants.{Objects, Numbers}
 use Rattle.plan_format.specs.declared.fault.PlanFault.{PlanFault}
 use Rattle.plan_format.specs.declared.fault.PlanFault.TheVariants.{Shape, UnknownSwitch, BadRule, BadIndex, TooMany}
-use Rattle.plan_format.specs.Changes.{in_port_word, vlan_word, out_word, set_word, strip_word, is_port, is_vlan_id, port_choice, test_of, rewrite_of, output_of, drop_of, action_of, rule_of, rule_in, kind_of, change_of, object_change, kind_and_number, numbered_change, change_in, change_at, round_in, round_at, rounds_in, rule_at, rules_in}
+use Rattle.plan_format.specs.Changes.{in_port_word, vlan_word, out_word, set_word, strip_word, is_port, port_choice, test_of, rewrite_of, output_of, drop_of, action_of, rule_of, rule_in, kind_of, change_of, object_change, kind_and_number, numbered_change, change_in, change_at, round_in, round_at, rounds_in, rule_at, rules_in}
 use Rattle.plan_format.proofs.ReadLaws.{step, needed, checked, each_push, each_got, length_push, one_for_each}
 
 -- ---- rules

@@ -14,15 +14,15 @@ use Rattle.net_base.specs.Reading.{check, need, in_turn}
 use Rattle.net_base.specs.Tree.{whole_in, list_in, list_at}
 use Rattle.net_base.proofs.MemberLaws.{each_weaker}
 use Rattle.net_base.proofs.Turns.{ok_is, in_turn-keeps}
-use Rattle.topology.specs.Networks.{Network, switch_count, IsVlan}
+use Rattle.topology.specs.Networks.{Network, switch_count, IsVlan, is_vlan_id}
 use Rattle.certificates.specs.declared.Shared.{Shared}
 use Rattle.certificates.specs.declared.OrderedPick.{OrderedPick}
 use Rattle.certificates.specs.declared.Label.{Label}
 use Rattle.certificates.specs.declared.LabelPick.{LabelPick}
 use Rattle.certificates.specs.Valid.{IsChain, IsPickBefore, IsVlanBefore, IsValidNumbering, IsValidBefore, IsValidUse, IsValidPick, IsValidTable, IsValidLabelPick}
-use Rattle.plan_format.specs.Changes.{is_text, is_vlan_id}
+use Rattle.plan_format.specs.Changes.{is_text}
 use Rattle.plan_format.specs.Evidence.{ascends, follows, numbers_in, is_round, is_index, all_below, height_at, numbering_in, numbering_at, numberings_in, before_at, befores_in, shared_in, pick_before, picks_with, shared_eq, with_shared, number_of_shared, numbers_and_list, full_picks_with, full_pick_at, full_picks_in, number_and_list, use_at, uses_in, list_of_three, pick_at, picks_in, uses_and_picks_in, vlan_in, label_in, vlan_before, label_before, label_at, table_in, table_at, labels_in, list_of_two, round_before, label_picks_with, label_pick_at, label_picks_in}
-use Rattle.plan_format.specs.SharedKeys.{HasFew}
+use Rattle.plan_format.specs.FewPicks.{HasFew}
 use Rattle.plan_format.specs.declared.picks.PickTable.{PickTable}
 use Rattle.plan_format.specs.declared.fault.PlanFault.{PlanFault}
 use Rattle.plan_format.specs.declared.fault.PlanFault.TheVariants.{Shape, BadIndex}

@@ -11,7 +11,7 @@ use Rattle.net_base.specs.Fields.{field_name}
 use Rattle.net_base.specs.Reading.{◌>>=◌, check, need, in_turn}
 use Rattle.net_base.specs.Text.{prefix_in}
 use Rattle.net_base.specs.Tree.{is_object, text_at, whole_in, whole_at, list_in, list_at}
-use Rattle.topology.specs.Networks.{Network, switch_named}
+use Rattle.topology.specs.Networks.{Network, switch_named, is_vlan_id}
 use Rattle.flow_rules.specs.declared.rules.VlanTest.{VlanTest}
 use Rattle.flow_rules.specs.declared.rules.VlanTest.TheVariants as test
 use Rattle.flow_rules.specs.declared.rules.Rewrite.{Rewrite}
@@ -71,10 +71,6 @@ strip_word (Some d) = option_and_then (λ b. if b then Some true else None) (as_
 -- a number that a port may have
 abbrev pub is_port : ℕ → Bool
 is_port n = nat_le 1 n && nat_le n 65279
-
--- an id that a VLAN may have
-abbrev pub is_vlan_id : ℕ → Bool
-is_vlan_id n = nat_le 1 n && nat_le n 4094
 
 -- any port, or one that may be
 abbrev pub port_choice : Option ℕ → Option (Option Port)

@@ -9,12 +9,12 @@ use Rattle.net_base.specs.declared.ids.Vlan.{Vlan}
 use Rattle.net_base.specs.declared.ids.Vlan.TheVariants as vlan
 use Rattle.net_base.specs.Reading.{◌>>=◌, check, need, in_turn}
 use Rattle.net_base.specs.Tree.{whole_in, list_in, list_at}
-use Rattle.topology.specs.Networks.{Network, switch_count}
+use Rattle.topology.specs.Networks.{Network, switch_count, is_vlan_id}
 use Rattle.certificates.specs.declared.Shared.{Shared}
 use Rattle.certificates.specs.declared.OrderedPick.{OrderedPick}
 use Rattle.certificates.specs.declared.Label.{Label}
 use Rattle.certificates.specs.declared.LabelPick.{LabelPick}
-use Rattle.plan_format.specs.Changes.{is_text, is_vlan_id}
+use Rattle.plan_format.specs.Changes.{is_text}
 use Rattle.plan_format.specs.declared.fault.PlanFault.{PlanFault}
 use Rattle.plan_format.specs.declared.fault.PlanFault.TheVariants.{Shape, BadIndex}
 use Rattle.plan_format.specs.declared.picks.PickTable.{PickTable}

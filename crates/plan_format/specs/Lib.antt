@@ -2,4 +2,4 @@ pub mod Faults
 pub mod Changes
 pub mod Evidence
 pub mod Plans
-pub mod SharedKeys
+pub mod FewPicks

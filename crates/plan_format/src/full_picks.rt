@@ -5,37 +5,19 @@ ghost use Rattle.net_base.specs.Reading.{Gives, Fails, in_turn};
 ghost use Rattle.plan_format.specs.declared.fault.PlanFault.TheVariants.{Memory};
 ghost use Rattle.plan_format.specs.Evidence as plan;
 ghost use Rattle.plan_format.specs.Evidence.{shared_eq};
-ghost use Rattle.plan_format.specs.SharedKeys.{shared_of, HasFew};
+ghost use Rattle.plan_format.specs.FewPicks.{HasFew};
 ghost use Rattle.std.specs.List.{list_any};
 
 use crate::evidence::read_shared;
 use crate::fault::PlanFault;
 use crate::lists::{Counts, three_numbers};
 use crate::picks::{PickTable, add_pick, is_round_and_class};
-use certificates::{IndexList, OrderedPick, OrderedPicks, Shared, Uses};
+use certificates::{IndexList, OrderedPick, OrderedPicks, Shared, SharedKey, Uses};
 use indexmap::IndexSet;
 use net_base::{Field, list_at, list_in, place_of};
 use serde_json::Value;
 use std::alloc::Global;
 use std::marker::Model;
-
-/// The evidence of a pick, as it is looked up.
-#[derive(PartialEq, Eq, Hash, Drop)]
-struct SharedKey {
-    numbering: u32,
-    befores: Vec<u64>,
-}
-
-/// The key of the evidence.
-fn key_of(alloc: Global, shared: &Shared) -> Result<SharedKey, PlanFault>
-    ensures key { IfOk result (λ k. shared_of k ≡ shared.now) }
-    ensures err { IfErr result (λ e. e ≡ Memory) }
-{
-    Ok(SharedKey {
-        numbering: shared.numbering,
-        befores: shared.befores.list().to_vec(alloc)?,
-    })
-}
 
 /// The evidence of picks, each once, in the order of first use.
 #[derive(Drop)]
@@ -48,7 +30,7 @@ impl Model for SharedKeys {
     ghost use Rattle.std.specs.Prelude.{List, map};
     ghost use Rattle.certificates.specs.declared.Shared.{Shared};
     ghost use Rattle.plan_format.specs.Evidence.{shared_eq};
-    ghost use Rattle.plan_format.specs.SharedKeys.{shared_of, HasFew};
+    ghost use Rattle.certificates.specs.SharedKeys.{shared_of};
     ghost use Rattle.std.specs.List.{list_any};
 
     ghost Value = { List Shared };
@@ -73,7 +55,7 @@ impl SharedKeys {
         ensures keys { OnOk result (self.new ≡ plan.with_shared self.old shared.now) }
         ensures err { IfErr result (λ e. e ≡ Memory) }
     {
-        let key = key_of(self.alloc, shared)?;
+        let key = SharedKey::of(self.alloc, shared)?;
         let (number, new) = self.keys.insert_full(key)?;
         Ok((number, new))
     }

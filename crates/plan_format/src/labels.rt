@@ -8,11 +8,12 @@ ghost use Rattle.plan_format.specs.Evidence.{round_before};
 
 use crate::fault::PlanFault;
 use crate::lists::{is_index, is_round};
-use crate::rules::{is_text, is_vlan_id};
+use crate::rules::is_text;
 use certificates::{Label, LabelPick, LabelPicks, LabelTables, Labels};
 use net_base::{Field, Vlan, list_at, list_in, place_of, whole};
 use serde_json::Value;
 use std::alloc::Global;
+use topology::is_vlan_id;
 
 /// The text `untagged`, or the id of a VLAN that may be.
 fn vlan_in(item: &Value) -> Option<Vlan>

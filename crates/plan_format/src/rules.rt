@@ -9,13 +9,11 @@ use crate::fault::PlanFault;
 use flow_rules::{Action, Key, Pattern, Rewrite, Rule, VlanTest};
 use net_base::{Field, Port, Prefix, SwitchId, read_prefix, text_at, whole, whole_at};
 use serde_json::Value;
-use topology::Net;
+use topology::{Net, is_vlan_id};
 
 const MAX_PRIORITY: u64 = 65535;
 
 const MAX_PORT: u64 = 65279;
-
-const MAX_VLAN: u64 = 4094;
 
 /// A VLAN test as it is spelled.
 #[derive(Clone, Copy)]
@@ -128,13 +126,6 @@ fn is_port(number: u64) -> bool
     ensures small { result ≡ true → number ≤ 65279 }
 {
     1 <= number && number <= MAX_PORT
-}
-
-pub(crate) fn is_vlan_id(id: u64) -> bool
-    ensures value { result ≡ plan.is_vlan_id id }
-    ensures small { result ≡ true → id ≤ 4094 }
-{
-    1 <= id && id <= MAX_VLAN
 }
 
 /// Any port, or one that may be.

@@ -67,6 +67,10 @@ IsPortNumber p = (1 ≤ p) × (p ≤ 65279)
 abbrev pub IsVlanId : ℕ → Type 0
 IsVlanId id = (1 ≤ id) × (id ≤ 4094)
 
+-- whether a number is such an id
+abbrev pub is_vlan_id : ℕ → Bool
+is_vlan_id id = nat_le 1 id && nat_le id 4094
+
 -- untagged, or an id that a tag may have
 abbrev pub IsVlan : Vlan → Type 0
 IsVlan vlan.Untagged = Unit {0}

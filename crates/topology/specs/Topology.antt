@@ -15,7 +15,7 @@ use Rattle.net_base.specs.Reading.{◌>>=◌, check, need, in_turn}
 use Rattle.net_base.specs.Tree.{is_object, text_at, whole_at, whole_in, list_in, list_at, tree_in}
 use Rattle.topology.specs.declared.fault.NetFault.{NetFault}
 use Rattle.topology.specs.declared.fault.NetFault.TheVariants.{NotJson, Shape, BadName, DoubleName, UnknownSwitch, BadPort, PortTwice, BadVlan, VlanTwice, BadTags, BadCapacity, TooMany}
-use Rattle.topology.specs.Networks.{Network, TagRange, switch_named, used_ports, stop_eq, vlan_eq, is_name_byte}
+use Rattle.topology.specs.Networks.{Network, TagRange, switch_named, used_ports, stop_eq, vlan_eq, is_name_byte, is_vlan_id}
 use Rattle.topology.specs.References.{reference_parts}
 
 -- no switch, link, host port, VLAN or tag
@@ -128,10 +128,6 @@ hosts_in net top = do
   in_turn host_at 0 net items
 
 -- ---- VLANs
-
--- an id that a VLAN may have
-abbrev pub is_vlan_id : ℕ → Bool
-is_vlan_id id = nat_le 1 id && nat_le id 4094
 
 -- the text `untagged`, or a whole number
 abbrev pub vlan_id : Data → Option (Option ℕ)

@@ -14,3 +14,4 @@ pub use fault::NetFault;
 pub use net::{End, Link, Net};
 pub use read::read_net;
 pub use references::reference_parts;
+pub use small::is_vlan_id;

@@ -3,7 +3,7 @@
 ghost use Rattle.std.specs.Prelude.{◌≡◌, ◌≢◌, ◌↔◌, ◌<◌, ◌≤◌, ◌++◌, ◌∷◌, [], IsTrue, ◌&&◌, not, length, count_by, option_map, slice_get, IfSome, IfOk, None, Some, true, false};
 ghost use Rattle.std.specs.List.{list_any};
 ghost use Rattle.topology.specs.Networks.{IsNetwork, IsVlan, IsVlanId, IsUsed, IsAvailableTag, stop_eq, end_at, vlan_eq, IsEntry, switch_count, switch_named, capacity_of, used_ports, is_used, is_host, is_tag, in_range};
-ghost use Rattle.topology.specs.Topology.{no_network, is_name, is_capacity, is_on, is_vlan_id, with_switch, with_link, with_host, with_vlan, with_tags};
+ghost use Rattle.topology.specs.Topology.{no_network, is_name, is_capacity, is_on, with_switch, with_link, with_host, with_vlan, with_tags};
 ghost use Rattle.topology.specs.Ends.{IsPort};
 ghost use Rattle.topology.specs.Ends as seen;
 ghost use Rattle.topology.specs.declared.net.End.TheVariants as at;

@@ -1,7 +1,6 @@
 //! Names, capacities, VLANs and tag ranges as a topology spells them.
-ghost use Rattle.std.specs.Prelude.{◌≡◌, ◌≤◌, ◌<◌, ◌^◌, ◌&&◌, Some, map, option_map, IfSome, nat_le, true};
+ghost use Rattle.std.specs.Prelude.{◌≡◌, ◌↔◌, ◌≤◌, Some, map, option_map, IfSome, IsTrue, true};
 ghost use Rattle.std.specs.List.{list_all};
-ghost use Rattle.std.specs.Option.{option_and_then};
 ghost use Rattle.serde_json.specs.View.{view};
 ghost use Rattle.net_base.specs.Tree as tree;
 ghost use Rattle.topology.specs.Networks as networks;
@@ -42,9 +41,11 @@ pub(crate) fn is_capacity(capacity: u64) -> bool
     1 <= capacity && capacity <= MAX_CAPACITY
 }
 
-fn is_vlan_id(id: u64) -> bool
-    ensures value { result ≡ topology.is_vlan_id id }
-    ensures meaning { result ≡ true → IsVlanId id }
+/// Whether the number is an id that a VLAN may have: 1 to 4094 (IEEE 802.1Q).
+pub fn is_vlan_id(id: u64) -> bool
+    ensures value { result ≡ networks.is_vlan_id id }
+    ensures form { result ≡ true → IsVlanId id }
+    ensures meaning { IsTrue result ↔ IsVlanId id }
 {
     1 <= id && id <= MAX_VLAN
 }

@@ -2,7 +2,7 @@ use Rattle.std.proofs.Common.{◌≡◌, [], map, drop}
 use Rattle.serde_json.specs.View.{view}
 use Rattle.net_base.specs.Reading.{in_turn}
 use Rattle.plan_format.specs.Evidence.{full_pick_at}
-use Rattle.plan_format.specs.SharedKeys.{HasFew}
+use Rattle.plan_format.specs.FewPicks.{HasFew}
 use Rattle.plan_format.proofs.full_picks.read_each_full_pick.Given as goal
 
 abbrev pub invariant-loop-i : goal.invariant-loop-i

@@ -1,13 +1,7 @@
--- The evidence that a key stands for, and how much evidence picks can have.
+-- How much evidence picks can have.
 use Rattle.std.specs.Prelude.{ℕ, ◌+◌, ◌*◌, ◌≤◌, min, List, [], ◌∷◌, length}
-use Rattle.certificates.specs.declared.Shared.{Shared}
 use Rattle.certificates.specs.declared.OrderedPick.{OrderedPick}
-use Rattle.plan_format.specs.declared.full_picks.SharedKey.{SharedKey}
 use Rattle.plan_format.specs.declared.picks.PickTable.{PickTable}
-
--- its numbering and its list of before sets
-abbrev pub shared_of : SharedKey → Shared
-shared_of k = record { numbering = k.numbering; befores = k.befores.items }
 
 -- how many picks may stand up to the last, counted by round and class
 abbrev pub rank_of : List OrderedPick → ℕ
