@@ -1,5 +1,5 @@
 -- Marked rules of which no two clash, in whatever order they stand.
-use Rattle.std.proofs.Common.{◌≡◌, ℕ, zero, suc, ◌<◌, true, false, List, [], ◌∷◌, map, refl, sym, subst, ap, arith}
+use Rattle.std.proofs.Common.{◌≡◌, ℕ, zero, suc, true, false, List, [], ◌∷◌, refl, sym, subst, ap, arith}
 use Rattle.std.specs.Prelude.{Option, Some, None, IsPermutation}
 use Rattle.std.specs.List as std_list
 use Rattle.std.proofs.lemmas.Bool.{eq-eqb, and_from, or_left, both_ways}
@@ -67,7 +67,7 @@ unfolding std_list.IsDistinct
 from_apart [] apart = tt
 from_apart (k ∷ ks) apart = (λ i. both_ways (key_eq k k) (each_at (λ q. key_eq k q ≡ false) ks k apart.0 i) (key_eq-refl k), from_apart ks apart.1)
 
-flips : (a b : Key) → key_eq a b ≡ key_eq b a
+pub flips : (a b : Key) → key_eq a b ≡ key_eq b a
 flips a b =
     elim (key_eq b a) as (λ t. key_eq b a ≡ t → key_eq a b ≡ t) [
       | true ↦ λ e. subst (λ k. key_eq a k ≡ true) (sym (key_eq-true b a e)) (key_eq-refl a)

@@ -1,6 +1,6 @@
 -- Clashes by positions.
 use Rattle.std.proofs.Common.{◌≡◌, ◌⊎◌, ℕ, zero, suc, ◌+◌, ◌<◌, ◌≤◌, true, false, List, [], ◌∷◌, length, get_or, sym, ◌∙◌, subst, ap, inl, inr, arith}
-use Rattle.std.specs.Prelude.{slice_get, Some, None}
+use Rattle.std.specs.Prelude.{slice_get, Some}
 use Rattle.flow_rules.specs.Overlaps.{IsClash}
 use Rattle.flow_rules.specs.declared.rules.Rule.{Rule}
 use Rattle.std.proofs.lemmas.Bool.{cases_lt, both_ways}

@@ -76,7 +76,7 @@ inserted_distinct (Replace s r ∷ cs) distinct = inserted_distinct cs distinct.
 
 module _ (table : List Rule) (changes : List Change) (is_table : IsTable table) (good : AreGood table changes) where
   -- no key stands twice among the table's rules and the inserted ones
-  keys_apart : IsDistinct (keys_of (all_rules table changes))
+  pub keys_apart : IsDistinct (keys_of (all_rules table changes))
   keys_apart =
       subst IsDistinct (sym (map-append (λ (r : Rule). r.key) table (inserted changes)))
       (distinct_append (keys_of table) (keys_of (inserted changes)) is_table (inserted_distinct changes good.distinct) (λ k i j.

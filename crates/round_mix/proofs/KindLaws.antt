@@ -1,14 +1,14 @@
 -- Rules in key order clash with none where neighbours don't, if those of one priority test the same.
-use Rattle.std.proofs.Common.{◌≡◌, ◌&&◌, ◌||◌, ℕ, zero, suc, ◌+◌, ◌<◌, ◌≤◌, Bool, true, false, List, [], ◌∷◌, length, get_or, refl, sym, ◌∙◌, subst, ap, inl, inr, arith, add-one}
-use Rattle.std.specs.Prelude.{◌==◌, not, nat_le, nat_lt, slice_get, Option, Some, None}
-use Rattle.std.proofs.lemmas.Bool.{eqb-true, eq-eqb, and_parts, and_from, or_cases, or_left, both_ways, false≢true, lt-ltb, ltb-true, le-leb, leb-true}
+use Rattle.std.proofs.Common.{◌≡◌, ◌&&◌, ◌||◌, ℕ, zero, suc, ◌+◌, ◌<◌, ◌≤◌, Bool, true, List, [], ◌∷◌, length, get_or, refl, sym, ◌∙◌, subst, ap, inl, inr, arith, add-one}
+use Rattle.std.specs.Prelude.{◌==◌, not, nat_le, nat_lt, Option, Some, None}
+use Rattle.std.proofs.lemmas.Bool.{eqb-true, eq-eqb, and_parts, and_from, or_cases, or_left, false≢true, lt-ltb, ltb-true, le-leb}
 use Rattle.net_base.specs.Blocks.{Block, in_block, block_size}
 use Rattle.net_base.specs.Members.{IsIn}
 use Rattle.net_base.specs.declared.ids.Port.{Port}
 use Rattle.net_base.proofs.ItemLaws.{in_from_get}
 use Rattle.net_base.proofs.MemberLaws.{in_from_map, each_at}
 use Rattle.flow_rules.specs.Order.{port_rank, vlan_rank}
-use Rattle.flow_rules.specs.Overlaps.{IsClash, IsClashAt, ports_meet, vlans_meet, blocks_meet, keys_clash}
+use Rattle.flow_rules.specs.Overlaps.{IsClash, ports_meet, vlans_meet, blocks_meet, keys_clash}
 use Rattle.flow_rules.specs.Patterns.{covers, admits_port, admits_vlan}
 use Rattle.flow_rules.specs.Frees.{IsFree}
 use Rattle.flow_rules.specs.declared.rules.Rule.{Rule}

@@ -10,3 +10,5 @@ pub mod KeyedLaws
 pub mod KeyOrderLaws
 pub mod ApartLaws
 pub mod KindLaws
+pub mod PassLaws
+pub mod TriedLaws

@@ -6,3 +6,4 @@ pub mod Scan
 pub mod Order
 pub mod Named
 pub mod Apart
+pub mod Tried

@@ -1,15 +1,16 @@
 //! What a packet may meet at a switch while the changes of a round are made.
 #![tactic(auto)]
 
-ghost use Rattle.std.specs.Prelude.{◌≡◌, ◌+◌, ◌≤◌, ◌<◌, ◌∷◌, [], ◌++◌, List, false, None, length, map, vec_len, vec_capacity, IfOk, IfErr, OnOk, OnErr, IfSome, IsSome, IsSomeAnd};
+ghost use Rattle.std.specs.Prelude.{◌≡◌, ◌+◌, ◌≤◌, ◌<◌, ◌∷◌, [], ◌++◌, List, true, false, None, length, map, vec_len, vec_capacity, IfOk, IfErr, OnOk, OnErr, IfSome, IsSome, IsSomeAnd};
 ghost use Rattle.std.specs.Option.{ForSome};
 ghost use Rattle.path_walk.specs.Outcomes.{acted, header_at};
 ghost use Rattle.flow_rules.specs.Tables.{IsTable};
 ghost use Rattle.round_mix.specs.Faults.{IsFault};
+ghost use Rattle.update_model.specs.Changes.{AppliesTo, rules_after_change};
 ghost use Rattle.update_model.specs.Mixtures.{entries_needed};
 ghost use Rattle.round_mix.specs.Marks.{all_rules};
 ghost use Rattle.round_mix.specs.Found.{AreAllOutcomes};
-ghost use Rattle.round_mix.specs.Prepared.{IsPrepared};
+ghost use Rattle.round_mix.specs.Prepared.{AreClear, IsPrepared};
 ghost use Rattle.round_mix.specs.Scan.{actions_by, is_kept, scan};
 
 mod apart;
@@ -18,6 +19,7 @@ mod clashes;
 mod marking;
 mod named;
 mod sorting;
+mod tried;
 
 use apart::sort_apart;
 use changes::first_bad;
@@ -32,6 +34,7 @@ use sorting::sort;
 use std::alloc::Global;
 use std::marker::Model;
 use topology::Net;
+use tried::{make, take_back, try_change};
 use update_model::Change;
 
 /// In which mixtures a rule stands: in all, in some, or in all with its action or another.
@@ -227,6 +230,41 @@ impl Mixed {
         prepare(table, changes, &mut self.rules)?;
         self.is_prepared = true;
         Ok(())
+    }
+
+    /// Prepares a switch that is prepared for a table alone for one change of it, where every mixture is clear. Where one
+    /// isn't, what is prepared stays. It looks at each prepared rule, and takes no memory.
+    pub fn begin(&mut self, change: &Change) -> bool
+        requires { IsSomeAnd self.old.prepared (λ marks. length marks < self.old.room) }
+        ensures yes { (table : List Rule) → IsTable table → AppliesTo table change.now → IsSomeAnd self.old.prepared (IsPrepared table [])
+            → result ≡ true → IsSomeAnd self.new.prepared (IsPrepared table (change.now ∷ [])) }
+        ensures no { (table : List Rule) → AppliesTo table change.now → IsSomeAnd self.old.prepared (IsPrepared table [])
+            → result ≡ false → ¬ AreClear table (change.now ∷ []) }
+        ensures same { result ≡ false → self.new.prepared ≡ self.old.prepared }
+        ensures few { IfSome self.old.prepared (λ old. IsSomeAnd self.new.prepared (λ marks. length marks ≤ length old + 1)) }
+        ensures room { self.old.room ≤ self.new.room }
+    {
+        try_change(&mut self.rules, change)
+    }
+
+    /// Prepares a switch that is prepared for one change of a table for the table alone again.
+    pub fn give_up(&mut self, change: &Change)
+        ensures alone { (table : List Rule) → IsTable table → IsSomeAnd self.old.prepared (IsPrepared table (change.now ∷ []))
+            → IsSomeAnd self.new.prepared (IsPrepared table []) }
+        ensures few { IfSome self.old.prepared (λ old. IsSomeAnd self.new.prepared (λ marks. length marks ≤ length old)) }
+        ensures room { self.old.room ≤ self.new.room }
+    {
+        take_back(&mut self.rules, change);
+    }
+
+    /// Prepares a switch that is prepared for one change of a table for the table after it.
+    pub fn keep(&mut self, change: &Change)
+        ensures after { (table : List Rule) → IsTable table → IsSomeAnd self.old.prepared (IsPrepared table (change.now ∷ []))
+            → IsSomeAnd self.new.prepared (IsPrepared (rules_after_change change.now table) []) }
+        ensures few { IfSome self.old.prepared (λ old. IsSomeAnd self.new.prepared (λ marks. length marks ≤ length old)) }
+        ensures room { self.old.room ≤ self.new.room }
+    {
+        make(&mut self.rules, change);
     }
 
     /// The need of the round at the switch: the entries before it and its inserts.

@@ -1,7 +1,6 @@
 use Rattle.std.proofs.Common.{ℕ, List, subst}
 use Rattle.std.proofs.lemmas.List.Sorted.{IsPermutation-trans}
 use Rattle.flow_rules.specs.Frees.{IsFree}
-use Rattle.round_mix.specs.Apart.{AreApart}
 use Rattle.round_mix.specs.Marks.{rules_of}
 use Rattle.round_mix.specs.declared.MarkedRule.{MarkedRule}
 use Rattle.round_mix.proofs.ApartLaws.{apart_from_free}

@@ -1,4 +1,4 @@
-use Rattle.std.proofs.Common.{◌≡◌, List, [], map, ◌∙◌, ap}
+use Rattle.std.proofs.Common.{List, [], map, ◌∙◌, ap}
 use Rattle.std.proofs.lemmas.List.Sorted.{IsPermutation-trans}
 use Rattle.flow_rules.specs.declared.rules.Rule.{Rule}
 use Rattle.round_mix.specs.Marks.{all_rules, marked}

@@ -1,0 +1,22 @@
+use Rattle.std.proofs.Common.{◌≤◌, ◌∷◌, [], cond, List, length, sym, subst}
+use Rattle.std.specs.Prelude.{Some, None, IfSome, IsSomeAnd}
+use Rattle.round_mix.specs.Prepared.{MixedState, IsPrepared}
+use Rattle.round_mix.specs.declared.MarkedRule.{MarkedRule}
+use Rattle.round_mix.proofs.TriedLaws.{returned, given_few, carried, carried_few}
+use Rattle.round_mix.proofs.Mixed.give_up.Goals as goal
+
+pub returns-clause-alone : goal.returns-clause-alone
+returns-clause-alone c table is_table prepared =
+    let change = c.args.change.now in
+    let marks = c.self.inside.rules.items in
+    carried c.self.inside.is_prepared marks c.take_back.new.marks.items (IsPrepared table (change ∷ [])) (IsPrepared table [])
+    (subst (λ (v : MixedState). IsSomeAnd v.prepared (IsPrepared table (change ∷ []))) (sym c.self.view_is) prepared)
+    (λ p. subst (IsPrepared table []) (sym c.take_back.ensures.items) (returned table marks change is_table p))
+
+pub returns-clause-few : goal.returns-clause-few
+returns-clause-few c =
+    let marks = c.self.inside.rules.items in
+    let new = c.take_back.new.marks.items in
+    let less : length new ≤ length marks = subst (λ (ms : List MarkedRule). length ms ≤ length marks) (sym c.take_back.ensures.items) (given_few c.args.change.now marks) in
+    subst (λ (v : MixedState). IfSome v.prepared (λ old. IsSomeAnd (cond c.self.inside.is_prepared (Some new) None) (λ ms. length ms ≤ length old))) c.self.view_is
+    (carried_few c.self.inside.is_prepared marks new (λ n. n) less)

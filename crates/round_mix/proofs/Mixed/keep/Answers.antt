@@ -1,0 +1,23 @@
+use Rattle.std.proofs.Common.{◌≤◌, ◌∷◌, [], cond, List, length, sym, subst}
+use Rattle.std.specs.Prelude.{Some, None, IfSome, IsSomeAnd}
+use Rattle.update_model.specs.Changes.{rules_after_change}
+use Rattle.round_mix.specs.Prepared.{MixedState, IsPrepared}
+use Rattle.round_mix.specs.declared.MarkedRule.{MarkedRule}
+use Rattle.round_mix.proofs.TriedLaws.{made, kept_few, carried, carried_few}
+use Rattle.round_mix.proofs.Mixed.keep.Goals as goal
+
+pub returns-clause-after : goal.returns-clause-after
+returns-clause-after c table is_table prepared =
+    let change = c.args.change.now in
+    let marks = c.self.inside.rules.items in
+    carried c.self.inside.is_prepared marks c.make.new.marks.items (IsPrepared table (change ∷ [])) (IsPrepared (rules_after_change change table) [])
+    (subst (λ (v : MixedState). IsSomeAnd v.prepared (IsPrepared table (change ∷ []))) (sym c.self.view_is) prepared)
+    (λ p. subst (IsPrepared (rules_after_change change table) []) (sym c.make.ensures.items) (made table marks change is_table p))
+
+pub returns-clause-few : goal.returns-clause-few
+returns-clause-few c =
+    let marks = c.self.inside.rules.items in
+    let new = c.make.new.marks.items in
+    let less : length new ≤ length marks = subst (λ (ms : List MarkedRule). length ms ≤ length marks) (sym c.make.ensures.items) (kept_few c.args.change.now marks) in
+    subst (λ (v : MixedState). IfSome v.prepared (λ old. IsSomeAnd (cond c.self.inside.is_prepared (Some new) None) (λ ms. length ms ≤ length old))) c.self.view_is
+    (carried_few c.self.inside.is_prepared marks new (λ n. n) less)

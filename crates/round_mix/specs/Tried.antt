@@ -1,0 +1,64 @@
+-- One change over what is prepared for a table alone: what becomes of the marked rules.
+use Rattle.std.specs.Prelude.{Bool, false, cond, not, nat_lt, List, [], ◌∷◌, map, filter}
+use Rattle.std.specs.List.{list_any}
+use Rattle.flow_rules.specs.Patterns.{key_eq}
+use Rattle.flow_rules.specs.Overlaps.{keys_clash}
+use Rattle.flow_rules.specs.declared.rules.Key.{Key}
+use Rattle.flow_rules.specs.declared.rules.Rule.{Rule}
+use Rattle.update_model.specs.declared.Change.{Change}
+use Rattle.update_model.specs.declared.Change.TheVariants.{Insert, Delete, Replace}
+use Rattle.round_mix.specs.Named.{with_mark}
+use Rattle.round_mix.specs.declared.Mark.{Mark}
+use Rattle.round_mix.specs.declared.Mark.TheVariants.{Sure, Possible, Replaced}
+use Rattle.round_mix.specs.declared.MarkedRule.{MarkedRule}
+
+-- the rule after the change that its mark tells of, if it still stands
+abbrev pub rule_after : Mark → Rule → Rule
+rule_after (Replaced a) r = record r { action = a }
+rule_after Sure r = r
+rule_after Possible r = r
+
+-- the marked rule once the change is made
+abbrev pub settled : MarkedRule → MarkedRule
+settled m = with_mark (rule_after m.mark m.rule) Sure
+
+-- the marked rules with another mark for the rule of a key
+abbrev pub marked_where : Key → Mark → List MarkedRule → List MarkedRule
+marked_where k mark marks = map (λ m. cond (key_eq k m.rule.key) (with_mark m.rule mark) m) marks
+
+-- the marked rules of other keys
+abbrev pub without : Key → List MarkedRule → List MarkedRule
+without k marks = filter (λ m. not (key_eq m.rule.key k)) marks
+
+-- a marked rule behind those of at least its priority
+abbrev pub put_in : MarkedRule → List MarkedRule → List MarkedRule
+put_in m [] = m ∷ []
+put_in m (n ∷ ns) = cond (nat_lt n.rule.key.priority m.rule.key.priority) (m ∷ n ∷ ns) (n ∷ put_in m ns)
+
+-- whether a key clashes with one of the marked rules
+abbrev pub clashes_with : Key → List MarkedRule → Bool
+clashes_with k marks = list_any (λ m. keys_clash m.rule.key k) marks
+
+-- whether the change inserts a rule that clashes with one of the marked rules
+abbrev pub is_refused : Change → List MarkedRule → Bool
+is_refused (Insert s r) marks = clashes_with r.key marks
+is_refused (Delete s r) marks = false
+is_refused (Replace s r) marks = false
+
+-- the marked rules while a change is tried
+abbrev pub tried : Change → List MarkedRule → List MarkedRule
+tried (Insert s r) marks = put_in (with_mark r Possible) marks
+tried (Delete s r) marks = marked_where r.key Possible marks
+tried (Replace s r) marks = marked_where r.key (Replaced r.action) marks
+
+-- and once it is given up
+abbrev pub given_up : Change → List MarkedRule → List MarkedRule
+given_up (Insert s r) marks = without r.key marks
+given_up (Delete s r) marks = marked_where r.key Sure marks
+given_up (Replace s r) marks = marked_where r.key Sure marks
+
+-- or made
+abbrev pub kept : Change → List MarkedRule → List MarkedRule
+kept (Insert s r) marks = map settled marks
+kept (Delete s r) marks = without r.key marks
+kept (Replace s r) marks = map settled marks

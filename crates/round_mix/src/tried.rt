@@ -1,0 +1,153 @@
+//! One change over what is prepared for a table alone: without memory, and without sorting.
+ghost use Rattle.std.specs.Prelude.{◌≡◌, ◌<◌, ◌≤◌, true, false, cond, map, not, length, insert, vec_len, vec_capacity};
+ghost use Rattle.flow_rules.specs.Patterns.{key_eq};
+ghost use Rattle.round_mix.specs.Named.{with_mark};
+ghost use Rattle.round_mix.specs.Tried.{settled, put_in, marked_where, without, is_refused, tried, given_up, kept, clashes_with};
+ghost use Rattle.round_mix.specs.declared.MarkedRule.{MarkedRule as MarkedRuleOf};
+
+use crate::{Mark, MarkedRule};
+use flow_rules::{Key, Rule};
+use update_model::Change;
+
+impl MarkedRule {
+    /// Gives the rule another mark, if it has the key.
+    fn mark_where(&mut self, key: &Key, mark: Mark)
+        ensures { self.new ≡ cond (key_eq key.now self.old.rule.key) (with_mark self.old.rule mark) self.old }
+    {
+        if key.is_same(&self.rule.key) {
+            self.mark = mark;
+        }
+    }
+
+    /// Makes the change that the mark tells of.
+    fn settle(&mut self)
+        ensures { self.new ≡ settled self.old }
+    {
+        if let Mark::Replaced(action) = self.mark {
+            self.rule.action = action;
+        }
+        self.mark = Mark::Sure;
+    }
+}
+
+/// Gives the rule of a key another mark.
+fn mark_key(marks: &mut [MarkedRule], key: &Key, mark: Mark)
+    ensures { marks.new ≡ marked_where key.now mark marks.old }
+{
+    for marked in marks.iter_mut() {
+        marked.mark_where(key, mark);
+    }
+}
+
+/// Makes the changes that the marks tell of.
+fn settle_all(marks: &mut [MarkedRule])
+    ensures { marks.new ≡ map settled marks.old }
+{
+    for marked in marks.iter_mut() {
+        marked.settle();
+    }
+}
+
+/// Takes out the rule of a key.
+fn take_out(marks: &mut Vec<MarkedRule>, key: &Key)
+    ensures items { marks.new.items ≡ without key.now marks.old.items }
+    ensures room { vec_capacity marks.new ≡ vec_capacity marks.old }
+{
+    marks.retain(|marked| !marked.rule.key.is_same(key));
+}
+
+/// Whether a rule clashes with one of marked ones.
+fn has_clash(marks: &[MarkedRule], rule: &Rule) -> bool
+    ensures { result ≡ clashes_with rule.now.key marks.now }
+{
+    marks
+        .iter()
+        .any(|marked| marked.rule.key.clashes(&rule.key))
+}
+
+/// The place behind the marked rules of at least a priority, in descending priority.
+fn place_of(marks: &[MarkedRule], priority: u16) -> usize
+    ensures within { result ≤ length marks.now }
+    ensures place { (m : MarkedRuleOf) → m.rule.key.priority ≡ priority → insert marks.now result m ≡ put_in m marks.now }
+{
+    for i in 0..marks.len() {
+        if marks[i].rule.key.priority < priority {
+            return i;
+        }
+    }
+    marks.len()
+}
+
+/// Puts a marked rule among others in descending priority.
+fn put_in(marks: &mut Vec<MarkedRule>, marked: MarkedRule)
+    requires { vec_len marks.old < vec_capacity marks.old }
+    ensures items { marks.new.items ≡ put_in marked marks.old.items }
+    ensures room { vec_capacity marks.old ≤ vec_capacity marks.new }
+{
+    let place = place_of(marks, marked.rule.key.priority);
+    let _ = marks.insert(place, marked);
+}
+
+/// Puts a rule that may stand among marked ones in descending priority, unless it clashes with one of them.
+fn put_free(marks: &mut Vec<MarkedRule>, rule: &Rule) -> bool
+    requires { vec_len marks.old < vec_capacity marks.old }
+    ensures yes { result ≡ true → marks.new.items ≡ put_in (with_mark rule.now Mark.Possible) marks.old.items }
+    ensures no { result ≡ false → marks.new.items ≡ marks.old.items }
+    ensures is { result ≡ not (clashes_with rule.now.key marks.old.items) }
+    ensures room { vec_capacity marks.old ≤ vec_capacity marks.new }
+{
+    if has_clash(marks, rule) {
+        return false;
+    }
+    let marked = MarkedRule {
+        rule: *rule,
+        mark: Mark::Possible,
+    };
+    put_in(marks, marked);
+    true
+}
+
+/// Marks the rule that a change names, or puts the one that it inserts, unless that clashes with another.
+pub fn try_change(marks: &mut Vec<MarkedRule>, change: &Change) -> bool
+    requires { vec_len marks.old < vec_capacity marks.old }
+    ensures yes { result ≡ true → marks.new.items ≡ tried change.now marks.old.items }
+    ensures no { result ≡ false → marks.new.items ≡ marks.old.items }
+    ensures is { result ≡ not (is_refused change.now marks.old.items) }
+    ensures room { vec_capacity marks.old ≤ vec_capacity marks.new }
+{
+    match change {
+        Change::Insert(_, rule) => put_free(marks, rule),
+        Change::Delete(_, rule) => {
+            mark_key(marks, &rule.key, Mark::Possible);
+            true
+        }
+        Change::Replace(_, rule) => {
+            mark_key(marks, &rule.key, Mark::Replaced(rule.action));
+            true
+        }
+    }
+}
+
+/// Takes back what was marked or put for a change.
+pub fn take_back(marks: &mut Vec<MarkedRule>, change: &Change)
+    ensures items { marks.new.items ≡ given_up change.now marks.old.items }
+    ensures room { vec_capacity marks.new ≡ vec_capacity marks.old }
+{
+    match change {
+        Change::Insert(_, rule) => take_out(marks, &rule.key),
+        Change::Delete(_, rule) => mark_key(marks, &rule.key, Mark::Sure),
+        Change::Replace(_, rule) => mark_key(marks, &rule.key, Mark::Sure),
+    }
+}
+
+/// Makes a change for which was marked or put what it names.
+pub fn make(marks: &mut Vec<MarkedRule>, change: &Change)
+    ensures items { marks.new.items ≡ kept change.now marks.old.items }
+    ensures room { vec_capacity marks.new ≡ vec_capacity marks.old }
+{
+    match change {
+        Change::Delete(_, rule) => take_out(marks, &rule.key),
+        Change::Insert(_, _) => settle_all(marks),
+        Change::Replace(_, _) => settle_all(marks),
+    }
+}
