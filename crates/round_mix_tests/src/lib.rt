@@ -5,3 +5,5 @@
 mod subsets;
 #[cfg(test)]
 mod tests;
+#[cfg(test)]
+mod trials;

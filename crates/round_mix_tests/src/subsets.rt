@@ -18,19 +18,19 @@ const ALONE: &[u8] =
 const AT: SwitchId = SwitchId(0);
 
 /// The addresses from 10.0.0.0 to 10.0.0.255.
-const TEN: Prefix = Prefix {
+pub const TEN: Prefix = Prefix {
     base: 0x0a00_0000,
     len: 24,
 };
 
 /// The addresses from 10.0.0.0 to 10.0.0.127.
-const HALF: Prefix = Prefix {
+pub const HALF: Prefix = Prefix {
     base: 0x0a00_0000,
     len: 25,
 };
 
 /// The addresses from 10.0.0.0 to 10.255.255.255.
-const WIDE: Prefix = Prefix {
+pub const WIDE: Prefix = Prefix {
     base: 0x0a00_0000,
     len: 8,
 };
@@ -41,7 +41,7 @@ const FAR: Prefix = Prefix {
     len: 24,
 };
 
-fn rule(priority: u16, vlan: VlanTest, dst: Prefix, action: Action) -> Rule {
+pub fn rule(priority: u16, vlan: VlanTest, dst: Prefix, action: Action) -> Rule {
     let pattern = Pattern {
         in_port: None,
         vlan,
@@ -53,7 +53,7 @@ fn rule(priority: u16, vlan: VlanTest, dst: Prefix, action: Action) -> Rule {
     }
 }
 
-fn out(port: u16) -> Action {
+pub fn out(port: u16) -> Action {
     Action::Out(Port(port), Rewrite::Keep)
 }
 
@@ -62,20 +62,20 @@ fn leave(port: u16) -> Outcome {
     Outcome::Leave(Port(port), Vlan::Untagged)
 }
 
-fn insert(rule: Rule) -> Change {
+pub fn insert(rule: Rule) -> Change {
     Change::Insert(AT, rule)
 }
 
-fn delete(rule: Rule) -> Change {
+pub fn delete(rule: Rule) -> Change {
     Change::Delete(AT, rule)
 }
 
-fn replace(rule: Rule) -> Change {
+pub fn replace(rule: Rule) -> Change {
     Change::Replace(AT, rule)
 }
 
 /// Makes a change where it applies.
-fn make(rt: &impl Abort, table: &mut Table, change: &Change) {
+pub fn make(rt: &impl Abort, table: &mut Table, change: &Change) {
     table.reserve(1).expect(rt, "room");
     if change.applies_to(table) {
         change.apply_to(table);
@@ -83,7 +83,7 @@ fn make(rt: &impl Abort, table: &mut Table, change: &Change) {
 }
 
 /// A table of these rules.
-fn table_of(rt: &(impl Abort + AllocGlobal), rules: &[Rule]) -> Table {
+pub fn table_of(rt: &(impl Abort + AllocGlobal), rules: &[Rule]) -> Table {
     let mut table = Table::make(rt.alloc()).expect(rt, "a table");
     for rule in rules {
         make(rt, &mut table, &insert(*rule));
@@ -147,7 +147,7 @@ pub fn among_many(rt: &(impl Abort + AllocGlobal), changes: &[Change]) -> Vec<Ch
 }
 
 /// The possible outcomes at a place.
-fn possible(
+pub fn possible(
     rt: &(impl Abort + AllocGlobal),
     net: &Net,
     table: &Table,
@@ -203,12 +203,12 @@ fn agrees(rt: &(impl Abort + AllocGlobal), net: &Net, rules: &[Rule], changes: &
 }
 
 /// The rule that sends to the second host.
-fn to_second() -> Rule {
+pub fn to_second() -> Rule {
     rule(100, VlanTest::Any, TEN, out(2))
 }
 
 /// A rule that drops all else.
-fn drop_wide() -> Rule {
+pub fn drop_wide() -> Rule {
     rule(50, VlanTest::Any, WIDE, Action::Discard)
 }
 
@@ -247,7 +247,7 @@ fn spread() -> [Change; 4] {
     ]
 }
 
-fn network(rt: &(impl Abort + AllocGlobal)) -> Net {
+pub fn network(rt: &(impl Abort + AllocGlobal)) -> Net {
     read_net(rt.alloc(), ALONE).expect(rt, "a network")
 }
 
@@ -264,7 +264,7 @@ fn possible_outcomes_are_those_of_all_subsets(rt: HostRuntime) {
 }
 
 /// A packet from the first host to the first address.
-const FROM_FIRST: Place = Place {
+pub const FROM_FIRST: Place = Place {
     switch: AT,
     port: Port(1),
     vlan: Vlan::Untagged,

@@ -1,5 +1,5 @@
 -- One change as a round of its own: the changes of each switch, and what is prepared before, during and after it.
-use Rattle.std.proofs.Common.{◌≡◌, ◌≢◌, ℕ, ◌+◌, ◌<◌, ◌≤◌, Bool, true, false, not, cond, List, [], ◌∷◌, ◌++◌, zero, suc, get_or, length, refl, sym, ◌∙◌, subst, ap, inl, inr, arith, length-set, length-append}
+use Rattle.std.proofs.Common.{◌≡◌, ◌≢◌, ℕ, ◌+◌, ◌<◌, ◌≤◌, Bool, true, false, not, cond, List, [], ◌∷◌, ◌++◌, zero, suc, get_or, length, refl, sym, ◌∙◌, subst, ap, inl, inr, arith, get_or-set_same, length-set, length-append}
 use Rattle.std.specs.List.{AllByRecursion}
 use Rattle.std.specs.Prelude.{filter, Option, Some, None, IsSomeAnd, ◌==◌}
 use Rattle.std.proofs.lemmas.Bool.{eq-eqb, ne_eqb, cases_eq, cond-true, cond-false}
@@ -18,12 +18,11 @@ use Rattle.update_model.proofs.ChangeLaws.{rules_at-after_change}
 use Rattle.round_mix.specs.Prepared.{MixedState, AreClear, IsPrepared}
 use Rattle.round_mix.specs.declared.MarkedRule.{MarkedRule}
 use Rattle.round_mix.proofs.ClearLaws.{prepared_needed}
-use Rattle.round_mix.proofs.NeedLaws.{few_inserts}
+use Rattle.round_mix.proofs.TriedLaws.{clear_none}
 use Rattle.check_reasons.specs.Loaded.{IsLoaded}
 use Rattle.round_tables.specs.Trials.{TrialState, IsSettled, IsTrying, HasRoomAlone, single}
 use Rattle.round_tables.specs.Present.{mix_at, IsMixed, rules_there}
 use Rattle.round_tables.specs.Steps.{IsSettledBeside}
-use Rattle.round_tables.proofs.AloneLaws.{alone_clear}
 
 -- a switch by its number
 abbrev pub switch_n : ℕ → SwitchId
@@ -118,6 +117,14 @@ module _ (net : Network) (s : SwitchId) (p q : TrialState) where
         (subst (λ (m : MixedState). IsMixed (rules_there p.tables o) [] m) (sym (others o ne)) (beside.others o less ne));
   }
 
+-- the same where the list of them is lent
+pub beside_lent : (net : Network) (s : SwitchId) (p q : TrialState) (old new : List MixedState) → IsSettledBeside net s p → rules_of_all q.tables ≡ rules_of_all p.tables → old ≡ p.mixes → q.mixes ≡ new
+    → length new ≡ length old → ((o : SwitchId) → o.0 ≢ s.0 → mix_at new o ≡ mix_at old o) → (mix_at old s).room ≤ (mix_at new s).room → IsSettledBeside net s q
+beside_lent net s p q old new beside rules lent same count others room =
+    beside_next net s p q beside rules (ap length same ∙ count ∙ ap length lent)
+    (λ o ne. ap (λ (ms : List MixedState). mix_at ms o) same ∙ others o ne ∙ ap (λ (ms : List MixedState). mix_at ms o) lent)
+    (let had = ap (λ (ms : List MixedState). (mix_at ms s).room) lent in let has = ap (λ (ms : List MixedState). (mix_at ms s).room) same in omega arith)
+
 module _ (net : Network) (p : TrialState) where
   -- where the last one is too, all are
   pub settled_last : (s : SwitchId) → IsSettledBeside net s p → IsMixed (rules_there p.tables s) [] (mix_at p.mixes s) → IsSettled net p
@@ -138,7 +145,7 @@ module _ (net : Network) (p : TrialState) where
     clear_each : (s : SwitchId) → AreClear (rules_there p.tables s) (changes_at s (c ∷ []))
     clear_each = each_single c (λ s cs. AreClear (rules_there p.tables s) cs)
         (mixed_clear (rules_there p.tables (switch_of c)) (c ∷ []) (mix_at p.mixes (switch_of c)).prepared here)
-        (λ s ne. alone_clear (rules_there p.tables s) (beside.fit.clear s))
+        (λ s ne. clear_none (rules_there p.tables s) (beside.fit.clear s))
 
     fits_each : (s : SwitchId) → s.0 < switch_count net → entries_needed (rules_there p.tables s) (changes_at s (c ∷ [])) ≤ capacity_of net s
     fits_each = each_single c (λ s cs. s.0 < switch_count net → entries_needed (rules_there p.tables s) cs ≤ capacity_of net s) (λ _. fits)
@@ -242,3 +249,38 @@ capacity_few (c ∷ cs) (suc i) few = capacity_few cs i few.1
 -- no capacity is above 8192
 pub capacities_few : (net : Network) → IsNetwork net → (s : SwitchId) → s.0 < switch_count net → capacity_of net s ≤ 8192
 capacities_few net is s less = capacity_few net.capacities s.0 is.capacities
+
+-- the rules of the change's switch after it
+pub rules_kept : (c : Change) (tables : List (List Rule)) → (switch_of c).0 < length tables → rules_at (tables_after_change c tables) (switch_of c) ≡ rules_after_change c (rules_at tables (switch_of c))
+rules_kept c tables within = get_or-set_same tables (switch_of c).0 (rules_after_change c (rules_at tables (switch_of c))) [] within
+
+-- a change of settled tables
+module _ (net : Network) (c : Change) (p : TrialState) (settled : IsSettled net p) (applies : Applies (rules_of_all p.tables) c) where
+  inside : (switch_of c).0 < switch_count net
+  inside = let first = applies.0 in let count = count_rules p.tables in omega (arith, settled.fit.tables)
+
+  pub beside_settled : IsSettledBeside net (switch_of c) p
+  beside_settled = record { fit = settled.fit; within = inside; others = λ o less ne. settled.alone o less }
+
+  -- its switch has room for one entry more
+  pub room_more : IsSomeAnd (mix_at p.mixes (switch_of c)).prepared (λ marks. length marks < (mix_at p.mixes (switch_of c)).room)
+  room_more = go (mix_at p.mixes (switch_of c)).prepared (settled.alone (switch_of c) inside)
+    where
+      go : (o : Option (List MarkedRule)) → IsSomeAnd o (IsPrepared (rules_there p.tables (switch_of c)) []) → IsSomeAnd o (λ marks. length marks < (mix_at p.mixes (switch_of c)).room)
+      go None h = absurd h
+      go (Some marks) h =
+          let needed = prepared_needed (rules_there p.tables (switch_of c)) [] marks h in
+          let fits = settled.fit.fits (switch_of c) inside in
+          let room = settled.fit.room (switch_of c) inside in
+          omega arith
+
+-- while a change is tried its switch is prepared for it
+pub tried_here : (net : Network) (c : Change) (p : TrialState) → IsTrying net c p → IsMixed (rules_there p.tables (switch_of c)) (c ∷ []) (mix_at p.mixes (switch_of c))
+tried_here net c p trying =
+    let s = switch_of c in
+    let count = count_rules p.tables in
+    let first = trying.applies.0 in
+    let in_mixes : s.0 < length p.mixes = omega (arith, trying.fit.mixes, trying.fit.tables) in
+    let loaded = trying.loaded.each s (mix_at p.mixes s) (slice_get-get_or p.mixes s.0 (record { prepared = None; room = 0 }) in_mixes) in
+    subst (λ (m : Option (List MarkedRule)). IsSomeAnd m (IsPrepared (rules_there p.tables s) (c ∷ []))) (sym loaded.is)
+    (subst (λ (cs : List Change). IsPrepared (rules_there p.tables s) cs loaded.marks) (changes_here c) loaded.prepared)

@@ -1,5 +1,5 @@
 //! Switches that are prepared for their tables alone.
-ghost use Rattle.std.specs.Prelude.{◌≡◌, ◌≢◌, ◌+◌, ◌<◌, ◌≤◌, [], length, IfOk};
+ghost use Rattle.std.specs.Prelude.{◌≡◌, ◌+◌, ◌<◌, ◌≤◌, [], length, IfOk};
 ghost use Rattle.net_base.specs.declared.ids.SwitchId.{SwitchId as Switch};
 ghost use Rattle.topology.specs.Networks.{switch_count, capacity_of};
 ghost use Rattle.flow_rules.specs.Tables.{IsClear, rules_at, rules_of_all};
@@ -51,16 +51,4 @@ pub(crate) fn all_alone(alloc: Global, net: &Net, tables: &Config) -> Result<Vec
         mixes.push(mixed)?;
     }
     Ok(mixes)
-}
-
-/// Prepares one of the switches for its table alone.
-pub(crate) fn reload(mixes: &mut [Mixed], switch: SwitchId, table: &Table)
-    requires within { switch.0 < length mixes.old }
-    requires clear { IsClear table.now.rules }
-    requires room { length table.now.rules ≤ (mix_at mixes.old switch).room }
-    ensures prepared { IsMixed table.now.rules [] (mix_at mixes.new switch) }
-    ensures others { (o : Switch) → o.0 ≢ switch.0 → mix_at mixes.new o ≡ mix_at mixes.old o }
-    ensures room { (mix_at mixes.old switch).room ≤ (mix_at mixes.new switch).room }
-{
-    load_alone(&mut mixes[switch.0 as usize], table);
 }

@@ -1,40 +1,48 @@
-//! Single changes: the preparation of their switch for them, and the tables after them.
-ghost use Rattle.std.specs.Prelude.{◌≡◌, ◌≢◌, ◌+◌, ◌<◌, ◌≤◌, [], ◌∷◌, true, false, length};
+//! Single changes at one of the switches: it is prepared for the change, for its table alone again, or for the table after it.
+ghost use Rattle.std.specs.Prelude.{◌≡◌, ◌≢◌, ◌<◌, ◌≤◌, [], ◌∷◌, List, true, false, length, IsSomeAnd};
 ghost use Rattle.net_base.specs.declared.ids.SwitchId.{SwitchId as Switch};
-ghost use Rattle.update_model.specs.Changes.{AppliesTo};
+ghost use Rattle.flow_rules.specs.Tables.{IsTable};
+ghost use Rattle.flow_rules.specs.declared.rules.Rule.{Rule};
+ghost use Rattle.update_model.specs.Changes.{AppliesTo, rules_after_change};
 ghost use Rattle.round_mix.specs.Prepared.{AreClear};
 ghost use Rattle.round_tables.specs.Present.{mix_at, IsMixed};
 
-use flow_rules::Table;
 use net_base::SwitchId;
 use round_mix::Mixed;
 use update_model::Change;
 
-/// Prepares a switch for one change of its table, if each mixture is clear.
-fn load_change(mixed: &mut Mixed, table: &Table, change: &Change) -> bool
-    requires applies { AppliesTo table.now.rules change.now }
-    requires room { length table.now.rules + 1 ≤ mixed.old.room }
-    ensures yes { result ≡ true → IsMixed table.now.rules (change.now ∷ []) mixed.new }
-    ensures no { result ≡ false → ¬ AreClear table.now.rules (change.now ∷ []) }
-    ensures room { mixed.old.room ≤ mixed.new.room }
-{
-    mixed.load(table, &[*change]).is_ok()
-}
-
-/// Prepares one of the switches for one change of its table, if each mixture is clear.
-pub(crate) fn load_for(
-    mixes: &mut [Mixed],
-    switch: SwitchId,
-    table: &Table,
-    change: &Change,
-) -> bool
+/// Prepares one of the switches, which is prepared for its table alone, for one change of it, if each mixture is clear.
+pub(crate) fn begin_at(mixes: &mut [Mixed], switch: SwitchId, change: &Change) -> bool
     requires within { switch.0 < length mixes.old }
-    requires applies { AppliesTo table.now.rules change.now }
-    requires room { length table.now.rules + 1 ≤ (mix_at mixes.old switch).room }
-    ensures yes { result ≡ true → IsMixed table.now.rules (change.now ∷ []) (mix_at mixes.new switch) }
-    ensures no { result ≡ false → ¬ AreClear table.now.rules (change.now ∷ []) }
+    requires room { IsSomeAnd (mix_at mixes.old switch).prepared (λ marks. length marks < (mix_at mixes.old switch).room) }
+    ensures yes { (rules : List Rule) → IsTable rules → AppliesTo rules change.now → IsMixed rules [] (mix_at mixes.old switch)
+        → result ≡ true → IsMixed rules (change.now ∷ []) (mix_at mixes.new switch) }
+    ensures no { (rules : List Rule) → AppliesTo rules change.now → IsMixed rules [] (mix_at mixes.old switch)
+        → result ≡ false → ¬ AreClear rules (change.now ∷ []) }
+    ensures same { result ≡ false → (mix_at mixes.new switch).prepared ≡ (mix_at mixes.old switch).prepared }
     ensures others { (o : Switch) → o.0 ≢ switch.0 → mix_at mixes.new o ≡ mix_at mixes.old o }
     ensures room { (mix_at mixes.old switch).room ≤ (mix_at mixes.new switch).room }
 {
-    load_change(&mut mixes[switch.0 as usize], table, change)
+    mixes[switch.0 as usize].begin(change)
+}
+
+/// Prepares one of the switches, which is prepared for one change of its table, for the table alone again.
+pub(crate) fn give_up_at(mixes: &mut [Mixed], switch: SwitchId, change: &Change)
+    requires { switch.0 < length mixes.old }
+    ensures alone { (rules : List Rule) → IsTable rules → IsMixed rules (change.now ∷ []) (mix_at mixes.old switch) → IsMixed rules [] (mix_at mixes.new switch) }
+    ensures others { (o : Switch) → o.0 ≢ switch.0 → mix_at mixes.new o ≡ mix_at mixes.old o }
+    ensures room { (mix_at mixes.old switch).room ≤ (mix_at mixes.new switch).room }
+{
+    mixes[switch.0 as usize].give_up(change);
+}
+
+/// Prepares one of the switches, which is prepared for one change of its table, for the table after it.
+pub(crate) fn keep_at(mixes: &mut [Mixed], switch: SwitchId, change: &Change)
+    requires { switch.0 < length mixes.old }
+    ensures after { (rules : List Rule) → IsTable rules → IsMixed rules (change.now ∷ []) (mix_at mixes.old switch)
+        → IsMixed (rules_after_change change.now rules) [] (mix_at mixes.new switch) }
+    ensures others { (o : Switch) → o.0 ≢ switch.0 → mix_at mixes.new o ≡ mix_at mixes.old o }
+    ensures room { (mix_at mixes.old switch).room ≤ (mix_at mixes.new switch).room }
+{
+    mixes[switch.0 as usize].keep(change);
 }

@@ -12,8 +12,9 @@ ghost use Rattle.round_tables.specs.Trials.{IsSettled, IsTrying, HasRoomAlone};
 ghost use Rattle.round_tables.specs.Present.{mix_at, IsMixed, rules_there};
 ghost use Rattle.round_tables.specs.Steps.{IsSettledBeside};
 
-use crate::alone::{all_alone, reload};
-use crate::changed::load_for;
+use crate::alone::all_alone;
+use crate::changed::{begin_at, give_up_at, keep_at};
+use crate::loading::keeps_keys;
 use flow_rules::Config;
 use net_base::{Memory, SwitchId};
 use round_mix::Mixed;
@@ -63,15 +64,6 @@ impl TrialTables {
         &self.mixes
     }
 
-    /// Prepares a switch for its table alone, as the others are.
-    fn settle(&mut self, net: &Net, switch: SwitchId)
-        requires { IsSettledBeside net.now switch self.old }
-        ensures rules { rules_of_all self.new.tables ≡ rules_of_all self.old.tables }
-        ensures settled { IsSettled net.now self.new }
-    {
-        reload(&mut self.mixes, switch, self.tables.table(switch));
-    }
-
     /// Prepares the switch of a change for it, if each mixture is clear.
     fn load(&mut self, net: &Net, change: &Change) -> bool
         requires settled { IsSettled net.now self.old }
@@ -80,9 +72,23 @@ impl TrialTables {
         ensures beside { IsSettledBeside net.now (switch_of change.now) self.new }
         ensures yes { result ≡ true → IsMixed (rules_there self.new.tables (switch_of change.now)) (change.now ∷ []) (mix_at self.new.mixes (switch_of change.now)) }
         ensures no { result ≡ false → ¬ AreClear (rules_there self.new.tables (switch_of change.now)) (change.now ∷ []) }
+        ensures alone { result ≡ false → IsSettled net.now self.new }
     {
         let switch = change.switch();
-        load_for(&mut self.mixes, switch, self.tables.table(switch), change)
+        keeps_keys(self.tables.table(switch));
+        begin_at(&mut self.mixes, switch, change)
+    }
+
+    /// Prepares the switch of a change, which is prepared for it, for its table alone again, as the others are.
+    fn settle(&mut self, net: &Net, change: &Change)
+        requires beside { IsSettledBeside net.now (switch_of change.now) self.old }
+        requires loaded { IsMixed (rules_there self.old.tables (switch_of change.now)) (change.now ∷ []) (mix_at self.old.mixes (switch_of change.now)) }
+        ensures rules { rules_of_all self.new.tables ≡ rules_of_all self.old.tables }
+        ensures settled { IsSettled net.now self.new }
+    {
+        let switch = change.switch();
+        keeps_keys(self.tables.table(switch));
+        give_up_at(&mut self.mixes, switch, change);
     }
 
     /// Whether what is prepared of a switch is within its capacity.
@@ -96,7 +102,7 @@ impl TrialTables {
     }
 
     /// Prepares the switch of a change for it, if as a round of its own the change is clear and within capacity. If it
-    /// isn't, the switch is prepared for its table alone again. Costs the preparation of one switch, or two where it isn't.
+    /// isn't, the switch is prepared for its table alone again. It looks at each rule of the switch three times at most.
     pub fn begin(&mut self, net: &Net, change: &Change) -> bool
         requires settled { IsSettled net.now self.old }
         requires applies { Applies (rules_of_all self.old.tables) change.now }
@@ -105,25 +111,28 @@ impl TrialTables {
         ensures no { result ≡ false → IsSettled net.now self.new }
         ensures never { result ≡ false → ¬ HasRoomAlone net.now (rules_of_all self.old.tables) change.now }
     {
-        let switch = change.switch();
-        if self.load(net, change) && self.is_within(net, switch) {
+        if !self.load(net, change) {
+            return false;
+        }
+        if self.is_within(net, change.switch()) {
             net.keeps_rules();
             return true;
         }
-        self.settle(net, switch);
+        self.settle(net, change);
         false
     }
 
-    /// Prepares the switch of a change that was tried for its table alone again.
+    /// Prepares the switch of a change that was tried for its table alone again. It looks at each rule of the switch once.
     pub fn give_up(&mut self, net: &Net, change: &Change)
         requires { IsTrying net.now change.now self.old }
         ensures rules { rules_of_all self.new.tables ≡ rules_of_all self.old.tables }
         ensures settled { IsSettled net.now self.new }
     {
-        self.settle(net, change.switch());
+        self.settle(net, change);
     }
 
     /// Makes a change that was tried. After a refusal the tables are as before and the change is still tried.
+    /// What is prepared of its switch costs one look at each of its rules.
     pub fn keep(&mut self, net: &Net, change: &Change) -> Result<(), Memory>
         requires { IsTrying net.now change.now self.old }
         ensures rules { OnOk result (rules_of_all self.new.tables ≡ tables_after_change change.now (rules_of_all self.old.tables)) }
@@ -131,8 +140,10 @@ impl TrialTables {
         ensures same { OnErr result (rules_of_all self.new.tables ≡ rules_of_all self.old.tables) }
         ensures trying { OnErr result (IsTrying net.now change.now self.new) }
     {
+        let switch = change.switch();
+        keeps_keys(self.tables.table(switch));
         change_tables(&mut self.tables, change)?;
-        self.settle(net, change.switch());
+        keep_at(&mut self.mixes, switch, change);
         Ok(())
     }
 }

@@ -10,7 +10,11 @@ use Rattle.round_tables.specs.Trials.{HasRoomAlone}
 use Rattle.round_tables.specs.Present.{mix_at, IsMixed, rules_there}
 use Rattle.round_tables.proofs.TrialLaws.{trying, never_unclear, never_over, capacities_few}
 use Rattle.round_tables.proofs.trials.TrialTables.begin.Goals as goal
-use Rattle.round_tables.proofs.trials.TrialTables.begin.Goals.{else-load-via-then-load+else-is_within, else-load-via-else-load}
+
+pub returns-then-not-load-clause-never : goal.returns-then-not-load-clause-never
+returns-then-not-load-clause-never c = λ _.
+    subst (λ (ts : List (List Rule)). ¬ HasRoomAlone c.args.net.now ts c.args.change.now) c.load.ensures.rules
+    (never_unclear c.args.net.now (rules_of_all c.load.new.self.tables) c.args.change.now (c.load.ensures.no c.if-not-load.true))
 
 pub returns-then-is_within-clause-yes : goal.returns-then-is_within-clause-yes
 returns-then-is_within-clause-yes c = λ _.
@@ -18,10 +22,10 @@ returns-then-is_within-clause-yes c = λ _.
     let net = c.args.net.now in
     let p = c.load.new.self in
     let rules = rules_there p.tables (switch_of change) in
-    let here = c.load.ensures.yes c.if-load.true in
-    let said = c.is_within.ensures rules (change ∷ []) (subst (λ (s : SwitchId). IsMixed rules (change ∷ []) (mix_at p.mixes s)) (sym c.switch-switch.ensures) here) in
+    let here = c.load.ensures.yes c.if-not-load.false in
+    let said = c.is_within.ensures rules (change ∷ []) (subst (λ (s : SwitchId). IsMixed rules (change ∷ []) (mix_at p.mixes s)) (sym c.switch.ensures) here) in
     let fits : entries_needed rules (change ∷ []) ≤ capacity_of net (switch_of change) =
-    subst (λ (s : SwitchId). entries_needed rules (change ∷ []) ≤ capacity_of net s) c.switch-switch.ensures (said.0 c.if-is_within.true) in
+    subst (λ (s : SwitchId). entries_needed rules (change ∷ []) ≤ capacity_of net s) c.switch.ensures (said.0 c.if-is_within.true) in
     trying net p change c.load.ensures.beside here fits (capacities_few net c.keeps_rules.ensures)
     (subst (λ (ts : List (List Rule)). Applies ts change) (sym c.load.ensures.rules) c.requires.applies)
 
@@ -31,12 +35,8 @@ returns-clause-never c = λ _.
     let net = c.args.net.now in
     let p = c.load.new.self in
     let rules = rules_there p.tables (switch_of change) in
-    let never : ¬ HasRoomAlone net (rules_of_all p.tables) change =
-    elim c.else-load.branch [
-      | else-load-via-then-load+else-is_within w ↦ never_over net (rules_of_all p.tables) change c.load.ensures.beside.within (λ fits.
-          let here = c.load.ensures.yes w.if-load.true in
-          let said = w.is_within.ensures rules (change ∷ []) (subst (λ (s : SwitchId). IsMixed rules (change ∷ []) (mix_at p.mixes s)) (sym c.switch-switch.ensures) here) in
-          both_ways w.is_within.result w.if-is_within.false (said.1 (subst (λ (s : SwitchId). entries_needed rules (change ∷ []) ≤ capacity_of net s) (sym c.switch-switch.ensures) fits)))
-      | else-load-via-else-load w ↦ never_unclear net (rules_of_all p.tables) change (c.load.ensures.no w.if-load.false)
-    ] in
-    subst (λ (ts : List (List Rule)). ¬ HasRoomAlone net ts change) c.load.ensures.rules never
+    let here = c.load.ensures.yes c.if-not-load.false in
+    let said = c.is_within.ensures rules (change ∷ []) (subst (λ (s : SwitchId). IsMixed rules (change ∷ []) (mix_at p.mixes s)) (sym c.switch.ensures) here) in
+    subst (λ (ts : List (List Rule)). ¬ HasRoomAlone net ts change) c.load.ensures.rules
+    (never_over net (rules_of_all p.tables) change c.load.ensures.beside.within (λ fits.
+    both_ways c.is_within.result c.if-is_within.false (said.1 (subst (λ (s : SwitchId). entries_needed rules (change ∷ []) ≤ capacity_of net s) (sym c.switch.ensures) fits))))

@@ -1,0 +1,99 @@
+//! One change tried over what is prepared for a table alone, beside a switch that is prepared anew.
+ghost use Rattle.std.specs.Prelude.{◌≤◌, length, IsSomeAnd};
+
+use crate::subsets::{
+    FROM_FIRST, HALF, TEN, WIDE, delete, drop_wide, insert, is_small, make, network, out, possible,
+    replace, rule, table_of, to_second,
+};
+use flow_rules::{Table, VlanTest};
+use round_mix::{Mixed, Outcomes};
+use std::process::Abort;
+use topology::Net;
+use update_model::Change;
+
+/// An address that all rules of these tests cover.
+const FIRST: u32 = 0x0a00_0000;
+
+/// The table of two rules on which changes are tried.
+fn two_rules(rt: &(impl Abort + AllocGlobal)) -> Table {
+    table_of(rt, &[drop_wide(), to_second()])
+}
+
+/// Whether the possible outcomes of a packet are those of a table and changes of it that are prepared anew.
+fn agrees(
+    rt: &(impl Abort + AllocGlobal),
+    net: &Net,
+    mixed: &Mixed,
+    table: &Table,
+    changes: &[Change],
+) -> bool
+    requires { IsSomeAnd mixed.now.prepared (λ marks. length marks ≤ 128) }
+{
+    let anew = possible(rt, net, table, changes, FROM_FIRST, FIRST);
+    let mut found = Outcomes::with_room(rt.alloc(), 129).expect(rt, "room");
+    mixed.possible(net, FROM_FIRST, FIRST, &mut found);
+    found.list() == anew.list()
+}
+
+/// Whether a change can be tried, and what is prepared is right while it is tried and once it is given up.
+fn is_given_up(rt: &(impl Abort + AllocGlobal), net: &Net, change: &Change) -> bool {
+    let table = two_rules(rt);
+    assert!(rt; is_small(&table, &[]));
+    let mut mixed = Mixed::with_room(rt.alloc(), 65).expect(rt, "room");
+    assert!(rt; mixed.load(&table, &[]).is_ok());
+    let is_begun = mixed.begin(change);
+    let is_tried = agrees(rt, net, &mixed, &table, &[*change]);
+    mixed.give_up(change);
+    is_begun && is_tried && agrees(rt, net, &mixed, &table, &[])
+}
+
+/// Whether a change can be tried, and what is prepared is right once it is kept.
+fn is_kept(rt: &(impl Abort + AllocGlobal), net: &Net, change: &Change) -> bool {
+    let mut table = two_rules(rt);
+    assert!(rt; is_small(&table, &[]));
+    let mut mixed = Mixed::with_room(rt.alloc(), 65).expect(rt, "room");
+    assert!(rt; mixed.load(&table, &[]).is_ok());
+    let is_begun = mixed.begin(change);
+    mixed.keep(change);
+    make(rt, &mut table, change);
+    is_begun && agrees(rt, net, &mixed, &table, &[])
+}
+
+/// Whether a change is refused, and what is prepared stays.
+fn is_refused(rt: &(impl Abort + AllocGlobal), net: &Net, change: &Change) -> bool {
+    let table = two_rules(rt);
+    assert!(rt; is_small(&table, &[]));
+    let mut mixed = Mixed::with_room(rt.alloc(), 65).expect(rt, "room");
+    assert!(rt; mixed.load(&table, &[]).is_ok());
+    !mixed.begin(change) && agrees(rt, net, &mixed, &table, &[])
+}
+
+/// A delete, a replace, and inserts before, between and behind the rules of the table.
+fn clear_changes() -> [Change; 5] {
+    let any = VlanTest::Any;
+    [
+        delete(to_second()),
+        replace(rule(100, any, TEN, out(3))),
+        insert(rule(120, any, HALF, out(4))),
+        insert(rule(60, any, TEN, out(4))),
+        insert(rule(10, any, WIDE, out(1))),
+    ]
+}
+
+#[test]
+fn a_change_is_tried_given_up_and_kept_as_if_prepared_anew(rt: HostRuntime) {
+    let net = network(&rt);
+    for change in &clear_changes() {
+        assert!(rt; is_given_up(&rt, &net, change));
+        assert!(rt; is_kept(&rt, &net, change));
+    }
+}
+
+#[test]
+fn an_insert_that_clashes_is_refused_and_what_is_prepared_stays(rt: HostRuntime) {
+    let net = network(&rt);
+    let above = insert(rule(100, VlanTest::Untagged, HALF, out(3)));
+    let below = insert(rule(50, VlanTest::Id(10), TEN, out(3)));
+    assert!(rt; is_refused(&rt, &net, &above));
+    assert!(rt; is_refused(&rt, &net, &below));
+}
