@@ -3,3 +3,4 @@ pub mod SameWalks
 pub mod TouchLaws
 pub mod PositionLaws
 pub mod LeastLaws
+pub mod AtomMarkLaws

@@ -6,3 +6,4 @@ pub mod Loaded
 pub mod Touched
 pub mod Positions
 pub mod Least
+pub mod AtomMarks

@@ -7,9 +7,11 @@ mod least;
 mod positions;
 mod reason;
 mod touched;
+mod touched_atoms;
 
 pub use case::Case;
 pub use least::lesser;
 pub use positions::{earlier_set, from_place, has_positions, set_at};
 pub use reason::{Reason, Verdict};
 pub use touched::{is_touched, may_cover};
+pub use touched_atoms::TouchedAtoms;
