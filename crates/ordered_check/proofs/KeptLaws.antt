@@ -12,6 +12,7 @@ use Rattle.net_base.proofs.NameLaws.{same_switch}
 use Rattle.dest_classes.specs.Classes.{ClassList, class_count, IsClass}
 use Rattle.dest_classes.specs.declared.Class.{Class}
 use Rattle.update_model.specs.Mixtures.{Rollout}
+use Rattle.update_model.specs.declared.Change.{Change}
 use Rattle.certificates.specs.Ordered.{OrderedCertificate}
 use Rattle.certificates.specs.Updates.{Task, rollout}
 use Rattle.certificates.specs.Certified.{classes_for}
@@ -19,8 +20,9 @@ use Rattle.certificates.specs.Valid.{IsChain, IsPickBefore}
 use Rattle.certificates.specs.declared.OrderedEvidence.{OrderedEvidence}
 use Rattle.check_reasons.specs.Reasons.{class_duties}
 use Rattle.check_reasons.specs.declared.reason.Reason.{Reason}
+use Rattle.check_reasons.specs.AtomMarks.{AreTouched}
 use Rattle.mixed_walks.specs.Walks.{WalkState, switches_of, IsWalked}
-use Rattle.ordered_check.specs.Kept.{OrderedState, is_marked, AreClasses, HasClassRoom, HoldsWalks, HoldsWalksBefore, WalksStand}
+use Rattle.ordered_check.specs.Kept.{OrderedState, is_marked, AreClasses, AreAtoms, HasClassRoom, HoldsWalks, HoldsWalksBefore, WalksStand}
 use Rattle.ordered_check.specs.Firsts.{first_of, IsFirstOfClass, IsFoundBelow}
 use Rattle.ordered_check.proofs.RoundLaws.{found_more}
 
@@ -115,6 +117,8 @@ module _ (t : Task) (e : OrderedEvidence) (k : ℕ) where
     pub so_far : IsFoundBelow t e k below found
     pub picks : new.picks ≡ old.picks
     pub classes : new.classes ≡ old.classes
+    pub atoms : new.atoms ≡ old.atoms
+    pub touched : new.touched ≡ old.touched
     pub count : length new.came ≡ length old.came
     pub later : (n : ℕ) → below ≤ n → slice_get new.came n ≡ slice_get old.came n
     pub walked : IfNone found (AreWalkedBelow below new)
@@ -124,6 +128,8 @@ module _ (t : Task) (e : OrderedEvidence) (k : ℕ) where
     so_far = λ n class lt is. absurd (omega arith);
     picks = refl;
     classes = refl;
+    atoms = refl;
+    touched = refl;
     count = refl;
     later = λ n le. refl;
     walked = λ n class marks lt is at. absurd (omega arith);
@@ -135,6 +141,8 @@ module _ (t : Task) (e : OrderedEvidence) (k : ℕ) where
     pub some : IfSome reason (IsFirstOfClass t e k n)
     pub picks : new.picks ≡ mid.picks
     pub classes : new.classes ≡ mid.classes
+    pub atoms : new.atoms ≡ mid.atoms
+    pub touched : new.touched ≡ mid.touched
     pub count : length new.came ≡ length mid.came
     pub others : (m : ℕ) → m ≢ n → slice_get new.came m ≡ slice_get mid.came m
     pub walks : IfNone reason ((class : Class) (marks : List Bool) → slice_get new.classes n ≡ Some class → slice_get new.came n ≡ Some marks → HoldsWalks (rollout t) k class marks)
@@ -148,6 +156,8 @@ module _ (t : Task) (e : OrderedEvidence) (k : ℕ) where
         so_far = found_more t e in_order k n class (are.each n class at) found reason so.so_far (one.none class here) one.some;
         picks = one.picks ∙ so.picks;
         classes = one.classes ∙ so.classes;
+        atoms = one.atoms ∙ so.atoms;
+        touched = one.touched ∙ so.touched;
         count = one.count ∙ so.count;
         later = λ m le. one.others m (λ same. omega arith) ∙ so.later m (omega arith);
         walked = none_more found reason (AreWalkedBelow n mid)
@@ -161,14 +171,18 @@ module _ (t : Task) (e : OrderedEvidence) (k : ℕ) where
             ]);
       }
 
-  -- what is kept has room as before, and the marks of the next class are those from before the round
+  -- what is kept has room as before, the same atoms are marked, and the marks of the next class are those from before the round
   module _ (below : ℕ) (found : Option Reason) (old new : OrderedState) (judged : AreJudged below found old new) where
     pub room_after : HasClassRoom (classes_for t) old → HasClassRoom (classes_for t) new
     room_after room = record {
       picks = ap (λ p. length p.of_class) judged.picks ∙ room.picks;
       classes_are = subst (AreClasses (classes_for t)) (sym judged.classes) room.classes_are;
+      atoms_are = subst (AreAtoms (classes_for t)) (sym judged.atoms) room.atoms_are;
       came = judged.count ∙ room.came;
     }
+
+    pub still_touched : (round : List Change) → AreTouched (classes_for t) round old.touched → AreTouched (classes_for t) round new.touched
+    still_touched round touched = subst (AreTouched (classes_for t) round) (sym judged.touched) touched
 
     pub still_before : WalksStand (rollout t) k old → (class : Class) (marks : List Bool) → slice_get new.classes below ≡ Some class → slice_get new.came below ≡ Some marks → HoldsWalksBefore (rollout t) k class marks
     still_before stand class marks is came =

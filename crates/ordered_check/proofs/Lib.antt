@@ -6,3 +6,4 @@ pub mod JudgeLaws
 pub mod RoundLaws
 pub mod StandLaws
 pub mod KeptLaws
+pub mod TouchedLaws

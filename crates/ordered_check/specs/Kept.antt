@@ -1,10 +1,10 @@
 -- What is kept of the classes of an ordered plan while its rounds are checked: beside the picks in force the classes, and for
--- each class the switches that its last walk came to.
-use Rattle.std.specs.Prelude.{◌≡◌, ◌&&◌, ℕ, zero, suc, Bool, false, IsTrue, List, length, slice_get, slice_index_or, Some}
+-- each class its atom and the switches that its last walk came to; for each atom whether the round touches it.
+use Rattle.std.specs.Prelude.{◌≡◌, ◌%◌, ◌&&◌, ℕ, zero, suc, Bool, false, IsTrue, List, length, slice_get, slice_index_or, Some}
 use Rattle.std.specs.List.{list_any}
 use Rattle.net_base.specs.declared.ids.SwitchId.{SwitchId}
 use Rattle.net_base.specs.declared.ids.Place.{Place}
-use Rattle.dest_classes.specs.Classes.{ClassList, class_count, IsClass}
+use Rattle.dest_classes.specs.Classes.{ClassList, class_count, atom_count, IsClass}
 use Rattle.dest_classes.specs.declared.Class.{Class}
 use Rattle.update_model.specs.Changes.{switch_of}
 use Rattle.update_model.specs.Mixtures.{Rollout, IsOnMixedWalk}
@@ -12,11 +12,13 @@ use Rattle.update_model.specs.declared.Change.{Change}
 use Rattle.check_reasons.specs.Touched.{may_cover}
 use Rattle.ordered_check.specs.Picks.{PicksState, HasPickRoom}
 
--- the picks in force, the classes, and for each class which switches its last walk came to
+-- the picks in force, the classes, for each class its atom and which switches its last walk came to, and for each atom whether the round touches it
 pub record OrderedState : Type 0 where
   pub picks : PicksState
   pub classes : List Class
+  pub atoms : List ℕ
   pub came : List (List Bool)
+  pub touched : List Bool
 
 -- whether the switch is marked
 abbrev pub is_marked : List Bool → SwitchId → Bool
@@ -27,10 +29,16 @@ pub record AreClasses (classes : ClassList) (list : List Class) : Type 0 where
   pub count : length list ≡ class_count classes
   pub each : (n : ℕ) (class : Class) → slice_get list n ≡ Some class → IsClass classes n class
 
--- there is room for the pick and the marks of each class
+-- these are the numbers of the atoms of the classes, in the order of the classes
+pub record AreAtoms (classes : ClassList) (list : List ℕ) : Type 0 where
+  pub count : length list ≡ class_count classes
+  pub each : (n atom : ℕ) → slice_get list n ≡ Some atom → atom ≡ n % atom_count classes
+
+-- there is room for the pick and the marks of each class, and its atom is known
 pub record HasClassRoom (classes : ClassList) (state : OrderedState) : Type 0 where
   pub picks : HasPickRoom classes state.picks
   pub classes_are : AreClasses classes state.classes
+  pub atoms_are : AreAtoms classes state.atoms
   pub came : length state.came ≡ class_count classes
 
 -- each switch that a mixed walk of the class comes to in round k is marked

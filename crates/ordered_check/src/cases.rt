@@ -57,6 +57,13 @@ impl<'a> OrderedCase<'a> {
         case.net.keeps_rules();
     }
 
+    /// The classes.
+    pub(crate) fn class_map(&self) -> &'a ClassMap
+        ensures { result.now ≡ classes_for self.now.task }
+    {
+        self.classes
+    }
+
     /// How many classes there are.
     pub(crate) fn class_count(&self) -> u32
         ensures { result ≡ class_count (classes_for self.now.task) }

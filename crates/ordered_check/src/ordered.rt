@@ -11,17 +11,19 @@ ghost use Rattle.check_reasons.specs.Loaded.{AreLoaded};
 ghost use Rattle.dest_classes.specs.Numbered.{IsNumbered};
 ghost use Rattle.check_reasons.specs.Ranks.{classes_start};
 ghost use Rattle.check_reasons.specs.Passed.{IsFirstFrom, ChangesPass, ClassesPass, RoundsPass};
+ghost use Rattle.check_reasons.specs.Touched.{touches};
 ghost use Rattle.mixed_walks.specs.Walks.{IsWalked};
 ghost use Rattle.ordered_check.specs.Cases.{IsRound};
 ghost use Rattle.ordered_check.specs.Picks.{IsKeptPick, PicksStand};
-ghost use Rattle.ordered_check.specs.Kept.{is_marked, AreClasses, HasClassRoom, HoldsWalks, HoldsWalksBefore, WalksStand, touches_walk};
+ghost use Rattle.check_reasons.specs.AtomMarks.{AreTouched};
+ghost use Rattle.ordered_check.specs.Kept.{is_marked, AreClasses, AreAtoms, HasClassRoom, HoldsWalks, HoldsWalksBefore, WalksStand, touches_walk};
 ghost use Rattle.ordered_check.specs.Firsts.{first_of, IsFirstOfClass, IsFoundBelow};
 
 use crate::cases::{OrderedCase, PreparedRound};
 use crate::judging::first_of_class;
 use crate::picks::PicksInForce;
 use certificates::OrderedPick;
-use check_reasons::{Reason, may_cover};
+use check_reasons::{Reason, TouchedAtoms, may_cover};
 use dest_classes::{Class, ClassMap, NumberedClass};
 use mixed_walks::WalkRoom;
 use net_base::{Memory, SwitchId};
@@ -30,18 +32,20 @@ use std::alloc::Global;
 use std::marker::Model;
 use update_model::Change;
 
-/// How many changes of a round are compared with each class. Where there are more, walking each class anew costs no more
-/// than to compare them all.
+/// How many changes of a round are compared with a class whose address one of them covers. Where there are more, walking the
+/// class anew costs no more than to compare them all.
 const MOST_COMPARED: usize = 64;
 
-/// Room for the classes of an ordered plan: the walks of one class, and of each class its pick in force and the switches
-/// that its last walk came to.
+/// Room for the classes of an ordered plan: the walks of one class, and of each class its pick in force, the number of its
+/// atom, and the switches that its last walk came to; of each atom whether a change of the round that is judged touches it.
 #[derive(Drop)]
 pub struct OrderedRoom {
     walk: WalkRoom,
     picks: PicksInForce,
     classes: Vec<Class>,
+    atoms: Vec<u32>,
     came: Vec<[bool; 128]>,
+    touched: TouchedAtoms,
 }
 
 impl Model for OrderedRoom {
@@ -49,7 +53,7 @@ impl Model for OrderedRoom {
 
     ghost Value = { OrderedState };
 
-    ghost view = { λ r. record { picks = r.picks; classes = r.classes.items; came = r.came.items } };
+    ghost view = { λ r. record { picks = r.picks; classes = r.classes.items; atoms = r.atoms.items; came = r.came.items; touched = r.touched } };
 }
 
 /// The first of two reasons, where there are two and the second is of a later class.
@@ -82,6 +86,17 @@ fn all_classes(alloc: Global, classes: &ClassMap) -> Result<Vec<Class>, Memory>
     Ok(list)
 }
 
+/// The atoms of the classes of a map by their numbers, in the order of the classes.
+fn all_atoms(alloc: Global, classes: &ClassMap) -> Result<Vec<u32>, Memory>
+    ensures { IfOk result (λ list. AreAtoms classes.now list.items) }
+{
+    let mut list = Vec::new(alloc);
+    for number in 0..classes.count() {
+        list.push(number % classes.atoms())?;
+    }
+    Ok(list)
+}
+
 /// A mark for each switch below 128: whether it is one of these.
 fn marks_of(switches: &[SwitchId]) -> [bool; 128]
     requires { All (λ s. s.0 < 128) switches.now }
@@ -108,24 +123,32 @@ fn touches_walk(changes: &[Change], class: Class, marks: &[bool; 128]) -> bool
     changes.iter().any(|change| may_cover(change, class) && is_marked(marks, change.switch()))
 }
 
+/// Whether no change of the round may be met on walks of a class that come to the marked switches; it is known whether a
+/// change covers the address of the class. Not told where one does and the round has more than `MOST_COMPARED` changes.
+fn misses_walk(changes: &[Change], class: Class, touched: bool, marks: &[bool; 128]) -> bool
+    requires { touched ≡ touches changes.now class.first }
+    ensures { result ≡ true → touches_walk changes.now class marks.now ≡ false }
+{
+    !touched || (changes.len() <= MOST_COMPARED && !touches_walk(changes, class, marks))
+}
+
 /// Whether a class has its certificate where each class had one in the round before, and these are the switches that its
-/// walks came to there: its pick was in force then, and no change of the round may be met on them. Not told where the round
-/// has more than `MOST_COMPARED` changes.
+/// walks came to there: its pick was in force then, and no change of the round may be met on them.
 fn is_unchanged(
     round: &PreparedRound,
     class: Class,
+    touched: bool,
     marks: &[bool; 128],
     in_force: Option<OrderedPick>,
 ) -> bool
+    requires { touched ≡ touches round.now.changes.now class.first }
     ensures pick { result ≡ true → IsSomeAnd in_force (λ pick. pick.round ≤ round.now.number) }
     ensures walk { result ≡ true → touches_walk round.now.changes.now class marks.now ≡ false }
 {
     let Some(pick) = in_force else {
         return false;
     };
-    pick.round as usize <= round.number
-        && round.changes.len() <= MOST_COMPARED
-        && !touches_walk(round.changes, class, marks)
+    pick.round as usize <= round.number && misses_walk(round.changes, class, touched, marks)
 }
 
 /// Walks the mixed walks of a class in a round of an ordered plan.
@@ -167,7 +190,7 @@ fn judge_class(
 }
 
 impl OrderedRoom {
-    /// Room for the classes of a map: less than 200 bytes for each.
+    /// Room for the classes of a map: less than 200 bytes for each, and 8192 for the atoms.
     pub fn make(alloc: Global, classes: &ClassMap) -> Result<OrderedRoom, Memory>
         ensures { IfOk result (HasClassRoom classes.now) }
     {
@@ -175,7 +198,9 @@ impl OrderedRoom {
             walk: WalkRoom::make(alloc)?,
             picks: PicksInForce::make(alloc, classes.count())?,
             classes: all_classes(alloc, classes)?,
+            atoms: all_atoms(alloc, classes)?,
             came: vec![in alloc; [false; 128]; classes.count() as usize]?,
+            touched: TouchedAtoms::make(alloc)?,
         })
     }
 
@@ -190,7 +215,8 @@ impl OrderedRoom {
         self.picks.start();
     }
 
-    /// The first reason why the class of this number has no certificate in a round.
+    /// The first reason why the class of this number has no certificate in a round. Where its pick was in force in the round
+    /// before, and no change of the round touches its atom, no more is looked at.
     fn judge_number(
         &mut self,
         of: &OrderedCase,
@@ -201,6 +227,7 @@ impl OrderedRoom {
         requires round { IsRound of.now.task of.now.evidence round.now.number round.now.changes.now round.now.mixes.now }
         requires stands { PicksStand of.now.evidence.picks (suc round.now.number) self.old.picks }
         requires room { HasClassRoom (classes_for of.now.task) self.old }
+        requires touched { AreTouched (classes_for of.now.task) round.now.changes.now self.old.touched }
         requires walks { (class : Class) (marks : List Bool) → slice_get self.old.classes number ≡ Some class → slice_get self.old.came number ≡ Some marks
             → HoldsWalksBefore (rollout of.now.task) round.now.number class marks }
         ensures none { (class : Class) → slice_get self.old.classes number ≡ Some class
@@ -208,6 +235,8 @@ impl OrderedRoom {
         ensures some { IfSome result (IsFirstOfClass of.now.task of.now.evidence round.now.number number) }
         ensures picks { self.new.picks ≡ self.old.picks }
         ensures classes { self.new.classes ≡ self.old.classes }
+        ensures atoms { self.new.atoms ≡ self.old.atoms }
+        ensures touched { self.new.touched ≡ self.old.touched }
         ensures count { length self.new.came ≡ length self.old.came }
         ensures others { (n : ℕ) → n ≢ number → slice_get self.new.came n ≡ slice_get self.old.came n }
         ensures walks { IfNone result ((class : Class) (marks : List Bool) → slice_get self.new.classes number ≡ Some class → slice_get self.new.came number ≡ Some marks
@@ -216,8 +245,10 @@ impl OrderedRoom {
         of.keeps_valid();
         let place = number as usize;
         let class = self.classes[place];
+        let atom = self.atoms[place];
+        let touched = self.touched.has(atom);
         let in_force = self.picks.of(number);
-        if is_unchanged(round, class, &self.came[place], in_force) {
+        if is_unchanged(round, class, touched, &self.came[place], in_force) {
             return None;
         }
         let numbered = NumberedClass { number, class };
@@ -232,6 +263,7 @@ impl OrderedRoom {
         requires round { IsRound of.now.task of.now.evidence round.now.number round.now.changes.now round.now.mixes.now }
         requires stands { PicksStand of.now.evidence.picks (suc round.now.number) self.old.picks }
         requires room { HasClassRoom (classes_for of.now.task) self.old }
+        requires touched { AreTouched (classes_for of.now.task) round.now.changes.now self.old.touched }
         requires walks { WalksStand (rollout of.now.task) round.now.number self.old }
         ensures found { IsFoundBelow of.now.task of.now.evidence round.now.number (class_count (classes_for of.now.task)) result }
         ensures picks { self.new.picks ≡ self.old.picks }
@@ -249,8 +281,10 @@ impl OrderedRoom {
 
     /// The first reason why a class has no certificate in a round: by the reason's number, then by the class.
     /// The rounds are judged in their order, each once. A class whose pick was in force in the round before is walked only
-    /// where a change of the round is at a switch that its walk of then came to, its prefix holds the class's address, and
-    /// its VLAN test admits the VLAN of the class's entry; or the round has more than 64 changes.
+    /// where a change's prefix holds the class's address, and the round has more than 64 changes or such a change is at a
+    /// switch that the walk of then came to and its VLAN test admits the VLAN of the class's entry. Only a class whose address
+    /// such a prefix holds is compared with the changes. Beside that and the walks a round takes time linear in the classes, in
+    /// its changes, and in the atoms in the prefix of each.
     pub fn judge_round(&mut self, of: &OrderedCase, mixes: &[Mixed], k: usize) -> Option<Reason>
         requires round { k < length of.now.task.rounds }
         requires loaded { AreLoaded (rollout of.now.task) k mixes.now }
@@ -274,6 +308,7 @@ impl OrderedRoom {
             changes: case.plan.rounds.round(k),
             mixes,
         };
+        self.touched.mark(case, of.class_map(), k);
         self.judge_classes(of, &round)
     }
 }

@@ -2,7 +2,7 @@ use Rattle.std.proofs.Common.{◌≡◌, suc, ◌+◌, ◌<◌, sym, subst, arit
 use Rattle.dest_classes.specs.Classes.{class_count}
 use Rattle.certificates.specs.Certified.{classes_for}
 use Rattle.ordered_check.specs.Picks.{PicksStand}
-use Rattle.ordered_check.proofs.KeptLaws.{AreJudged, judged_none, judged_more, room_after, still_before, walks_after}
+use Rattle.ordered_check.proofs.KeptLaws.{AreJudged, judged_none, judged_more, room_after, still_touched, still_before, walks_after}
 use Rattle.ordered_check.proofs.ordered.OrderedRoom.judge_classes.Goals as goal
 
 pub loop-number-init : goal.loop-number-init
@@ -19,6 +19,10 @@ pub judge_number-reason-requires-clause-room : goal.judge_number-reason-requires
 judge_number-reason-requires-clause-room c =
     room_after c.args.of.now.task c.args.of.now.evidence c.args.round.now.number c.loop-number.number c.loop-number.found c.args.self.now c.loop-number.self c.loop-number.invariant c.requires.room
 
+pub judge_number-reason-requires-clause-touched : goal.judge_number-reason-requires-clause-touched
+judge_number-reason-requires-clause-touched c =
+    still_touched c.args.of.now.task c.args.of.now.evidence c.args.round.now.number c.loop-number.number c.loop-number.found c.args.self.now c.loop-number.self c.loop-number.invariant c.args.round.now.changes.now c.requires.touched
+
 pub judge_number-reason-requires-clause-walks : goal.judge_number-reason-requires-clause-walks
 judge_number-reason-requires-clause-walks c =
     still_before c.args.of.now.task c.args.of.now.evidence c.args.round.now.number c.loop-number.number c.loop-number.found c.args.self.now c.loop-number.self c.loop-number.invariant c.requires.walks
@@ -34,7 +38,7 @@ loop-number-preserved c =
     subst (λ found. AreJudged t e k (n + 1) found c.args.self.now c.judge_number-reason.new.self) (sym c.first_of-found.ensures)
     (judged_more t e k n c.loop-number.found c.judge_number-reason.result c.args.self.now c.loop-number.self c.judge_number-reason.new.self c.keeps_valid.ensures.valid.ascending c.requires.room.classes_are within
     c.loop-number.invariant
-    (record { none = one.none; some = one.some; picks = one.picks; classes = one.classes; count = one.count; others = one.others; walks = one.walks }))
+    (record { none = one.none; some = one.some; picks = one.picks; classes = one.classes; atoms = one.atoms; touched = one.touched; count = one.count; others = one.others; walks = one.walks }))
 
 pub returns : goal.returns
 returns c =

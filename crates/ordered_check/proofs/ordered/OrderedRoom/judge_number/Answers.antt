@@ -12,6 +12,7 @@ use Rattle.certificates.specs.Valid.{IsValidOrdered}
 use Rattle.certificates.specs.declared.OrderedPick.{OrderedPick}
 use Rattle.certificates.specs.declared.OrderedEvidence.{OrderedEvidence}
 use Rattle.check_reasons.specs.Reasons.{class_duties}
+use Rattle.check_reasons.specs.AtomMarks.{is_marked}
 use Rattle.mixed_walks.specs.Walks.{IsWalked}
 use Rattle.round_mix.specs.Prepared.{MixedState}
 use Rattle.ordered_check.specs.Cases.{IsRound}
@@ -82,6 +83,22 @@ returns-then-is_unchanged-clause-walks c other them is came =
     (ap (λ (ps : List (Option OrderedPick)). slice_get ps n) (sym picks_are) ∙ c.of-in_force.ensures) (c.is_unchanged.ensures.pick c.if-is_unchanged.true) (c.is_unchanged.ensures.walk c.if-is_unchanged.true) in
     subst (λ (ms : List Bool). HoldsWalks (rollout t) k other ms) (same_Some marks them (sym there ∙ came))
     (subst (λ (x : Class). HoldsWalks (rollout t) k x marks) (same_Some class other (sym here ∙ is)) stands.1)
+
+pub is_unchanged-requires : goal.is_unchanged-requires
+is_unchanged-requires c =
+    let t = c.args.of.now.task in
+    let n = c.args.number in
+    let state = c.args.self.now in
+    let class = c.index-class.result.now in
+    let atom = c.index-atom.result.now in
+    let room = c.requires.room in
+    let number = c.requires.number in
+    let classes_are = ap (λ (s : OrderedState). s.classes) c.self.view_is in
+    let within : n < length c.self.inside.classes.items = (let same = ap (λ (cs : List Class). length cs) classes_are in let count = room.classes_are.count in omega arith) in
+    let known : n < length c.self.inside.atoms.items = (let same = ap (λ (s : OrderedState). length s.atoms) c.self.view_is in let count = room.atoms_are.count in omega arith) in
+    let at : slice_get state.atoms n ≡ Some atom = sym (ap (λ (s : OrderedState). slice_get s.atoms n) c.self.view_is) ∙ read_at c.self.inside.atoms.items n atom known c.index-atom.ensures in
+    c.has-touched.ensures ∙ ap (λ (s : OrderedState). is_marked s.touched atom) c.self.view_is ∙ ap (is_marked state.touched) (room.atoms_are.each n atom at)
+    ∙ c.requires.touched n class (class_is t n state c.self.inside.classes.items classes_are class within c.index-class.ensures room)
 
 pub judge_class-reason-requires-clause-class : goal.judge_class-reason-requires-clause-class
 judge_class-reason-requires-clause-class c =

@@ -1,4 +1,4 @@
-use Rattle.std.proofs.Common.{◌≡◌, ℕ, ◌+◌, ◌≤◌, ◌<◌, List, Option, length, get_or, take, drop, set, Some, subst, sym, ap, ◌∙◌, arith, refl}
+use Rattle.std.proofs.Common.{◌≡◌, ◌+◌, ◌≤◌, ◌<◌, List, Option, length, get_or, take, drop, set, Some, subst, sym, ap, ◌∙◌, arith, refl}
 use Rattle.std.specs.List.{AllByRecursion}
 use Rattle.std.proofs.lemmas.List.{drop_all, length-set}
 use Rattle.net_base.proofs.MemberLaws.{each_weaker}
