@@ -20,12 +20,13 @@ use Rattle.two_phase_check.specs.declared.two_phase.Follow.TheVariants.{Differs,
 use Rattle.check_reasons.specs.Least.{lesser}
 use Rattle.check_reasons.specs.Reasons.{Strays, IsMixedAtEntry, StraysAt}
 
--- a round of a task, by its number from 0, with the label table in force, and whether the classes stand that it doesn't touch
+-- a round of a task, by its number from 0, with the label table in force, whether the classes stand that it doesn't touch, and the marks of the atoms that it touches
 pub record RoundView : Type 0 where
   pub task : Task
   pub number : ℕ
   pub labels : List Label
   pub stands : Bool
+  pub touched : List Bool
 
 -- an outcome is the expected one, but for a VLAN that is labelled with the version and the user's VLAN
 pub record AgreesWith (expected : Outcome) (labels : List Label) (version : Bool) (user : Vlan) (found : Outcome) : Type 0 where

@@ -8,19 +8,23 @@ ghost use Rattle.flow_rules.specs.Tables.{rules_of_all};
 ghost use Rattle.net_base.specs.declared.ids.Place.{Place};
 ghost use Rattle.path_walk.specs.Paths.{outcome_in};
 ghost use Rattle.path_walk.specs.declared.Outcome.TheVariants.{Go};
+ghost use Rattle.dest_classes.specs.Classes.{class_count, IsClass};
+ghost use Rattle.dest_classes.specs.declared.Class.{Class};
 ghost use Rattle.update_model.specs.Changes.{round_after};
+ghost use Rattle.check_reasons.specs.AtomMarks.{AreTouched};
+ghost use Rattle.check_reasons.specs.Touched.{touches};
 ghost use Rattle.certificates.specs.TwoPhase.{outcome_carrying, tables_of, KeepsPath};
 ghost use Rattle.two_phase_check.specs.Agreements.{AreAllFound, HasOutcomeAlone, HasOtherOutcome, EndsSoon, IsFirstStray};
 
 use certificates::Label;
-use check_reasons::Case;
+use check_reasons::{Case, TouchedAtoms};
+use dest_classes::ClassMap;
 use flow_rules::Config;
 use net_base::{Place, SwitchId, Vlan};
 use path_walk::Outcome;
 use path_walk::following::outcome;
 use round_mix::{Mixed, Outcomes};
 use std::marker::Model;
-use update_model::Change;
 
 /// A round of a case, by its number from 0, each switch prepared for it.
 #[derive(Drop)]
@@ -32,6 +36,8 @@ pub(crate) struct RoundCase<'a> {
     pub(crate) labels: &'a [Label],
     /// Whether a class keeps the versions apart where no change of the round covers its address.
     pub(crate) stands: bool,
+    /// The atoms that the changes of the round touch.
+    pub(crate) touched: &'a TouchedAtoms,
 }
 
 impl<'a> Model for RoundCase<'a> {
@@ -41,7 +47,7 @@ impl<'a> Model for RoundCase<'a> {
 
     ghost Value = { RoundView };
 
-    ghost view = { λ r. record { task = r.case.now.task; number = r.number; labels = r.labels.now; stands = r.stands } };
+    ghost view = { λ r. record { task = r.case.now.task; number = r.number; labels = r.labels.now; stands = r.stands; touched = r.touched.now } };
 
     ghost invariant = { λ r. AreLoaded (rollout r.case.now.task) r.number r.mixes.now };
 }
@@ -82,13 +88,13 @@ impl<'a> RoundCase<'a> {
         case.net.keeps_rules();
     }
 
-    /// The changes of the round.
-    pub(crate) fn changes(&self) -> &'a [Change]
-        requires { self.now.number < length self.now.task.rounds }
-        ensures { result.now ≡ round_after self.now.number self.now.task.rounds }
+    /// Whether a change of the round covers the address of the class with this number.
+    pub(crate) fn is_touched(&self, classes: &ClassMap, number: u32) -> bool
+        requires number { number < class_count classes.now }
+        requires touched { AreTouched classes.now (round_after self.now.number self.now.task.rounds) self.now.touched }
+        ensures { (class : Class) → IsClass classes.now number class → result ≡ touches (round_after self.now.number self.now.task.rounds) class.first }
     {
-        let case = self.case;
-        case.plan.rounds.round(self.number)
+        self.touched.has(number % classes.atoms())
     }
 
     /// How many host ports there are.

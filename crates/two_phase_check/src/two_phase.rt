@@ -12,7 +12,9 @@ ghost use Rattle.check_reasons.specs.Least.{IsLeastSwitch};
 ghost use Rattle.check_reasons.specs.Loaded.{AreLoaded};
 ghost use Rattle.check_reasons.specs.Ranks.{classes_start};
 ghost use Rattle.check_reasons.specs.Passed.{IsFirstFrom, ChangesPass, ClassesPass, RoundsPass};
+ghost use Rattle.check_reasons.specs.AtomMarks.{AreTouched};
 ghost use Rattle.check_reasons.specs.Touched.{touches};
+ghost use Rattle.update_model.specs.Changes.{round_after};
 ghost use Rattle.two_phase_check.specs.Agreements.{Tells, IsKept, MixesBy, MixesAt, KeepsVersions};
 ghost use Rattle.two_phase_check.specs.Agreements as seen;
 ghost use Rattle.two_phase_check.specs.Kept.{AreKept, number_at};
@@ -22,21 +24,16 @@ use crate::keeping::{KeptPlace, MOST_KNOWN, Way, forget, keeps_way};
 use crate::labels::{LabelsInForce, agrees};
 use crate::straying::{RoundCase, find_outcomes, first_stray, outcome_at, tables_of};
 use certificates::TwoPhaseEvidence;
-use check_reasons::{Case, Reason, is_touched, lesser};
+use check_reasons::{Case, Reason, TouchedAtoms, lesser};
 use dest_classes::{Class, ClassMap};
 use net_base::{Memory, SwitchId};
 use path_walk::Outcome;
 use round_mix::{Mixed, Outcomes};
 use std::alloc::Global;
 use std::marker::Model;
-use update_model::Change;
 
 /// The most marked rules of a switch and a round.
 const MOST_MARKS: usize = 8192;
-
-/// How many changes of a round are compared with the address of each class. Where there are more, judging each class anew
-/// costs no more than to compare them all.
-const MOST_COMPARED: usize = 64;
 
 /// A class that mixes the versions, by its number, and the least switch where it does.
 #[derive(Clone, Copy)]
@@ -183,27 +180,20 @@ fn least_mixed(
     least
 }
 
-/// Whether no change of the round covers the address of the class. Not told where the round has more than `MOST_COMPARED`
-/// changes.
-fn is_untouched(changes: &[Change], class: Class) -> bool
-    ensures { result ≡ true → touches changes.now class.first ≡ false }
-{
-    changes.len() <= MOST_COMPARED && !is_touched(changes, class.first)
-}
-
 /// The least switch at which a class mixes the versions, where it does. Where the classes stand that the round doesn't
 /// touch, such a class isn't looked at again.
 fn judge_class(
     round: &RoundCase,
     class: Class,
+    touched: bool,
     at_entry: &mut Outcomes,
     on_path: &mut Outcomes,
     known: &mut [Option<KeptPlace>],
 ) -> Option<SwitchId>
-    requires number { round.now.number < length round.now.task.rounds }
     requires entry { class.entry.switch.0 < switch_count round.now.task.update.net }
     requires old_good { HasGoodPath round.now.task.update.net round.now.task.update.old round.now.task.update.demands class.entry class.first }
     requires new_good { HasGoodPath round.now.task.update.net round.now.task.update.new round.now.task.update.demands class.entry class.first }
+    requires touched { touched ≡ touches (round_after round.now.number round.now.task.rounds) class.first }
     requires stands { round.now.stands ≡ true → StandsUntouched round.now.task round.now.number class round.now.labels }
     requires entry_room { 8192 < length at_entry.old.list + at_entry.old.spare }
     requires path_room { 8192 < length on_path.old.list + on_path.old.spare }
@@ -214,7 +204,7 @@ fn judge_class(
     ensures path_room { 8192 < length on_path.new.list + on_path.new.spare }
     ensures known { AreKept round.now.task round.now.number known.new }
 {
-    if round.stands && is_untouched(round.changes(), class) {
+    if round.stands && !touched {
         return None;
     }
     least_mixed(round, class, at_entry, on_path, known)
@@ -228,10 +218,10 @@ fn first_mixed(
     on_path: &mut Outcomes,
     known: &mut [Option<KeptPlace>],
 ) -> Option<MixedClass>
-    requires number { round.now.number < length round.now.task.rounds }
     requires hosts { classes.now.hosts ≡ round.now.task.update.net.hosts }
     requires old_good { HasGoodPaths round.now.task.update.net round.now.task.update.old round.now.task.update.demands classes.now }
     requires new_good { HasGoodPaths round.now.task.update.net round.now.task.update.new round.now.task.update.demands classes.now }
+    requires touched { AreTouched classes.now (round_after round.now.number round.now.task.rounds) round.now.touched }
     requires stands { round.now.stands ≡ true → StandUntouched round.now.task round.now.number classes.now round.now.labels }
     requires entry_room { 8192 < length at_entry.old.list + at_entry.old.spare }
     requires path_room { 8192 < length on_path.old.list + on_path.old.spare }
@@ -245,7 +235,8 @@ fn first_mixed(
     round.keeps_network();
     for number in 0..classes.count() {
         let class = classes.class(number);
-        if let Some(switch) = judge_class(round, class, at_entry, on_path, known) {
+        let touched = round.is_touched(classes, number);
+        if let Some(switch) = judge_class(round, class, touched, at_entry, on_path, known) {
             return Some(MixedClass {
                 class: number,
                 switch,
@@ -274,10 +265,10 @@ fn all_keep(
     on_path: &mut Outcomes,
     known: &mut [Option<KeptPlace>],
 ) -> bool
-    requires number { round.now.number < length round.now.task.rounds }
     requires hosts { classes.now.hosts ≡ round.now.task.update.net.hosts }
     requires old_good { HasGoodPaths round.now.task.update.net round.now.task.update.old round.now.task.update.demands classes.now }
     requires new_good { HasGoodPaths round.now.task.update.net round.now.task.update.new round.now.task.update.demands classes.now }
+    requires touched { AreTouched classes.now (round_after round.now.number round.now.task.rounds) round.now.touched }
     requires stands { round.now.stands ≡ true → StandUntouched round.now.task round.now.number classes.now round.now.labels }
     requires entry_room { 8192 < length at_entry.old.list + at_entry.old.spare }
     requires path_room { 8192 < length on_path.old.list + on_path.old.spare }
@@ -291,8 +282,10 @@ fn all_keep(
     let ports = round.ports();
     let count = classes.count();
     for i in 0..count {
-        let class = classes.class(number_at(i, ports, count));
-        if let Some(_switch) = judge_class(round, class, at_entry, on_path, known) {
+        let number = number_at(i, ports, count);
+        let class = classes.class(number);
+        let touched = round.is_touched(classes, number);
+        if let Some(_switch) = judge_class(round, class, touched, at_entry, on_path, known) {
             return false;
         }
     }
@@ -307,10 +300,10 @@ fn judge_classes(
     on_path: &mut Outcomes,
     known: &mut [Option<KeptPlace>],
 ) -> Option<MixedClass>
-    requires number { round.now.number < length round.now.task.rounds }
     requires hosts { classes.now.hosts ≡ round.now.task.update.net.hosts }
     requires old_good { HasGoodPaths round.now.task.update.net round.now.task.update.old round.now.task.update.demands classes.now }
     requires new_good { HasGoodPaths round.now.task.update.net round.now.task.update.new round.now.task.update.demands classes.now }
+    requires touched { AreTouched classes.now (round_after round.now.number round.now.task.rounds) round.now.touched }
     requires stands { round.now.stands ≡ true → StandUntouched round.now.task round.now.number classes.now round.now.labels }
     requires entry_room { 8192 < length at_entry.old.list + at_entry.old.spare }
     requires path_room { 8192 < length on_path.old.list + on_path.old.spare }
@@ -340,6 +333,7 @@ pub struct TwoPhaseRoom {
     at_entry: Outcomes,
     on_path: Outcomes,
     known: Vec<Option<KeptPlace>>,
+    touched: TouchedAtoms,
     labels: LabelsInForce,
 }
 
@@ -363,6 +357,7 @@ impl TwoPhaseRoom {
             at_entry: Outcomes::with_room(alloc, MOST_MARKS + 1)?,
             on_path: Outcomes::with_room(alloc, MOST_MARKS + 1)?,
             known: vec![in alloc; None; MOST_KNOWN]?,
+            touched: TouchedAtoms::make(alloc)?,
             labels: LabelsInForce::none(),
         })
     }
@@ -376,7 +371,7 @@ impl TwoPhaseRoom {
 
     /// The first reason of the classes of a round, by its number from 0, where there is one. Goes on to the next round.
     /// The rounds are judged in their order, each once. Where the label table stays the same, a class is looked at only
-    /// where a change of the round covers its address, or the round has more than 64 changes.
+    /// where a change of the round covers its address.
     pub fn judge_round(
         &mut self,
         case: &Case,
@@ -410,12 +405,14 @@ impl TwoPhaseRoom {
         };
         let tables = evidence.labels.list();
         let labels = tables[table as usize].list();
+        self.touched.mark(case, classes, k);
         let round = RoundCase {
             case,
             mixes,
             number: k,
             labels,
             stands,
+            touched: &self.touched,
         };
         let mixed = judge_classes(
             &round,

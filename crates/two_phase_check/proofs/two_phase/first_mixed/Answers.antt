@@ -12,6 +12,9 @@ judge_class-requires-clause-old_good c = c.requires.old_good c.loop-number.numbe
 pub judge_class-requires-clause-new_good : goal.judge_class-requires-clause-new_good
 judge_class-requires-clause-new_good c = c.requires.new_good c.loop-number.number c.class-class.result c.class-class.ensures.is
 
+pub judge_class-requires-clause-touched : goal.judge_class-requires-clause-touched
+judge_class-requires-clause-touched c = c.is_touched-touched.ensures c.class-class.result c.class-class.ensures.is
+
 pub judge_class-requires-clause-stands : goal.judge_class-requires-clause-stands
 judge_class-requires-clause-stands c = λ on. c.requires.stands on c.loop-number.number c.class-class.result c.class-class.ensures.is
 
