@@ -46,7 +46,7 @@ fn keeps_range(_numbers: &[u16])
 /// Evidence that keeps the class safe in the round whose mixed walks of it were walked last: the heights of the switches
 /// and the least before sets. None where no numbering and no before sets keep it safe: the steps have a cycle, or a packet
 /// that must arrive may be discarded, or may leave without having met a waypoint. Takes time by the switches times the
-/// steps for each position, and times the switches once more for the heights.
+/// steps for each position, and for the heights by the steps where these stand in the order of a walk.
 pub fn evidence_of(
     alloc: Global,
     net: &Net,

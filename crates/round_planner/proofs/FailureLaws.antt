@@ -26,7 +26,7 @@ use Rattle.mixed_walks.specs.Walks.{TablesKeepVlans}
 use Rattle.mixed_walks.proofs.PlaceLaws.{on_walk_vlan}
 use Rattle.round_tables.specs.Trials.{TrialState, single, HasRoomAlone, IsSettled}
 use Rattle.round_tables.proofs.TrialLaws.{changes_here, changes_there}
-use Rattle.round_tables.proofs.AloneLaws.{alone_clear}
+use Rattle.round_mix.proofs.TriedLaws.{clear_none}
 use Rattle.round_planner.specs.Search.{Aim, duties_in, CanBeSafe, Qualifies}
 use Rattle.round_planner.specs.Failures.{HasRoomThere, IsVisited, IsTouched, IsApart, IsFailure}
 use Rattle.round_planner.specs.declared.failing.Failure.{Failure}
@@ -60,7 +60,7 @@ module _ (net : Network) (tables : List (List Rule)) (c : Change) where
                   let same : s ≡ switch_of c = same_switch s (switch_of c) e in
                   there.clear mixed (subst (λ (cs : List Change). IsMixture (rules_at tables (switch_of c)) cs mixed) (changes_here c)
                   (subst (λ (x : SwitchId). IsMixture (rules_at tables x) (changes_at x (c ∷ [])) mixed) same held))
-              | inr ne ↦ alone_clear (rules_at tables s) (clear s) mixed (subst (λ (cs : List Change). IsMixture (rules_at tables s) cs mixed) (changes_there c s ne) held)
+              | inr ne ↦ clear_none (rules_at tables s) (clear s) mixed (subst (λ (cs : List Change). IsMixture (rules_at tables s) cs mixed) (changes_there c s ne) held)
             ]
 
         fits_each : (s : SwitchId) → s.0 < switch_count net → need_of (single net tables c) 0 s ≤ capacity_of net s

@@ -1,5 +1,5 @@
 -- What is found for the classes, class by class, and what the pick in force says of a class.
-use Rattle.std.proofs.Common.{◌≡◌, ◌≢◌, ◌⊎◌, ◌↔◌, ℕ, zero, suc, ◌+◌, ◌<◌, ◌≤◌, Bool, false, List, [], ◌∷◌, ◌++◌, length, get_or, Some, refl, sym, ◌∙◌, subst, ap, inl, inr, arith}
+use Rattle.std.proofs.Common.{◌≡◌, ◌≢◌, ◌⊎◌, ◌↔◌, ℕ, zero, suc, ◌+◌, ◌<◌, ◌≤◌, List, [], ◌∷◌, ◌++◌, length, get_or, Some, refl, sym, ◌∙◌, subst, ap, inl, inr, arith}
 use Rattle.std.specs.Prelude.{slice_get, IsTrue}
 use Rattle.std.specs.List.{AllByRecursion, AllZip}
 use Rattle.std.proofs.lemmas.Option.{same_Some, slice_get-get_or}
@@ -13,7 +13,7 @@ use Rattle.acyclic_numbering.specs.declared.Edge.{Edge}
 use Rattle.net_base.proofs.MemberLaws.{each_at, each_weaker, each_append, in_append_left, in_append_right}
 use Rattle.dest_classes.specs.Classes.{ClassList, IsClass, class_count}
 use Rattle.dest_classes.specs.declared.Class.{Class}
-use Rattle.dest_classes.proofs.MapLaws.{class_exists}
+use Rattle.dest_classes.proofs.MapLaws.{class_exists, class_is as same_class}
 use Rattle.update_model.specs.Changes.{switch_of}
 use Rattle.update_model.specs.Mixtures.{Rollout, MayGo, IsOnMixedWalk, tables_before}
 use Rattle.certificates.specs.Steps.{IsMixedStep}
@@ -29,14 +29,19 @@ use Rattle.evidence_store.specs.Found.{IsSafeEvidence}
 use Rattle.evidence_store.specs.Stored.{IsStored}
 use Rattle.evidence_store.proofs.ListLaws.{chain_push}
 use Rattle.ordered_check.proofs.MeaningLaws.{one_in_force, one_meaning, at_place}
+use Rattle.dest_classes.specs.Numbered.{IsNumbered}
+use Rattle.dest_classes.specs.declared.NumberedClass.{NumberedClass}
+use Rattle.config_check.proofs.JudgeLaws.{class_within}
 use Rattle.round_planner.specs.declared.judging.Found.{Found}
+use Rattle.round_planner.specs.declared.judging.Judged.{Judged}
+use Rattle.round_planner.specs.declared.judging.Judged.TheVariants.{Kept, New, Unsafe}
 use Rattle.round_planner.specs.Search.{Aim, duties_in}
 use Rattle.round_planner.specs.declared.failing.UnsafeClass.{UnsafeClass}
 use Rattle.check_reasons.specs.Touched.{may_cover}
 use Rattle.round_planner.specs.Failures.{IsVisited}
 use Rattle.round_planner.specs.Visits.{HoldsTables}
 use Rattle.round_planner.proofs.VisitLaws.{safe_still, safe_after}
-use Rattle.round_planner.specs.Standing.{IsCertifiedClass, IsNextRound, HasPickOf, HasFound, HasNotFound, AreSafeBelow, IsUnsafe, HasUnsafe}
+use Rattle.round_planner.specs.Standing.{IsCertifiedClass, IsNextRound, IsJudged, IsJudgedIfMet, HasFound, HasNotFound, AreSafeBelow, IsNewlySafe, IsUnsafe, HasUnsafe}
 
 -- ---- the pick in force
 
@@ -74,12 +79,12 @@ module _ (aim : Aim) (u : Rollout) (e : OrderedEvidence) (k : ℕ) (c : Change) 
   picks_up_to = each_weaker (λ (p : OrderedPick). (0 < p.round) × (p.round ≤ k)) (λ (p : OrderedPick). p.round ≤ suc k) (λ p h. let le = h.1 in omega arith) e.picks next.picks
 
   -- its certificate of the round before stands
-  pub stays_certified : TablesKeepVlans u.old → KeepVlansUpTo u k → (n : ℕ) (class : Class) (marks : List Bool) → IsClass aim.classes n class → HasPickOf e n
+  pub stays_certified : TablesKeepVlans u.old → KeepVlansUpTo u k → (n : ℕ) (class : Class) (marks : ℕ) → IsClass aim.classes n class → 0 < k
       → HoldsTables u.net (tables_before u k) class marks → ¬ (IsVisited marks (switch_of c) × IsTrue (may_cover c class)) → IsCertifiedClass aim u e k n class
-  stays_certified rules keeps n class marks is (pick, stands, of_class) held apart =
-      elim k as (λ j. IsNextRound aim u e j c → KeepVlansUpTo u j → HoldsTables u.net (tables_before u j) class marks → IsCertifiedClass aim u e j n class) [
-        | zero ↦ λ h _ _. (let within = each_at (λ (p : OrderedPick). (0 < p.round) × (p.round ≤ 0)) e.picks pick h.picks stands in let low = within.0 in let high = within.1 in absurd (omega arith))
-        | suc j ↦ λ h keep hold.
+  stays_certified rules keeps n class marks is later held apart =
+      elim k as (λ j. 0 < j → IsNextRound aim u e j c → KeepVlansUpTo u j → HoldsTables u.net (tables_before u j) class marks → IsCertifiedClass aim u e j n class) [
+        | zero ↦ λ less _ _ _. absurd (let low : 0 < 0 = less in omega arith)
+        | suc j ↦ λ less h keep hold.
             let cert = h.certificates j n class (omega arith) is in
             let less : j < length u.rounds = (let within = h.within in omega arith) in
             record {
@@ -97,7 +102,12 @@ module _ (aim : Aim) (u : Rollout) (e : OrderedEvidence) (k : ℕ) (c : Change) 
               safe = safe_still u (suc j) class c h.round rules keep marks hold apart (duties_in aim class) cert.numbers cert.sets
                   (safe_after u j class.first class.entry less (h.good j (omega arith)) (duties_in aim class) cert.numbers cert.sets cert.safe);
             }
-      ] next keeps held
+      ] later next keeps held
+
+-- picks of the rounds before are of a round before
+pub picks_later : (picks : List OrderedPick) (k : ℕ) → picks ≢ [] → AllByRecursion (λ p. (0 < p.round) × (p.round ≤ k)) picks → 0 < k
+picks_later [] k some all = absurd (some refl)
+picks_later (p ∷ picks) k some all = let (low, high) = all.0 in omega arith
 
 -- ---- what picks mean
 
@@ -191,6 +201,48 @@ module _ (aim : Aim) (u : Rollout) (e : OrderedEvidence) (k : ℕ) where
             )
       ]
 
+  -- where a class is new, there is its evidence
+  pub new_there : (m : ℕ) → m < class_count aim.classes → (new : Found) → new.class ≡ m
+      → ((class : Class) → IsClass aim.classes m class → (¬ IsCertifiedClass aim u e k m class) × IsSafeEvidence u k class (duties_in aim class) new.evidence) → IsNewlySafe aim u e k new
+  new_there m less new number judged =
+      let (class, is) = class_exists aim.classes m less in
+      let (fails, safe) = judged class is in record {
+        class = class;
+        is_class = subst (λ (i : ℕ). IsClass aim.classes i class) (sym number) is;
+        fails = subst (λ (i : ℕ). ¬ IsCertifiedClass aim u e k i class) (sym number) fails;
+        safe = safe;
+      }
+
+  -- and it is that of each class with the number
+  pub new_here : (n : ℕ) (found : Found) → found.class ≡ n → IsNewlySafe aim u e k found → (class : Class) → IsClass aim.classes n class
+      → (¬ IsCertifiedClass aim u e k n class) × IsSafeEvidence u k class (duties_in aim class) found.evidence
+  new_here n found number new class is =
+      let there = subst (λ (i : ℕ). IsClass aim.classes i new.class) number new.is_class in
+      let same : new.class ≡ class = same_class aim.classes n new.class class there is in (
+        subst (λ (x : Class). ¬ IsCertifiedClass aim u e k n x) same (subst (λ (i : ℕ). ¬ IsCertifiedClass aim u e k i new.class) number new.fails),
+        subst (λ (x : Class). IsSafeEvidence u k x (duties_in aim x) found.evidence) same new.safe,
+      )
+
+  -- ---- the classes that the change meets
+
+  -- what is found for those below a number: all that is new, and all there is if there is a round before
+  abbrev pub AreMetBelow : ℕ → List Found → Type 0
+  AreMetBelow below found = (0 < k → AreSafeBelow aim u e k below found) × AllByRecursion (IsNewlySafe aim u e k) found
+
+  pub met_none : AreMetBelow 0 []
+  met_none = (λ later. safe_none, tt)
+
+  pub met_kept : (m : ℕ) (found : List Found) → AreMetBelow m found → ((class : Class) → IsClass aim.classes m class → 0 < k → IsCertifiedClass aim u e k m class) → AreMetBelow (m + 1) found
+  met_kept m found h kept = (λ later. safe_kept m found (h.0 later) (λ class is. kept class is later), h.1)
+
+  pub met_new : (m : ℕ) → m < class_count aim.classes → (found : List Found) (new : Found) → new.class ≡ m → AreMetBelow m found
+      → ((class : Class) → IsClass aim.classes m class → (¬ IsCertifiedClass aim u e k m class) × IsSafeEvidence u k class (duties_in aim class) new.evidence)
+      → AreMetBelow (m + 1) (found ++ new ∷ [])
+  met_new m less found new number h judged = (
+    λ later. safe_new m found new number (h.0 later) judged,
+    each_append (IsNewlySafe aim u e k) found (new ∷ []) h.1 (new_there m less new number judged, tt),
+  )
+
   -- the class with a number is not safe by any evidence
   pub unsafe_at : (m : ℕ) → m < class_count aim.classes → (f : UnsafeClass) → ((class : Class) → IsClass aim.classes m class → (f.class ≡ class) × IsUnsafe aim u k f) → HasUnsafe aim u k f
   unsafe_at m less f judged =
@@ -202,7 +254,7 @@ module _ (aim : Aim) (u : Rollout) (e : OrderedEvidence) (k : ℕ) where
 
 module _ (u : Rollout) (k dst : ℕ) (entry : Place) (noted : WalkState) (walked : IsWalked u k dst entry noted) where
   -- they are the entry's and the ends of the steps
-  pub visits_all : (marks : List Bool) → IsVisited marks entry.switch → AllByRecursion (λ (e : Edge). IsVisited marks e.to) noted.steps
+  pub visits_all : (marks : ℕ) → IsVisited marks entry.switch → AllByRecursion (λ (e : Edge). IsVisited marks e.to) noted.steps
       → (place : Place) → IsOnMixedWalk u k dst entry place → IsVisited marks place.switch
   visits_all marks begins ends place (rest, walk, last) = subst (λ (p : Place). IsVisited marks p.switch) last (along entry rest (reached_start (MayGo u k dst) entry) begins walk)
     where
@@ -228,6 +280,23 @@ near_switch net is s less = let few = is.few in omega arith
 pub round_here : (net other : Network) → other ≡ net → (mixes : List MixedState) (u : Rollout) (k : ℕ) → IsRoundOf net mixes u k → IsRoundOf other mixes u k
 round_here net other is mixes u k round = subst (λ (n : Network). IsRoundOf n mixes u k) (sym is) round
 
--- a number has the one class that was found for it
-pub this_class : (there here : ClassList) → here ≡ there → (n : ℕ) (found : Class) → ((class : Class) → IsClass here n class → class ≡ found) → (class : Class) → IsClass there n class → found ≡ class
-this_class there here same n found only class is = sym (only class (subst (λ (cs : ClassList). IsClass cs n class) (sym same) is))
+-- the class that was made for a number is each class with the number
+pub numbered_class : (classes : ClassList) (n : ℕ) (numbered : NumberedClass) → numbered.number ≡ n → IsNumbered classes numbered → (class : Class) → IsClass classes n class → numbered.class ≡ class
+numbered_class classes n numbered number is class is_n = same_class classes n numbered.class class (subst (λ (i : ℕ). IsClass classes i numbered.class) number is) is_n
+
+-- its class enters at a switch of the network
+pub numbered_within : (net : Network) → IsNetwork net → (there here : ClassList) → here ≡ there → here.hosts ≡ net.hosts → (numbered : NumberedClass) → IsNumbered there numbered
+    → numbered.class.entry.switch.0 < switch_count net
+numbered_within net valid there here same hosts numbered is = class_within net valid here numbered.number numbered.class hosts (subst (λ (cs : ClassList). IsNumbered cs numbered) (sym same) is)
+
+module _ (aim : Aim) (u : Rollout) (e : OrderedEvidence) (k : ℕ) where
+  -- what is found for the class that was made for a number is found for each class with it
+  pub judged_there : (numbered : NumberedClass) (n : ℕ) (class : Class) → numbered.number ≡ n → numbered.class ≡ class → (judged : Judged) → IsJudged aim u e k numbered.number numbered.class judged
+      → IsJudged aim u e k n class judged
+  judged_there numbered n class number same judged h =
+      subst (λ (x : Class). IsJudged aim u e k n x judged) same (subst (λ (i : ℕ). IsJudged aim u e k i numbered.class judged) number h)
+
+  pub judged_met : (n : ℕ) (class : Class) (judged : Judged) → IsJudged aim u e k n class judged → IsJudgedIfMet aim u e k n class judged
+  judged_met n class Kept h = λ later. h
+  judged_met n class (New evidence) h = h
+  judged_met n class (Unsafe f) h = h

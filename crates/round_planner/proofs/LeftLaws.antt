@@ -1,7 +1,7 @@
 -- The changes that remain, each with why it failed.
 use Rattle.std.proofs.Common.{◌≡◌, ℕ, zero, suc, ◌+◌, ◌<◌, true, List, [], ◌∷◌, ◌++◌, length, map, take, drop, set, get_or, refl, sym, ◌∙◌, subst, ap, inl, arith, length-set, get_or-set_same, length-take-le}
 use Rattle.std.proofs.lemmas.List.{map-append}
-use Rattle.std.specs.Prelude.{Option, Some, None, IfSome, IsSomeAnd, is_some}
+use Rattle.std.specs.Prelude.{Some, None, IfSome, IsSomeAnd, is_some}
 use Rattle.std.proofs.lemmas.Bool.{false≢true}
 use Rattle.std.specs.List.{AllByRecursion}
 use Rattle.net_base.specs.Members.{IsIn}
@@ -17,7 +17,6 @@ use Rattle.certificates.proofs.TreeTables.{unique_in_table}
 use Rattle.mixed_walks.specs.Walks.{TablesKeepVlans}
 use Rattle.mixed_walks.proofs.PlaceLaws.{tables_keep}
 use Rattle.table_difference.proofs.WithoutLaws.{remaining_without}
-use Rattle.round_planner.specs.declared.failing.Failure.{Failure}
 use Rattle.round_planner.specs.declared.left.Left.{Left}
 use Rattle.round_planner.specs.Search.{Aim, Qualifies}
 use Rattle.round_planner.specs.Failures.{IsFailure, IsTouched, HasStanding, IsOfUsers, AreOfUsers, AreLeft}

@@ -18,3 +18,6 @@ pub mod CoveringLaws
 pub mod VisitLaws
 pub mod FailureLaws
 pub mod LeftLaws
+pub mod RowLaws
+pub mod MetLaws
+pub mod CoveredLaws

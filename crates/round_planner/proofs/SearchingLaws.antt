@@ -1,7 +1,7 @@
 -- A change that is tried, and what comes of it.
 use Rattle.std.proofs.Common.{◌≡◌, ℕ, zero, suc, ◌+◌, ◌<◌, ◌≤◌, List, [], ◌∷◌, ◌++◌, length, take, drop, get_or, refl, sym, ◌∙◌, subst, ap, inl, inr, arith, length-append}
 use Rattle.std.proofs.lemmas.List.{append-nil}
-use Rattle.std.specs.Prelude.{Some, slice_get, Bool}
+use Rattle.std.specs.Prelude.{Some, slice_get}
 use Rattle.std.specs.List.{AllByRecursion}
 use Rattle.net_base.specs.Members.{IsIn}
 use Rattle.net_base.proofs.MemberLaws.{each_weaker, each_append, each_from_in}
@@ -258,7 +258,7 @@ module _ (aim : Aim) (old : List (List Rule)) (old_user : IsUserConfig aim.net o
   pub tried_round : IsRoundOf aim.net trial.mixes (update_by aim old (changes ++ c ∷ [])) (length changes)
   tried_round = round_of aim old old_user new_user changes c s.store.evidence at.stands remains (rules_of_all trial.tables) (rules ∙ at.tables) trial.mixes trying.loaded
 
-  pub tried_at : (came : List (List Bool)) → HoldTables aim (tables_before (update_by aim old (changes ++ c ∷ [])) (suc (length changes))) came
+  pub tried_at : (came : List ℕ) → HoldTables aim (tables_before (update_by aim old (changes ++ c ∷ [])) (suc (length changes))) came
       → IsTryingAt aim old changes c (record { trial = trial; rounds = s.rounds; store = s.store; came = came })
   tried_at came held = record {
     rounds = at.rounds;
@@ -274,7 +274,7 @@ module _ (aim : Aim) (old : List (List Rule)) (old_user : IsUserConfig aim.net o
   tried_came = subst (λ (ts : List (List Rule)). HoldTables aim ts s.came) (sym (tables_at aim old changes (c ∷ []))) at.came
 
   -- and stays marked if it fails
-  pub failed_came : (came : List (List Bool)) → HoldTables aim (tables_before (update_by aim old (changes ++ c ∷ [])) (length changes)) came → HoldTables aim (tables_after changes old) came
+  pub failed_came : (came : List ℕ) → HoldTables aim (tables_before (update_by aim old (changes ++ c ∷ [])) (length changes)) came → HoldTables aim (tables_after changes old) came
   failed_came came held = subst (λ (ts : List (List Rule)). HoldTables aim ts came) (tables_at aim old changes (c ∷ [])) held
 
   room_alone : HasRoomAlone aim.net (tables_after changes old) c
@@ -291,7 +291,7 @@ module _ (aim : Aim) (old : List (List Rule)) (old_user : IsUserConfig aim.net o
   tried_fails f unsafe = fails_by aim old old_user new_user changes c s.store.evidence at.stands remains f unsafe
 
 -- the tables are those before again
-pub given_up : (aim : Aim) (old : List (List Rule)) (changes : List Change) (s : SearchState) (trial : TrialState) (came : List (List Bool)) → IsAt aim old changes s
+pub given_up : (aim : Aim) (old : List (List Rule)) (changes : List Change) (s : SearchState) (trial : TrialState) (came : List ℕ) → IsAt aim old changes s
     → rules_of_all trial.tables ≡ rules_of_all s.trial.tables → IsSettled aim.net trial → HoldTables aim (tables_after changes old) came
     → IsAt aim old changes (record { trial = trial; rounds = s.rounds; store = s.store; came = came })
 given_up aim old changes s trial came at rules settled held = record {
@@ -333,7 +333,7 @@ begins_at aim old s rounds tables settled classes count store came = record {
 }
 
 -- where all switches are marked for each class
-pub all_come : (aim : Aim) (old : List (List Rule)) → IsNetwork aim.net → IsUserConfig aim.net old → aim.classes.hosts ≡ aim.net.hosts → (count : ℕ) → count ≡ class_count aim.classes → (came : List (List Bool))
+pub all_come : (aim : Aim) (old : List (List Rule)) → IsNetwork aim.net → IsUserConfig aim.net old → aim.classes.hosts ≡ aim.net.hosts → (count : ℕ) → count ≡ class_count aim.classes → (came : List ℕ)
     → length came ≡ count → ((n : ℕ) (s : SwitchId) → n < count → s.0 < 128 → IsVisited (marks_at came n) s) → HoldTables aim old came
 all_come aim old net user hosts count count_is came length_is all = record {
   count = length_is ∙ count_is;

@@ -1,5 +1,5 @@
 -- The switches that packets of a class come to before, in and after a round; and a class that a change doesn't meet at any of them.
-use Rattle.std.proofs.Common.{◌≡◌, ◌≢◌, ℕ, suc, ◌+◌, ◌<◌, false, Bool, List, [], ◌∷◌, length, set, sym, ◌∙◌, subst, inl, inr, arith, get_or-set_same, get_or-set_other}
+use Rattle.std.proofs.Common.{◌≡◌, ◌≢◌, ℕ, suc, ◌+◌, ◌<◌, false, List, [], ◌∷◌, length, set, sym, ◌∙◌, subst, inl, inr, arith, get_or-set_same, get_or-set_other}
 use Rattle.std.specs.Prelude.{◌==◌, IsTrue}
 use Rattle.std.specs.List.{AllByRecursion}
 use Rattle.std.proofs.lemmas.Bool.{cases_eq, cases_lt, eqb-true}
@@ -30,7 +30,7 @@ use Rattle.check_reasons.proofs.SameWalks.{was_on_walk, was_safe}
 use Rattle.check_reasons.proofs.TouchLaws.{not_covered}
 use Rattle.round_planner.specs.Search.{Aim}
 use Rattle.round_planner.specs.Failures.{IsVisited}
-use Rattle.round_planner.specs.Visits.{marks_at, at_rest, HoldsWalks, HoldsTables, HoldTables}
+use Rattle.round_planner.specs.Visits.{marks_at, at_rest, HoldsWalks, HoldsTables, HoldTables, HoldRound}
 use Rattle.round_planner.proofs.CoveringLaws.{possible_alone}
 
 -- ---- what is possible between rounds
@@ -53,7 +53,7 @@ possible_next u k dst less good place found possible =
       is = is;
     }
 
-module _ (u : Rollout) (k : ℕ) (class : Class) (marks : List Bool) (held : HoldsWalks u k class marks) where
+module _ (u : Rollout) (k : ℕ) (class : Class) (marks : ℕ) (held : HoldsWalks u k class marks) where
   -- marks that hold the mixed walks of a round hold where packets come to before it
   pub held_before : HoldsTables u.net (tables_before u k) class marks
   held_before place on =
@@ -72,7 +72,7 @@ safe_after u k dst entry less good = was_safe u (at_rest u.net (tables_before u 
 -- ---- a class that the change of a round doesn't meet
 
 module _ (u : Rollout) (k : ℕ) (class : Class) (c : Change) (round_is : round_after k u.rounds ≡ c ∷ []) (keeps_rules : TablesKeepVlans u.old) (keeps : KeepVlansUpTo u k)
-    (marks : List Bool) (held : HoldsTables u.net (tables_before u k) class marks) (apart : ¬ (IsVisited marks (switch_of c) × IsTrue (may_cover c class))) where
+    (marks : ℕ) (held : HoldsTables u.net (tables_before u k) class marks) (apart : ¬ (IsVisited marks (switch_of c) × IsTrue (may_cover c class))) where
   abbrev rest : Rollout
   rest = at_rest u.net (tables_before u k)
 
@@ -104,37 +104,33 @@ module _ (u : Rollout) (k : ℕ) (class : Class) (c : Change) (round_is : round_
 -- ---- class by class
 
 -- the marks of one class put in
-pub put_there : (came : List (List Bool)) (n : ℕ) (marks : List Bool) → n < length came → marks_at (set came n marks) n ≡ marks
-put_there came n marks less = get_or-set_same came n marks [] less
+pub put_there : (came : List ℕ) (n : ℕ) (marks : ℕ) → n < length came → marks_at (set came n marks) n ≡ marks
+put_there came n marks less = get_or-set_same came n marks 0 less
 
-pub put_others : (came : List (List Bool)) (n : ℕ) (marks : List Bool) (m : ℕ) → m ≢ n → marks_at (set came n marks) m ≡ marks_at came m
-put_others came n marks m ne = get_or-set_other came n m marks [] ne
+pub put_others : (came : List ℕ) (n : ℕ) (marks : ℕ) (m : ℕ) → m ≢ n → marks_at (set came n marks) m ≡ marks_at came m
+put_others came n marks m ne = get_or-set_other came n m marks 0 ne
 
 module _ (aim : Aim) (u : Rollout) (k : ℕ) where
   -- the marks of each class hold where its packets come to before the round, and those of each class below a number its mixed walks
-  pub record AreHeldBelow (below : ℕ) (came : List (List Bool)) : Type 0 where
+  pub record AreHeldBelow (below : ℕ) (came : List ℕ) : Type 0 where
     pub count : length came ≡ class_count aim.classes
     pub before : (n : ℕ) (class : Class) → IsClass aim.classes n class → HoldsTables u.net (tables_before u k) class (marks_at came n)
     pub walks : (n : ℕ) (class : Class) → n < below → IsClass aim.classes n class → HoldsWalks u k class (marks_at came n)
 
   -- what looking at the class of a number leaves of the marks
-  pub record IsHeldAt (n : ℕ) (mid new : List (List Bool)) : Type 0 where
+  pub record IsHeldAt (n : ℕ) (mid new : List ℕ) : Type 0 where
     pub count : length new ≡ length mid
     pub others : (m : ℕ) → m ≢ n → marks_at new m ≡ marks_at mid m
     pub walks : (class : Class) → IsClass aim.classes n class → HoldsTables u.net (tables_before u k) class (marks_at mid n) → HoldsWalks u k class (marks_at new n)
 
-  pub held_none : u.net ≡ aim.net → (came : List (List Bool)) → HoldTables aim (tables_before u k) came → AreHeldBelow 0 came
+  pub held_none : u.net ≡ aim.net → (came : List ℕ) → HoldTables aim (tables_before u k) came → AreHeldBelow 0 came
   held_none net came h = record {
     count = h.count;
     before = λ n class is. subst (λ (x : Network). HoldsTables x (tables_before u k) class (marks_at came n)) (sym net) (h.each n class is);
     walks = λ n class less is. absurd (omega arith);
   }
 
-  pub held_at : u.net ≡ aim.net → (n : ℕ) (came : List (List Bool)) → HoldTables aim (tables_before u k) came → (class : Class) → IsClass aim.classes n class
-      → HoldsTables u.net (tables_before u k) class (marks_at came n)
-  held_at net n came h class is = subst (λ (x : Network). HoldsTables x (tables_before u k) class (marks_at came n)) (sym net) (h.each n class is)
-
-  module _ (n : ℕ) (mid new : List (List Bool)) (at : IsHeldAt n mid new) where
+  module _ (n : ℕ) (mid new : List ℕ) (at : IsHeldAt n mid new) where
     here : (m : ℕ) (class : Class) → m ≡ n → IsClass aim.classes m class → ((j : ℕ) (x : Class) → IsClass aim.classes j x → HoldsTables u.net (tables_before u k) x (marks_at mid j))
         → HoldsWalks u k class (marks_at new m)
     here m class e is before =
@@ -160,34 +156,49 @@ module _ (aim : Aim) (u : Rollout) (k : ℕ) where
           ];
     }
 
-    -- the switches that packets come to before the round stay marked
-    pub tables_still : u.net ≡ aim.net → HoldTables aim (tables_before u k) mid → HoldTables aim (tables_before u k) new
-    tables_still net h = record {
-      count = at.count ∙ h.count;
-      each = λ m class is.
-          subst (λ (x : Network). HoldsTables x (tables_before u k) class (marks_at new m)) net
-          (before_more (λ j y is_j. subst (λ (x : Network). HoldsTables x (tables_before u k) y (marks_at mid j)) (sym net) (h.each j y is_j)) m class is);
-    }
-
-  pub held_back : u.net ≡ aim.net → (below : ℕ) (came : List (List Bool)) → AreHeldBelow below came → HoldTables aim (tables_before u k) came
+  pub held_back : u.net ≡ aim.net → (below : ℕ) (came : List ℕ) → AreHeldBelow below came → HoldTables aim (tables_before u k) came
   held_back net below came h = record {
     count = h.count;
     each = λ n class is. subst (λ (x : Network). HoldsTables x (tables_before u k) class (marks_at came n)) net (h.before n class is);
   }
 
-  pub held_all : u.net ≡ aim.net → k < length u.rounds → IsGoodRound (tables_before u k) (round_after k u.rounds) → (came : List (List Bool)) → AreHeldBelow (class_count aim.classes) came
-      → HoldTables aim (tables_before u (suc k)) came
-  held_all net less good came h = record {
+  pub held_all : (came : List ℕ) → AreHeldBelow (class_count aim.classes) came → HoldRound aim u k came
+  held_all came h = record { count = h.count; each = λ n class is. h.walks n class (number_fits aim.classes n class is) is }
+
+  -- the marks of all classes hold their mixed walks, and go on to, whichever class is looked at
+  pub round_still : (n : ℕ) (mid new : List ℕ) → length new ≡ length mid → ((m : ℕ) → m ≢ n → marks_at new m ≡ marks_at mid m)
+      → ((class : Class) → IsClass aim.classes n class → HoldsWalks u k class (marks_at mid n) → HoldsWalks u k class (marks_at new n)) → HoldRound aim u k mid → HoldRound aim u k new
+  round_still n mid new count others walks h = record {
+    count = count ∙ h.count;
+    each = λ m class is.
+        elim (cases_eq m n) [
+          | inl e ↦
+              let is_n = subst (λ (i : ℕ). IsClass aim.classes i class) e is in
+              subst (λ (i : ℕ). HoldsWalks u k class (marks_at new i)) (sym e) (walks class is_n (h.each n class is_n))
+          | inr ne ↦ subst (HoldsWalks u k class) (sym (others m ne)) (h.each m class is)
+        ];
+  }
+
+  -- so they hold where packets come to before the round, and after it
+  pub round_before : u.net ≡ aim.net → (came : List ℕ) → HoldRound aim u k came → HoldTables aim (tables_before u k) came
+  round_before net came h = record {
     count = h.count;
     each = λ n class is.
-        subst (λ (x : Network). HoldsTables x (tables_before u (suc k)) class (marks_at came n)) net
-        (held_after u k class (marks_at came n) (h.walks n class (number_fits aim.classes n class is) is) less good);
+        subst (λ (x : Network). HoldsTables x (tables_before u k) class (marks_at came n)) net (held_before u k class (marks_at came n) (h.each n class is));
+  }
+
+  pub round_after_it : u.net ≡ aim.net → k < length u.rounds → IsGoodRound (tables_before u k) (round_after k u.rounds) → (came : List ℕ) → HoldRound aim u k came
+      → HoldTables aim (tables_before u (suc k)) came
+  round_after_it net less good came h = record {
+    count = h.count;
+    each = λ n class is.
+        subst (λ (x : Network). HoldsTables x (tables_before u (suc k)) class (marks_at came n)) net (held_after u k class (marks_at came n) (h.each n class is) less good);
   }
 
 -- ---- where a search begins
 
 -- where each of 128 switches is marked, each that packets come to is
-pub all_held : (net : Network) (tables : List (List Rule)) (class : Class) (marks : List Bool) → IsNetwork net → TablesKeepVlans tables → class.entry.switch.0 < switch_count net
+pub all_held : (net : Network) (tables : List (List Rule)) (class : Class) (marks : ℕ) → IsNetwork net → TablesKeepVlans tables → class.entry.switch.0 < switch_count net
     → ((s : SwitchId) → s.0 < 128 → IsVisited marks s) → HoldsTables net tables class marks
 all_held net tables class marks is keeps within all place on =
     let there = places_within net class.entry is within place (on_walk_in (at_rest net tables) 0 class.first class.entry keeps (λ j le. tt) place on) in

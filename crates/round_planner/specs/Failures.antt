@@ -1,5 +1,6 @@
 -- Why a change doesn't qualify, and what that rests on.
-use Rattle.std.specs.Prelude.{◌≡◌, ◌<◌, ◌≤◌, ℕ, Bool, true, false, List, [], ◌∷◌, length, map, slice_index_or, IsTrue, IfSome}
+use Rattle.std.specs.Prelude.{◌≡◌, ◌<◌, ◌≤◌, ℕ, List, [], ◌∷◌, length, map, IsTrue, IfSome}
+use Rattle.std.specs.Int.{bit_at}
 use Rattle.std.specs.List.{AllByRecursion}
 use Rattle.net_base.specs.declared.ids.SwitchId.{SwitchId}
 use Rattle.net_base.specs.declared.ids.Place.{Place}
@@ -29,9 +30,9 @@ pub record HasRoomThere (net : Network) (tables : List (List Rule)) (c : Change)
   pub clear : (mixed : List Rule) → IsMixture (rules_at tables (switch_of c)) (c ∷ []) mixed → IsClear mixed
   pub fits : (switch_of c).0 < switch_count net → entries_needed (rules_at tables (switch_of c)) (c ∷ []) ≤ capacity_of net (switch_of c)
 
--- the switch is marked
-abbrev pub IsVisited : List Bool → SwitchId → Type 0
-IsVisited marks s = slice_index_or marks s.0 false ≡ true
+-- the switch is marked: its bit is set
+abbrev pub IsVisited : ℕ → SwitchId → Type 0
+IsVisited marks s = bit_at marks s.0 ≡ 1
 
 -- while the change is made no evidence keeps the class safe, and each switch that its mixed walks come to is marked
 pub record IsUnsafeClass (aim : Aim) (tables : List (List Rule)) (c : Change) (f : UnsafeClass) : Type 0 where

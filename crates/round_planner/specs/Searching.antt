@@ -1,11 +1,12 @@
 -- What a search is for, and where it is.
-use Rattle.std.specs.Prelude.{◌≡◌, ℕ, Bool, true, false, List, [], ◌∷◌, ◌++◌, length, Option, Some, None}
+use Rattle.std.specs.Prelude.{◌≡◌, ℕ, ◌<◌, Bool, true, false, List, [], ◌∷◌, ◌++◌, length, slice_index_or, Option, Some, None}
 use Rattle.std.specs.List.{AllByRecursion}
 use Rattle.topology.specs.Networks.{Network}
 use Rattle.flow_rules.specs.Tables.{TableState, rules_of_all}
 use Rattle.flow_rules.specs.declared.rules.Rule.{Rule}
 use Rattle.path_walk.specs.UserConfigs.{IsUserConfig}
-use Rattle.dest_classes.specs.Classes.{ClassList, class_count}
+use Rattle.dest_classes.specs.Classes.{ClassList, IsClass, class_count}
+use Rattle.dest_classes.specs.declared.Class.{Class}
 use Rattle.demands.specs.Duties.{ClassDuties}
 use Rattle.update_model.specs.Changes.{tables_after}
 use Rattle.update_model.specs.Remaining.{remaining}
@@ -23,19 +24,25 @@ use Rattle.round_planner.specs.Search.{Aim, single_rounds, Qualifies, IsFirstQua
 use Rattle.round_planner.specs.Standing.{Stands}
 use Rattle.round_planner.specs.Visits.{HoldTables}
 
--- the new tables are a user configuration, the classes are of the network, and the duties are theirs
-pub record IsGoal (net : Network) (new : List TableState) (duties : ClassDuties) (classes : ClassList) : Type 0 where
+-- the list has the classes, by their numbers
+pub record AreListed (classes : ClassList) (list : List Class) : Type 0 where
+  pub count : length list ≡ class_count classes
+  pub each : (n : ℕ) (d : Class) → n < length list → IsClass classes n (slice_index_or list n d)
+
+-- the new tables are a user configuration, the classes are of the network, and the duties and the list are theirs
+pub record IsGoal (net : Network) (new : List TableState) (duties : ClassDuties) (classes : ClassList) (list : List Class) : Type 0 where
   pub user : IsUserConfig net (rules_of_all new)
   pub duties_of_them : duties.classes ≡ classes
   pub hosts : classes.hosts ≡ net.hosts
   pub vlans : classes.vlans ≡ net.vlans
+  pub listed : AreListed classes list
 
 -- the tables with what is prepared of them, the rounds, their evidence, and for each class the switches that its packets come to
 pub record SearchState : Type 0 where
   pub trial : TrialState
   pub rounds : List (List Change)
   pub store : StoreState
-  pub came : List (List Bool)
+  pub came : List ℕ
 
 -- the search has made these changes, each as a round of its own, and no change is tried
 pub record IsAt (aim : Aim) (old : List (List Rule)) (changes : List Change) (s : SearchState) : Type 0 where

@@ -13,7 +13,6 @@ use Rattle.update_model.specs.Mixtures.{Rollout, MayHold, IsOnMixedWalk, tables_
 use Rattle.update_model.specs.declared.Change.{Change}
 use Rattle.certificates.specs.Ordered.{IsSafe, OrderedCertificate}
 use Rattle.certificates.specs.Valid.{IsChain, IsValidNumbering, IsValidBefore}
-use Rattle.certificates.specs.declared.OrderedPick.{OrderedPick}
 use Rattle.certificates.specs.declared.OrderedEvidence.{OrderedEvidence}
 use Rattle.evidence_store.specs.Found.{IsSafeEvidence}
 use Rattle.evidence_store.specs.Stored.{IsWithPick}
@@ -24,6 +23,7 @@ use Rattle.round_planner.specs.declared.judging.Verdict.{Verdict}
 use Rattle.round_planner.specs.declared.judging.Verdict.TheVariants as verdict
 use Rattle.round_planner.specs.declared.failing.UnsafeClass.{UnsafeClass}
 use Rattle.round_planner.specs.Failures.{IsVisited}
+use Rattle.round_planner.specs.Visits.{HoldTables, HoldRound}
 use Rattle.round_planner.specs.Search.{Aim, duties_in, update_by, AreFirstQualifying, IsSearchEvidence}
 
 -- the class has its certificate in round k by the evidence so far
@@ -49,10 +49,6 @@ pub record IsNextRound (aim : Aim) (u : Rollout) (e : OrderedEvidence) (k : ℕ)
   pub picks : AllByRecursion (λ p. (0 < p.round) × (p.round ≤ k)) e.picks
   pub certificates : (j n : ℕ) (class : Class) → j < k → IsClass aim.classes n class → IsCertifiedClass aim u e j n class
 
--- there is a pick of class n
-abbrev pub HasPickOf : OrderedEvidence → ℕ → Type 0
-HasPickOf e n = (pick : OrderedPick) × IsIn pick e.picks × (pick.class ≡ n)
-
 -- no evidence keeps the class safe in round k, and each switch that its mixed walks come to is marked
 pub record IsUnsafe (aim : Aim) (u : Rollout) (k : ℕ) (f : UnsafeClass) : Type 0 where
   pub never : (numbers : List ℕ) (sets : List (List ℕ)) → ¬ IsSafe u k f.class.first f.class.entry (duties_in aim f.class) numbers sets
@@ -63,6 +59,12 @@ abbrev pub IsJudged : Aim → Rollout → OrderedEvidence → ℕ → ℕ → Cl
 IsJudged aim u e k n class Kept = IsCertifiedClass aim u e k n class
 IsJudged aim u e k n class (New evidence) = (¬ IsCertifiedClass aim u e k n class) × IsSafeEvidence u k class (duties_in aim class) evidence
 IsJudged aim u e k n class (Unsafe f) = (f.class ≡ class) × IsUnsafe aim u k f
+
+-- the same where the class is looked at if the change meets it: if it is kept, the pick in force of the round before does that
+abbrev pub IsJudgedIfMet : Aim → Rollout → OrderedEvidence → ℕ → ℕ → Class → Judged → Type 0
+IsJudgedIfMet aim u e k n class Kept = 0 < k → IsJudged aim u e k n class Kept
+IsJudgedIfMet aim u e k n class (New evidence) = IsJudged aim u e k n class (New evidence)
+IsJudgedIfMet aim u e k n class (Unsafe f) = IsJudged aim u e k n class (Unsafe f)
 
 -- new evidence was found for class n
 pub record HasFound (aim : Aim) (u : Rollout) (k n : ℕ) (class : Class) (found : List Found) : Type 0 where
@@ -93,6 +95,25 @@ pub record HasUnsafe (aim : Aim) (u : Rollout) (k : ℕ) (f : UnsafeClass) : Typ
 abbrev pub AreJudged : Aim → Rollout → OrderedEvidence → ℕ → Verdict → Type 0
 AreJudged aim u e k (verdict.Safe found) = AreSafeBelow aim u e k (class_count aim.classes) found.items
 AreJudged aim u e k (verdict.Unsafe f) = HasUnsafe aim u k f
+
+-- the pick in force fails to keep a class safe in round k, and new evidence does
+pub record IsNewlySafe (aim : Aim) (u : Rollout) (e : OrderedEvidence) (k : ℕ) (f : Found) : Type 0 where
+  pub class : Class
+  pub is_class : IsClass aim.classes f.class class
+  pub fails : ¬ IsCertifiedClass aim u e k f.class class
+  pub safe : IsSafeEvidence u k class (duties_in aim class) f.evidence
+
+-- each class that the change of round k meets is safe in it, and so is each other one if there is a round before;
+-- and each switch that the mixed walks of each class come to is marked
+pub record AreMetSafe (aim : Aim) (u : Rollout) (e : OrderedEvidence) (k : ℕ) (found : List Found) (came : List ℕ) : Type 0 where
+  pub later : 0 < k → AreSafeBelow aim u e k (class_count aim.classes) found
+  pub new : AllByRecursion (IsNewlySafe aim u e k) found
+  pub marked : HoldRound aim u k came
+
+-- what is found for the classes that the change of round k meets, and what is marked then
+abbrev pub AreMetJudged : Aim → Rollout → OrderedEvidence → ℕ → Verdict → List ℕ → Type 0
+AreMetJudged aim u e k (verdict.Safe found) came = AreMetSafe aim u e k found.items came
+AreMetJudged aim u e k (verdict.Unsafe f) came = HasUnsafe aim u k f × HoldTables aim (tables_before u k) came
 
 -- the evidence with a pick more for each class for which new evidence was found
 abbrev pub AreWithPicks : OrderedEvidence → ℕ → List Found → OrderedEvidence → Type 0

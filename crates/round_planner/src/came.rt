@@ -16,9 +16,9 @@ pub(crate) struct Came {
 }
 
 impl Model for Came {
-    ghost use Rattle.std.specs.Prelude.{List, Bool};
+    ghost use Rattle.std.specs.Prelude.{List, ℕ};
 
-    ghost Value = { List (List Bool) };
+    ghost Value = { List ℕ };
 
     ghost view = { λ c. c.classes.items };
 }

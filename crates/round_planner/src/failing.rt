@@ -1,5 +1,6 @@
 //! Why a change that remains doesn't qualify, and which changes touch that.
-ghost use Rattle.std.specs.Prelude.{◌≡◌, ◌↔◌, ◌<◌, IsTrue};
+ghost use Rattle.std.specs.Prelude.{◌≡◌, ◌≢◌, ◌↔◌, ◌<◌, ℕ, IsTrue};
+ghost use Rattle.std.specs.Int.{bit_at};
 ghost use Rattle.std.specs.List.{AllByRecursion};
 ghost use Rattle.net_base.specs.declared.ids.SwitchId.{SwitchId as Switch};
 ghost use Rattle.update_model.specs.Changes.{switch_of};
@@ -13,16 +14,16 @@ use net_base::SwitchId;
 use std::marker::Model;
 use update_model::Change;
 
-/// The switches that the mixed walks of a class come to.
+/// The switches that the mixed walks of a class come to. Bit n is that of switch n.
 #[derive(Drop)]
 pub(crate) struct Visited {
-    marks: [bool; 128],
+    marks: u128,
 }
 
 impl Model for Visited {
-    ghost use Rattle.std.specs.Prelude.{List, Bool};
+    ghost use Rattle.std.specs.Prelude.{ℕ};
 
-    ghost Value = { List Bool };
+    ghost Value = { ℕ };
 
     ghost view = { λ v. v.marks };
 }
@@ -43,12 +44,28 @@ pub(crate) enum Failure {
     Class(UnsafeClass),
 }
 
+/// The bits with one of them set.
+fn with_bit(bits: u128, n: u32) -> u128
+    requires { n < 128 }
+    ensures there { bit_at result n ≡ 1 }
+    ensures others { (i : ℕ) → i ≢ n → bit_at result i ≡ bit_at bits i }
+{
+    bits | (1 << n)
+}
+
+/// Whether a bit is set.
+fn has_bit(bits: u128, n: u32) -> bool
+    ensures { IsTrue result ↔ (bit_at bits n ≡ 1) }
+{
+    n < 128 && bits & (1 << n) != 0
+}
+
 impl Visited {
     /// All switches.
     pub(crate) fn all() -> Visited
         ensures { (s : Switch) → s.0 < 128 → IsVisited result s }
     {
-        Visited { marks: [true; 128] }
+        Visited { marks: u128::MAX }
     }
 
     /// One switch.
@@ -56,9 +73,9 @@ impl Visited {
         requires { switch.0 < 128 }
         ensures { IsVisited result switch }
     {
-        let mut marks = [false; 128];
-        marks[switch.0 as usize] = true;
-        Visited { marks }
+        Visited {
+            marks: with_bit(0, switch.0),
+        }
     }
 
     /// One switch more, that to which the step leads.
@@ -67,14 +84,14 @@ impl Visited {
         ensures there { IsVisited self.new step.now.to }
         ensures kept { (s : Switch) → IsVisited self.old s → IsVisited self.new s }
     {
-        self.marks[step.to.0 as usize] = true;
+        self.marks = with_bit(self.marks, step.to.0);
     }
 
     /// Whether the switch is one of them.
     fn has(&self, switch: SwitchId) -> bool
         ensures { IsTrue result ↔ IsVisited self.now switch }
     {
-        switch.0 < 128 && self.marks[switch.0 as usize]
+        has_bit(self.marks, switch.0)
     }
 
     /// The same switches.

@@ -8,6 +8,7 @@ mod judging;
 pub mod laws;
 mod left;
 mod picking;
+mod rows;
 mod searching;
 
 ghost use Rattle.std.specs.Prelude.{◌≡◌, [], length, IfOk};
@@ -23,7 +24,7 @@ ghost use Rattle.table_difference.specs.SameClasses.{HasSameClasses, classes_bef
 ghost use Rattle.table_difference.specs.Tried.{AreTried};
 ghost use Rattle.round_planner.specs.Ends.{aim_of, IsSearched, OfPlan, OfStuck, IsNotStuck};
 
-use crate::goal::Goal;
+use crate::goal::{Goal, list_classes};
 use crate::searching::Search;
 use certificates::Plan;
 use demands::Duties;
@@ -47,10 +48,11 @@ pub enum Ordered {
 /// remains, and stuck where none of them qualifies. After Mahajan and Wattenhofer (2013).
 ///
 /// A change that failed is tried again only after one that touches what its failure rests on: the table of its switch, or a
-/// class at a switch that the class's walks came to. Each try takes one walk for each class that the change covers, by its
-/// address and VLAN, at a switch that the last walk of the class came to, up to the first class that it doesn't keep safe;
-/// for the first change that is made, one more for each class. A walk is that of a packet through the mixtures of the round.
-/// It holds some 200 bytes for each change that remains, of which there are at most 4096, and 128 for each class.
+/// class at a switch that the class's walks came to. Each try looks once at each atom of addresses and at each class whose
+/// address the change's prefix holds. It takes one walk for each class that the change covers, by its address and VLAN, at a
+/// switch that the last walk of the class came to, up to the first class that it doesn't keep safe. As long as no change is
+/// made, a try that finds none such takes one walk for each other class, too. A walk is that of a packet through the mixtures
+/// of the round. It holds some 100 bytes for each change that remains, of which there are at most 4096, and 40 for each class.
 pub fn order(
     alloc: Global,
     net: &Net,
@@ -78,11 +80,13 @@ pub fn order(
     ensures tree { IsTreeUpdate (record { update = record { net = net.now; old = rules_of_all old.now; new = rules_of_all new.now; demands = duties.now.demands }; rounds = [] })
         → IfOk result IsNotStuck }
 {
+    let list = list_classes(alloc, classes)?;
     let goal = Goal {
         net,
         new,
         duties,
         classes,
+        list,
     };
     net.keeps_rules();
     rounds_make_no_classes(net, old, new);

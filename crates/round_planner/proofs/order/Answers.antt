@@ -21,6 +21,7 @@ invariant_of-goal c = record {
   duties_of_them = c.requires.duties;
   hosts = ap (λ (cs : ClassList). cs.hosts) c.requires.classes;
   vlans = ap (λ (cs : ClassList). cs.vlans) c.requires.classes;
+  listed = c.in_ok-list.ensures;
 }
 
 pub make-requires : goal.make-requires

@@ -21,9 +21,9 @@ returns-in-Some c u k net walked begun =
     let (pick, force, is) = c.in-Some.ensures.some (suc k) begun in
     let (numbers, sets, meant) = pick_means e c.keeps_once.ensures pick force.stands in
     let (there, back) = c.use_keeps.ensures u k pick numbers sets net walked is (subst (λ (x : OrderedEvidence). IsMeant x pick numbers sets) (sym c.evidence.ensures) meant) in
-    let (certified, safe) = certified_by c.args.goal.now u e k c.args.number c.args.class c.keeps_once.ensures.ascending pick numbers sets force meant in
+    let (certified, safe) = certified_by c.args.goal.now u e k c.args.numbered.number c.args.numbered.class c.keeps_once.ensures.ascending pick numbers sets force meant in
     (λ h. certified (there h), λ h. back (safe h))
 
 pub returns-in-None : goal.returns-in-None
 returns-in-None c u k net walked begun =
-    (λ h. absurd (false≢true h), λ h. absurd (not_without_pick c.args.goal.now u c.args.store.now.evidence k c.args.number c.args.class c.in-None.ensures.none h))
+    (λ h. absurd (false≢true h), λ h. absurd (not_without_pick c.args.goal.now u c.args.store.now.evidence k c.args.numbered.number c.args.numbered.class c.in-None.ensures.none h))

@@ -10,7 +10,7 @@ use Rattle.round_planner.proofs.judging.use_keeps.Goals as goal
 pub returns : goal.returns
 returns c u k pick numbers sets net walked is meant =
     let e = c.args.evidence.now in
-    let class = c.args.class in
+    let class = c.args.numbered.class in
     let named = c.use_at-shared.result.now in
     let numbering = c.numbering_of.result.now in
     let (same, zipped) = means_use e pick numbers sets meant c.args.use_ named numbering is c.use_at-shared.ensures c.numbering_of.ensures in
