@@ -1,9 +1,11 @@
 -- The tests of keys say when two keys are the same.
-use Rattle.std.proofs.Common.{◌≡◌, ◌⊎◌, ℕ, true, false, refl, ◌∙◌, ap, subst, inl, inr}
+use Rattle.std.proofs.Common.{◌≡◌, ◌⊎◌, ℕ, true, false, refl, ◌∙◌, ap, subst, inl, inr, arith}
 use Rattle.std.specs.Prelude.{◌==◌, Bool, Option, Some, None}
 use Rattle.std.specs.Option.{option_eq}
 use Rattle.std.proofs.lemmas.Bool.{eqb-true, eq-eqb, and_parts, and_from, false≢true, false_from_ne_true, both_ways}
 use Rattle.net_base.specs.declared.ids.Port.{Port}
+use Rattle.net_base.proofs.NameLaws.{same_port}
+use Rattle.flow_rules.specs.Order.{port_rank, vlan_rank}
 use Rattle.flow_rules.specs.Patterns.{key_eq, vlan_test_eq}
 use Rattle.flow_rules.specs.declared.rules.VlanTest.{VlanTest}
 use Rattle.flow_rules.specs.declared.rules.VlanTest.TheVariants as test
@@ -39,7 +41,8 @@ vlan_test_eq-refl test.Any = refl
 vlan_test_eq-refl test.Untagged = refl
 vlan_test_eq-refl (test.Id n) = eq-eqb n n refl
 
-abbrev key_of : ℕ → Option Port → VlanTest → ℕ → ℕ → Key
+-- a key by its parts
+abbrev pub key_of : ℕ → Option Port → VlanTest → ℕ → ℕ → Key
 key_of priority in_port vlan base len = record { priority = priority; pattern = record { in_port = in_port; vlan = vlan; dst = record { base = base; len = len } } }
 
 pub key_eq-true : (a b : Key) → key_eq a b ≡ true → a ≡ b
@@ -68,3 +71,21 @@ key_ne a b differ = false_from_ne_true (key_eq a b) (λ e. differ (key_eq-true a
 -- two keys are the same or not
 pub cases_key : (a b : Key) → (a ≡ b) ⊎ (¬ (a ≡ b))
 cases_key a b = elim (key_eq a b) as (λ t. key_eq a b ≡ t → (a ≡ b) ⊎ (¬ (a ≡ b))) [ true ↦ λ e. inl (key_eq-true a b e) | false ↦ λ e. inr (key_eq-false a b e) ] refl
+
+-- the ranks tell ports and VLAN tests apart
+pub port_told : (a b : Option Port) → port_rank a ≡ port_rank b → a ≡ b
+port_told None None e = refl
+port_told None (Some q) e = absurd (omega arith)
+port_told (Some p) None e = absurd (omega arith)
+port_told (Some p) (Some q) e = ap Some (same_port p q (omega arith))
+
+pub vlan_told : (a b : VlanTest) → vlan_rank a ≡ vlan_rank b → a ≡ b
+vlan_told test.Any test.Any e = refl
+vlan_told test.Any test.Untagged e = absurd (omega arith)
+vlan_told test.Any (test.Id n) e = absurd (omega arith)
+vlan_told test.Untagged test.Any e = absurd (omega arith)
+vlan_told test.Untagged test.Untagged e = refl
+vlan_told test.Untagged (test.Id n) e = absurd (omega arith)
+vlan_told (test.Id m) test.Any e = absurd (omega arith)
+vlan_told (test.Id m) test.Untagged e = absurd (omega arith)
+vlan_told (test.Id m) (test.Id n) e = ap test.Id (omega arith)

@@ -6,3 +6,6 @@ pub mod BestLaws
 pub mod OverlapLaws
 pub mod ClashLaws
 pub mod TableLaws
+pub mod TupleLaws
+pub mod SearchLaws
+pub mod DeleteLaws

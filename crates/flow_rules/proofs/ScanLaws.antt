@@ -19,7 +19,7 @@ find_alike : {A : Type 0} (p q : A → Bool) (xs : List A) → ((x : A) → IsIn
 find_alike p q [] alike = refl
 find_alike p q (x ∷ xs) alike = ap (λ b. cond b (Some x) (find p xs)) (alike x (inl refl)) ∙ ap (λ o. cond (q x) (Some x) o) (find_alike p q xs (λ y i. alike y (inr i)))
 
-find_none : {A : Type 0} (p : A → Bool) (xs ys : List A) → ((x : A) → IsIn x xs → p x ≡ false) → find p (xs ++ ys) ≡ find p ys
+pub find_none : {A : Type 0} (p : A → Bool) (xs ys : List A) → ((x : A) → IsIn x xs → p x ≡ false) → find p (xs ++ ys) ≡ find p ys
 find_none p [] ys none = refl
 find_none p (x ∷ xs) ys none = cond-false (p x) (Some x) (find p (xs ++ ys)) (none x (inl refl)) ∙ find_none p xs ys (λ y i. none y (inr i))
 

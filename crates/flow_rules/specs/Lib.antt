@@ -1,6 +1,7 @@
 pub mod Patterns
-pub mod Tables
 pub mod Order
+pub mod Tuples
+pub mod Tables
 pub mod Scan
 pub mod Overlaps
 pub mod Frees

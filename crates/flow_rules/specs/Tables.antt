@@ -1,11 +1,13 @@
 -- Flow tables, and what a lookup in one gives.
-use Rattle.std.specs.Prelude.{◌≡◌, ℕ, nat_le, IsTrue, List, [], map, filter, find, flat_map, Option, option_map, slice_index_or}
+use Rattle.std.specs.Prelude.{◌≡◌, ℕ, nat_le, IsTrue, List, [], map, filter, find, flat_map, Option, IfSome, option_map, slice_index_or}
 use Rattle.std.specs.List.{list_all}
 use Rattle.std.specs.Option.{option_map_or}
 use Rattle.net_base.specs.Blocks.{Block}
 use Rattle.net_base.specs.Members.{IsIn, IsDistinct}
 use Rattle.net_base.specs.declared.ids.SwitchId.{SwitchId}
 use Rattle.flow_rules.specs.Patterns.{Header, covers, key_eq}
+use Rattle.flow_rules.specs.Tuples.{SpaceState}
+use Rattle.flow_rules.specs.declared.rules.Pattern.{Pattern}
 use Rattle.flow_rules.specs.declared.rules.Key.{Key}
 use Rattle.flow_rules.specs.declared.rules.Rule.{Rule}
 use Rattle.flow_rules.specs.declared.rules.Action.{Action}
@@ -23,6 +25,15 @@ keys_of rules = map (λ r. r.key) rules
 -- a table: no key stands twice
 abbrev pub IsTable : List Rule → Type 0
 IsTable rules = IsDistinct (keys_of rules)
+
+-- the patterns of a table's rules
+abbrev pub patterns_of : List Rule → List Pattern
+patterns_of rules = map (λ r. r.key.pattern) rules
+
+-- a table, and a space of its rules' patterns where there is one
+pub record IsTableWith (rules : List Rule) (space : Option SpaceState) : Type 0 where
+  pub distinct : IsTable rules
+  pub indexed : IfSome space (λ s. s.patterns ≡ patterns_of rules)
 
 -- the tables of all switches, without their room
 abbrev pub rules_of_all : List TableState → List (List Rule)

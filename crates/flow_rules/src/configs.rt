@@ -109,6 +109,17 @@ impl Config {
         &mut self.tables[switch.0 as usize]
     }
 
+    /// Has look-ups in each table search by the kinds of patterns, until its rules change. Takes time by the rules. Where
+    /// memory is wanting, the first tables alone are indexed.
+    pub fn index(&mut self) -> Result<(), Memory>
+        ensures { self.new ≡ self.old }
+    {
+        for i in 0..self.tables.len() {
+            self.tables[i].index()?;
+        }
+        Ok(())
+    }
+
     /// Tables with the same rules.
     pub fn copy(&self) -> Result<Config, Memory>
         ensures { IfOk result (λ c. rules_of_all c ≡ rules_of_all self.now) }

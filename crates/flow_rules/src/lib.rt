@@ -2,13 +2,17 @@
 #![tactic(auto)]
 
 mod configs;
+mod deletes;
 pub mod laws;
 mod order;
 mod overlaps;
 mod rules;
+mod searches;
 mod tables;
+mod tuple_space;
 
 pub use configs::Config;
 pub use order::key_order;
 pub use rules::{Action, Key, Pattern, Rewrite, Rule, VlanTest, admits_port, admits_vlan};
 pub use tables::Table;
+pub use tuple_space::TupleSpace;

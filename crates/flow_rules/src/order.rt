@@ -7,7 +7,7 @@ use net_base::Port;
 use std::cmp::Ordering;
 
 /// Any port first, and then the ports by their numbers.
-fn rank_of_port(port: Option<Port>) -> u32
+pub(crate) fn rank_of_port(port: Option<Port>) -> u32
     ensures { result ≡ port_rank port }
 {
     match port {
@@ -17,7 +17,7 @@ fn rank_of_port(port: Option<Port>) -> u32
 }
 
 /// Any VLAN first, then untagged, and then the ids.
-fn rank_of_vlan(test: VlanTest) -> u32
+pub(crate) fn rank_of_vlan(test: VlanTest) -> u32
     ensures { result ≡ vlan_rank test }
 {
     match test {

@@ -5,59 +5,37 @@ ghost use Rattle.net_base.specs.Members.{IsIn};
 ghost use Rattle.flow_rules.specs.Overlaps.{IsLeastClash};
 ghost use Rattle.flow_rules.specs.Patterns.{key_eq};
 ghost use Rattle.flow_rules.specs.Same.{rule_eq};
-ghost use Rattle.flow_rules.specs.Scan.{better_of};
 ghost use Rattle.flow_rules.specs.Tables.{lookup, matched, action_of, IsTable, IsClear, keys_of};
 
+use crate::deletes::delete_keys;
 use crate::overlaps::least_clash;
 use crate::rules::{Action, Key, Rule};
+use crate::searches::{Packet, best_in_space, best_of, space_of};
+use crate::tuple_space::TupleSpace;
 use net_base::{Memory, Port, Vlan};
 use std::alloc::Global;
 use std::marker::Model;
 
-/// A flow table: rules with distinct keys, in the order in which they came, and room for more.
+/// The fewest rules of a table that are worth a space.
+const LEAST_INDEXED: usize = 16;
+
+/// A flow table: rules with distinct keys, in the order in which they came, and room for more. Where it is indexed it has a
+/// space of its rules' patterns, until the rules change.
 #[derive(Drop)]
 pub struct Table {
     entries: Vec<Rule>,
+    space: Option<TupleSpace>,
 }
 
 impl Model for Table {
     ghost use Rattle.std.specs.Prelude.{vec_capacity, vec_len, ◌-◌};
-    ghost use Rattle.flow_rules.specs.Tables.{TableState, IsTable};
+    ghost use Rattle.flow_rules.specs.Tables.{TableState, IsTableWith};
 
     ghost Value = { TableState };
 
     ghost view = { λ t. record { rules = t.entries.items; spare = vec_capacity t.entries - vec_len t.entries } };
 
-    ghost invariant = { λ t. IsTable t.entries.items };
-}
-
-/// The rule that counts so far: the first of the greatest priority.
-fn better(best: Option<Rule>, rule: Rule) -> Option<Rule>
-    ensures { result ≡ better_of best rule }
-{
-    match best {
-        Some(b) => {
-            if b.key.priority < rule.key.priority {
-                Some(rule)
-            } else {
-                Some(b)
-            }
-        }
-        None => Some(rule),
-    }
-}
-
-/// The first of the covering rules of greatest priority.
-fn best_of(rules: &[Rule], port: Port, vlan: Vlan, dst: u32) -> Option<Rule>
-    ensures { result ≡ matched (record { port = port; vlan = vlan; dst = dst }) rules.now }
-{
-    let mut best = None;
-    for rule in rules {
-        if rule.key.pattern.covers(port, vlan, dst) {
-            best = better(best, *rule);
-        }
-    }
-    best
+    ghost invariant = { λ t. IsTableWith t.entries.items t.space };
 }
 
 impl Table {
@@ -69,12 +47,23 @@ impl Table {
         &self.entries
     }
 
+    /// The rule that matches a packet.
+    fn best(&self, packet: Packet) -> Option<Rule>
+        ensures { result ≡ matched (record { port = packet.port; vlan = packet.vlan; dst = packet.dst }) self.now.rules }
+    {
+        match &self.space {
+            Some(space) => best_in_space(&self.entries, space, packet),
+            None => best_of(&self.entries, packet),
+        }
+    }
+
     /// What the table does with a packet that comes in by a port with a VLAN to an address: the action of the first of the
-    /// rules of greatest priority that cover it, or discard (OpenFlow 1.0.0, section 3.4).
+    /// rules of greatest priority that cover it, or discard (OpenFlow 1.0.0, section 3.4). Where the table is indexed it looks
+    /// at the rules of one slot for each kind of pattern, at most 16, otherwise at all rules.
     pub fn lookup(&self, port: Port, vlan: Vlan, dst: u32) -> Action
         ensures { result ≡ lookup (record { port = port; vlan = vlan; dst = dst }) self.now.rules }
     {
-        match best_of(&self.entries, port, vlan, dst) {
+        match self.best(Packet { port, vlan, dst }) {
             Some(rule) => rule.action,
             None => Action::Discard,
         }
@@ -131,6 +120,7 @@ impl Table {
     {
         Ok(Table {
             entries: Vec::new(alloc),
+            space: None,
         })
     }
 
@@ -139,7 +129,21 @@ impl Table {
         ensures { IfOk result (λ t. t.rules ≡ self.now.rules) }
     {
         let entries = Vec::from_slice(*self.entries.allocator(), &self.entries)?;
-        Ok(Table { entries })
+        Ok(Table {
+            entries,
+            space: None,
+        })
+    }
+
+    /// Has look-ups search by the kinds of patterns, until the rules change: where there are at least 16 rules, of at most 16
+    /// kinds. Takes time by the rules. Where memory is wanting the table stays as it was.
+    pub fn index(&mut self) -> Result<(), Memory>
+        ensures { self.new ≡ self.old }
+    {
+        if self.entries.len() >= LEAST_INDEXED {
+            self.space = space_of(*self.entries.allocator(), &self.entries)?;
+        }
+        Ok(())
     }
 
     /// Makes room for so many more rules.
@@ -160,6 +164,7 @@ impl Table {
         ensures rules { self.new.rules ≡ self.old.rules ++ rule ∷ [] }
         ensures spare { self.new.spare + 1 ≡ self.old.spare }
     {
+        self.space = None;
         self.entries.push_reserved(rule);
     }
 
@@ -169,7 +174,17 @@ impl Table {
         ensures rules { self.new.rules ≡ filter (λ q. not (key_eq q.key key.now)) self.old.rules }
         ensures spare { self.new.spare ≡ self.old.spare + 1 }
     {
+        self.space = None;
         delete_from(&mut self.entries, key);
+    }
+
+    /// Takes out the rules with the keys of others, which it sorts. The rest keep their order. It takes time n log n.
+    pub fn delete_all(&mut self, others: &mut [Rule])
+        ensures rules { self.new.rules ≡ filter (λ q. not (list_any (λ r. key_eq r.key q.key) others.old)) self.old.rules }
+        ensures room { length self.new.rules + self.new.spare ≡ length self.old.rules + self.old.spare }
+    {
+        self.space = None;
+        delete_keys(&mut self.entries, others);
     }
 
     /// Puts a rule in the place of the one with its key.
@@ -177,6 +192,7 @@ impl Table {
         ensures rules { self.new.rules ≡ map (λ q. cond (key_eq q.key rule.key) rule q) self.old.rules }
         ensures spare { self.new.spare ≡ self.old.spare }
     {
+        self.space = None;
         replace_in(&mut self.entries, rule);
     }
 
@@ -194,6 +210,7 @@ impl Table {
         ensures rules { self.new.rules ≡ [] }
         ensures spare { self.new.spare ≡ length self.old.rules + self.old.spare }
     {
+        self.space = None;
         self.entries.clear();
     }
 

@@ -136,3 +136,85 @@ fn a_copy_of_all_tables_has_their_rules(rt: HostRuntime) {
         assert!(rt; count == want, "at {switch}");
     }
 }
+
+/// The forty rules of five prefixes, with and without an ingress port, and of four VLAN tests: of twelve kinds. Each sends
+/// by a port of its own. Many tie.
+fn forty(rt: &impl Abort, alloc: Global) -> Table {
+    let mut table = Table::make(alloc).expect(rt, "a table");
+    for (priority, port, dst) in [
+        (50, 0, "10.0.0.0/8"),
+        (50, 1, "10.0.0.0/8"),
+        (50, 0, "10.1.0.0/16"),
+        (50, 1, "10.1.0.0/16"),
+        (40, 0, "10.2.0.0/16"),
+        (60, 1, "10.2.0.0/16"),
+        (60, 0, "10.1.2.0/24"),
+        (50, 2, "10.1.2.0/24"),
+        (40, 0, "10.2.3.0/24"),
+        (60, 2, "10.2.3.0/24"),
+    ] {
+        add_tests(rt, &mut table, priority, port, dst);
+    }
+    table
+}
+
+/// Adds a rule for each of four VLAN tests.
+fn add_tests(rt: &impl Abort, table: &mut Table, priority: u16, port: u16, dst: &str) {
+    for vlan in [
+        VlanTest::Id(7),
+        VlanTest::Any,
+        VlanTest::Untagged,
+        VlanTest::Id(8),
+    ] {
+        let number = u16::try_from(table.rules().len()).expect(rt, "few rules");
+        add(rt, table, rule(rt, priority, port, vlan, dst, out(number)));
+    }
+}
+
+/// Compares what two tables do with packets to an address.
+fn answer_alike(rt: &impl Abort, one: &Table, other: &Table, dst: u32) {
+    for (port, vlan) in [
+        (1, Vlan::Untagged),
+        (2, Vlan::Untagged),
+        (3, Vlan::Untagged),
+        (1, Vlan::Id(7)),
+        (2, Vlan::Id(8)),
+        (3, Vlan::Id(9)),
+    ] {
+        let found = one.lookup(Port(port), vlan, dst);
+        assert!(rt; found == other.lookup(Port(port), vlan, dst));
+    }
+}
+
+#[test]
+fn an_indexed_table_answers_as_one_that_is_not(rt: HostRuntime) {
+    let mut table = forty(&rt, rt.alloc());
+    let mut plain = table.copy().expect(&rt, "a copy");
+    table.index().expect(&rt, "an index");
+    assert!(rt; table.rules() == plain.rules());
+    for dst in [
+        0x0a01_0203,
+        0x0a01_0909,
+        0x0a02_0304,
+        0x0a02_0909,
+        0x0a09_0909,
+        0x0b00_0000,
+    ] {
+        answer_alike(&rt, &table, &plain, dst);
+    }
+    assert!(rt; table.lookup(Port(1), Vlan::Id(7), 0x0a01_0203) == out(24));
+    assert!(rt; table.lookup(Port(3), Vlan::Id(9), 0x0a09_0909) == out(1));
+    let gone = rule(&rt, 60, 0, VlanTest::Id(7), "10.1.2.0/24", out(24));
+    delete(&rt, &mut table, &gone);
+    delete(&rt, &mut plain, &gone);
+    answer_alike(&rt, &table, &plain, 0x0a01_0203);
+}
+
+#[test]
+fn all_tables_are_indexed(rt: HostRuntime) {
+    let mut config = one_rule(&rt, rt.alloc());
+    config.index().expect(&rt, "an index");
+    assert!(rt; config.count() == 3);
+    let found = config.table(SwitchId(1)).lookup(Port(3), Vlan::Untagged, 1);
+    assert!(rt; found == out(1));
+}

@@ -12,7 +12,7 @@ use Rattle.flow_rules.specs.Patterns.{key_eq}
 use Rattle.flow_rules.specs.declared.rules.Key.{Key}
 use Rattle.flow_rules.specs.declared.rules.VlanTest.{VlanTest}
 use Rattle.flow_rules.specs.declared.rules.VlanTest.TheVariants as test
-use Rattle.flow_rules.proofs.KeyLaws.{key_eq-true, key_eq-false}
+use Rattle.flow_rules.proofs.KeyLaws.{key_eq-true, key_eq-false, port_told, vlan_told}
 use Rattle.update_model.specs.Remaining.{with_key, keys_in_order}
 use Rattle.net_base.proofs.NameLaws.{same_port}
 
@@ -91,23 +91,6 @@ key_through a b c first second =
 pub key_never : (a : Key) → IsKeyLess a a → ⊥
 key_never a =
     never a.priority _ (never (port_rank a.pattern.in_port) _ (never (vlan_rank a.pattern.vlan) _ (never a.pattern.dst.base _ (never a.pattern.dst.len [] (λ l. both_ways false refl l)))))
-
-port_told : (a b : Option Port) → port_rank a ≡ port_rank b → a ≡ b
-port_told None None e = refl
-port_told None (Some q) e = absurd (omega arith)
-port_told (Some p) None e = absurd (omega arith)
-port_told (Some p) (Some q) e = ap Some (same_port p q (omega arith))
-
-vlan_told : (a b : VlanTest) → vlan_rank a ≡ vlan_rank b → a ≡ b
-vlan_told test.Any test.Any e = refl
-vlan_told test.Any test.Untagged e = absurd (omega arith)
-vlan_told test.Any (test.Id n) e = absurd (omega arith)
-vlan_told test.Untagged test.Any e = absurd (omega arith)
-vlan_told test.Untagged test.Untagged e = refl
-vlan_told test.Untagged (test.Id n) e = absurd (omega arith)
-vlan_told (test.Id m) test.Any e = absurd (omega arith)
-vlan_told (test.Id m) test.Untagged e = absurd (omega arith)
-vlan_told (test.Id m) (test.Id n) e = ap test.Id (omega arith)
 
 abbrev key_of : ℕ → Option Port → VlanTest → ℕ → ℕ → Key
 key_of priority in_port vlan base len = record { priority = priority; pattern = record { in_port = in_port; vlan = vlan; dst = record { base = base; len = len } } }

@@ -5,11 +5,11 @@ use Rattle.flow_rules.proofs.TableLaws.{table_filter, one_less}
 use Rattle.flow_rules.proofs.tables.Table.delete.Goals as goal
 
 pub invariant_of-self : goal.invariant_of-self
-invariant_of-self c = rw c.delete_from.ensures.items (table_filter _ c.self.inside.entries.items c.self.invariant)
+invariant_of-self c = rw c.delete_from.ensures.items (record { distinct = table_filter _ c.self.inside.entries.items c.self.invariant.distinct; indexed = tt })
 
 pub returns-clause-spare : goal.returns-clause-spare
 returns-clause-spare c =
-    let less = one_less c.args.key.now c.self.inside.entries.items c.self.invariant
+    let less = one_less c.args.key.now c.self.inside.entries.items c.self.invariant.distinct
     (subst (λ (t : TableState). IsIn c.args.key.now (keys_of t.rules)) (sym c.self.view_is) c.requires.present) in
     let before = c.self.inside.entries.ok in
     let after = c.delete_from.new.rules.ok.0 in

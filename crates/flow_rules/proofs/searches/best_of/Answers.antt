@@ -5,12 +5,12 @@ use Rattle.flow_rules.specs.Patterns.{Header, covers}
 use Rattle.flow_rules.specs.Tables.{matched}
 use Rattle.flow_rules.specs.Scan.{better_of}
 use Rattle.flow_rules.proofs.ScanLaws.{matched-push}
-use Rattle.flow_rules.proofs.tables.best_of.Goals as goal
-use Rattle.flow_rules.proofs.tables.best_of.Goals.{then-covers, else-covers}
+use Rattle.flow_rules.proofs.searches.best_of.Goals as goal
+use Rattle.flow_rules.proofs.searches.best_of.Goals.{then-covers, else-covers}
 
 pub loop-rule-preserved : goal.loop-rule-preserved
 loop-rule-preserved c =
-    let h : Header = record { port = c.args.port; vlan = c.args.vlan; dst = c.args.dst } in
+    let h : Header = record { port = c.args.packet.port; vlan = c.args.packet.vlan; dst = c.args.packet.dst } in
     let seen = take c.loop-rule.rule-index c.args.rules.now in
     let r = c.rule-item.result in
     let more = ap (matched h) (take_more c.args.rules.now c.loop-rule.rule-index r c.loop-rule-test.true ∙ ap (λ x. seen ++ x ∷ []) (sym c.rule-item.is)) ∙ matched-push h seen r in

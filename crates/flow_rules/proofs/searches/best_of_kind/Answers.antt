@@ -1,0 +1,27 @@
+use Rattle.std.proofs.Common.{◌≡◌, ◌+◌, ◌≤◌, ℕ, length, get_or, subst, arith}
+use Rattle.std.specs.Prelude.{Option}
+use Rattle.flow_rules.specs.Patterns.{Header}
+use Rattle.flow_rules.specs.Scan.{IsBeaten}
+use Rattle.flow_rules.specs.Tuples.{around, slot_of, slots_of, link_number}
+use Rattle.flow_rules.proofs.SearchLaws.{step_same, step_seen}
+use Rattle.flow_rules.proofs.searches.best_of_kind.Goals as goal
+
+pub loop-at-preserved : goal.loop-at-preserved
+loop-at-preserved c =
+    let h : Header = record { port = c.args.packet.port; vlan = c.args.packet.vlan; dst = c.args.packet.dst } in
+    let rules = c.args.rules.now in
+    let slots = slots_of c.args.space.now in
+    let slot = slot_of c.args.space.now.count (around c.args.kind.now h) in
+    let i = c.in-Some.position in
+    let held = c.loop-at.invariant in
+    let same : get_or slots i 0 ≡ slot = held.same i c.in-Some.is in
+    let inside : i + 1 ≤ length rules = subst (λ (o : Option ℕ). link_number o ≤ length rules) c.in-Some.is held.within in
+    let seen : (j : ℕ) → i + 1 ≤ j → get_or slots j 0 ≡ slot → IsBeaten h rules c.loop-at.best j =
+    subst (λ (o : Option ℕ). (j : ℕ) → link_number o ≤ j → get_or slots j 0 ≡ slot → IsBeaten h rules c.loop-at.best j) c.in-Some.is held.seen in
+    record {
+      within = let w = c.after-at.ensures.within in omega arith;
+      same = step_same slots slot i same c.after-at.result c.after-at.ensures;
+      hit = c.better_at-best.ensures.hit;
+      kept = λ j b. c.better_at-best.ensures.kept j (held.kept j b);
+      seen = step_seen slots slot i same c.after-at.result c.after-at.ensures h rules c.loop-at.best c.better_at-best.result c.better_at-best.ensures.kept c.better_at-best.ensures.here seen;
+    }
