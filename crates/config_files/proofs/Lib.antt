@@ -3,3 +3,4 @@ pub mod Ports
 pub mod TableUpdates
 pub mod UserRules
 pub mod UserTables
+pub mod KeyClashes

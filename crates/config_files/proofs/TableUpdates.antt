@@ -1,6 +1,6 @@
 -- The tables of all switches when one is changed.
-use Rattle.std.proofs.Common.{◌≡◌, ℕ, zero, suc, ◌<◌, List, [], ◌∷◌, set, get_or, refl, sym, ◌+◌, ◌-◌, ap, arith}
-use Rattle.std.specs.Prelude.{Some, None, slice_get, find, Bool, false, Result, Ok, Err, MatchResult}
+use Rattle.std.proofs.Common.{◌≡◌, ℕ, zero, suc, ◌<◌, List, [], ◌∷◌, set, get_or, sym, ◌+◌, ◌-◌, ap, arith}
+use Rattle.std.specs.Prelude.{Some, slice_get, find, Bool, false, Result, Ok, Err, MatchResult}
 use Rattle.std.specs.List.{range_with_len}
 use Rattle.std.proofs.lemmas.Bool.{cond-false}
 use Rattle.net_base.specs.Reading.{Fails}

@@ -42,10 +42,10 @@ fn add_rule(table: &mut Table, place: u32, rule: Rule) -> Result<(), ConfigFault
         (λ _. configuration.rules_with place table.old.rules rule ≡ Ok table.new.rules)
         (λ e. Fails Memory e (configuration.rules_with place table.old.rules rule)) }
 {
-    if has_key(table.rules(), &rule.key) {
-        return Err(ConfigFault::KeyTwice(place));
-    }
     if has_clash(table.rules(), &rule.key) {
+        if has_key(table.rules(), &rule.key) {
+            return Err(ConfigFault::KeyTwice(place));
+        }
         return Err(ConfigFault::Overlap(place));
     }
     table.reserve(1)?;
@@ -163,6 +163,7 @@ fn read_tables(alloc: Global, net: &Net, top: &Value) -> Result<Config, ConfigFa
     if let Some(switch) = over_capacity(net, &config) {
         return Err(ConfigFault::OverCapacity(switch));
     }
+    config.index()?;
     Ok(config)
 }
 
@@ -177,7 +178,7 @@ fn read_bytes(alloc: Global, net: &Net, bytes: &[u8]) -> Result<Config, ConfigFa
 
 /// The configuration of a network that the bytes describe: for each switch its rules in the order of the file. The first
 /// check that fails is the refusal. The cost is that of the text, and of comparing each rule with those before it at its
-/// switch, of which there are at most 2047.
+/// switch, of which there are at most 2047. Look-ups in its tables search by the kinds of patterns.
 pub fn read_config(alloc: Global, net: &Net, bytes: &[u8]) -> Result<Config, ConfigFault>
     ensures read { Gives Memory rules_of_all result (configuration.configuration_in net.now bytes.now) }
     // What was read is what a user may write.
