@@ -124,6 +124,10 @@ fn classes_have_the_duties_of_the_demands_that_cover_them(rt: HostRuntime) {
         assert!(rt; duties.chains(class) == chains, "at {class}");
         assert!(rt; duties.must_arrive(class) == arrive, "at {class}");
     }
+    for (class, shared) in [(0, true), (1, false), (2, true), (6, true)] {
+        assert!(rt; class < classes.count());
+        assert!(rt; duties.are_shared(0, class) == shared, "at {class}");
+    }
 }
 
 #[test]

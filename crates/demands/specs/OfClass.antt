@@ -15,6 +15,10 @@ AreCovered demands classes = AllByRecursion (λ d. IsIn d.dst classes.prefixes) 
 abbrev pub OfClass : ClassDuties → ℕ → (PacketDuties → Type 0) → Type 0
 OfClass d n P = (class : Class) → IsClass d.classes n class → P (duties_of d.demands class.entry class.first)
 
+-- the duties of class a are those of class b
+abbrev pub HaveSameDuties : ClassDuties → ℕ → ℕ → Type 0
+HaveSameDuties d a b = OfClass d a (λ one. OfClass d b (λ other. one ≡ other))
+
 -- each address of class n has the duties of its first address
 abbrev pub HasDutiesOfEachAddress : ClassDuties → ℕ → Type 0
 HasDutiesOfEachAddress d n =

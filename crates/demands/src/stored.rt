@@ -1,9 +1,9 @@
 //! The duties of the classes of a map.
-ghost use Rattle.std.specs.Prelude.{◌≡◌, ◌<◌, ◌&&◌, ℕ, cond, length, map, slice_get, Some, IfOk, OnOk};
+ghost use Rattle.std.specs.Prelude.{◌≡◌, ◌<◌, ◌&&◌, ℕ, cond, true, length, map, slice_get, Some, IfOk, OnOk};
 ghost use Rattle.std.specs.List.{list_any};
 ghost use Rattle.dest_classes.specs.Classes.{class_count};
 ghost use Rattle.demands.specs.Duties.{PacketDuties, demand_covers, duties_of, with_chain, first_of_each};
-ghost use Rattle.demands.specs.OfClass.{AreCovered, OfClass, HasDutiesOfEachAddress, AreInOrder};
+ghost use Rattle.demands.specs.OfClass.{AreCovered, OfClass, HaveSameDuties, HasDutiesOfEachAddress, AreInOrder};
 ghost use Rattle.demands.specs.Sets.{duties_by};
 
 use crate::chains::put_chain;
@@ -171,5 +171,15 @@ impl Duties {
         ensures each_address { HasDutiesOfEachAddress self.now class }
     {
         self.duty(class).arrive
+    }
+
+    /// Whether the same demands cover both classes: then their duties are the same. It takes no memory, and the same time for
+    /// any duties.
+    pub fn are_shared(&self, a: u32, b: u32) -> bool
+        requires one { a < class_count self.now.classes }
+        requires other { b < class_count self.now.classes }
+        ensures { result ≡ true → HaveSameDuties self.now a b }
+    {
+        self.row_numbers[a as usize] == self.row_numbers[b as usize]
     }
 }
