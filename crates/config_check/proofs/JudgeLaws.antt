@@ -1,5 +1,5 @@
 -- From the end of a walk to a good path, or to how it breaks duties.
-use Rattle.std.proofs.Common.{◌≡◌, ℕ, zero, suc, ◌+◌, ◌<◌, ◌≤◌, IsTrue, List, [], ◌∷◌, ◌++◌, length, take, drop, sym, ◌∙◌, subst, ap, inl, inr, arith, add-one}
+use Rattle.std.proofs.Common.{◌≡◌, ℕ, zero, suc, ◌+◌, ◌<◌, List, [], ◌∷◌, ◌++◌, take, drop, sym, ◌∙◌, subst, ap, add-one}
 use Rattle.std.specs.Prelude.{Option, Some, None, IfNone, slice_get, flat_map}
 use Rattle.std.specs.List.{AllByRecursion}
 use Rattle.net_base.specs.Members.{IsIn, IsSubsequence}
@@ -16,7 +16,6 @@ use Rattle.dest_classes.specs.Classes.{ClassList, IsClass}
 use Rattle.dest_classes.specs.declared.Class.{Class}
 use Rattle.flow_rules.specs.declared.rules.Rule.{Rule}
 use Rattle.path_walk.specs.Walked.{EndsOnce}
-use Rattle.path_walk.specs.declared.Ended.{Ended}
 use Rattle.path_walk.specs.declared.Ended.TheVariants as end
 use Rattle.demands.specs.Duties.{DemandView, duties_of}
 use Rattle.demands.specs.Good.{switches_of, HasGoodPath}

@@ -10,8 +10,10 @@ ghost use Rattle.demands.specs.Duties.{duties_of};
 ghost use Rattle.demands.specs.Good.{switches_of, HasGoodPath};
 ghost use Rattle.demands.specs.OfClass.{OfClass};
 ghost use Rattle.config_check.specs.Broken.{MissesAt, BreaksSo};
+ghost use Rattle.config_check.specs.Met.{IsMetPath};
 
 use crate::How;
+use crate::met::MetPath;
 use crate::waypoints::missed_waypoint;
 use demands::Duties;
 use dest_classes::NumberedClass;
@@ -19,6 +21,9 @@ use flow_rules::Config;
 use net_base::{Stop, SwitchId};
 use path_walk::{PathEnd, PathRoom, walk};
 use topology::Net;
+
+/// From how many chains of a class on the path that met them is kept: keeping it takes less than testing few chains.
+const MANY_CHAINS: u32 = 4;
 
 /// The waypoint that the stops don't visit of the first chain of a class that they don't meet.
 fn missed(duties: &Duties, class: u32, stops: &[Stop]) -> Option<SwitchId>
@@ -34,6 +39,27 @@ fn missed(duties: &Duties, class: u32, stops: &[Stop]) -> Option<SwitchId>
     None
 }
 
+/// As `missed`. The chains are not tested where these are the stops that met the chains of another class with its duties.
+fn first_missed(duties: &Duties, class: u32, stops: &[Stop], met: &mut MetPath) -> Option<SwitchId>
+    requires number { class < class_count duties.now.classes }
+    requires kept { IsMetPath duties.now met.old }
+    ensures none { IfNone result (OfClass duties.now class (λ d. AllByRecursion (λ chain. IsSubsequence chain (switches_of stops.now)) d.chains)) }
+    ensures some { IfSome result (λ w. OfClass duties.now class (λ d. MissesAt d.chains (switches_of stops.now) w)) }
+    ensures kept { IsMetPath duties.now met.new }
+{
+    if duties.chains(class) < MANY_CHAINS {
+        return missed(duties, class, stops);
+    }
+    if met.knows(duties, class, stops) {
+        return None;
+    }
+    let found = missed(duties, class, stops);
+    if found.is_none() {
+        met.keep(class, stops);
+    }
+    found
+}
+
 /// How the path of a class breaks its duties, where it does.
 pub(crate) fn how_broken(
     net: &Net,
@@ -41,15 +67,18 @@ pub(crate) fn how_broken(
     duties: &Duties,
     numbered: NumberedClass,
     room: &mut PathRoom,
+    met: &mut MetPath,
 ) -> Option<How>
     requires tables { length config.now ≡ switch_count net.now }
     requires entry { numbered.class.entry.switch.0 < switch_count net.now }
     requires room { room.old.switches ≡ switch_count net.now }
     requires number { numbered.number < class_count duties.now.classes }
     requires class { IsNumbered duties.now.classes numbered }
+    requires kept { IsMetPath duties.now met.old }
     ensures none { IfNone result (HasGoodPath net.now (rules_of_all config.now) duties.now.demands numbered.class.entry numbered.class.first) }
     ensures some { IfSome result (BreaksSo net.now (rules_of_all config.now) (duties_of duties.now.demands numbered.class.entry numbered.class.first) numbered.class.entry numbered.class.first) }
     ensures same_room { room.new.switches ≡ room.old.switches }
+    ensures kept { IsMetPath duties.now met.new }
 {
     let NumberedClass { number, class } = numbered;
     match walk(net, config, class.entry, class.first, room) {
@@ -61,6 +90,9 @@ pub(crate) fn how_broken(
                 None
             }
         }
-        PathEnd::Left(_, _) => Some(How::Missed(missed(duties, number, room.stops())?)),
+        PathEnd::Left(_, _) => {
+            let missed = first_missed(duties, number, room.stops(), met)?;
+            Some(How::Missed(missed))
+        }
     }
 }

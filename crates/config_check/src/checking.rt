@@ -7,6 +7,7 @@ ghost use Rattle.config_check.specs.Broken.{IsFirstBreak};
 
 use crate::Breaks;
 use crate::breaking::how_broken;
+use crate::met::MetPath;
 use demands::Duties;
 use dest_classes::{ClassMap, NumberedClass};
 use flow_rules::Config;
@@ -15,7 +16,8 @@ use topology::Net;
 
 /// Whether every class has a good path; otherwise the least class that has none, and how its path breaks its duties.
 /// The duties and the class map were made for the network, the duties from this map, and the room for a network with as
-/// many switches. Takes time by the classes, the lengths of their paths and those of their chains.
+/// many switches. Takes time by the classes, the lengths of their paths and those of their chains; where classes with many
+/// chains follow one another that the same demands cover and whose paths have the same stops, the chains are tested once.
 pub fn check_config(
     net: &Net,
     config: &Config,
@@ -32,10 +34,11 @@ pub fn check_config(
     ensures same_room { room.new.switches ≡ room.old.switches }
 {
     net.keeps_rules();
+    let mut met = MetPath::none();
     for number in 0..classes.count() {
         let class = classes.class(number);
         let numbered = NumberedClass { number, class };
-        if let Some(how) = how_broken(net, config, duties, numbered, room) {
+        if let Some(how) = how_broken(net, config, duties, numbered, room, &mut met) {
             return Err(Breaks { class: number, how });
         }
     }

@@ -4,6 +4,7 @@
 mod breaking;
 mod checking;
 pub mod laws;
+mod met;
 mod waypoints;
 
 pub use checking::check_config;

@@ -2,7 +2,8 @@
 use command_base::Status;
 use config_command::{ConfigNames, config};
 use example_files::{
-    Answer, ConfigTexts, answer_of, config_source, detour, none, single, square, triangle, wide,
+    Answer, ConfigTexts, answer_of, config_source, detour, halves, none, single, square, triangle,
+    wide,
 };
 use std::alloc::Global;
 use std::test::Fail;
@@ -53,7 +54,7 @@ fn first_other(
 
 #[test]
 fn good_paths_hold(rt: HostRuntime) -> Result<(), Fail> {
-    let rows: [(ConfigTexts<'_>, &[u8]); 6] = [
+    let rows: [(ConfigTexts<'_>, &[u8]); 7] = [
         (
             free(square::topology(), square::old()),
             b"holds: 12 classes\n",
@@ -75,6 +76,10 @@ fn good_paths_hold(rt: HostRuntime) -> Result<(), Fail> {
             b"holds: 6 classes\n",
         ),
         (
+            under(detour::topology(), halves::split(), halves::many_chains()),
+            b"holds: 8 classes\n",
+        ),
+        (
             free(none::no_switches(), none::no_rules()),
             b"holds: 0 classes\n",
         ),
@@ -85,7 +90,7 @@ fn good_paths_hold(rt: HostRuntime) -> Result<(), Fail> {
 
 #[test]
 fn the_first_break_is_named(rt: HostRuntime) -> Result<(), Fail> {
-    let rows: [(ConfigTexts<'_>, &[u8]); 4] = [
+    let rows: [(ConfigTexts<'_>, &[u8]); 6] = [
         (
             free(triangle::topology(), triangle::reached_loop()),
             b"breaks: at h:1 untagged 10.0.0.0 Loop a\n",
@@ -101,6 +106,18 @@ fn the_first_break_is_named(rt: HostRuntime) -> Result<(), Fail> {
         (
             under(detour::topology(), detour::new(), detour::chain_policy()),
             b"breaks: at s:1 untagged 10.0.0.0 Missed y\n",
+        ),
+        (
+            under(detour::topology(), halves::parted(), halves::many_chains()),
+            b"breaks: at s:1 untagged 10.0.0.128 Missed x\n",
+        ),
+        (
+            under(
+                detour::topology(),
+                halves::split(),
+                halves::turned_for_one_half(),
+            ),
+            b"breaks: at s:1 untagged 10.0.0.128 Missed w\n",
         ),
     ];
     assert_eq!(rt; first_other(rt.alloc(), &rows, Status::Refused)?, None);

@@ -6,6 +6,7 @@ mod answer;
 pub mod detour;
 pub mod detour_plans;
 pub mod four_ports;
+pub mod halves;
 mod held;
 pub mod leaves;
 pub mod none;

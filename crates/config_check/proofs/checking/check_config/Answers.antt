@@ -33,6 +33,7 @@ loop-number-preserved c = record {
             subst (λ (x : Class). HasGoodPath c.args.net.now (rules_of_all c.args.config.now) c.args.duties.now.demands x.entry x.first) (sym same) c.in_default.ensures.none)
       ];
   same_room = c.how_broken.ensures.same_room ∙ c.loop-number.invariant.same_room;
+  kept = c.how_broken.ensures.kept;
 }
 
 pub returns-clause-ok : goal.returns-clause-ok
