@@ -10,12 +10,13 @@ use Rattle.net_base.proofs.MemberLaws.{in_from_map, each_at}
 use Rattle.flow_rules.specs.Order.{port_rank, vlan_rank}
 use Rattle.flow_rules.specs.Overlaps.{IsClash, ports_meet, vlans_meet, blocks_meet, keys_clash}
 use Rattle.flow_rules.specs.Patterns.{covers, admits_port, admits_vlan}
+use Rattle.flow_rules.specs.Tuples.{ports_alike, tests_alike, are_alike}
 use Rattle.flow_rules.specs.Frees.{IsFree}
 use Rattle.flow_rules.specs.declared.rules.Rule.{Rule}
 use Rattle.flow_rules.specs.declared.rules.VlanTest.{VlanTest}
 use Rattle.flow_rules.specs.declared.rules.VlanTest.TheVariants as test
 use Rattle.flow_rules.proofs.OverlapLaws.{later_in, meet_out}
-use Rattle.round_mix.specs.Apart.{AreApart, ports_alike, vlans_alike, are_alike, is_apart}
+use Rattle.round_mix.specs.Apart.{AreApart, is_apart}
 use Rattle.round_mix.specs.Marks.{rules_of}
 use Rattle.round_mix.specs.Order.{priority_of, base_of, port_of, vlan_of, IsInKeyOrder, AreInKeyOrder}
 use Rattle.round_mix.specs.declared.MarkedRule.{MarkedRule}
@@ -42,7 +43,7 @@ ports_alike_through (Some p) None r a b = absurd (false≢true a)
 ports_alike_through (Some p) (Some q) None a b = absurd (false≢true b)
 ports_alike_through (Some p) (Some q) (Some r) a b = refl
 
-vlans_ranked : (s t : VlanTest) → vlans_alike s t ≡ true → vlans_meet s t ≡ true → vlan_rank s ≡ vlan_rank t
+vlans_ranked : (s t : VlanTest) → tests_alike s t ≡ true → vlans_meet s t ≡ true → vlan_rank s ≡ vlan_rank t
 vlans_ranked test.Any test.Any a e = refl
 vlans_ranked test.Any test.Untagged a e = absurd (false≢true a)
 vlans_ranked test.Any (test.Id n) a e = absurd (false≢true a)
@@ -62,32 +63,32 @@ vlans_meet_ranked (test.Id m) test.Any e = refl
 vlans_meet_ranked (test.Id m) test.Untagged e = absurd (omega arith)
 vlans_meet_ranked (test.Id m) (test.Id n) e = eq-eqb m n (omega arith)
 
-vlans_alike_through : (s t u : VlanTest) → vlans_alike s t ≡ true → vlans_alike t u ≡ true → vlans_alike s u ≡ true
-vlans_alike_through test.Any test.Any u a b = b
-vlans_alike_through test.Any test.Untagged u a b = absurd (false≢true a)
-vlans_alike_through test.Any (test.Id n) u a b = absurd (false≢true a)
-vlans_alike_through test.Untagged test.Any u a b = absurd (false≢true a)
-vlans_alike_through test.Untagged test.Untagged u a b = b
-vlans_alike_through test.Untagged (test.Id n) test.Any a b = absurd (false≢true b)
-vlans_alike_through test.Untagged (test.Id n) test.Untagged a b = refl
-vlans_alike_through test.Untagged (test.Id n) (test.Id o) a b = refl
-vlans_alike_through (test.Id m) test.Any u a b = absurd (false≢true a)
-vlans_alike_through (test.Id m) test.Untagged test.Any a b = absurd (false≢true b)
-vlans_alike_through (test.Id m) test.Untagged test.Untagged a b = refl
-vlans_alike_through (test.Id m) test.Untagged (test.Id o) a b = refl
-vlans_alike_through (test.Id m) (test.Id n) test.Any a b = absurd (false≢true b)
-vlans_alike_through (test.Id m) (test.Id n) test.Untagged a b = refl
-vlans_alike_through (test.Id m) (test.Id n) (test.Id o) a b = refl
+tests_alike_through : (s t u : VlanTest) → tests_alike s t ≡ true → tests_alike t u ≡ true → tests_alike s u ≡ true
+tests_alike_through test.Any test.Any u a b = b
+tests_alike_through test.Any test.Untagged u a b = absurd (false≢true a)
+tests_alike_through test.Any (test.Id n) u a b = absurd (false≢true a)
+tests_alike_through test.Untagged test.Any u a b = absurd (false≢true a)
+tests_alike_through test.Untagged test.Untagged u a b = b
+tests_alike_through test.Untagged (test.Id n) test.Any a b = absurd (false≢true b)
+tests_alike_through test.Untagged (test.Id n) test.Untagged a b = refl
+tests_alike_through test.Untagged (test.Id n) (test.Id o) a b = refl
+tests_alike_through (test.Id m) test.Any u a b = absurd (false≢true a)
+tests_alike_through (test.Id m) test.Untagged test.Any a b = absurd (false≢true b)
+tests_alike_through (test.Id m) test.Untagged test.Untagged a b = refl
+tests_alike_through (test.Id m) test.Untagged (test.Id o) a b = refl
+tests_alike_through (test.Id m) (test.Id n) test.Any a b = absurd (false≢true b)
+tests_alike_through (test.Id m) (test.Id n) test.Untagged a b = refl
+tests_alike_through (test.Id m) (test.Id n) (test.Id o) a b = refl
 
 abbrev kinds : MarkedRule → MarkedRule → Bool
 kinds m n = are_alike m.rule.key.pattern n.rule.key.pattern
 
 kinds_through : (m n q : MarkedRule) → kinds m n ≡ true → kinds n q ≡ true → kinds m q ≡ true
 kinds_through m n q a b =
-    let (p, s) = and_parts (ports_alike m.rule.key.pattern.in_port n.rule.key.pattern.in_port) (vlans_alike m.rule.key.pattern.vlan n.rule.key.pattern.vlan) a in
-    let (r, t) = and_parts (ports_alike n.rule.key.pattern.in_port q.rule.key.pattern.in_port) (vlans_alike n.rule.key.pattern.vlan q.rule.key.pattern.vlan) b in
+    let (p, s) = and_parts (ports_alike m.rule.key.pattern.in_port n.rule.key.pattern.in_port) (tests_alike m.rule.key.pattern.vlan n.rule.key.pattern.vlan) a in
+    let (r, t) = and_parts (ports_alike n.rule.key.pattern.in_port q.rule.key.pattern.in_port) (tests_alike n.rule.key.pattern.vlan q.rule.key.pattern.vlan) b in
     and_from _ _ (ports_alike_through m.rule.key.pattern.in_port n.rule.key.pattern.in_port q.rule.key.pattern.in_port p r)
-    (vlans_alike_through m.rule.key.pattern.vlan n.rule.key.pattern.vlan q.rule.key.pattern.vlan s t)
+    (tests_alike_through m.rule.key.pattern.vlan n.rule.key.pattern.vlan q.rule.key.pattern.vlan s t)
 
 -- what neighbours that are apart say
 kinds_next : (m n : MarkedRule) → is_apart m n ≡ true → priority_of m ≡ priority_of n → kinds m n ≡ true
@@ -144,7 +145,7 @@ none_behind m (n ∷ ns) order apart q (inr i) clash =
     let meets = meet_out m.rule.key.pattern q.rule.key.pattern clash.header clash.first clash.second in
     let (front, _) = and_parts (ports_meet m.rule.key.pattern.in_port q.rule.key.pattern.in_port && vlans_meet m.rule.key.pattern.vlan q.rule.key.pattern.vlan) (blocks_meet m.rule.key.pattern.dst q.rule.key.pattern.dst) meets in
     let (ports, vlans) = and_parts (ports_meet m.rule.key.pattern.in_port q.rule.key.pattern.in_port) (vlans_meet m.rule.key.pattern.vlan q.rule.key.pattern.vlan) front in
-    let (alike_ports, alike_vlans) = and_parts (ports_alike m.rule.key.pattern.in_port q.rule.key.pattern.in_port) (vlans_alike m.rule.key.pattern.vlan q.rule.key.pattern.vlan)
+    let (alike_ports, alike_vlans) = and_parts (ports_alike m.rule.key.pattern.in_port q.rule.key.pattern.in_port) (tests_alike m.rule.key.pattern.vlan q.rule.key.pattern.vlan)
     (kinds_along m (n ∷ ns) order apart q (inr i) clash.priority) in
     let p : port_of m ≡ port_of q = ports_ranked m.rule.key.pattern.in_port q.rule.key.pattern.in_port alike_ports ports in
     let v : vlan_of m ≡ vlan_of q = vlans_ranked m.rule.key.pattern.vlan q.rule.key.pattern.vlan alike_vlans vlans in

@@ -12,3 +12,6 @@ pub mod ApartLaws
 pub mod KindLaws
 pub mod PassLaws
 pub mod TriedLaws
+pub mod PickedLaws
+pub mod AmongLaws
+pub mod NearestLaws

@@ -1,7 +1,7 @@
 -- The actions of the marked scan are those of the lookups in all mixtures.
 use Rattle.std.proofs.Common.{◌≡◌, ◌⊎◌, ℕ, ◌≤◌, Bool, true, false, cond, List, [], ◌∷◌, ◌++◌, map, refl, sym, ◌∙◌, subst, ap, inl, inr, arith}
-use Rattle.std.specs.Prelude.{Some, None, IsSomeAnd}
-use Rattle.std.specs.Option.{option_map_or}
+use Rattle.std.specs.Prelude.{Some, None, IsSome, IfSome, IsSomeAnd}
+use Rattle.std.specs.Option.{ForSome, option_map_or}
 use Rattle.std.proofs.lemmas.Bool.{cond-true, both_ways}
 use Rattle.std.proofs.lemmas.List.Sorted.{IsPermutation-sym}
 use Rattle.net_base.specs.Members.{IsIn}
@@ -21,12 +21,29 @@ use Rattle.update_model.specs.declared.Change.{Change}
 use Rattle.update_model.proofs.MatchLaws.{may_match, may_miss, misses_somewhere, matches_somewhere}
 use Rattle.round_mix.specs.Found.{AreAllOutcomes}
 use Rattle.round_mix.specs.Marks.{marked, all_rules, marked_rules}
-use Rattle.round_mix.specs.Prepared.{IsPrepared, IsFalling}
+use Rattle.round_mix.specs.Prepared.{AreGood, AreClear, IsPrepared, IsFalling}
 use Rattle.round_mix.specs.Scan.{actions_by, is_kept, scan}
 use Rattle.round_mix.specs.declared.Mark.{Mark}
 use Rattle.round_mix.specs.declared.Mark.TheVariants.{Sure, Possible, Replaced}
 use Rattle.round_mix.specs.declared.MarkedRule.{MarkedRule}
 use Rattle.round_mix.proofs.MarkLaws.{in_permutation, rules_by, rules_by-key, all_mixed, marked_from, kept_from, kept_to, available_from, available_to}
+
+-- marked rules, in descending priority, that are those of a table and good changes of it whose mixtures are all clear
+pub record AreScannable (table : List Rule) (changes : List Change) (marks : List MarkedRule) : Type 0 where
+  pub good : AreGood table changes
+  pub clear : AreClear table changes
+  pub into : (m : MarkedRule) → IsIn m (marked_rules table changes) → IsIn m marks
+  pub from : (m : MarkedRule) → IsIn m marks → IsIn m (marked_rules table changes)
+  pub falling : IsFalling marks
+
+pub scannable : (table : List Rule) (changes : List Change) (marks : List MarkedRule) → IsPrepared table changes marks → AreScannable table changes marks
+scannable table changes marks prepared = record {
+  good = prepared.good;
+  clear = prepared.clear;
+  into = λ m i. in_permutation marks (marked_rules table changes) m (IsPermutation-sym (marked_rules table changes) marks prepared.rules) i;
+  from = λ m i. in_permutation (marked_rules table changes) marks m prepared.rules i;
+  falling = prepared.falling;
+}
 
 -- the actions of a marked rule are those of its rules
 rule_from_action : (mark : Mark) (x : Rule) (a : Action) → IsIn a (actions_by mark x.action) → (r : Rule) × IsIn r (rules_by mark x) × (a ≡ r.action)
@@ -53,7 +70,7 @@ module _ (h : Header) where
   Covers m = covers m.rule.key.pattern h ≡ true
 
   -- the scan at a rule that covers, and at one that doesn't
-  scan_covering : (m : MarkedRule) (ms : List MarkedRule) → Covers m → scan h (m ∷ ms) ≡ actions_by m.mark m.rule.action ++ cond (is_kept m.mark) [] (scan h ms)
+  pub scan_covering : (m : MarkedRule) (ms : List MarkedRule) → Covers m → scan h (m ∷ ms) ≡ actions_by m.mark m.rule.action ++ cond (is_kept m.mark) [] (scan h ms)
   scan_covering m ms covered = cond-true (covers m.rule.key.pattern h) (actions_by m.mark m.rule.action ++ cond (is_kept m.mark) [] (scan h ms)) (scan h ms) covered
 
   -- where no rule that covers ends the scan, it reaches the end
@@ -99,18 +116,12 @@ module _ (h : Header) where
             ] refl)
       ]
 
-  module _ (table : List Rule) (changes : List Change) (marks : List MarkedRule) (prepared : IsPrepared table changes marks) where
-    into : (m : MarkedRule) → IsIn m (marked_rules table changes) → IsIn m marks
-    into m i = in_permutation marks (marked_rules table changes) m (IsPermutation-sym (marked_rules table changes) marks prepared.rules) i
-
-    from : (m : MarkedRule) → IsIn m marks → IsIn m (marked_rules table changes)
-    from m i = in_permutation (marked_rules table changes) marks m prepared.rules i
-
+  module _ (table : List Rule) (changes : List Change) (marks : List MarkedRule) (prepared : AreScannable table changes marks) where
     -- two marked rules that cover, of one priority, are the same
     one_covers : (n m : MarkedRule) → IsIn n marks → IsIn m marks → Covers n → Covers m → n.rule.key.priority ≡ m.rule.key.priority → n ≡ m
     one_covers n m i j over covered same =
-        let (n_is, k) = marked_from table changes prepared.good.applies prepared.good.distinct n (from n i) in
-        let (m_is, l) = marked_from table changes prepared.good.applies prepared.good.distinct m (from m j) in
+        let (n_is, k) = marked_from table changes prepared.good.applies prepared.good.distinct n (prepared.from n i) in
+        let (m_is, l) = marked_from table changes prepared.good.applies prepared.good.distinct m (prepared.from m j) in
         let e = prepared.clear (all_rules table changes) (all_mixed table changes) h n.rule m.rule k l over covered same in
         n_is ∙ ap (marked changes) e ∙ sym m_is
 
@@ -120,13 +131,13 @@ module _ (h : Header) where
         let (m, i, j) = available_from table changes prepared.good.applies prepared.good.distinct r may.available in
         let key = rules_by-key m.mark m.rule r j in
         let covered : Covers m = subst (λ k. covers k.pattern h ≡ true) key may.covering in
-        scan_meets marks m r prepared.falling (into m i) covered j
-        (λ n l over kept. subst (λ k. n.rule.key.priority ≤ k.priority) key (may.not_below n.rule.key (kept_to table changes prepared.good.applies prepared.good.distinct n (from n l) kept) over))
-        (λ n l over same. one_covers n m l (into m i) over covered same)
+        scan_meets marks m r prepared.falling (prepared.into m i) covered j
+        (λ n l over kept. subst (λ k. n.rule.key.priority ≤ k.priority) key (may.not_below n.rule.key (kept_to table changes prepared.good.applies prepared.good.distinct n (prepared.from n l) kept) over))
+        (λ n l over same. one_covers n m l (prepared.into m i) over covered same)
 
     -- where nothing kept covers, the scan reaches the end
     ended : MayMiss table changes h → IsIn Discard (scan h marks)
-    ended miss = scan_end marks (λ m i over kept. miss m.rule.key (kept_to table changes prepared.good.applies prepared.good.distinct m (from m i) kept) over)
+    ended miss = scan_end marks (λ m i over kept. miss m.rule.key (kept_to table changes prepared.good.applies prepared.good.distinct m (prepared.from m i) kept) over)
 
     -- a rule of a marked one with only lower kept rules behind may match
     may_from : (m : MarkedRule) (r : Rule) → IsIn m marks → IsIn r (rules_by m.mark m.rule) → Covers m
@@ -134,11 +145,11 @@ module _ (h : Header) where
     may_from m r i j covered low =
         let key = rules_by-key m.mark m.rule r j in
         record {
-          available = available_to table changes prepared.good.applies prepared.good.distinct m r (from m i) j;
+          available = available_to table changes prepared.good.applies prepared.good.distinct m r (prepared.from m i) j;
           covering = subst (λ k. covers k.pattern h ≡ true) (sym key) covered;
           not_below = λ k kept over.
               let (n, l, stays, is) = kept_from table changes prepared.good.applies prepared.good.distinct k kept in
-              let le = low n (into n l) (subst (λ z. covers z.pattern h ≡ true) (sym is) over) stays in
+              let le = low n (prepared.into n l) (subst (λ z. covers z.pattern h ≡ true) (sym is) over) stays in
               subst (λ z. z.priority ≤ r.key.priority) is (subst (λ z. n.rule.key.priority ≤ z.priority) (sym key) le);
         }
 
@@ -151,7 +162,7 @@ module _ (h : Header) where
           | inl e ↦ inr (
             (λ k kept over.
                 let (n, l, stays, is) = kept_from table changes prepared.good.applies prepared.good.distinct k kept in
-                rest n (into n l) (subst (λ z. covers z.pattern h ≡ true) (sym is) over) stays),
+                rest n (prepared.into n l) (subst (λ z. covers z.pattern h ≡ true) (sym is) over) stays),
             e,
           )
           | inr none ↦ absurd none
@@ -205,9 +216,9 @@ module _ (h : Header) where
         ] refl
 
 -- what a place makes of the scan's actions are its outcomes over all mixtures
-pub outcomes_from_scan : (net : Network) (place : Place) (dst : ℕ) (table : List Rule) (changes : List Change) (marks : List MarkedRule) (list : List Outcome)
-    → IsPrepared table changes marks → list ≡ map (acted net place) (scan (header_at place dst) marks) → AreAllOutcomes net table changes place dst list
-outcomes_from_scan net place dst table changes marks list prepared is found = (
+pub outcomes_from_marks : (net : Network) (place : Place) (dst : ℕ) (table : List Rule) (changes : List Change) (marks : List MarkedRule) (list : List Outcome)
+    → AreScannable table changes marks → list ≡ map (acted net place) (scan (header_at place dst) marks) → AreAllOutcomes net table changes place dst list
+outcomes_from_marks net place dst table changes marks list prepared is found = (
   λ i.
       let (a, j, e) = in_from_map (acted net place) found (scan (header_at place dst) marks) (subst (λ xs. IsIn found xs) is i) in
       let (mixed, mixture, f) = lookup_from_scan (header_at place dst) table changes marks prepared a j in
@@ -218,7 +229,20 @@ outcomes_from_scan net place dst table changes marks list prepared is found = (
       (subst (λ x. IsIn x (map (acted net place) (scan (header_at place dst) marks))) (sym o.is) (in_map (acted net place) (lookup (header_at place dst) o.mixed) (scan (header_at place dst) marks) j)),
 )
 
+pub outcomes_from_scan : (net : Network) (place : Place) (dst : ℕ) (table : List Rule) (changes : List Change) (marks : List MarkedRule) (list : List Outcome)
+    → IsPrepared table changes marks → list ≡ map (acted net place) (scan (header_at place dst) marks) → AreAllOutcomes net table changes place dst list
+outcomes_from_scan net place dst table changes marks list prepared = outcomes_from_marks net place dst table changes marks list (scannable table changes marks prepared)
+
 -- what is prepared, by the flag
 pub prepared_at : (ready : Bool) (marks : List MarkedRule) (P : List MarkedRule → Type 0) → IsSomeAnd (cond ready (Some marks) None) P → P marks
 prepared_at true marks P h = h
 prepared_at false marks P h = absurd h
+
+-- and what holds of what is prepared
+pub for_prepared : (ready : Bool) (marks : List MarkedRule) (P : List MarkedRule → Type 0) → IsSome (cond ready (Some marks) None) → ForSome (cond ready (Some marks) None) P → P marks
+for_prepared true marks P is h = h marks refl
+for_prepared false marks P is h = absurd (both_ways false refl is)
+
+pub if_prepared : (ready : Bool) (marks : List MarkedRule) (P : List MarkedRule → Type 0) → P marks → IfSome (cond ready (Some marks) None) P
+if_prepared true marks P h = h
+if_prepared false marks P h = tt

@@ -19,6 +19,7 @@ use Rattle.flow_rules.specs.declared.rules.Rule.{Rule}
 use Rattle.flow_rules.proofs.OverlapLaws.{meet_in, meet_out}
 use Rattle.flow_rules.proofs.KeyLaws.{key_eq-true, key_eq-refl, key_ne}
 use Rattle.update_model.specs.Changes.{AppliesTo, rules_after_change, rules_after}
+use Rattle.update_model.specs.Mixtures.{is_insert}
 use Rattle.update_model.specs.declared.Change.{Change}
 use Rattle.update_model.specs.declared.Change.TheVariants.{Insert, Delete, Replace}
 use Rattle.update_model.proofs.ChangeLaws.{key_named}
@@ -27,7 +28,9 @@ use Rattle.update_model.proofs.MatchLaws.{some_filter}
 use Rattle.round_mix.specs.Marks.{mark_by, marked, all_rules, marked_rules, rules_of}
 use Rattle.round_mix.specs.Named.{with_mark}
 use Rattle.round_mix.specs.Prepared.{AreGood, AreClear, IsFalling, IsPrepared}
-use Rattle.round_mix.specs.Tried.{settled, put_in, marked_where, without, is_refused, tried, given_up, kept}
+use Rattle.round_mix.specs.Tried.{settled, rule_after, put_in, marked_where, without, is_refused, tried, given_up, kept}
+use Rattle.round_mix.specs.Nearest.{patterns_in, is_delete}
+use Rattle.round_mix.specs.declared.Mark.{Mark}
 use Rattle.round_mix.specs.declared.Mark.TheVariants.{Sure, Possible, Replaced}
 use Rattle.round_mix.specs.declared.MarkedRule.{MarkedRule}
 use Rattle.round_mix.proofs.ApartLaws.{keys_moved, flips}
@@ -410,6 +413,10 @@ tried_few (Insert s r) ms = let e = length_permutation (with_mark r Possible ∷
 tried_few (Delete s r) ms = let e = length-map ms (λ (m : MarkedRule). cond (key_eq r.key m.rule.key) (with_mark m.rule Possible) m) in omega arith
 tried_few (Replace s r) ms = let e = length-map ms (λ (m : MarkedRule). cond (key_eq r.key m.rule.key) (with_mark m.rule (Replaced r.action)) m) in omega arith
 
+pub begun_few : (c : Change) (old new : List MarkedRule) (b : Bool) → (b ≡ true → new ≡ tried c old) → (b ≡ false → new ≡ old) → length new ≤ length old + 1
+begun_few c old new true on off = subst (λ (ms : List MarkedRule). length ms ≤ length old + 1) (sym (on refl)) (tried_few c old)
+begun_few c old new false on off = let same = ap length (off refl) in omega arith
+
 pub given_few : (c : Change) (ms : List MarkedRule) → length (given_up c ms) ≤ length ms
 given_few (Insert s r) ms = without_few r.key ms
 given_few (Delete s r) ms = let e = length-map ms (λ (m : MarkedRule). cond (key_eq r.key m.rule.key) (with_mark m.rule Sure) m) in omega arith
@@ -435,3 +442,41 @@ carried_few false old new bound few = tt
 pub not-false : (b : Bool) → not b ≡ false → b ≡ true
 not-false true e = refl
 not-false false e = absurd (false≢true (sym e))
+
+-- a change that isn't an insert leaves the patterns where they are while it is tried, and once it is given up
+module _ (f : MarkedRule → MarkedRule) (same : (m : MarkedRule) → (f m).rule.key.pattern ≡ m.rule.key.pattern) where
+  map_patterns : (ms : List MarkedRule) → patterns_in (map f ms) ≡ patterns_in ms
+  map_patterns [] = refl
+  map_patterns (m ∷ ms) = ap (λ p. p ∷ patterns_in (map f ms)) (same m) ∙ ap (λ ps. m.rule.key.pattern ∷ ps) (map_patterns ms)
+
+marked_patterns : (k : Key) (mark : Mark) (ms : List MarkedRule) → patterns_in (marked_where k mark ms) ≡ patterns_in ms
+marked_patterns k mark ms = map_patterns (λ m. cond (key_eq k m.rule.key) (with_mark m.rule mark) m) (λ m. by (key_eq k m.rule.key) m) ms
+  where
+    by : (b : Bool) (m : MarkedRule) → (cond b (with_mark m.rule mark) m).rule.key.pattern ≡ m.rule.key.pattern
+    by true m = refl
+    by false m = refl
+
+settled_pattern : (mark : Mark) (r : Rule) → (rule_after mark r).key.pattern ≡ r.key.pattern
+settled_pattern (Replaced a) r = refl
+settled_pattern Sure r = refl
+settled_pattern Possible r = refl
+
+pub tried_patterns : (c : Change) (ms : List MarkedRule) → is_insert c ≡ false → patterns_in (tried c ms) ≡ patterns_in ms
+tried_patterns (Insert s r) ms off = absurd (both_ways true off refl)
+tried_patterns (Delete s r) ms off = marked_patterns r.key Possible ms
+tried_patterns (Replace s r) ms off = marked_patterns r.key (Replaced r.action) ms
+
+pub given_patterns : (c : Change) (ms : List MarkedRule) → is_insert c ≡ false → patterns_in (given_up c ms) ≡ patterns_in ms
+given_patterns (Insert s r) ms off = absurd (both_ways true off refl)
+given_patterns (Delete s r) ms off = marked_patterns r.key Sure ms
+given_patterns (Replace s r) ms off = marked_patterns r.key Sure ms
+
+-- and one that isn't a delete once it is made
+pub kept_patterns : (c : Change) (ms : List MarkedRule) → is_delete c ≡ false → patterns_in (kept c ms) ≡ patterns_in ms
+kept_patterns (Insert s r) ms off = map_patterns settled (λ m. settled_pattern m.mark m.rule) ms
+kept_patterns (Delete s r) ms off = absurd (both_ways true off refl)
+kept_patterns (Replace s r) ms off = map_patterns settled (λ m. settled_pattern m.mark m.rule) ms
+
+pub begun_patterns : (c : Change) (old new : List MarkedRule) (b : Bool) → (b ≡ true → new ≡ tried c old) → (b ≡ false → new ≡ old) → is_insert c ≡ false → patterns_in new ≡ patterns_in old
+begun_patterns c old new true on off stays = ap patterns_in (on refl) ∙ tried_patterns c old stays
+begun_patterns c old new false on off stays = ap patterns_in (off refl)

@@ -3,6 +3,8 @@ pub mod Prepared
 pub mod Faults
 pub mod Found
 pub mod Scan
+pub mod Among
+pub mod Nearest
 pub mod Order
 pub mod Named
 pub mod Apart

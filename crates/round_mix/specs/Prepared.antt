@@ -10,10 +10,12 @@ use Rattle.update_model.specs.declared.Change.{Change}
 use Rattle.round_mix.specs.Marks.{marked_rules}
 use Rattle.round_mix.specs.declared.MarkedRule.{MarkedRule}
 
--- the marked rules of one switch in descending priority, if they are prepared, and for how many there is room
+-- the marked rules of one switch in descending priority, if they are prepared, for how many there is room, and the address
+-- that was aimed at since, if one was
 pub record MixedState : Type 0 where
   pub prepared : Option (List MarkedRule)
   pub room : ℕ
+  pub aimed : Option ℕ
 
 -- good changes of one table: each applies to it, and no key is named twice
 pub record AreGood (table : List Rule) (changes : List Change) : Type 0 where

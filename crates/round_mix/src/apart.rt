@@ -1,44 +1,12 @@
 //! Whether no two marked rules clash.
 ghost use Rattle.std.specs.Prelude.{◌≡◌, IsTrue, IsPermutation, vec_capacity};
-ghost use Rattle.round_mix.specs.Apart.{AreApart, ports_alike, vlans_alike, are_alike, is_apart};
-ghost use Rattle.round_mix.specs.Order.{AreInKeyOrder};
+ghost use Rattle.round_mix.specs.Apart.{AreApart, is_apart};
+ghost use Rattle.round_mix.specs.Order.{AreInOrder, AreInKeyOrder};
 ghost use Rattle.round_mix.specs.Prepared.{IsFalling};
 
 use crate::MarkedRule;
 use crate::clashes::is_free;
 use crate::sorting::{sort, sort_by_key};
-use flow_rules::{Pattern, VlanTest};
-use net_base::Port;
-
-/// Whether both choices take any port, or both one port.
-fn are_ports_alike(a: Option<Port>, b: Option<Port>) -> bool
-    ensures { result ≡ ports_alike a b }
-{
-    match (a, b) {
-        (None, None) => true,
-        (Some(_), Some(_)) => true,
-        _ => false,
-    }
-}
-
-/// Whether both tests take any VLAN, or neither does.
-fn are_vlans_alike(a: VlanTest, b: VlanTest) -> bool
-    ensures { result ≡ vlans_alike a b }
-{
-    match (a, b) {
-        (VlanTest::Any, VlanTest::Any) => true,
-        (VlanTest::Any, _) => false,
-        (_, VlanTest::Any) => false,
-        _ => true,
-    }
-}
-
-/// Whether two patterns test the same beside the address.
-fn are_alike(a: &Pattern, b: &Pattern) -> bool
-    ensures { result ≡ are_alike a.now b.now }
-{
-    are_ports_alike(a.in_port, b.in_port) && are_vlans_alike(a.vlan, b.vlan)
-}
 
 /// Whether the second of two neighbours in key order tests the same as the first, if it has the same priority, and they
 /// don't clash.
@@ -47,7 +15,7 @@ fn is_apart(a: &MarkedRule, b: &MarkedRule) -> bool
 {
     let one = &a.rule.key;
     let two = &b.rule.key;
-    (one.priority != two.priority || are_alike(&one.pattern, &two.pattern)) && !one.clashes(two)
+    (one.priority != two.priority || one.pattern.is_alike(&two.pattern)) && !one.clashes(two)
 }
 
 /// Whether no two of rules in key order clash, as far as their neighbours tell: those of one priority all test the same
@@ -64,6 +32,28 @@ fn are_apart(rules: &[MarkedRule]) -> bool
     true
 }
 
+/// Sorts marked rules by their keys, and says whether their neighbours tell that no two of them clash.
+fn are_apart_by_key(marks: &mut Vec<MarkedRule>) -> bool
+    ensures permutation { IsPermutation marks.old.items marks.new.items }
+    ensures order { AreInKeyOrder marks.new.items }
+    ensures apart { IsTrue result → AreApart marks.new.items }
+    ensures room { vec_capacity marks.new ≡ vec_capacity marks.old }
+{
+    sort_by_key(marks);
+    are_apart(marks)
+}
+
+/// Sorts marked rules by priority and address, and says whether no two of them clash.
+fn are_apart_by_address(marks: &mut Vec<MarkedRule>) -> bool
+    ensures permutation { IsPermutation marks.old.items marks.new.items }
+    ensures order { AreInOrder marks.new.items }
+    ensures apart { IsTrue result → AreApart marks.new.items }
+    ensures room { vec_capacity marks.new ≡ vec_capacity marks.old }
+{
+    sort(marks);
+    is_free(marks)
+}
+
 /// Sorts marked rules by priority, and says whether no two of them clash. Where rules of one priority test different
 /// things beside the address, each is compared with those of its priority whose first address lies in its prefix.
 pub fn sort_apart(marks: &mut Vec<MarkedRule>) -> bool
@@ -72,10 +62,23 @@ pub fn sort_apart(marks: &mut Vec<MarkedRule>) -> bool
     ensures apart { IsTrue result → AreApart marks.new.items }
     ensures room { vec_capacity marks.new ≡ vec_capacity marks.old }
 {
-    sort_by_key(marks);
-    if are_apart(marks) {
+    if are_apart_by_key(marks) {
         return true;
     }
-    sort(marks);
-    is_free(marks)
+    are_apart_by_address(marks)
+}
+
+/// Sorts marked rules by their keys, and says as `sort_apart` whether no two of them clash.
+pub fn sort_apart_by_key(marks: &mut Vec<MarkedRule>) -> bool
+    ensures permutation { IsPermutation marks.old.items marks.new.items }
+    ensures order { AreInKeyOrder marks.new.items }
+    ensures apart { IsTrue result → AreApart marks.new.items }
+    ensures room { vec_capacity marks.new ≡ vec_capacity marks.old }
+{
+    if are_apart_by_key(marks) {
+        return true;
+    }
+    let is_apart = are_apart_by_address(marks);
+    sort_by_key(marks);
+    is_apart
 }

@@ -1,16 +1,19 @@
 //! What a packet may meet at a switch while the changes of a round are made.
 #![tactic(auto)]
 
-ghost use Rattle.std.specs.Prelude.{◌≡◌, ◌+◌, ◌≤◌, ◌<◌, ◌∷◌, [], ◌++◌, List, true, false, None, length, map, vec_len, vec_capacity, IfOk, IfErr, OnOk, OnErr, IfSome, IsSome, IsSomeAnd};
+ghost use Rattle.std.specs.Prelude.{ℕ, ◌≡◌, ◌+◌, ◌^◌, ◌≤◌, ◌<◌, ◌∷◌, [], ◌++◌, List, true, false, Some, None, length, map, drop, vec_len, vec_capacity, IfOk, IfErr, OnOk, OnErr, IfSome, IsSome, IsSomeAnd};
 ghost use Rattle.std.specs.Option.{ForSome};
 ghost use Rattle.path_walk.specs.Outcomes.{acted, header_at};
 ghost use Rattle.flow_rules.specs.Tables.{IsTable};
 ghost use Rattle.round_mix.specs.Faults.{IsFault};
 ghost use Rattle.update_model.specs.Changes.{AppliesTo, rules_after_change};
-ghost use Rattle.update_model.specs.Mixtures.{entries_needed};
+ghost use Rattle.update_model.specs.Mixtures.{entries_needed, is_insert};
 ghost use Rattle.round_mix.specs.Marks.{all_rules};
 ghost use Rattle.round_mix.specs.Found.{AreAllOutcomes};
 ghost use Rattle.round_mix.specs.Prepared.{AreClear, IsPrepared};
+ghost use Rattle.table_index.specs.Candidates.{AreCandidates, IsAscending};
+ghost use Rattle.round_mix.specs.Among.{AreOutcomesAmong, AreWithin, HoldCandidates, blocks_of, picked};
+ghost use Rattle.round_mix.specs.Nearest.{is_delete, patterns_in};
 ghost use Rattle.round_mix.specs.Scan.{actions_by, is_kept, scan};
 
 mod apart;
@@ -18,21 +21,24 @@ mod changes;
 mod clashes;
 mod marking;
 mod named;
+mod nearest;
 mod sorting;
 mod tried;
 
 use apart::sort_apart;
 use changes::first_bad;
 use clashes::least_clash;
-use flow_rules::{Action, Rule, Table};
+use flow_rules::{Action, Rule, Table, TupleSpace};
 use marking::fill;
 use named::mix_by_key;
+use nearest::{Packet, fill_space, nearest};
 use net_base::{Memory, Place};
 use path_walk::Outcome;
 use path_walk::following::act;
 use sorting::sort;
 use std::alloc::Global;
 use std::marker::Model;
+use table_index::Index;
 use topology::Net;
 use tried::{make, take_back, try_change};
 use update_model::Change;
@@ -66,15 +72,31 @@ pub enum MixFault {
 pub struct Mixed {
     rules: Vec<MarkedRule>,
     is_prepared: bool,
+    /// For how many rules there is room, in the list and in the index.
+    room: usize,
+    /// The rules whose prefix holds the aimed address.
+    index: Index,
+    /// The aimed address.
+    aimed: Option<u32>,
+    /// The patterns of the rules, while they are indexed.
+    space: TupleSpace,
+    is_indexed: bool,
 }
 
 impl Model for Mixed {
-    ghost use Rattle.std.specs.Prelude.{vec_capacity, vec_len, cond, Some, None, ◌≤◌};
+    ghost use Rattle.std.specs.Prelude.{vec_capacity, vec_len, cond, Some, None, true, ◌≡◌, ◌≤◌, IfSome};
+    ghost use Rattle.table_index.specs.Candidates.{AreCandidates};
+    ghost use Rattle.round_mix.specs.Among.{blocks_of};
+    ghost use Rattle.round_mix.specs.Nearest.{patterns_in};
     ghost use Rattle.round_mix.specs.Prepared.{MixedState};
 
     ghost Value = { MixedState };
 
-    ghost view = { λ m. record { prepared = cond m.is_prepared (Some m.rules.items) None; room = vec_capacity m.rules } };
+    ghost view = { λ m. record { prepared = cond m.is_prepared (Some m.rules.items) None; room = m.room; aimed = m.aimed } };
+
+    ghost invariant = { λ m. (m.room ≤ vec_capacity m.rules) × (m.room ≤ m.index.room) × (m.is_prepared ≡ true → vec_len m.rules ≤ m.room)
+        × IfSome m.aimed (λ dst. AreCandidates (blocks_of m.rules.items) dst m.index.candidates)
+        × (m.is_indexed ≡ true → m.space.patterns ≡ patterns_in m.rules.items) };
 }
 
 /// Outcomes of a place.
@@ -147,9 +169,8 @@ fn put_actions(net: &Net, place: Place, marked: &MarkedRule, outcomes: &mut Vec<
 
 /// Puts the outcomes that the marked scan finds.
 fn put_scan(net: &Net, place: Place, dst: u32, rules: &[MarkedRule], outcomes: &mut Vec<Outcome>)
-    requires empty { vec_len outcomes.old ≡ 0 }
-    requires room { length rules.now < vec_capacity outcomes.old }
-    ensures items { outcomes.new.items ≡ map (acted net.now place) (scan (header_at place dst) rules.now) }
+    requires { vec_len outcomes.old + length rules.now < vec_capacity outcomes.old }
+    ensures items { outcomes.new.items ≡ outcomes.old.items ++ map (acted net.now place) (scan (header_at place dst) rules.now) }
     ensures room { vec_capacity outcomes.old ≤ vec_capacity outcomes.new }
 {
     for marked in rules {
@@ -161,6 +182,109 @@ fn put_scan(net: &Net, place: Place, dst: u32, rules: &[MarkedRule], outcomes: &
         }
     }
     put(outcomes, Outcome::Discard);
+}
+
+/// Puts the outcomes by the nearest rule, from a position on, that covers the packet; where the scan goes on, if it does.
+fn put_nearest(
+    net: &Net,
+    packet: Packet,
+    rules: &[MarkedRule],
+    space: &TupleSpace,
+    from: usize,
+    outcomes: &mut Vec<Outcome>,
+) -> Option<usize>
+    requires fresh { space.now.patterns ≡ patterns_in rules.now }
+    requires within { from ≤ length rules.now }
+    requires room { vec_len outcomes.old + length rules.now < vec_capacity outcomes.old + from }
+    ensures ends { result ≡ None → outcomes.new.items ≡ outcomes.old.items ++ map (acted net.now packet.place) (scan (header_at packet.place packet.dst) (drop from rules.now)) }
+    ensures goes_on { (next : ℕ) → result ≡ Some next → outcomes.new.items ++ map (acted net.now packet.place) (scan (header_at packet.place packet.dst) (drop next rules.now))
+        ≡ outcomes.old.items ++ map (acted net.now packet.place) (scan (header_at packet.place packet.dst) (drop from rules.now)) }
+    ensures within { (next : ℕ) → result ≡ Some next → next ≤ length rules.now }
+    ensures left { (next : ℕ) → result ≡ Some next → vec_len outcomes.new + length rules.now < vec_capacity outcomes.new + next }
+    ensures room { vec_capacity outcomes.old ≤ vec_capacity outcomes.new }
+{
+    match nearest(rules, space, packet, from) {
+        None => {
+            put(outcomes, Outcome::Discard);
+            None
+        }
+        Some(position) => {
+            let covering = &rules[position];
+            put_actions(net, packet.place, covering, outcomes);
+            if covering.mark.is_kept() {
+                return None;
+            }
+            Some(position + 1)
+        }
+    }
+}
+
+/// How many covering rules are found in a space before the others are found by a look at each. So many rules that cover one
+/// packet and may all be missing are rare.
+const MOST_SEARCHES: usize = 4;
+
+/// Puts the outcomes that the marked scan finds, by a space of the patterns.
+fn put_found(
+    net: &Net,
+    packet: Packet,
+    rules: &[MarkedRule],
+    space: &TupleSpace,
+    outcomes: &mut Vec<Outcome>,
+)
+    requires fresh { space.now.patterns ≡ patterns_in rules.now }
+    requires room { vec_len outcomes.old + length rules.now < vec_capacity outcomes.old }
+    ensures items { outcomes.new.items ≡ outcomes.old.items ++ map (acted net.now packet.place) (scan (header_at packet.place packet.dst) rules.now) }
+    ensures room { vec_capacity outcomes.old ≤ vec_capacity outcomes.new }
+{
+    let mut from = 0;
+    for _ in 0..MOST_SEARCHES {
+        match put_nearest(net, packet, rules, space, from, outcomes) {
+            None => return,
+            Some(next) => from = next,
+        }
+    }
+    put_scan(net, packet.place, packet.dst, &rules[from..], outcomes);
+}
+
+/// Puts the outcomes that the marked scan finds among the rules at the positions.
+fn put_among(
+    net: &Net,
+    place: Place,
+    dst: u32,
+    rules: &[MarkedRule],
+    positions: &[u32],
+    outcomes: &mut Vec<Outcome>,
+)
+    requires empty { vec_len outcomes.old ≡ 0 }
+    requires within { AreWithin positions.now (length rules.now) }
+    requires room { length positions.now < vec_capacity outcomes.old }
+    ensures items { outcomes.new.items ≡ map (acted net.now place) (scan (header_at place dst) (picked rules.now positions.now)) }
+    ensures room { vec_capacity outcomes.old ≤ vec_capacity outcomes.new }
+{
+    for i in 0..positions.len() {
+        let candidate = &rules[positions[i] as usize];
+        let pattern = &candidate.rule.key.pattern;
+        if pattern.covers(place.port, place.vlan, dst) {
+            put_actions(net, place, candidate, outcomes);
+            if candidate.mark.is_kept() {
+                return;
+            }
+        }
+    }
+    put(outcomes, Outcome::Discard);
+}
+
+/// Has an index hold the positions of the rules whose prefix holds the address.
+fn find_candidates(index: &mut Index, rules: &[MarkedRule], dst: u32)
+    requires few { length rules.now < 2 ^ 32 }
+    requires room { length rules.now ≤ index.old.room }
+    ensures exact { AreCandidates (blocks_of rules.now) dst index.new.candidates }
+    ensures room { index.old.room ≤ index.new.room }
+{
+    index.clear();
+    for position in 0..rules.len() {
+        index.next(position as u32, &rules[position].rule.key.pattern.dst, dst);
+    }
 }
 
 /// Marks and sorts the rules of a table and the inserted ones, or says why not.
@@ -202,14 +326,47 @@ fn prepare(table: &Table, changes: &[Change], marks: &mut Vec<MarkedRule>) -> Re
     mix(table, changes, marks)
 }
 
+/// The fewest prepared rules that are worth a space.
+const LEAST_INDEXED: usize = 16;
+
+/// How many times the number of rules the room may be. A space is emptied in time by its room.
+const MOST_ROOM: usize = 64;
+
+/// Whether a change inserts a rule.
+fn is_insert(change: &Change) -> bool
+    ensures { result ≡ is_insert change.now }
+{
+    matches!(change, Change::Insert(_, _))
+}
+
+/// Whether a change deletes a rule.
+fn is_delete(change: &Change) -> bool
+    ensures { result ≡ is_delete change.now }
+{
+    matches!(change, Change::Delete(_, _))
+}
+
+/// Whether what was indexed still is, after a change that may move rules.
+fn stays_indexed(was_indexed: bool, is_moved: bool) -> bool
+    ensures was { result ≡ true → was_indexed ≡ true }
+    ensures unmoved { result ≡ true → is_moved ≡ false }
+{
+    was_indexed && !is_moved
+}
+
 impl Mixed {
     /// Nothing prepared, with room for so many rules.
     pub fn with_room(alloc: Global, entries: usize) -> Result<Mixed, Memory>
-        ensures { IfOk result (λ m. m ≡ record { prepared = None; room = entries }) }
+        ensures { IfOk result (λ m. m ≡ record { prepared = None; room = entries; aimed = None }) }
     {
         Ok(Mixed {
             rules: Vec::with_capacity(alloc, entries)?,
             is_prepared: false,
+            room: entries,
+            index: Index::with_room(alloc, entries)?,
+            aimed: None,
+            space: TupleSpace::with_room(alloc, entries)?,
+            is_indexed: false,
         })
     }
 
@@ -227,6 +384,8 @@ impl Mixed {
         ensures room { self.old.room ≤ self.new.room }
     {
         self.is_prepared = false;
+        self.aimed = None;
+        self.is_indexed = false;
         prepare(table, changes, &mut self.rules)?;
         self.is_prepared = true;
         Ok(())
@@ -244,6 +403,8 @@ impl Mixed {
         ensures few { IfSome self.old.prepared (λ old. IsSomeAnd self.new.prepared (λ marks. length marks ≤ length old + 1)) }
         ensures room { self.old.room ≤ self.new.room }
     {
+        self.aimed = None;
+        self.is_indexed = stays_indexed(self.is_indexed, is_insert(change));
         try_change(&mut self.rules, change)
     }
 
@@ -254,6 +415,8 @@ impl Mixed {
         ensures few { IfSome self.old.prepared (λ old. IsSomeAnd self.new.prepared (λ marks. length marks ≤ length old)) }
         ensures room { self.old.room ≤ self.new.room }
     {
+        self.aimed = None;
+        self.is_indexed = stays_indexed(self.is_indexed, is_insert(change));
         take_back(&mut self.rules, change);
     }
 
@@ -264,6 +427,8 @@ impl Mixed {
         ensures few { IfSome self.old.prepared (λ old. IsSomeAnd self.new.prepared (λ marks. length marks ≤ length old)) }
         ensures room { self.old.room ≤ self.new.room }
     {
+        self.aimed = None;
+        self.is_indexed = stays_indexed(self.is_indexed, is_delete(change));
         make(&mut self.rules, change);
     }
 
@@ -275,8 +440,24 @@ impl Mixed {
         self.rules.len() as u64
     }
 
+    /// Has `possible` search by the kinds of patterns, until rules come or go: where at least 16 are prepared, of at most
+    /// 16 kinds, and the room isn't far more than they need. The time is that of the rules, and it takes no memory. What is
+    /// indexed already stays so.
+    pub fn index(&mut self)
+        ensures { self.new ≡ self.old }
+    {
+        if self.is_indexed {
+            return;
+        }
+        let count = self.rules.len();
+        if count >= LEAST_INDEXED && self.room / MOST_ROOM <= count {
+            self.is_indexed = fill_space(&mut self.space, &self.rules);
+        }
+    }
+
     /// Replaces what `out` holds by the outcomes of the place for the address over all mixtures.
-    /// It looks at each prepared rule once at most.
+    /// It looks at each prepared rule once at most; where they are indexed, first at those of one slot for each kind of
+    /// pattern, four times at most.
     pub fn possible(&self, net: &Net, place: Place, dst: u32, out: &mut Outcomes)
         requires prepared { IsSome self.now.prepared }
         requires room { ForSome self.now.prepared (λ marks. length marks < length out.old.list + out.old.spare) }
@@ -284,6 +465,50 @@ impl Mixed {
         ensures room { length out.old.list + out.old.spare ≤ length out.new.list + out.new.spare }
     {
         out.outcomes.clear();
+        if self.is_indexed {
+            let packet = Packet { place, dst };
+            put_found(net, packet, &self.rules, &self.space, &mut out.outcomes);
+            return;
+        }
         put_scan(net, place, dst, &self.rules, &mut out.outcomes);
+    }
+
+    /// Finds the prepared rules whose prefix holds the address. It looks at each prepared rule once, and takes no memory.
+    pub fn aim(&mut self, dst: u32)
+        requires { IsSomeAnd self.old.prepared (λ marks. length marks < 2 ^ 32) }
+        ensures aimed { self.new.aimed ≡ Some dst }
+        ensures same { self.new.prepared ≡ self.old.prepared }
+        ensures room { self.old.room ≤ self.new.room }
+    {
+        find_candidates(&mut self.index, &self.rules, dst);
+        self.aimed = Some(dst);
+    }
+
+    /// The positions, ascending, of the prepared rules whose prefix holds the aimed address.
+    pub fn aimed(&self) -> &[u32]
+        requires { IsSome self.now.aimed }
+        ensures exact { IfSome self.now.prepared (λ marks. IfSome self.now.aimed (λ dst. AreCandidates (blocks_of marks) dst result.now)) }
+        ensures ascending { IsAscending result.now }
+        ensures within { ForSome self.now.prepared (λ marks. AreWithin result.now (length marks)) }
+    {
+        self.index.candidates()
+    }
+
+    /// Replaces what `out` holds by the outcomes of the place for the address over all mixtures from which every rule is left
+    /// out whose key doesn't stand at one of the positions. It looks at the rule of each position once at most.
+    pub fn among(&self, net: &Net, place: Place, dst: u32, positions: &[u32], out: &mut Outcomes)
+        requires prepared { IsSome self.now.prepared }
+        requires ascending { IsAscending positions.now }
+        requires within { ForSome self.now.prepared (λ marks. AreWithin positions.now (length marks)) }
+        requires room { ForSome self.now.prepared (λ marks. length marks < length out.old.list + out.old.spare) }
+        ensures exact { (table : List Rule) (changes : List Change) → IsTable table → IsSomeAnd self.now.prepared (IsPrepared table changes)
+            → IfSome self.now.prepared (λ marks. AreOutcomesAmong net.now table changes marks positions.now place dst out.new.list) }
+        // With the positions of all rules whose prefix holds the address they are all outcomes.
+        ensures all { (table : List Rule) (changes : List Change) → IsTable table → IsSomeAnd self.now.prepared (IsPrepared table changes)
+            → IsSomeAnd self.now.prepared (λ marks. HoldCandidates marks dst positions.now) → AreAllOutcomes net.now table changes place dst out.new.list }
+        ensures room { length out.old.list + out.old.spare ≤ length out.new.list + out.new.spare }
+    {
+        out.outcomes.clear();
+        put_among(net, place, dst, &self.rules, positions, &mut out.outcomes);
     }
 }

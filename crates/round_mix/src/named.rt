@@ -8,9 +8,8 @@ ghost use Rattle.round_mix.specs.Marks.{all_rules, rules_of};
 ghost use Rattle.round_mix.specs.Named.{names, IsPlaceOf, IsMarkedBy, AreMarked};
 ghost use Rattle.round_mix.specs.Prepared.{IsPrepared};
 
-use crate::apart::sort_apart;
+use crate::apart::sort_apart_by_key;
 use crate::marking::{fill, mark_by};
-use crate::sorting::sort_by_key;
 use crate::{Mark, MarkedRule};
 use flow_rules::{Rule, Table, key_order};
 use update_model::Change;
@@ -89,9 +88,8 @@ pub fn mix_by_key(table: &Table, changes: &[Change], marks: &mut Vec<MarkedRule>
 {
     let none = &changes[..0];
     fill(none, changes, table.rules(), marks);
-    if !sort_apart(marks) {
+    if !sort_apart_by_key(marks) {
         return false;
     }
-    sort_by_key(marks);
     put_marks(marks, changes)
 }

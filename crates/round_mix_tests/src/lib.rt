@@ -2,6 +2,8 @@
 #![tactic(auto)]
 
 #[cfg(test)]
+mod aiming;
+#[cfg(test)]
 mod subsets;
 #[cfg(test)]
 mod tests;

@@ -36,7 +36,7 @@ pub const WIDE: Prefix = Prefix {
 };
 
 /// The addresses from 192.0.0.0 to 192.0.0.255.
-const FAR: Prefix = Prefix {
+pub const FAR: Prefix = Prefix {
     base: 0xc000_0000,
     len: 24,
 };
@@ -133,7 +133,7 @@ fn is_within(some: &[Outcome], all: &[Outcome]) -> bool {
 pub fn is_small(table: &Table, changes: &[Change]) -> bool
     ensures { IsTrue result → entries_needed table.now.rules changes.now ≤ 64 }
 {
-    table.rules().len() <= 16 && changes.len() <= 48
+    table.rules().len() <= 17 && changes.len() <= 47
 }
 
 /// The changes, and behind them so many that insert rules for other addresses that all changes are looked up by their keys.
@@ -163,7 +163,26 @@ pub fn possible(
     found
 }
 
-/// Whether the possible outcomes at a place are those of the plain program, also where the changes are among many.
+/// The possible outcomes at a place, where what is prepared is indexed.
+fn possible_by_index(
+    rt: &(impl Abort + AllocGlobal),
+    net: &Net,
+    table: &Table,
+    changes: &[Change],
+    place: Place,
+    dst: u32,
+) -> Outcomes {
+    assert!(rt; is_small(table, changes));
+    let mut mixed = Mixed::with_room(rt.alloc(), 64).expect(rt, "room");
+    assert!(rt; mixed.load(table, changes).is_ok());
+    mixed.index();
+    let mut found = Outcomes::with_room(rt.alloc(), 65).expect(rt, "room");
+    mixed.possible(net, place, dst, &mut found);
+    found
+}
+
+/// Whether the possible outcomes at a place are those of the plain program, also where the changes are among many, and are
+/// indexed.
 fn agrees_at(
     rt: &(impl Abort + AllocGlobal),
     net: &Net,
@@ -176,7 +195,11 @@ fn agrees_at(
     let plain = outcomes_by_subsets(rt, net, table, changes, place, dst);
     let many = among_many(rt, changes);
     let by_keys = possible(rt, net, table, &many, place, dst);
-    is_within(few.list(), &plain) && is_within(&plain, few.list()) && by_keys.list() == few.list()
+    let by_index = possible_by_index(rt, net, table, &many, place, dst);
+    is_within(few.list(), &plain)
+        && is_within(&plain, few.list())
+        && by_keys.list() == few.list()
+        && by_index.list() == few.list()
 }
 
 /// Whether they are, at each of some places and addresses.

@@ -2,8 +2,8 @@
 ghost use Rattle.std.specs.Prelude.{◌≤◌, length, IsSomeAnd};
 
 use crate::subsets::{
-    FROM_FIRST, HALF, TEN, WIDE, delete, drop_wide, insert, is_small, make, network, out, possible,
-    replace, rule, table_of, to_second,
+    FAR, FROM_FIRST, HALF, TEN, WIDE, delete, drop_wide, insert, is_small, make, network, out,
+    possible, replace, rule, table_of, to_second,
 };
 use flow_rules::{Table, VlanTest};
 use round_mix::{Mixed, Outcomes};
@@ -14,9 +14,17 @@ use update_model::Change;
 /// An address that all rules of these tests cover.
 const FIRST: u32 = 0x0a00_0000;
 
-/// The table of two rules on which changes are tried.
-fn two_rules(rt: &(impl Abort + AllocGlobal)) -> Table {
-    table_of(rt, &[drop_wide(), to_second()])
+/// The table of two rules on which changes are tried, and so many for other addresses that they can be indexed.
+fn some_rules(rt: &(impl Abort + AllocGlobal)) -> Table {
+    let mut table = table_of(rt, &[drop_wide(), to_second()]);
+    for i in 0..14 {
+        make(
+            rt,
+            &mut table,
+            &insert(rule(200 + i, VlanTest::Any, FAR, out(1))),
+        );
+    }
+    table
 }
 
 /// Whether the possible outcomes of a packet are those of a table and changes of it that are prepared anew.
@@ -37,10 +45,11 @@ fn agrees(
 
 /// Whether a change can be tried, and what is prepared is right while it is tried and once it is given up.
 fn is_given_up(rt: &(impl Abort + AllocGlobal), net: &Net, change: &Change) -> bool {
-    let table = two_rules(rt);
+    let table = some_rules(rt);
     assert!(rt; is_small(&table, &[]));
     let mut mixed = Mixed::with_room(rt.alloc(), 65).expect(rt, "room");
     assert!(rt; mixed.load(&table, &[]).is_ok());
+    mixed.index();
     let is_begun = mixed.begin(change);
     let is_tried = agrees(rt, net, &mixed, &table, &[*change]);
     mixed.give_up(change);
@@ -49,10 +58,11 @@ fn is_given_up(rt: &(impl Abort + AllocGlobal), net: &Net, change: &Change) -> b
 
 /// Whether a change can be tried, and what is prepared is right once it is kept.
 fn is_kept(rt: &(impl Abort + AllocGlobal), net: &Net, change: &Change) -> bool {
-    let mut table = two_rules(rt);
+    let mut table = some_rules(rt);
     assert!(rt; is_small(&table, &[]));
     let mut mixed = Mixed::with_room(rt.alloc(), 65).expect(rt, "room");
     assert!(rt; mixed.load(&table, &[]).is_ok());
+    mixed.index();
     let is_begun = mixed.begin(change);
     mixed.keep(change);
     make(rt, &mut table, change);
@@ -61,10 +71,11 @@ fn is_kept(rt: &(impl Abort + AllocGlobal), net: &Net, change: &Change) -> bool 
 
 /// Whether a change is refused, and what is prepared stays.
 fn is_refused(rt: &(impl Abort + AllocGlobal), net: &Net, change: &Change) -> bool {
-    let table = two_rules(rt);
+    let table = some_rules(rt);
     assert!(rt; is_small(&table, &[]));
     let mut mixed = Mixed::with_room(rt.alloc(), 65).expect(rt, "room");
     assert!(rt; mixed.load(&table, &[]).is_ok());
+    mixed.index();
     !mixed.begin(change) && agrees(rt, net, &mixed, &table, &[])
 }
 

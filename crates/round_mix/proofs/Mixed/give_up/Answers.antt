@@ -1,8 +1,9 @@
-use Rattle.std.proofs.Common.{◌≤◌, ◌∷◌, [], cond, List, length, sym, subst}
+use Rattle.std.proofs.Common.{◌≤◌, ◌∷◌, [], cond, List, length, sym, ◌∙◌, ap, subst, arith}
 use Rattle.std.specs.Prelude.{Some, None, IfSome, IsSomeAnd}
+use Rattle.round_mix.specs.Nearest.{patterns_in}
 use Rattle.round_mix.specs.Prepared.{MixedState, IsPrepared}
 use Rattle.round_mix.specs.declared.MarkedRule.{MarkedRule}
-use Rattle.round_mix.proofs.TriedLaws.{returned, given_few, carried, carried_few}
+use Rattle.round_mix.proofs.TriedLaws.{returned, given_few, given_patterns, carried, carried_few}
 use Rattle.round_mix.proofs.Mixed.give_up.Goals as goal
 
 pub returns-clause-alone : goal.returns-clause-alone
@@ -20,3 +21,14 @@ returns-clause-few c =
     let less : length new ≤ length marks = subst (λ (ms : List MarkedRule). length ms ≤ length marks) (sym c.take_back.ensures.items) (given_few c.args.change.now marks) in
     subst (λ (v : MixedState). IfSome v.prepared (λ old. IsSomeAnd (cond c.self.inside.is_prepared (Some new) None) (λ ms. length ms ≤ length old))) c.self.view_is
     (carried_few c.self.inside.is_prepared marks new (λ n. n) less)
+
+pub invariant_of-self : goal.invariant_of-self
+invariant_of-self c =
+    let marks = c.self.inside.rules.items in
+    let less : length c.take_back.new.marks.items ≤ length marks = subst (λ (ms : List MarkedRule). length ms ≤ length marks) (sym c.take_back.ensures.items) (given_few c.args.change.now marks) in (
+      omega (arith, c.self.invariant.0, c.take_back.ensures.room),
+      c.self.invariant.1,
+      λ on. let fits = c.self.invariant.2 on in omega (arith, fits, less, c.self.inside.rules.ok, c.take_back.new.marks.ok),
+      tt,
+      λ on. c.self.invariant.4 (c.stays_indexed-self-inside.ensures.was on) ∙ sym (ap patterns_in c.take_back.ensures.items ∙ given_patterns c.args.change.now marks (sym c.is_insert.ensures ∙ c.stays_indexed-self-inside.ensures.unmoved on)),
+    )

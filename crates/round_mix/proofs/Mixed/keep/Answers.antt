@@ -1,9 +1,10 @@
-use Rattle.std.proofs.Common.{◌≤◌, ◌∷◌, [], cond, List, length, sym, subst}
+use Rattle.std.proofs.Common.{◌≤◌, ◌∷◌, [], cond, List, length, sym, ◌∙◌, ap, subst, arith}
 use Rattle.std.specs.Prelude.{Some, None, IfSome, IsSomeAnd}
 use Rattle.update_model.specs.Changes.{rules_after_change}
+use Rattle.round_mix.specs.Nearest.{patterns_in}
 use Rattle.round_mix.specs.Prepared.{MixedState, IsPrepared}
 use Rattle.round_mix.specs.declared.MarkedRule.{MarkedRule}
-use Rattle.round_mix.proofs.TriedLaws.{made, kept_few, carried, carried_few}
+use Rattle.round_mix.proofs.TriedLaws.{made, kept_few, kept_patterns, carried, carried_few}
 use Rattle.round_mix.proofs.Mixed.keep.Goals as goal
 
 pub returns-clause-after : goal.returns-clause-after
@@ -21,3 +22,14 @@ returns-clause-few c =
     let less : length new ≤ length marks = subst (λ (ms : List MarkedRule). length ms ≤ length marks) (sym c.make.ensures.items) (kept_few c.args.change.now marks) in
     subst (λ (v : MixedState). IfSome v.prepared (λ old. IsSomeAnd (cond c.self.inside.is_prepared (Some new) None) (λ ms. length ms ≤ length old))) c.self.view_is
     (carried_few c.self.inside.is_prepared marks new (λ n. n) less)
+
+pub invariant_of-self : goal.invariant_of-self
+invariant_of-self c =
+    let marks = c.self.inside.rules.items in
+    let less : length c.make.new.marks.items ≤ length marks = subst (λ (ms : List MarkedRule). length ms ≤ length marks) (sym c.make.ensures.items) (kept_few c.args.change.now marks) in (
+      omega (arith, c.self.invariant.0, c.make.ensures.room),
+      c.self.invariant.1,
+      λ on. let fits = c.self.invariant.2 on in omega (arith, fits, less, c.self.inside.rules.ok, c.make.new.marks.ok),
+      tt,
+      λ on. c.self.invariant.4 (c.stays_indexed-self-inside.ensures.was on) ∙ sym (ap patterns_in c.make.ensures.items ∙ kept_patterns c.args.change.now marks (sym c.is_delete.ensures ∙ c.stays_indexed-self-inside.ensures.unmoved on)),
+    )

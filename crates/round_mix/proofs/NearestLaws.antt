@@ -1,0 +1,108 @@
+-- The nearest rule that covers a packet, among those of the slots of all kinds.
+use Rattle.std.proofs.Common.{◌≡◌, ℕ, zero, suc, ◌+◌, ◌<◌, ◌≤◌, true, false, cond, List, [], ◌∷◌, ◌++◌, drop, map, length, get_or, refl, sym, ◌∙◌, subst, ap, inl, inr, arith}
+use Rattle.std.specs.Prelude.{Option, Some, None, slice_get}
+use Rattle.std.specs.Option.{option_map_or}
+use Rattle.std.proofs.lemmas.Bool.{cases_lt, cases_eq, cond-false, false≢true, false_from_ne_true}
+use Rattle.std.proofs.lemmas.List.{drop_more, drop_all}
+use Rattle.std.proofs.lemmas.Option.{slice_get_read}
+use Rattle.net_base.specs.Members.{IsIn}
+use Rattle.net_base.proofs.MemberLaws.{in_map}
+use Rattle.net_base.proofs.ItemLaws.{in_from_get, past_end}
+use Rattle.flow_rules.specs.Patterns.{Header, covers}
+use Rattle.flow_rules.specs.Tuples.{around, slot_of, link_number, IsLink}
+use Rattle.flow_rules.specs.declared.rules.Action.{Action}
+use Rattle.flow_rules.specs.declared.rules.Action.TheVariants.{Discard}
+use Rattle.flow_rules.specs.declared.rules.Pattern.{Pattern}
+use Rattle.round_mix.specs.Nearest.{patterns_in, covers_there, IsMet, IsNear}
+use Rattle.round_mix.specs.Scan.{actions_by, is_kept, scan}
+use Rattle.round_mix.specs.declared.MarkedRule.{MarkedRule}
+use Rattle.round_mix.proofs.PickedLaws.{put_kept, put_possible}
+
+-- a step along a slot passes none of its positions
+pub step_seen : (slots : List ℕ) (slot i : ℕ) → get_or slots i 0 ≡ slot → (next : Option ℕ) → IsLink slots (get_or slots i 0) i (link_number next)
+    → (Old New : ℕ → Type 0) → ((j : ℕ) → Old j → New j) → New i
+    → ((j : ℕ) → i + 1 ≤ j → get_or slots j 0 ≡ slot → Old j) → (j : ℕ) → link_number next ≤ j → get_or slots j 0 ≡ slot → New j
+step_seen slots slot i same next link Old New kept here seen j le e =
+    elim (cases_lt j i) [
+      | inl less ↦ absurd (link.last j le less (e ∙ sym same))
+      | inr more ↦ elim (cases_eq j i) [
+        | inl at ↦ subst New (sym at) here
+        | inr ne ↦ kept j (seen j (omega arith) e)
+      ]
+    ]
+
+-- where a covering rule stands
+place_there : (h : Header) (marks : List MarkedRule) (j : ℕ) → covers_there h marks j ≡ true → (m : MarkedRule) × (slice_get marks j ≡ Some m) × (covers m.rule.key.pattern h ≡ true)
+place_there h [] j e = absurd (false≢true e)
+place_there h (m ∷ marks) zero e = (m, refl, e)
+place_there h (m ∷ marks) (suc j) e = place_there h marks j e
+
+pub there_within : (h : Header) (marks : List MarkedRule) (j : ℕ) → covers_there h marks j ≡ true → j < length marks
+there_within h marks j e = let (m, at, _) = place_there h marks j e in past_end marks j m at
+
+slot_there : (f : Pattern → ℕ) (marks : List MarkedRule) (j : ℕ) (m : MarkedRule) → slice_get marks j ≡ Some m → get_or (map f (patterns_in marks)) j 0 ≡ f m.rule.key.pattern
+slot_there f [] j m e = absurd (let g : None ≡ Some m = e in cc)
+slot_there f (n ∷ marks) zero m e = let g : n ≡ m = (let k : Some n ≡ Some m = e in cc) in ap (λ (x : MarkedRule). f x.rule.key.pattern) g
+slot_there f (n ∷ marks) (suc j) m e = slot_there f marks j m e
+
+-- where the slots of all kinds are seen no covering rule is nearer
+pub all_near : (h : Header) (marks : List MarkedRule) (from : ℕ) (found : Option ℕ) (kinds patterns : List Pattern) (count : ℕ) → patterns ≡ patterns_in marks
+    → ((p : Pattern) (x : Header) → IsIn p patterns → covers p x ≡ true → (k : Pattern) × IsIn k kinds × (around k x ≡ p))
+    → ((k : Pattern) → IsIn k kinds → (j : ℕ) → get_or (map (slot_of count) patterns) j 0 ≡ slot_of count (around k h) → IsNear h marks from found j)
+    → (j : ℕ) → IsNear h marks from found j
+all_near h marks from found kinds patterns count is complete seen j le e =
+    let (m, at, c) = place_there h marks j e in
+    let here : IsIn m.rule.key.pattern patterns =
+    subst (λ ps. IsIn m.rule.key.pattern ps) (sym is) (in_map (λ (x : MarkedRule). x.rule.key.pattern) m marks (in_from_get marks j m at)) in
+    let (k, i, own) = complete m.rule.key.pattern h here c in
+    let slot : get_or (map (slot_of count) patterns) j 0 ≡ slot_of count (around k h) =
+    ap (λ ps. get_or (map (slot_of count) ps) j 0) is ∙ slot_there (slot_of count) marks j m at ∙ ap (slot_of count) (sym own) in
+    seen k i j slot le e
+
+-- the scan passes over rules that don't cover the packet
+scan_past : (h : Header) (marks : List MarkedRule) (n : ℕ) → ((j : ℕ) → j < n → covers_there h marks j ≡ true → ⊥) → n ≤ length marks → scan h marks ≡ scan h (drop n marks)
+scan_past h marks zero none le = refl
+scan_past h [] (suc n) none le = absurd (omega arith)
+scan_past h (m ∷ marks) (suc n) none le =
+    let missed : covers m.rule.key.pattern h ≡ false = false_from_ne_true (covers m.rule.key.pattern h) (λ e. none zero (omega arith) e) in
+    cond-false (covers m.rule.key.pattern h) (actions_by m.mark m.rule.action ++ cond (is_kept m.mark) [] (scan h marks)) (scan h marks) missed
+    ∙ scan_past h marks n (λ j less e. none (suc j) (omega arith) e) (omega arith)
+
+-- from one position to another, where no rule between covers the packet
+pub scan_to : (h : Header) (marks : List MarkedRule) (from p : ℕ) → ((j : ℕ) → from ≤ j → j < p → covers_there h marks j ≡ true → ⊥) → from ≤ p → p ≤ length marks
+    → scan h (drop from marks) ≡ scan h (drop p marks)
+scan_to h marks zero p none le within = scan_past h marks p (λ j less e. none j (omega arith) less e) within
+scan_to h [] (suc from) p none le within = absurd (omega arith)
+scan_to h (m ∷ marks) (suc from) zero none le within = absurd (omega arith)
+scan_to h (m ∷ marks) (suc from) (suc p) none le within = scan_to h marks from p (λ j more less e. none (suc j) (omega arith) (omega arith) e) (omega arith) (omega arith)
+
+module _ (h : Header) (marks : List MarkedRule) (from : ℕ) where
+  -- the scan goes on at the nearest
+  pub scan_nearest : (p : ℕ) → IsMet h marks from (Some p) → ((j : ℕ) → IsNear h marks from (Some p) j) → scan h (drop from marks) ≡ scan h (drop p marks)
+  scan_nearest p met near =
+      let within = there_within h marks p met.1 in
+      scan_to h marks from p (λ j more less e. let (i, is, le) = near j more e in let same : p ≡ i = cc in omega arith) met.0 (omega arith)
+
+  -- and ends where there is none
+  pub scan_none : from ≤ length marks → ((j : ℕ) → IsNear h marks from None j) → scan h (drop from marks) ≡ Discard ∷ []
+  scan_none le near =
+      scan_to h marks from (length marks) (λ j more less e. let (i, is, _) = near j more e in absurd (let f : None ≡ Some i = is in cc)) le (omega arith)
+      ∙ ap (scan h) (drop_all (length marks) marks (omega arith))
+
+-- the outcomes by the nearest rule that covers the packet
+module _ {B : Type 0} (f : Action → B) (h : Header) (marks : List MarkedRule) (from : ℕ) (old : List B) (p : ℕ) (m : MarkedRule)
+    (met : IsMet h marks from (Some p)) (near : (j : ℕ) → IsNear h marks from (Some p) j) (is : m ≡ get_or marks p m) where
+  within : p < length marks
+  within = there_within h marks p met.1
+
+  covered : covers m.rule.key.pattern h ≡ true
+  covered = sym (ap (λ o. option_map_or (λ (n : MarkedRule). covers n.rule.key.pattern h) o false) (slice_get_read marks (length marks) p m refl within is)) ∙ met.1
+
+  rest : scan h (drop from marks) ≡ scan h (m ∷ drop (p + 1) marks)
+  rest = scan_nearest h marks from p met near ∙ ap (scan h) (drop_more marks p m within ∙ ap (λ (x : MarkedRule). x ∷ drop (p + 1) marks) (sym is))
+
+  pub found_kept : is_kept m.mark ≡ true → old ++ map f (actions_by m.mark m.rule.action) ≡ old ++ map f (scan h (drop from marks))
+  found_kept kept = put_kept f h m (drop (p + 1) marks) old covered kept ∙ ap (λ xs. old ++ map f xs) (sym rest)
+
+  pub found_possible : is_kept m.mark ≡ false → (old ++ map f (actions_by m.mark m.rule.action)) ++ map f (scan h (drop (p + 1) marks)) ≡ old ++ map f (scan h (drop from marks))
+  found_possible possible = put_possible f h m (drop (p + 1) marks) old covered possible ∙ ap (λ xs. old ++ map f xs) (sym rest)

@@ -1,0 +1,13 @@
+use Rattle.std.proofs.lemmas.List.Sorted.{IsPermutation-trans}
+use Rattle.round_mix.proofs.ApartLaws.{apart_moved}
+use Rattle.round_mix.proofs.apart.sort_apart_by_key.Goals as goal
+
+pub returns-clause-permutation : goal.returns-clause-permutation
+returns-clause-permutation c =
+    IsPermutation-trans c.args.marks.now.items c.are_apart_by_key.new.marks.items c.sort_by_key.new.marks.items c.are_apart_by_key.ensures.permutation
+    (IsPermutation-trans c.are_apart_by_key.new.marks.items c.are_apart_by_address-is_apart.new.marks.items c.sort_by_key.new.marks.items
+    c.are_apart_by_address-is_apart.ensures.permutation c.sort_by_key.ensures.permutation)
+
+pub returns-clause-apart : goal.returns-clause-apart
+returns-clause-apart c h =
+    apart_moved c.are_apart_by_address-is_apart.new.marks.items c.sort_by_key.new.marks.items c.sort_by_key.ensures.permutation (c.are_apart_by_address-is_apart.ensures.apart h)

@@ -1,0 +1,14 @@
+use Rattle.std.proofs.Common.{◌≡◌, ℕ, get_or, take}
+use Rattle.net_base.specs.Members.{IsIn}
+use Rattle.path_walk.specs.Outcomes.{header_at}
+use Rattle.flow_rules.specs.Tuples.{around, slot_of, slots_of}
+use Rattle.flow_rules.specs.declared.rules.Pattern.{Pattern}
+use Rattle.round_mix.specs.Nearest.{IsMet, IsNear}
+use Rattle.round_mix.proofs.nearest.nearest.Given as goal
+
+abbrev pub invariant-loop-kind : goal.invariant-loop-kind
+invariant-loop-kind l = record {
+  met : IsMet (header_at l.packet.place l.packet.dst) l.rules l.from l.best;
+  seen : (k : Pattern) → IsIn k (take l.kind-index l.space.kinds) → (j : ℕ)
+      → get_or (slots_of l.space) j 0 ≡ slot_of l.space.count (around k (header_at l.packet.place l.packet.dst)) → IsNear (header_at l.packet.place l.packet.dst) l.rules l.from l.best j;
+}
