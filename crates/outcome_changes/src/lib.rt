@@ -1,7 +1,7 @@
 //! Which changes of a round give a place an outcome.
 #![tactic(auto)]
 
-ghost use Rattle.std.specs.Prelude.{◌≡◌, IfOk, MatchOption};
+ghost use Rattle.std.specs.Prelude.{◌≡◌, ◌↔◌, IsTrue, IfOk, MatchOption};
 ghost use Rattle.update_model.specs.Changes.{changes_at};
 ghost use Rattle.update_model.specs.Mixtures.{MayBe};
 ghost use Rattle.round_mix.specs.Prepared.{AreGood, AreClear};
@@ -28,6 +28,13 @@ pub struct Search<'a> {
     pub wanted: Outcome,
 }
 
+/// Whether two outcomes are the same.
+fn is_same(a: Outcome, b: Outcome) -> bool
+    ensures { IsTrue result ↔ (a ≡ b) }
+{
+    a == b
+}
+
 /// The numbers of the changes of the round that a trial takes, if after them a packet has the outcome.
 fn found_by(
     alloc: Global,
@@ -38,7 +45,8 @@ fn found_by(
     ensures { IfOk result (λ found. MatchOption found (¬ (outcome_after search.entry.net.now search.entry.table.now.rules search.entry.round.now trial.now ≡ search.entry.wanted)) (λ numbers. GiveOutcome search.entry.net.now search.entry.table.now.rules search.entry.round.now trial.now.place trial.now.dst search.entry.wanted numbers)) }
 {
     let tried = trial.table_after(search.table, search.round)?;
-    if outcome(search.net, &tried, trial.place, trial.dst) != search.wanted {
+    let found = outcome(search.net, &tried, trial.place, trial.dst);
+    if !is_same(found, search.wanted) {
         return Ok(None);
     }
     let numbers = trial.numbers(alloc, search.round)?;

@@ -7,6 +7,6 @@ use Rattle.outcome_changes.proofs.found_by.Goals as goal
 pub returns : goal.returns
 returns c =
     let t = c.args.trial.now in
-    let same : c.outcome.result ≡ c.args.search.wanted = search rules in
+    let same = c.is_same.ensures.0 c.if-not-is_same.false in
     gives_from c.args.search.net.now c.args.search.table.now.rules c.args.search.round.now t c.args.search.wanted c.in_ok-numbers.numbers c.in_ok-numbers.ensures
-    (ap (λ (rs : List Rule). outcome c.args.search.net.now rs t.place t.dst) (sym c.in_ok-tried.ensures) ∙ sym c.outcome.ensures ∙ same)
+    (ap (λ (rs : List Rule). outcome c.args.search.net.now rs t.place t.dst) (sym c.in_ok-tried.ensures) ∙ sym c.outcome-found.ensures ∙ same)
