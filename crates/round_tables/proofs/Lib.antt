@@ -6,3 +6,5 @@ pub mod ApplyLaws
 pub mod PassLaws
 pub mod AloneLaws
 pub mod TrialLaws
+pub mod GoneLaws
+pub mod MeetLaws

@@ -1,5 +1,5 @@
 -- What the preparation of all switches says of the changes of a round.
-use Rattle.std.proofs.Common.{◌≡◌, ◌≢◌, ◌⊎◌, ℕ, zero, suc, ◌+◌, ◌<◌, ◌≤◌, Bool, true, false, not, cond, List, [], ◌∷◌, length, map, take, set, get_or, refl, sym, ◌∙◌, subst, ap, inl, inr, arith}
+use Rattle.std.proofs.Common.{◌≡◌, ◌≢◌, ◌⊎◌, ℕ, zero, suc, ◌+◌, ◌<◌, ◌≤◌, Bool, true, false, cond, List, [], ◌∷◌, length, map, take, set, get_or, refl, sym, ◌∙◌, subst, ap, inl, inr, arith}
 use Rattle.std.specs.Prelude.{filter, slice_get, Option, Some, None, MatchOption, IsSomeAnd, unwrap_or, ◌==◌}
 use Rattle.std.specs.List.{list_any}
 use Rattle.flow_rules.specs.Patterns.{key_eq}
@@ -227,12 +227,12 @@ module _ (t : Task) (evidence : Evidence) (k : ℕ) (s : SwitchId) (within : Are
 
 -- one touched switch is prepared
 pub settled_set : (tables : List (List Rule)) (round : List Change) (mixes new : List MixedState) (touched : List Bool) (i : SwitchId) (b : Bool)
-    → ((s : SwitchId) → is_touched touched s ≡ false → IsMixed (rules_at tables s) (changes_at s round) (mix_at mixes s) × (changes_at s round ≡ []))
-    → i.0 < length touched → IsMixed (rules_at tables i) (changes_at i round) (mix_at new i) → (b ≡ false → changes_at i round ≡ [])
+    → ((s : SwitchId) → is_touched touched s ≡ false → IsMixed (rules_at tables s) (changes_at s round) (mix_at mixes s) × (length (changes_at s round) ≤ 1))
+    → i.0 < length touched → IsMixed (rules_at tables i) (changes_at i round) (mix_at new i) → (b ≡ false → length (changes_at i round) ≤ 1)
     → ((s : SwitchId) → s.0 ≢ i.0 → mix_at new s ≡ mix_at mixes s)
-    → (s : SwitchId) → is_touched (set touched i.0 b) s ≡ false → IsMixed (rules_at tables s) (changes_at s round) (mix_at new s) × (changes_at s round ≡ [])
+    → (s : SwitchId) → is_touched (set touched i.0 b) s ≡ false → IsMixed (rules_at tables s) (changes_at s round) (mix_at new s) × (length (changes_at s round) ≤ 1)
 settled_set tables round mixes new touched i b old less here empty others s =
-    set_each touched i.0 b true (λ j y. y ≡ false → IsMixed (rules_at tables (switch_n j)) (changes_at (switch_n j) round) (mix_at new (switch_n j)) × (changes_at (switch_n j) round ≡ [])) less
+    set_each touched i.0 b true (λ j y. y ≡ false → IsMixed (rules_at tables (switch_n j)) (changes_at (switch_n j) round) (mix_at new (switch_n j)) × (length (changes_at (switch_n j) round) ≤ 1)) less
     (λ e. (here, empty e)) s.0
     (λ ne off. (subst (λ (m : MixedState). IsMixed (rules_at tables s) (changes_at s round) m) (sym (others s ne)) (old s off).0, (old s off).1))
 
@@ -298,12 +298,6 @@ module _ (round : List Change) (p q : PresentState) (s : SwitchId) (keeps : Keep
         below = λ o less. clear_mixed (rules_there p.tables o) (changes_at o round) (mix_at p.mixes o) (all o less);
       })
       rest (Some a) h = first_kept a h
-
--- a list whose length is tested
-pub empty_list : {A : Type 0} (b : Bool) (n : ℕ) (xs : List A) → b ≡ (n == 0) → length xs ≡ n → not b ≡ false → xs ≡ []
-empty_list b n [] test len off = refl
-empty_list true n (x ∷ xs) test len off = let e : n ≡ 0 = eqb-true n 0 (sym test) in absurd (omega arith)
-empty_list false n (x ∷ xs) test len off = absurd (both_ways true off refl)
 
 -- the first unclear switch after all are prepared is the first reason of the round
 pub loaded_first : (t : Task) (evidence : Evidence) (k : ℕ) (q : PresentState) (count : ℕ) (cs : List Change) (s : SwitchId) → k < length t.rounds → AreWithin count cs

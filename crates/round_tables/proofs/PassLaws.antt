@@ -219,10 +219,10 @@ module _ (t : Task) (evidence : Evidence) (k : ℕ) (p : PresentState) (round : 
         count = count;
         each = λ s mixed at.
             let below = slice_get_within p.mixes s.0 mixed at in
-            let same : mix_at p.mixes s ≡ mixed = get_or_from_slice_get p.mixes s.0 mixed (record { prepared = None; room = 0 }) at in
+            let same : mix_at p.mixes s ≡ mixed = get_or_from_slice_get p.mixes s.0 mixed (record { prepared = None; room = 0; aimed = None }) at in
             loaded_from s mixed (omega arith)
             (subst (IsMixed (rules_at (tables_before (rollout t) k) s) (changes_at s (round_after k t.rounds))) same (prepared.each s (omega arith)));
       }
 
       pub stands_at : StandsAt (rollout t) k p
-      stands_at = record { tables = prepared.tables; loaded = are_loaded; same = prepared.same }
+      stands_at = record { tables = prepared.tables; loaded = are_loaded; few = prepared.few }

@@ -38,8 +38,8 @@ each_pushed mixes mixed new i pushed count P before here s less =
     subst (λ (ms : List MixedState). P s (mix_at ms s)) (sym pushed)
     (elim (cases_eq s.0 i) [
       | inl e ↦ subst (λ (x : SwitchId). P x (mix_at (mixes ++ mixed ∷ []) x)) (sym (same_switch s (switch_n i) e))
-          (subst (P (switch_n i)) (sym (last_of mixes mixed i (record { prepared = None; room = 0 }) count)) here)
-      | inr ne ↦ subst (P s) (sym (first_of_these mixes mixed s.0 (record { prepared = None; room = 0 }) (omega arith))) (before s (omega arith))
+          (subst (P (switch_n i)) (sym (last_of mixes mixed i (record { prepared = None; room = 0; aimed = None }) count)) here)
+      | inr ne ↦ subst (P s) (sym (first_of_these mixes mixed s.0 (record { prepared = None; room = 0; aimed = None }) (omega arith))) (before s (omega arith))
     ])
   where
     last_of : (ms : List MixedState) (m : MixedState) (j : ℕ) (d : MixedState) → length ms ≡ j → get_or (ms ++ m ∷ []) j d ≡ m
@@ -178,7 +178,7 @@ module _ (net : Network) (p : TrialState) where
           each = λ s mixed at.
               let below = slice_get_within p.mixes s.0 mixed at in
               let within : s.0 < switch_count net = omega (arith, beside.fit.mixes) in
-              let same : mix_at p.mixes s ≡ mixed = get_or_from_slice_get p.mixes s.0 mixed (record { prepared = None; room = 0 }) at in
+              let same : mix_at p.mixes s ≡ mixed = get_or_from_slice_get p.mixes s.0 mixed (record { prepared = None; room = 0; aimed = None }) at in
               loaded_from s mixed within (subst (IsMixed (rules_there p.tables s) (changes_at s (c ∷ []))) same (mixed_each s within));
         };
       }
@@ -205,7 +205,7 @@ module _ (net : Network) (c : Change) (p : TrialState) (trying : IsTrying net c 
     within = within_net;
     others = λ o less ne.
         let in_mixes : o.0 < length p.mixes = omega (arith, trying.fit.mixes) in
-        let loaded = trying.loaded.each o (mix_at p.mixes o) (slice_get-get_or p.mixes o.0 (record { prepared = None; room = 0 }) in_mixes) in
+        let loaded = trying.loaded.each o (mix_at p.mixes o) (slice_get-get_or p.mixes o.0 (record { prepared = None; room = 0; aimed = None }) in_mixes) in
         let alone : IsPrepared (rules_there p.tables o) [] loaded.marks = subst (λ (cs : List Change). IsPrepared (rules_there p.tables o) cs loaded.marks) (changes_there c o ne) loaded.prepared in
         subst (λ (m : Option (List MarkedRule)). IsSomeAnd m (IsPrepared (rules_there p.tables o) [])) (sym loaded.is) alone;
   }
@@ -281,6 +281,6 @@ tried_here net c p trying =
     let count = count_rules p.tables in
     let first = trying.applies.0 in
     let in_mixes : s.0 < length p.mixes = omega (arith, trying.fit.mixes, trying.fit.tables) in
-    let loaded = trying.loaded.each s (mix_at p.mixes s) (slice_get-get_or p.mixes s.0 (record { prepared = None; room = 0 }) in_mixes) in
+    let loaded = trying.loaded.each s (mix_at p.mixes s) (slice_get-get_or p.mixes s.0 (record { prepared = None; room = 0; aimed = None }) in_mixes) in
     subst (λ (m : Option (List MarkedRule)). IsSomeAnd m (IsPrepared (rules_there p.tables s) (c ∷ []))) (sym loaded.is)
     (subst (λ (cs : List Change). IsPrepared (rules_there p.tables s) cs loaded.marks) (changes_here c) loaded.prepared)

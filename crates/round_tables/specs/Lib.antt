@@ -3,3 +3,5 @@ pub mod Loading
 pub mod Ends
 pub mod Trials
 pub mod Steps
+pub mod Deleted
+pub mod Meeting

@@ -1,5 +1,5 @@
 -- How far the switches are prepared for a round, and what the preparation finds.
-use Rattle.std.specs.Prelude.{◌≡◌, ℕ, ◌+◌, ◌<◌, ◌≤◌, false, List, [], length, filter, Option, MatchOption, slice_index_or}
+use Rattle.std.specs.Prelude.{◌≡◌, ℕ, ◌+◌, ◌<◌, ◌≤◌, false, List, length, filter, Option, MatchOption, slice_index_or}
 use Rattle.net_base.specs.declared.ids.SwitchId.{SwitchId}
 use Rattle.flow_rules.specs.Tables.{TableState, IsTable, rules_at, rules_of_all}
 use Rattle.flow_rules.specs.declared.rules.Rule.{Rule}
@@ -31,10 +31,10 @@ pub record Keeps (p q : PresentState) : Type 0 where
   pub marks : (s : SwitchId) → (mix_at p.mixes s).room ≤ (mix_at q.mixes s).room
   pub changes : p.room ≤ q.room
 
--- each switch that isn't to be prepared anew is prepared, and the round has no changes there
+-- each switch that isn't to be prepared anew is prepared, and the round has one change there at most
 abbrev pub AreSettled : List Change → PresentState → Type 0
 AreSettled round p =
-    (s : SwitchId) → is_touched p.touched s ≡ false → IsMixed (rules_there p.tables s) (changes_at s round) (mix_at p.mixes s) × (changes_at s round ≡ [])
+    (s : SwitchId) → is_touched p.touched s ≡ false → IsMixed (rules_there p.tables s) (changes_at s round) (mix_at p.mixes s) × (length (changes_at s round) ≤ 1)
 
 -- the first switch with a mixture that isn't clear
 pub record IsFirstUnclear (tables : List (List Rule)) (round : List Change) (s : SwitchId) : Type 0 where
@@ -64,7 +64,7 @@ AreCounted counts n rounds =
 pub record ArePrepared (u : Rollout) (k : ℕ) (p : PresentState) : Type 0 where
   pub tables : rules_of_all p.tables ≡ tables_before u k
   pub each : (s : SwitchId) → s.0 < switch_count u.net → IsMixed (rules_at (tables_before u k) s) (changes_at s (round_after k u.rounds)) (mix_at p.mixes s)
-  pub same : (s : SwitchId) → is_touched p.touched s ≡ false → changes_at s (round_after k u.rounds) ≡ []
+  pub few : (s : SwitchId) → is_touched p.touched s ≡ false → length (changes_at s (round_after k u.rounds)) ≤ 1
 
 -- each change names one of the first n switches
 abbrev pub AreWithin : ℕ → List Change → Type 0

@@ -27,7 +27,7 @@ rules_there tables s = rules_at (rules_of_all tables) s
 
 -- what is prepared of a switch
 abbrev pub mix_at : List MixedState → SwitchId → MixedState
-mix_at mixes s = slice_index_or mixes s.0 (record { prepared = None; room = 0 })
+mix_at mixes s = slice_index_or mixes s.0 (record { prepared = None; room = 0; aimed = None })
 
 -- whether a switch is to be prepared anew
 abbrev pub is_touched : List Bool → SwitchId → Bool
@@ -57,8 +57,8 @@ pub record StandsBefore (u : Rollout) (k : ℕ) (p : PresentState) : Type 0 wher
   pub fit : (s : SwitchId) → s.0 < switch_count u.net → length (rules_at (tables_before u k) s) ≤ capacity_of u.net s
   pub same : (s : SwitchId) → is_touched p.touched s ≡ false → IsMixed (rules_at (tables_before u k) s) [] (mix_at p.mixes s)
 
--- the tables are those before round k, each switch is prepared for the round, and those that it changes are to be prepared anew
+-- the tables are those before round k, each switch is prepared for the round, and those that it changes more than once are to be prepared anew
 pub record StandsAt (u : Rollout) (k : ℕ) (p : PresentState) : Type 0 where
   pub tables : rules_of_all p.tables ≡ tables_before u k
   pub loaded : AreLoaded u k p.mixes
-  pub same : (s : SwitchId) → is_touched p.touched s ≡ false → changes_at s (round_after k u.rounds) ≡ []
+  pub few : (s : SwitchId) → is_touched p.touched s ≡ false → length (changes_at s (round_after k u.rounds)) ≤ 1

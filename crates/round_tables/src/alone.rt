@@ -20,7 +20,7 @@ fn load_alone(mixed: &mut Mixed, table: &Table)
     ensures room { mixed.old.room ≤ mixed.new.room }
 {
     match mixed.load(table, &[]) {
-        Ok(()) => {}
+        Ok(()) => mixed.index(),
         Err(_) => unreachable!(),
     }
 }

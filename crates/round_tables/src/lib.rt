@@ -3,9 +3,11 @@
 #![tactic(auto)]
 
 mod alone;
+mod applying;
 mod changed;
 mod ends;
 mod loading;
+mod meeting;
 mod present;
 mod rounds;
 mod trials;

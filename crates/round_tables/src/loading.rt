@@ -12,6 +12,7 @@ ghost use Rattle.check_reasons.specs.Passed.{IsFirstFrom};
 ghost use Rattle.round_tables.specs.Present.{HasRoom, StandsBefore, mix_at, is_touched, IsMixed, rules_there};
 ghost use Rattle.round_tables.specs.Loading.{CanLoad, Keeps, AreSettled, IsLoadedTo, IsFirstFault, ArePrepared, AreWithin};
 
+use crate::meeting::meet_round;
 use crate::present::Present;
 use check_reasons::{Case, Reason};
 use flow_rules::Table;
@@ -39,20 +40,8 @@ pub(crate) fn round_number(case: &Case, k: usize) -> u32
     k as u32 + 1
 }
 
-/// Touches the switches that a round changes.
-fn mark(touched: &mut [bool], round: &[Change])
-    ensures { (s : Switch) → is_touched touched.new s ≡ false → (is_touched touched.old s ≡ false) × (changes_at s round.now ≡ []) }
-{
-    for change in round {
-        let i = change.switch().0 as usize;
-        if i < touched.len() {
-            touched[i] = true;
-        }
-    }
-}
-
 /// Replaces the list by the changes of a round at a switch.
-fn collect(round: &[Change], switch: SwitchId, changes: &mut Vec<Change>)
+pub(crate) fn collect(round: &[Change], switch: SwitchId, changes: &mut Vec<Change>)
     requires { length round.now ≤ vec_capacity changes.old }
     ensures items { changes.new.items ≡ changes_at switch round.now }
     ensures room { vec_capacity changes.old ≤ vec_capacity changes.new }
@@ -105,11 +94,14 @@ fn load_into(
     ensures others { (t : Switch) → t.0 ≢ switch.0 → mix_at mixes.new t ≡ mix_at mixes.old t }
     ensures room { (mix_at mixes.old switch).room ≤ (mix_at mixes.new switch).room }
 {
-    mixes[switch.0 as usize].load(table, changes)
+    let mixed = &mut mixes[switch.0 as usize];
+    mixed.load(table, changes)?;
+    mixed.index();
+    Ok(())
 }
 
 impl Present {
-    /// Prepares a touched switch for a round. It stays touched where the round changes it.
+    /// Prepares a touched switch for a round. It stays touched where the round changes it more than once.
     fn prepare(&mut self, round: &[Change], switch: SwitchId) -> Result<(), MixFault>
         requires can { CanLoad round.now self.old }
         requires within { switch.0 < length self.old.tables }
@@ -126,7 +118,7 @@ impl Present {
         keeps_keys(table);
         collect(round, switch, &mut self.changes);
         load_into(&mut self.mixes, switch, table, &self.changes)?;
-        self.touched[switch.0 as usize] = !self.changes.is_empty();
+        self.touched[switch.0 as usize] = self.changes.len() > 1;
         Ok(())
     }
 
@@ -192,7 +184,8 @@ impl Present {
         Ok(unclear)
     }
 
-    /// Touches the switches that round k changes.
+    /// Prepares each switch that round k changes once, where it is prepared for its table alone, and touches the others
+    /// that the round changes.
     fn touch(&mut self, case: &Case, k: usize)
         requires round { k < length case.now.task.rounds }
         requires room { HasRoom case.now.task.update.net case.now.task.rounds self.old }
@@ -201,7 +194,12 @@ impl Present {
         ensures settled { AreSettled (round_after k case.now.task.rounds) self.new }
         ensures keeps { Keeps self.old self.new }
     {
-        mark(&mut self.touched, round_of(case, k));
+        meet_round(
+            &mut self.mixes,
+            &mut self.touched,
+            &self.tables,
+            round_of(case, k),
+        );
     }
 }
 

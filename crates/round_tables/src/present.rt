@@ -9,7 +9,7 @@ ghost use Rattle.round_tables.specs.Present.{PresentState, HasRoom, StandsBefore
 ghost use Rattle.round_tables.specs.Loading.{AreCounted};
 
 use check_reasons::Case;
-use flow_rules::{Config, Table};
+use flow_rules::{Config, Rule, Table};
 use net_base::{Memory, SwitchId};
 use round_mix::Mixed;
 use std::alloc::Global;
@@ -24,15 +24,16 @@ pub struct Present {
     pub(crate) mixes: Vec<Mixed>,
     pub(crate) touched: Vec<bool>,
     pub(crate) changes: Vec<Change>,
+    pub(crate) rules: Vec<Rule>,
 }
 
 impl Model for Present {
-    ghost use Rattle.std.specs.Prelude.{vec_capacity};
+    ghost use Rattle.std.specs.Prelude.{vec_capacity, min};
     ghost use Rattle.round_tables.specs.Present.{PresentState};
 
     ghost Value = { PresentState };
 
-    ghost view = { λ p. record { tables = p.tables; mixes = p.mixes.items; touched = p.touched.items; room = vec_capacity p.changes } };
+    ghost view = { λ p. record { tables = p.tables; mixes = p.mixes.items; touched = p.touched.items; room = min (vec_capacity p.changes) (vec_capacity p.rules) } };
 }
 
 /// Counts a change of its switch.
@@ -178,12 +179,15 @@ impl Present {
         let tables = roomy_tables(alloc, net)?;
         let mixes = roomy_mixes(alloc, net, &counts)?;
         let touched = vec![in alloc; true; counts.len()]?;
-        let changes = Vec::with_capacity(alloc, longest(rounds))?;
+        let room = longest(rounds);
+        let changes = Vec::with_capacity(alloc, room)?;
+        let rules = Vec::with_capacity(alloc, room)?;
         Ok(Present {
             tables,
             mixes,
             touched,
             changes,
+            rules,
         })
     }
 

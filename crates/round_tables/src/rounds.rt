@@ -14,6 +14,7 @@ ghost use Rattle.check_reasons.specs.Loaded.{AreLoaded};
 ghost use Rattle.round_tables.specs.Present.{HasRoom, StandsBefore, StandsAt, table_at, room_of};
 ghost use Rattle.round_tables.specs.Loading.{ArePrepared, IsFirstOver, IsFirstRewrite, IsRewriteFound, IsOrdered, HaveRoom};
 
+use crate::applying::{change_all, keep_round};
 use crate::loading::{keeps_keys, round_number, round_of};
 use crate::present::Present;
 use certificates::Evidence;
@@ -152,7 +153,7 @@ impl Present {
 
     /// Prepares each switch for round k, or gives the first reason of the round's changes: the first bad change, the first
     /// unclear switch, the first that lacks room, or the first at which a change of an ordered plan sets or strips. A switch
-    /// is prepared anew only where this round changes it or the one before did; each of these costs a look at the round's
+    /// is prepared anew only where this round or the one before changes it more than once; each of these costs a look at the round's
     /// changes, beside what the preparation takes.
     pub fn load_round(&mut self, case: &Case, k: usize) -> Option<Reason>
         requires round { k < length case.now.task.rounds }
@@ -170,7 +171,7 @@ impl Present {
 }
 
 /// Makes a change in the table of its switch, for which there is room.
-fn change_table(table: &mut Table, change: &Change)
+pub(crate) fn change_table(table: &mut Table, change: &Change)
     requires applies { AppliesTo table.old.rules change.now }
     requires room { is_insert change.now ≡ true → 1 ≤ table.old.spare }
     ensures rules { table.new.rules ≡ rules_after_change change.now table.old.rules }
@@ -181,31 +182,9 @@ fn change_table(table: &mut Table, change: &Change)
     change.apply_to(table);
 }
 
-/// Makes a change in the tables, for which there is room.
-fn change_tables(tables: &mut Config, change: &Change)
-    requires applies { Applies (rules_of_all tables.old) change.now }
-    requires room { HaveRoom tables.old (change.now ∷ []) }
-    ensures rules { rules_of_all tables.new ≡ tables_after_change change.now (rules_of_all tables.old) }
-    ensures spare { (s : Switch) → (table_at tables.new s).spare ≡ cond ((switch_of change.now).0 == s.0) (spare_after_change change.now (table_at tables.old s).spare) (table_at tables.old s).spare }
-    ensures room { (s : Switch) → room_of (table_at tables.new s) ≡ room_of (table_at tables.old s) }
-{
-    change_table(tables.table_mut(change.switch()), change);
-}
-
-/// Makes the changes of a good round in the tables, for which there is room.
-fn change_all(tables: &mut Config, round: &[Change])
-    requires good { IsGoodRound (rules_of_all tables.old) round.now }
-    requires room { HaveRoom tables.old round.now }
-    ensures rules { rules_of_all tables.new ≡ tables_after round.now (rules_of_all tables.old) }
-    ensures room { (s : Switch) → room_of (table_at tables.new s) ≡ room_of (table_at tables.old s) }
-{
-    for change in round {
-        change_tables(tables, change);
-    }
-}
-
 impl Present {
-    /// Makes the changes of round k. Each switch that it changes is to be prepared anew.
+    /// Makes the changes of round k. Each switch that it changes more than once is to be prepared anew. The deletes at a
+    /// switch take time n log n together, each other change a look at its rules.
     pub fn apply_round(&mut self, case: &Case, k: usize)
         requires round { k < length case.now.task.rounds }
         requires room { HasRoom case.now.task.update.net case.now.task.rounds self.old }
@@ -214,6 +193,9 @@ impl Present {
         ensures stands { StandsBefore (rollout case.now.task) (suc k) self.new }
         ensures room { HasRoom case.now.task.update.net case.now.task.rounds self.new }
     {
-        change_all(&mut self.tables, round_of(case, k));
+        case.net.keeps_rules();
+        let round = round_of(case, k);
+        keep_round(&mut self.mixes, &self.touched, &self.tables, round);
+        change_all(&mut self.tables, round, &mut self.changes, &mut self.rules);
     }
 }

@@ -1,4 +1,6 @@
-use Rattle.std.proofs.Common.{◌≡◌, ◌≢◌, ◌<◌, false, not, List, [], length, sym, ◌∙◌, ap, subst, vec_capacity, vec_len, arith}
+use Rattle.std.proofs.Common.{◌≡◌, ◌≢◌, ◌<◌, ◌≤◌, false, List, length, sym, ◌∙◌, ap, subst, vec_capacity, arith}
+use Rattle.std.specs.Prelude.{min, nat_lt}
+use Rattle.std.proofs.lemmas.Bool.{ltb-false}
 use Rattle.std.specs.Vec.{with_items}
 use Rattle.std.proofs.lemmas.List.{with_items_is}
 use Rattle.net_base.specs.declared.ids.SwitchId.{SwitchId}
@@ -9,7 +11,7 @@ use Rattle.update_model.specs.declared.Change.{Change}
 use Rattle.round_mix.specs.Prepared.{MixedState}
 use Rattle.round_tables.specs.Present.{PresentState, IsMixed, mix_at}
 use Rattle.round_tables.specs.Loading.{AreSettled}
-use Rattle.round_tables.proofs.LoadLaws.{settled_set, empty_list}
+use Rattle.round_tables.proofs.LoadLaws.{settled_set}
 use Rattle.flow_rules.proofs.TableLaws.{rules_get}
 use Rattle.round_tables.proofs.present.Present.prepare.Goals as goal
 
@@ -21,7 +23,7 @@ returns-clause-settled c =
     let tables = rules_of_all inside.tables in
     let mixes = with_items inside.mixes c.load_into.new.mixes in
     let same : mixes.items ≡ c.load_into.new.mixes = with_items_is inside.mixes c.load_into.new.mixes (omega arith) in
-    let p : PresentState = record { tables = inside.tables; mixes = inside.mixes.items; touched = inside.touched.items; room = vec_capacity inside.changes } in
+    let p : PresentState = record { tables = inside.tables; mixes = inside.mixes.items; touched = inside.touched.items; room = min (vec_capacity inside.changes) (vec_capacity inside.rules) } in
     let settled : AreSettled round p = subst (AreSettled round) (sym c.self.view_is) c.requires.settled in
     let touched_len = ap (λ (v : PresentState). length v.touched) c.self.view_is in
     let tables_len = ap (λ (v : PresentState). length v.tables) c.self.view_is in
@@ -32,8 +34,9 @@ returns-clause-settled c =
     subst (λ (rs : List Rule). IsMixed rs (changes_at s round) (mix_at mixes.items s)) (sym table)
     (subst (λ (cs : List Change). IsMixed c.table-table.result.now.rules cs (mix_at mixes.items s)) collected
     (subst (λ (ms : List MixedState). IsMixed c.table-table.result.now.rules c.deref.result.now (mix_at ms s)) (sym same) c.in_ok-load_into.ensures.ok)) in
-    let empty : not c.is_empty.result ≡ false → changes_at s round ≡ [] = λ off.
-    sym collected ∙ empty_list c.is_empty.result (vec_len c.collect.new.changes) c.deref.result.now c.is_empty.ensures c.deref.ensures.len off in
+    let count = ap length collected in
+    let few : nat_lt 1 c.len.result ≡ false → length (changes_at s round) ≤ 1 = λ off.
+    let most = ltb-false 1 c.len.result off in omega (arith, c.deref.ensures.len, c.len.ensures) in
     let others : (t : SwitchId) → t.0 ≢ s.0 → mix_at mixes.items t ≡ mix_at inside.mixes.items t = λ t ne.
     ap (λ (ms : List MixedState). mix_at ms t) same ∙ c.load_into.ensures.others t ne ∙ ap (λ (ms : List MixedState). mix_at ms t) c.deref_mut.ensures.value in
-    settled_set tables round inside.mixes.items mixes.items inside.touched.items s (not c.is_empty.result) settled less here empty others
+    settled_set tables round inside.mixes.items mixes.items inside.touched.items s (nat_lt 1 c.len.result) settled less here few others
