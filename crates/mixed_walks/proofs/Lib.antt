@@ -2,4 +2,5 @@ pub mod MarkedLaws
 pub mod NotedLaws
 pub mod PlaceLaws
 pub mod SlotLaws
+pub mod TogetherLaws
 pub mod WalkedLaws

@@ -5,7 +5,7 @@ use Rattle.std.specs.List.{AllByRecursion, list_any}
 use Rattle.net_base.specs.Members.{IsIn}
 use Rattle.net_base.specs.Walks.{IsWalk, end_of}
 use Rattle.net_base.specs.Places.{stop_of}
-use Rattle.net_base.proofs.MemberLaws.{each_at, each_last, each_weaker, in_map, in_from_map}
+use Rattle.net_base.proofs.MemberLaws.{each_at, each_last, each_weaker, in_map, in_from_map, in_append_right}
 use Rattle.net_base.specs.declared.ids.SwitchId.{SwitchId}
 use Rattle.net_base.specs.declared.ids.Port.{Port}
 use Rattle.net_base.specs.declared.ids.Stop.{Stop}
@@ -31,7 +31,7 @@ use Rattle.update_model.specs.Mixtures.{Rollout, IsMixture, MayHold, MayGo, IsOn
 use Rattle.update_model.specs.declared.Change.{Change}
 use Rattle.update_model.proofs.HeldLaws.{each_held, EachRuleOf}
 use Rattle.certificates.specs.Certified.{KeepsVlan}
-use Rattle.mixed_walks.specs.Walks.{KeepVlansUpTo, TablesKeepVlans}
+use Rattle.mixed_walks.specs.Walks.{KeepVlansUpTo, TablesKeepVlans, IsAtPort}
 use Rattle.mixed_walks.proofs.MarkedLaws.{length-map_of}
 
 -- ---- the rounds up to one
@@ -171,11 +171,44 @@ places_within net entry is within p (inr i) =
     let h = each_at (IsWithin net) (ends_of net.links) stop (each_last (IsWithin net) net.hosts (ends_of net.links) is.ports) j in
     subst (λ (x : Place). x.switch.0 < switch_count net) (sym e) h.0
 
+-- ---- the places of one VLAN at ports
+
+abbrev pub port_places : Network → Vlan → List Place
+port_places net vlan = map (place_at vlan) (used_ports net)
+
+pub port_in : (net : Network) (vlan : Vlan) (p : Place) → IsAtPort net vlan p → IsIn p (port_places net vlan)
+port_in net vlan p is =
+    let e : place_at vlan (stop_of p) ≡ p = ap (λ (v : Vlan). let x : Place = record { switch = p.switch; port = p.port; vlan = v } in x) (sym is.vlan_is) in
+    subst (λ (x : Place). IsIn x (port_places net vlan)) e (in_map (place_at vlan) (stop_of p) (used_ports net) is.used)
+
+-- they are few
+pub few_ports : (net : Network) (vlan : Vlan) → IsNetwork net → length (port_places net vlan) ≤ 8192
+few_ports net vlan is =
+    let all = few_in_all (length net.names) 64 (used_ports net) is.few_ports (each_weaker (IsWithin net) (λ (x : Stop). x.switch.0 < length net.names) (λ x p. p.0) (used_ports net) is.ports) in
+    let same = length-map_of (place_at vlan) (used_ports net) in
+    let few = is.few in
+    omega arith
+
+-- and at switches of the network
+pub port_within : (net : Network) → IsNetwork net → (stop : Stop) → IsIn stop (used_ports net) → stop.switch.0 < switch_count net
+port_within net is stop i = (each_at (IsWithin net) (used_ports net) stop is.ports i).0
+
+pub ports_within : (net : Network) (vlan : Vlan) → IsNetwork net → (p : Place) → IsIn p (port_places net vlan) → p.switch.0 < switch_count net
+ports_within net vlan is p i =
+    let (stop, j, e) = in_from_map (place_at vlan) p (used_ports net) i in
+    subst (λ (x : Place). x.switch.0 < switch_count net) (sym e) (port_within net is stop j)
+
 module _ (u : Rollout) (k dst : ℕ) (entry : Place) (keeps_old : TablesKeepVlans u.old) (keeps : KeepVlansUpTo u k) where
   goes_at : (place next : Place) → MayGo u k dst place next → IsAtLink u.net place.vlan next
   goes_at place next goes =
       let all : AllByRecursion KeepsRule goes.mixed = held_up_to KeepsRule u k place.switch goes.mixed keeps_old keeps goes.held in
       acted_at u.net place _ next (lookup_each KeepsVlan (header_at place dst) goes.mixed tt all) (sym goes.is)
+
+  -- a packet goes to a port, with its VLAN
+  pub goes_to_port : (place next : Place) → MayGo u k dst place next → IsAtPort u.net place.vlan next
+  goes_to_port place next goes =
+      let at = goes_at place next goes in
+      record { used = in_append_right (stop_of next) u.net.hosts (ends_of u.net.links) at.at_end; vlan_is = at.vlan_is }
 
   walk_in : (start : Place) (rest : List Place) → start.vlan ≡ entry.vlan → IsIn start (all_places u.net entry) → IsWalk (MayGo u k dst) start rest
       → IsIn (end_of start rest) (all_places u.net entry)

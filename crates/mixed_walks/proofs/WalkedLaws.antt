@@ -24,14 +24,14 @@ use Rattle.acyclic_numbering.specs.Heights.{IsEdge}
 use Rattle.acyclic_numbering.specs.declared.Edge.{Edge}
 use Rattle.check_reasons.specs.Loaded.{IsLoaded, AreLoaded}
 use Rattle.mixed_walks.specs.Walks.{WalkState, IsRoundOf, IsWalked}
-use Rattle.mixed_walks.specs.Walking.{IsNoted, AreFew, IsWalkedTo}
+use Rattle.mixed_walks.specs.Walking.{IsNoted, IsWalkedTo, HaveRoom}
 use Rattle.mixed_walks.proofs.MarkedLaws.{in_push}
 use Rattle.mixed_walks.proofs.NotedLaws.{in_take}
 use Rattle.mixed_walks.proofs.PlaceLaws.{all_places, few_places, places_within, on_walk_in}
 use Rattle.net_base.proofs.ItemLaws.{in_from_get}
 
 -- one more of the front
-take_at : {A : Type 0} (xs more : List A) (n : ℕ) (x : A) → slice_get xs n ≡ Some x → take (suc n) (xs ++ more) ≡ take n xs ++ x ∷ []
+pub take_at : {A : Type 0} (xs more : List A) (n : ℕ) (x : A) → slice_get xs n ≡ Some x → take (suc n) (xs ++ more) ≡ take n xs ++ x ∷ []
 take_at [] more n x e = absurd (let f : None ≡ Some x = e in cc)
 take_at (y ∷ xs) more zero x e = let f : Some y ≡ Some x = e in let g : y ≡ x = cc in ap (λ z. z ∷ []) g
 take_at (y ∷ xs) more (suc n) x e = ap (λ zs. y ∷ zs) (take_at xs more n x e)
@@ -159,15 +159,15 @@ module _ (u : Rollout) (k dst : ℕ) (entry : Place) where
         let m = few_places u.net entry network_is in
         omega arith
 
-    -- with those that a packet may go to
-    pub few_found : (place : Place) → IsIn place noted.places → (found : List Outcome) → ((o : Outcome) → IsIn o found → IsPossible u k dst place o) → AreFew noted.places found
-    few_found place i found possible = record {
+    -- and have room for those that a packet may go to
+    pub walked_room : HaveRoom u k dst noted.places
+    walked_room = record {
       ends = all_places u.net entry;
       few = few_places u.net entry network_is;
       once = so.once;
-      near = λ p j. (let a = places_within u.net entry network_is within p j in let b = network_is.few in omega arith);
+      within = places_within u.net entry network_is within;
       stood = place_in;
-      led_to = λ p j. on_walk_in u k dst entry round.keeps_old round.keeps p (reached_more (MayGo u k dst) entry place p (so.on_walk place i) (possible (Go p) j));
+      led_to = λ p q i goes. on_walk_in u k dst entry round.keeps_old round.keeps q (reached_more (MayGo u k dst) entry p q (so.on_walk p i) goes);
     }
 
     -- where no place is left, all is walked

@@ -1,15 +1,16 @@
 -- What is noted while the mixed walks of a class are walked.
-use Rattle.std.specs.Prelude.{◌≡◌, ◌↔◌, ◌⊎◌, ℕ, ◌<◌, ◌≤◌, List, ◌++◌, length, take}
+use Rattle.std.specs.Prelude.{◌≡◌, ◌↔◌, ◌⊎◌, ℕ, ◌<◌, ◌≤◌, List, ◌++◌, length, take, slice_get, Some}
 use Rattle.net_base.specs.Members.{IsIn, IsDistinct}
 use Rattle.net_base.specs.declared.ids.SwitchId.{SwitchId}
 use Rattle.net_base.specs.declared.ids.Port.{Port}
 use Rattle.net_base.specs.declared.ids.Vlan.{Vlan}
 use Rattle.net_base.specs.declared.ids.Place.{Place}
+use Rattle.topology.specs.Networks.{switch_count}
 use Rattle.path_walk.specs.declared.Outcome.{Outcome}
 use Rattle.path_walk.specs.declared.Outcome.TheVariants.{Discard, Leave, Go}
 use Rattle.update_model.specs.Mixtures.{Rollout, IsPossible, MayGo, IsOnMixedWalk}
 use Rattle.acyclic_numbering.specs.Heights.{IsEdge}
-use Rattle.mixed_walks.specs.Walks.{WalkState}
+use Rattle.mixed_walks.specs.Walks.{WalkState, IsAtPort}
 
 -- the outcomes of a place are noted: the next places behind those that stood there, and the steps, leavings and discards at its switch
 pub record IsNoted (old : WalkState) (place : Place) (found : List Outcome) (new : WalkState) : Type 0 where
@@ -64,3 +65,39 @@ pub record IsWalkedTo (u : Rollout) (k dst : ℕ) (entry : Place) (next : ℕ) (
   pub steps : (s t : SwitchId) → IsEdge noted.steps s t ↔ GoesAt u k dst (take next noted.places) s t
   pub leaving : (s : SwitchId) → IsIn s noted.leaving ↔ LeavesAt u k dst (take next noted.places) s
   pub dropping : (s : SwitchId) → IsIn s noted.dropping ↔ DiscardsAt u k dst (take next noted.places) s
+
+-- the possible outcomes of the place with this number are noted
+pub record IsExpanded (u : Rollout) (k dst next : ℕ) (old new : WalkState) : Type 0 where
+  pub place : Place
+  pub found : List Outcome
+  pub at_next : slice_get old.places next ≡ Some place
+  pub all : (o : Outcome) → IsIn o found ↔ IsPossible u k dst place o
+  pub noted : IsNoted old place found new
+
+-- the places stand once, and they and those that a packet may go to from them are among few, at switches of the network
+pub record HaveRoom (u : Rollout) (k dst : ℕ) (places : List Place) : Type 0 where
+  pub ends : List Place
+  pub few : length ends ≤ 8193
+  pub once : IsDistinct places
+  pub within : (p : Place) → IsIn p ends → p.switch.0 < switch_count u.net
+  pub stood : (p : Place) → IsIn p places → IsIn p ends
+  pub led_to : (p q : Place) → IsIn p places → MayGo u k dst p q → IsIn q ends
+
+-- a place from which walks begin is put behind those that stood there, if it isn't one of them
+pub record IsEntered (entry : Place) (old new : WalkState) : Type 0 where
+  pub more : List Place
+  pub behind : new.places ≡ old.places ++ more
+  pub once : IsDistinct new.places
+  pub places : (p : Place) → IsIn p new.places ↔ (IsIn p old.places ⊎ (p ≡ entry))
+  pub steps : new.steps ≡ old.steps
+  pub leaving : new.leaving ≡ old.leaving
+  pub dropping : new.dropping ≡ old.dropping
+
+-- what may happen at the first places, so many, is noted, with the places that a packet may go to from them
+pub record IsTogetherTo (u : Rollout) (k dst : ℕ) (vlan : Vlan) (next : ℕ) (noted : WalkState) : Type 0 where
+  pub once : IsDistinct noted.places
+  pub at_port : (p : Place) → IsIn p noted.places → IsAtPort u.net vlan p
+  pub goes : (p q : Place) → IsIn p (take next noted.places) → MayGo u k dst p q → IsIn q noted.places × IsEdge noted.steps p.switch q.switch
+  pub leaves : (p : Place) (port : Port) (v : Vlan) → IsIn p (take next noted.places) → IsPossible u k dst p (Leave port v) → IsIn p.switch noted.leaving
+  pub drops : (p : Place) → IsIn p (take next noted.places) → IsPossible u k dst p Discard → IsIn p.switch noted.dropping
+  pub steps_within : (s t : SwitchId) → IsEdge noted.steps s t → (s.0 < switch_count u.net) × (t.0 < switch_count u.net)

@@ -1,10 +1,12 @@
 -- The mixed walks of a class in a round: what is noted of them.
 use Rattle.std.specs.Prelude.{◌≡◌, ◌↔◌, ℕ, ◌<◌, ◌≤◌, List, map}
 use Rattle.std.specs.List.{AllByRecursion}
-use Rattle.net_base.specs.Members.{IsIn}
+use Rattle.net_base.specs.Members.{IsIn, IsDistinct}
+use Rattle.net_base.specs.Places.{stop_of}
 use Rattle.net_base.specs.declared.ids.SwitchId.{SwitchId}
+use Rattle.net_base.specs.declared.ids.Vlan.{Vlan}
 use Rattle.net_base.specs.declared.ids.Place.{Place}
-use Rattle.topology.specs.Networks.{Network, switch_count}
+use Rattle.topology.specs.Networks.{Network, switch_count, IsUsed}
 use Rattle.flow_rules.specs.declared.rules.Rule.{Rule}
 use Rattle.update_model.specs.Changes.{rule_of, round_after}
 use Rattle.update_model.specs.Mixtures.{Rollout, IsOnMixedWalk}
@@ -52,3 +54,23 @@ pub record IsWalked (u : Rollout) (k dst : ℕ) (entry : Place) (noted : WalkSta
   pub steps_within : AllByRecursion (λ e. (e.from.0 < switch_count u.net) × (e.to.0 < switch_count u.net)) noted.steps
   pub leaving_within : AllByRecursion (λ s. s.0 < switch_count u.net) noted.leaving
   pub dropping_within : AllByRecursion (λ s. s.0 < switch_count u.net) noted.dropping
+
+-- what is noted holds the mixed walks of an entry: their places and steps, and where a packet on them may leave or be discarded
+pub record Covers (u : Rollout) (k dst : ℕ) (entry : Place) (noted : WalkState) : Type 0 where
+  pub places : (p : Place) → IsOnMixedWalk u k dst entry p → IsIn p noted.places
+  pub steps : (s t : SwitchId) → IsMixedStep u k dst entry s t → IsEdge noted.steps s t
+  pub leaving : (s : SwitchId) → MayLeave u k dst entry s → IsIn s noted.leaving
+  pub dropping : (s : SwitchId) → DropsAt u k dst entry s → IsIn s noted.dropping
+
+-- the place is at a port of a host or a link, and has the VLAN
+pub record IsAtPort (net : Network) (vlan : Vlan) (place : Place) : Type 0 where
+  pub used : IsUsed net (stop_of place)
+  pub vlan_is : place.vlan ≡ vlan
+
+-- what is noted of walks with one VLAN that were walked together: it holds the mixed walks from each of its places, and maybe
+-- more; all of it at switches of the network
+pub record AreTogether (u : Rollout) (k dst : ℕ) (vlan : Vlan) (noted : WalkState) : Type 0 where
+  pub once : IsDistinct noted.places
+  pub at_port : (p : Place) → IsIn p noted.places → IsAtPort u.net vlan p
+  pub covers : (p : Place) → IsIn p noted.places → Covers u k dst p noted
+  pub steps_within : AllByRecursion (λ e. (e.from.0 < switch_count u.net) × (e.to.0 < switch_count u.net)) noted.steps

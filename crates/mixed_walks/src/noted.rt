@@ -4,7 +4,7 @@ ghost use Rattle.net_base.specs.Members.{IsIn, IsDistinct};
 ghost use Rattle.net_base.specs.declared.ids.Place.{Place};
 ghost use Rattle.net_base.specs.declared.ids.SwitchId.{SwitchId};
 ghost use Rattle.mixed_walks.specs.Walks.{switches_of};
-ghost use Rattle.mixed_walks.specs.Walking.{IsNoted, AreFew};
+ghost use Rattle.mixed_walks.specs.Walking.{IsNoted, AreFew, IsEntered};
 
 use crate::edges::EdgeSet;
 use crate::marked::SwitchSet;
@@ -91,7 +91,7 @@ impl Noted {
     }
 
     /// Forgets all.
-    fn clear(&mut self)
+    pub(crate) fn clear(&mut self)
         ensures { self.new ≡ record { places = []; steps = []; leaving = []; dropping = [] } }
     {
         self.reached.clear();
@@ -108,6 +108,15 @@ impl Noted {
         ensures nothing { (self.new.steps ≡ []) × (self.new.leaving ≡ []) × (self.new.dropping ≡ []) }
     {
         self.clear();
+        self.reached.put(entry);
+    }
+
+    /// Puts a place from which walks begin, if it doesn't stand there.
+    pub(crate) fn enter(&mut self, entry: Place)
+        requires near { entry.switch.0 < 128 }
+        requires room { length self.old.places < 8193 }
+        ensures { IsEntered entry self.old self.new }
+    {
         self.reached.put(entry);
     }
 

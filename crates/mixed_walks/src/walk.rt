@@ -1,16 +1,19 @@
 //! The mixed walks of a class in a round.
 ghost use Rattle.std.specs.Prelude.{◌≡◌, ◌↔◌, ℕ, ◌+◌, ◌<◌, [], length, All, IfOk};
 ghost use Rattle.net_base.specs.Members.{IsIn};
+ghost use Rattle.net_base.specs.Places.{stop_of};
 ghost use Rattle.net_base.specs.declared.ids.SwitchId.{SwitchId};
-ghost use Rattle.topology.specs.Networks.{switch_count};
+ghost use Rattle.net_base.specs.declared.ids.Vlan.{Vlan};
+ghost use Rattle.net_base.specs.declared.ids.Place.{Place};
+ghost use Rattle.topology.specs.Networks.{switch_count, IsUsed};
 ghost use Rattle.update_model.specs.Mixtures.{Rollout};
-ghost use Rattle.mixed_walks.specs.Walks.{switches_of, IsRoundOf, IsWalked};
-ghost use Rattle.mixed_walks.specs.Walking.{IsWalkedTo};
+ghost use Rattle.mixed_walks.specs.Walks.{switches_of, IsRoundOf, IsWalked, AreTogether};
+ghost use Rattle.mixed_walks.specs.Walking.{IsWalkedTo, IsExpanded, HaveRoom, IsEntered, IsTogetherTo};
 
 use crate::noted::Noted;
 use acyclic_numbering::Edge;
 use dest_classes::Class;
-use net_base::{Memory, SwitchId};
+use net_base::{Memory, Place, SwitchId};
 use round_mix::{Mixed, Outcomes};
 use std::alloc::Global;
 use std::marker::Model;
@@ -92,17 +95,15 @@ impl WalkRoom {
     }
 
     /// Notes the possible outcomes of the next place.
-    fn expand(&mut self, net: &Net, mixes: &[Mixed], class: Class, next: usize)
-        requires round { (u : Rollout) × (k : ℕ) × IsRoundOf net.now mixes.now u k }
-        requires entry { class.entry.switch.0 < switch_count net.now }
-        requires so_far { (u : Rollout) (k : ℕ) → IsRoundOf net.now mixes.now u k → IsWalkedTo u k class.first class.entry next self.old }
+    fn expand(&mut self, net: &Net, mixes: &[Mixed], address: u32, next: usize)
+        requires round { (u : Rollout) × (k : ℕ) × IsRoundOf net.now mixes.now u k × HaveRoom u k address self.old.places }
         requires more { next < length self.old.places }
-        ensures { (u : Rollout) (k : ℕ) → IsRoundOf net.now mixes.now u k → IsWalkedTo u k class.first class.entry (next + 1) self.new }
+        ensures { (u : Rollout) (k : ℕ) → IsRoundOf net.now mixes.now u k → IsExpanded u k address next self.old self.new }
     {
         net.keeps_rules();
         let place = self.noted.place(next);
         let mixed = &mixes[place.switch.0 as usize];
-        mixed.possible(net, place, class.first, &mut self.outcomes);
+        mixed.possible(net, place, address, &mut self.outcomes);
         self.noted.note_all(place, self.outcomes.list());
     }
 
@@ -120,8 +121,58 @@ impl WalkRoom {
         self.start(net, class);
         let mut next = 0;
         'walking: while next < self.count() {
-            self.expand(net, mixes, class, next);
+            self.expand(net, mixes, class.first, next);
             next += 1;
         }
+    }
+
+    /// Forgets what was noted, before walks that are to be walked together.
+    pub fn clear(&mut self)
+        ensures nothing { self.new ≡ record { places = []; steps = []; leaving = []; dropping = [] } }
+        ensures together { (u : Rollout) (k dst : ℕ) (vlan : Vlan) → AreTogether u k dst vlan self.new }
+    {
+        self.noted.clear();
+    }
+
+    /// Puts a place from which walks begin, if it doesn't stand there.
+    fn enter(&mut self, entry: Place)
+        requires near { entry.switch.0 < 128 }
+        requires room { length self.old.places < 8193 }
+        ensures { IsEntered entry self.old self.new }
+    {
+        self.noted.enter(entry);
+    }
+
+    /// Goes on from the place with this number and those behind it, until no place is left.
+    fn go_on(&mut self, net: &Net, mixes: &[Mixed], class: Class, from: usize)
+        requires round { (u : Rollout) × (k : ℕ) × IsRoundOf net.now mixes.now u k × IsTogetherTo u k class.first class.entry.vlan from self.old }
+        ensures together { (u : Rollout) (k : ℕ) → IsRoundOf net.now mixes.now u k → IsTogetherTo u k class.first class.entry.vlan from self.old
+            → AreTogether u k class.first class.entry.vlan self.new }
+        ensures kept { (p : Place) → IsIn p self.old.places → IsIn p self.new.places }
+    {
+        net.keeps_rules();
+        let mut next = from;
+        'going: while next < self.count() {
+            self.expand(net, mixes, class.first, next);
+            next += 1;
+        }
+    }
+
+    /// Walks all mixed walks of a class, as `walk`, and notes them with those that stand there: walks of the same address and
+    /// VLAN in the same round. Takes time by the places that only these walks come to and the outcomes there.
+    ///
+    /// So what is noted holds the walks of each class that was walked so since `clear`: each place, step, leaving and discard.
+    /// It need not say which of them has it.
+    pub fn walk_more(&mut self, net: &Net, mixes: &[Mixed], class: Class)
+        requires round { (u : Rollout) × (k : ℕ) × IsRoundOf net.now mixes.now u k × AreTogether u k class.first class.entry.vlan self.old }
+        requires entry { IsUsed net.now (stop_of class.entry) }
+        ensures together { (u : Rollout) (k : ℕ) → IsRoundOf net.now mixes.now u k → AreTogether u k class.first class.entry.vlan self.old → AreTogether u k class.first class.entry.vlan self.new }
+        ensures entry { IsIn class.entry self.new.places }
+        ensures kept { (p : Place) → IsIn p self.old.places → IsIn p self.new.places }
+    {
+        net.keeps_rules();
+        let from = self.count();
+        self.enter(class.entry);
+        self.go_on(net, mixes, class, from);
     }
 }

@@ -1,39 +1,36 @@
-use Rattle.std.proofs.Common.{◌≡◌, ◌↔◌, List, length, refl, sym, ◌∙◌, subst, ap, arith}
-use Rattle.std.specs.Prelude.{Option, Some, IsSome}
+use Rattle.std.proofs.Common.{◌≡◌, ◌↔◌, ℕ, ◌<◌, List, length, refl, sym, ◌∙◌, subst, ap, arith}
+use Rattle.std.specs.Prelude.{Option, Some, IsSome, slice_get}
 use Rattle.net_base.specs.Members.{IsIn}
+use Rattle.net_base.specs.declared.ids.Place.{Place}
 use Rattle.topology.specs.Networks.{switch_count}
 use Rattle.path_walk.specs.declared.Outcome.{Outcome}
-use Rattle.update_model.specs.Mixtures.{IsPossible}
+use Rattle.path_walk.specs.declared.Outcome.TheVariants.{Go}
+use Rattle.update_model.specs.Mixtures.{Rollout, IsPossible}
 use Rattle.round_mix.specs.declared.MarkedRule.{MarkedRule}
 use Rattle.check_reasons.specs.Loaded.{IsLoaded}
-use Rattle.mixed_walks.specs.Walking.{IsWalkedTo}
-use Rattle.mixed_walks.proofs.WalkedLaws.{loaded_at, all_possible, place_within, few_found, walked_next}
+use Rattle.mixed_walks.specs.Walks.{WalkState}
+use Rattle.mixed_walks.specs.Walking.{HaveRoom, IsNoted}
+use Rattle.mixed_walks.proofs.WalkedLaws.{loaded_at, all_possible}
 use Rattle.net_base.proofs.ItemLaws.{in_from_get}
 use Rattle.mixed_walks.proofs.walk.WalkRoom.expand.Goals as goal
 
+-- the place that was read is among few, at a switch of the network
+place_near : (u : Rollout) (k dst next : ℕ) (noted state : WalkState) (place : Place) → noted ≡ state → HaveRoom u k dst state.places → slice_get noted.places next ≡ Some place → place.switch.0 < switch_count u.net
+place_near u k dst next noted state place same room at =
+    room.within place (room.stood place (subst (λ (w : WalkState). IsIn place w.places) same (in_from_get noted.places next place at)))
+
 pub bounds-mixes-place : goal.bounds-mixes-place
 bounds-mixes-place c =
-    let (u, k, round) = c.requires.round in
-    let dst = c.args.class.first in
-    let entry = c.args.class.entry in
-    let noted = c.self.inside.noted in
-    let place = c.place-place.result in
-    let so : IsWalkedTo u k dst entry c.args.next noted = subst (IsWalkedTo u k dst entry c.args.next) (sym c.self.view_is) (c.requires.so_far u k round) in
-    let is_in = in_from_get noted.places c.args.next place c.place-place.ensures in
-    let within = place_within u k dst entry c.args.net.now c.args.mixes.now round c.keeps_rules.ensures c.requires.entry c.args.next noted so place is_in in
+    let (u, k, round, room) = c.requires.round in
+    let within = place_near u k c.args.address c.args.next c.self.inside.noted c.args.self.now c.place-place.result c.self.view_is room c.place-place.ensures in
     let count = round.loaded.count in
     omega arith
 
 pub possible-requires-clause-prepared : goal.possible-requires-clause-prepared
 possible-requires-clause-prepared c =
-    let (u, k, round) = c.requires.round in
-    let dst = c.args.class.first in
-    let entry = c.args.class.entry in
-    let noted = c.self.inside.noted in
+    let (u, k, round, room) = c.requires.round in
     let place = c.place-place.result in
-    let so : IsWalkedTo u k dst entry c.args.next noted = subst (IsWalkedTo u k dst entry c.args.next) (sym c.self.view_is) (c.requires.so_far u k round) in
-    let is_in = in_from_get noted.places c.args.next place c.place-place.ensures in
-    let within = place_within u k dst entry c.args.net.now c.args.mixes.now round c.keeps_rules.ensures c.requires.entry c.args.next noted so place is_in in
+    let within = place_near u k c.args.address c.args.next c.self.inside.noted c.args.self.now place c.self.view_is room c.place-place.ensures in
     let count = round.loaded.count in
     let mixed = c.index-mixes-place.result in
     let loaded : IsLoaded u k place.switch mixed = loaded_at u k c.args.mixes.now round.loaded place.switch mixed (omega arith) c.index-mixes-place.is in
@@ -41,14 +38,9 @@ possible-requires-clause-prepared c =
 
 pub possible-requires-clause-room : goal.possible-requires-clause-room
 possible-requires-clause-room c marks is =
-    let (u, k, round) = c.requires.round in
-    let dst = c.args.class.first in
-    let entry = c.args.class.entry in
-    let noted = c.self.inside.noted in
+    let (u, k, round, room) = c.requires.round in
     let place = c.place-place.result in
-    let so : IsWalkedTo u k dst entry c.args.next noted = subst (IsWalkedTo u k dst entry c.args.next) (sym c.self.view_is) (c.requires.so_far u k round) in
-    let is_in = in_from_get noted.places c.args.next place c.place-place.ensures in
-    let within = place_within u k dst entry c.args.net.now c.args.mixes.now round c.keeps_rules.ensures c.requires.entry c.args.next noted so place is_in in
+    let within = place_near u k c.args.address c.args.next c.self.inside.noted c.args.self.now place c.self.view_is room c.place-place.ensures in
     let count = round.loaded.count in
     let mixed = c.index-mixes-place.result in
     let loaded : IsLoaded u k place.switch mixed = loaded_at u k c.args.mixes.now round.loaded place.switch mixed (omega arith) c.index-mixes-place.is in
@@ -56,53 +48,55 @@ possible-requires-clause-room c marks is =
     let same : marks ≡ loaded.marks = cc in
     let longer = ap length same in
     let few = loaded.few in
-    let room = c.self.invariant in
+    let spare = c.self.invariant in
     omega arith
 
 pub note_all-requires-clause-near : goal.note_all-requires-clause-near
 note_all-requires-clause-near c =
-    let (u, k, round) = c.requires.round in
-    let dst = c.args.class.first in
-    let entry = c.args.class.entry in
-    let noted = c.self.inside.noted in
-    let place = c.place-place.result in
-    let so : IsWalkedTo u k dst entry c.args.next noted = subst (IsWalkedTo u k dst entry c.args.next) (sym c.self.view_is) (c.requires.so_far u k round) in
-    let is_in = in_from_get noted.places c.args.next place c.place-place.ensures in
-    let within = place_within u k dst entry c.args.net.now c.args.mixes.now round c.keeps_rules.ensures c.requires.entry c.args.next noted so place is_in in
-    let count = round.loaded.count in
+    let (u, k, round, room) = c.requires.round in
+    let within = place_near u k c.args.address c.args.next c.self.inside.noted c.args.self.now c.place-place.result c.self.view_is room c.place-place.ensures in
     let few = c.keeps_rules.ensures.few in
     let same = ap switch_count round.net_is in
     omega arith
 
 pub note_all-requires-clause-few : goal.note_all-requires-clause-few
 note_all-requires-clause-few c =
-    let (u, k, round) = c.requires.round in
-    let dst = c.args.class.first in
-    let entry = c.args.class.entry in
+    let (u, k, round, room) = c.requires.round in
+    let dst = c.args.address in
     let noted = c.self.inside.noted in
     let place = c.place-place.result in
-    let so : IsWalkedTo u k dst entry c.args.next noted = subst (IsWalkedTo u k dst entry c.args.next) (sym c.self.view_is) (c.requires.so_far u k round) in
-    let is_in = in_from_get noted.places c.args.next place c.place-place.ensures in
-    let within = place_within u k dst entry c.args.net.now c.args.mixes.now round c.keeps_rules.ensures c.requires.entry c.args.next noted so place is_in in
+    let within = place_near u k dst c.args.next noted c.args.self.now place c.self.view_is room c.place-place.ensures in
     let count = round.loaded.count in
+    let few = c.keeps_rules.ensures.few in
+    let same = ap switch_count round.net_is in
     let mixed = c.index-mixes-place.result in
     let loaded : IsLoaded u k place.switch mixed = loaded_at u k c.args.mixes.now round.loaded place.switch mixed (omega arith) c.index-mixes-place.is in
     let all : (o : Outcome) → IsIn o c.list.result.now ↔ IsPossible u k dst place o =
     all_possible u k dst place c.args.net.now (sym round.net_is) mixed loaded c.possible.new.out.list c.possible.ensures.exact c.list.result.now c.list.ensures in
-    few_found u k dst entry c.args.net.now c.args.mixes.now round c.keeps_rules.ensures c.requires.entry c.args.next noted so place is_in c.list.result.now (λ o. (all o).0)
+    let here : HaveRoom u k dst noted.places = subst (λ (w : WalkState). HaveRoom u k dst w.places) (sym c.self.view_is) room in
+    record {
+      ends = here.ends;
+      few = here.few;
+      once = here.once;
+      near = λ p i. (let low = here.within p i in omega arith);
+      stood = here.stood;
+      led_to = λ p i. here.led_to place p (in_from_get noted.places c.args.next place c.place-place.ensures) ((all (Go p)).0 i);
+    }
 
 pub returns : goal.returns
 returns c u k round =
-    let dst = c.args.class.first in
-    let entry = c.args.class.entry in
+    let (some_, number, other, room) = c.requires.round in
+    let dst = c.args.address in
     let noted = c.self.inside.noted in
     let place = c.place-place.result in
-    let so : IsWalkedTo u k dst entry c.args.next noted = subst (IsWalkedTo u k dst entry c.args.next) (sym c.self.view_is) (c.requires.so_far u k round) in
-    let is_in = in_from_get noted.places c.args.next place c.place-place.ensures in
-    let within = place_within u k dst entry c.args.net.now c.args.mixes.now round c.keeps_rules.ensures c.requires.entry c.args.next noted so place is_in in
-    let count = round.loaded.count in
+    let within = place_near some_ number dst c.args.next noted c.args.self.now place c.self.view_is room c.place-place.ensures in
+    let count = other.loaded.count in
     let mixed = c.index-mixes-place.result in
     let loaded : IsLoaded u k place.switch mixed = loaded_at u k c.args.mixes.now round.loaded place.switch mixed (omega arith) c.index-mixes-place.is in
-    let all : (o : Outcome) → IsIn o c.list.result.now ↔ IsPossible u k dst place o =
-    all_possible u k dst place c.args.net.now (sym round.net_is) mixed loaded c.possible.new.out.list c.possible.ensures.exact c.list.result.now c.list.ensures in
-    walked_next u k dst entry c.args.next noted so place c.place-place.ensures c.list.result.now all c.note_all.new.self c.note_all.ensures
+    record {
+      place = place;
+      found = c.list.result.now;
+      at_next = subst (λ (w : WalkState). slice_get w.places c.args.next ≡ Some place) c.self.view_is c.place-place.ensures;
+      all = all_possible u k dst place c.args.net.now (sym round.net_is) mixed loaded c.possible.new.out.list c.possible.ensures.exact c.list.result.now c.list.ensures;
+      noted = subst (λ (w : WalkState). IsNoted w place c.list.result.now c.note_all.new.self) c.self.view_is c.note_all.ensures;
+    }
