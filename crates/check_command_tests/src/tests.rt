@@ -2,8 +2,8 @@
 use check_command::{CheckNames, check};
 use command_base::Status;
 use example_files::{
-    Answer, UpdateTexts, answer_of, detour, detour_plans, four_ports, none, pair, single, square,
-    triangle, update_names, update_source, wide,
+    Answer, UpdateTexts, answer_of, detour, detour_plans, four_ports, halves, none, pair, single,
+    square, triangle, update_names, update_source, wide,
 };
 use std::alloc::Global;
 use std::test::Fail;
@@ -40,7 +40,7 @@ fn first_other(
 
 #[test]
 fn certified_plans_are_accepted(rt: HostRuntime) -> Result<(), Fail> {
-    let rows: [(UpdateTexts<'_>, &[u8], &[u8]); 4] = [
+    let rows: [(UpdateTexts<'_>, &[u8], &[u8]); 5] = [
         (
             square::update(),
             square::plan_in_format_1(),
@@ -60,6 +60,11 @@ fn certified_plans_are_accepted(rt: HostRuntime) -> Result<(), Fail> {
             detour::update(),
             detour_plans::two_phases(),
             b"accepted: two-phase, 8 rounds, 6 classes\n",
+        ),
+        (
+            halves::update(),
+            halves::plan(),
+            b"accepted: ordered, 1 rounds, 8 classes\n",
         ),
     ];
     assert_eq!(rt; first_other(rt.alloc(), &rows, Status::Done)?, None);
@@ -106,7 +111,7 @@ fn bad_changes_are_refused(rt: HostRuntime) -> Result<(), Fail> {
 
 #[test]
 fn ordered_plans_without_evidence_are_refused(rt: HostRuntime) -> Result<(), Fail> {
-    let rows: [(UpdateTexts<'_>, &[u8], &[u8]); 6] = [
+    let rows: [(UpdateTexts<'_>, &[u8], &[u8]); 7] = [
         (
             square::update(),
             square::a_pick_too_few(),
@@ -136,6 +141,11 @@ fn ordered_plans_without_evidence_are_refused(rt: HostRuntime) -> Result<(), Fai
             detour::chain_update(),
             detour_plans::past_the_second_waypoint(),
             b"refused: 10 Bypass round 1 at s:1 untagged 10.0.0.0 waypoint y switch x\n",
+        ),
+        (
+            halves::update(),
+            halves::past_the_last_waypoint_in_one_half(),
+            b"refused: 10 Bypass round 1 at s:1 untagged 10.0.0.128 waypoint d switch s\n",
         ),
     ];
     assert_eq!(rt; first_other(rt.alloc(), &rows, Status::Refused)?, None);

@@ -22,7 +22,8 @@ use Rattle.check_reasons.specs.Reasons.{class_duties}
 use Rattle.check_reasons.specs.declared.reason.Reason.{Reason}
 use Rattle.check_reasons.specs.AtomMarks.{AreTouched}
 use Rattle.mixed_walks.specs.Walks.{WalkState, switches_of, IsWalked}
-use Rattle.ordered_check.specs.Kept.{OrderedState, is_marked, AreClasses, AreAtoms, HasClassRoom, HoldsWalks, HoldsWalksBefore, WalksStand}
+use Rattle.ordered_check.specs.Guarded.{HoldsGuarded}
+use Rattle.ordered_check.specs.Kept.{OrderedState, is_marked, AreClasses, AreAtoms, HasClassRoom, HoldsWalks, WalksStand, IsSettled, AreSettled}
 use Rattle.ordered_check.specs.Firsts.{first_of, IsFirstOfClass, IsFoundBelow}
 use Rattle.ordered_check.proofs.RoundLaws.{found_more}
 
@@ -115,23 +116,27 @@ module _ (t : Task) (e : OrderedEvidence) (k : ℕ) where
   -- the classes below this number were judged in round k: what was found of them, and what is kept
   pub record AreJudged (below : ℕ) (found : Option Reason) (old new : OrderedState) : Type 0 where
     pub so_far : IsFoundBelow t e k below found
+    pub guarded : HoldsGuarded t e new.guarded
     pub picks : new.picks ≡ old.picks
     pub classes : new.classes ≡ old.classes
     pub atoms : new.atoms ≡ old.atoms
     pub touched : new.touched ≡ old.touched
+    pub settled : new.settled ≡ old.settled
     pub count : length new.came ≡ length old.came
     pub later : (n : ℕ) → below ≤ n → slice_get new.came n ≡ slice_get old.came n
     pub walked : IfNone found (AreWalkedBelow below new)
 
-  pub judged_none : (state : OrderedState) → AreJudged 0 None state state
-  judged_none state = record {
+  pub judged_none : (old new : OrderedState) → HoldsGuarded t e new.guarded → new ≡ record old { guarded = new.guarded } → AreJudged 0 None old new
+  judged_none old new held same = record {
     so_far = λ n class lt is. absurd (omega arith);
-    picks = refl;
-    classes = refl;
-    atoms = refl;
-    touched = refl;
-    count = refl;
-    later = λ n le. refl;
+    guarded = held;
+    picks = ap (λ (s : OrderedState). s.picks) same;
+    classes = ap (λ (s : OrderedState). s.classes) same;
+    atoms = ap (λ (s : OrderedState). s.atoms) same;
+    touched = ap (λ (s : OrderedState). s.touched) same;
+    settled = ap (λ (s : OrderedState). s.settled) same;
+    count = ap (λ (s : OrderedState). length s.came) same;
+    later = λ n le. ap (λ (s : OrderedState). slice_get s.came n) same;
     walked = λ n class marks lt is at. absurd (omega arith);
   }
 
@@ -139,10 +144,12 @@ module _ (t : Task) (e : OrderedEvidence) (k : ℕ) where
   pub record IsJudgedOne (n : ℕ) (reason : Option Reason) (mid new : OrderedState) : Type 0 where
     pub none : (class : Class) → slice_get mid.classes n ≡ Some class → IfNone reason (OrderedCertificate (rollout t) e k n class.first class.entry (class_duties t class))
     pub some : IfSome reason (IsFirstOfClass t e k n)
+    pub guarded : HoldsGuarded t e new.guarded
     pub picks : new.picks ≡ mid.picks
     pub classes : new.classes ≡ mid.classes
     pub atoms : new.atoms ≡ mid.atoms
     pub touched : new.touched ≡ mid.touched
+    pub settled : new.settled ≡ mid.settled
     pub count : length new.came ≡ length mid.came
     pub others : (m : ℕ) → m ≢ n → slice_get new.came m ≡ slice_get mid.came m
     pub walks : IfNone reason ((class : Class) (marks : List Bool) → slice_get new.classes n ≡ Some class → slice_get new.came n ≡ Some marks → HoldsWalks (rollout t) k class marks)
@@ -154,10 +161,12 @@ module _ (t : Task) (e : OrderedEvidence) (k : ℕ) where
       let here : slice_get mid.classes n ≡ Some class = ap (λ (cs : List Class). slice_get cs n) so.classes ∙ at in
       record {
         so_far = found_more t e in_order k n class (are.each n class at) found reason so.so_far (one.none class here) one.some;
+        guarded = one.guarded;
         picks = one.picks ∙ so.picks;
         classes = one.classes ∙ so.classes;
         atoms = one.atoms ∙ so.atoms;
         touched = one.touched ∙ so.touched;
+        settled = one.settled ∙ so.settled;
         count = one.count ∙ so.count;
         later = λ m le. one.others m (λ same. omega arith) ∙ so.later m (omega arith);
         walked = none_more found reason (AreWalkedBelow n mid)
@@ -171,7 +180,7 @@ module _ (t : Task) (e : OrderedEvidence) (k : ℕ) where
             ]);
       }
 
-  -- what is kept has room as before, the same atoms are marked, and the marks of the next class are those from before the round
+  -- what is kept has room as before, the same atoms are marked, and the next class is settled or not as before
   module _ (below : ℕ) (found : Option Reason) (old new : OrderedState) (judged : AreJudged below found old new) where
     pub room_after : HasClassRoom (classes_for t) old → HasClassRoom (classes_for t) new
     room_after room = record {
@@ -179,14 +188,17 @@ module _ (t : Task) (e : OrderedEvidence) (k : ℕ) where
       classes_are = subst (AreClasses (classes_for t)) (sym judged.classes) room.classes_are;
       atoms_are = subst (AreAtoms (classes_for t)) (sym judged.atoms) room.atoms_are;
       came = judged.count ∙ room.came;
+      settled = ap (λ (bs : List Bool). length bs) judged.settled ∙ room.settled;
     }
 
     pub still_touched : (round : List Change) → AreTouched (classes_for t) round old.touched → AreTouched (classes_for t) round new.touched
     still_touched round touched = subst (AreTouched (classes_for t) round) (sym judged.touched) touched
 
-    pub still_before : WalksStand (rollout t) k old → (class : Class) (marks : List Bool) → slice_get new.classes below ≡ Some class → slice_get new.came below ≡ Some marks → HoldsWalksBefore (rollout t) k class marks
-    still_before stand class marks is came =
-        stand below class marks (ap (λ (cs : List Class). slice_get cs below) (sym judged.classes) ∙ is) (sym (judged.later below (omega arith)) ∙ came)
+    pub still_settled : AreSettled t e k old → (class : Class) (marks : List Bool) (settled : Bool) → slice_get new.classes below ≡ Some class → slice_get new.came below ≡ Some marks
+        → slice_get new.settled below ≡ Some settled → IsSettled t e k below class marks settled
+    still_settled stand class marks settled is came at =
+        stand below class marks settled (ap (λ (cs : List Class). slice_get cs below) (sym judged.classes) ∙ is) (sym (judged.later below (omega arith)) ∙ came)
+        (ap (λ (bs : List Bool). slice_get bs below) (sym judged.settled) ∙ at)
 
   -- after all classes
   pub walks_after : (found : Option Reason) (old new : OrderedState) → HasClassRoom (classes_for t) old → AreJudged (class_count (classes_for t)) found old new → IfNone found (WalksStand (rollout t) (suc k) new)
@@ -200,3 +212,11 @@ module _ (t : Task) (e : OrderedEvidence) (k : ℕ) where
 -- what was read of a list
 pub read_at : {A : Type 0} (xs : List A) (n : ℕ) (x : A) → n < length xs → x ≡ get_or xs n x → slice_get xs n ≡ Some x
 read_at xs n x lt is = slice_get-get_or xs n x lt ∙ ap Some (sym is)
+
+-- the class that was read is the one of the number
+module _ (t : Task) (n : ℕ) (state : OrderedState) (items : List Class) (items_are : items ≡ state.classes) (class : Class) (within : n < length items) (read : class ≡ get_or items n class) where
+  pub class_at : slice_get state.classes n ≡ Some class
+  class_at = ap (λ (cs : List Class). slice_get cs n) (sym items_are) ∙ read_at items n class within read
+
+  pub is_at : HasClassRoom (classes_for t) state → IsClass (classes_for t) n class
+  is_at room = room.classes_are.each n class class_at

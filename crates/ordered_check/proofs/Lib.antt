@@ -2,8 +2,10 @@ pub mod PickLaws
 pub mod LeastLaws
 pub mod WayLaws
 pub mod MeaningLaws
+pub mod GuardedLaws
 pub mod JudgeLaws
 pub mod RoundLaws
 pub mod StandLaws
 pub mod KeptLaws
 pub mod TouchedLaws
+pub mod TogetherLaws

@@ -172,7 +172,7 @@ written_back {A} len new items same is =
     let e : new ++ drop (length new) items ≡ new = ap (λ (xs : List A). new ++ xs) (drop_all (length new) items (omega arith)) ∙ append-nil new in
     ap (take len) e ∙ take_all len new (omega arith)
 
-get_replicate : {A : Type 0} (count n : ℕ) (x y : A) → slice_get (replicate count x) n ≡ Some y → x ≡ y
+pub get_replicate : {A : Type 0} (count n : ℕ) (x y : A) → slice_get (replicate count x) n ≡ Some y → x ≡ y
 get_replicate zero n x y e = absurd (none-some y e)
 get_replicate (suc count) zero x y e = same_Some x y e
 get_replicate (suc count) (suc n) x y e = get_replicate count n x y e

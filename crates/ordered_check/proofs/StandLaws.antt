@@ -17,6 +17,8 @@ use Rattle.path_walk.specs.declared.Outcome.{Outcome}
 use Rattle.dest_classes.specs.Classes.{IsClass}
 use Rattle.dest_classes.specs.declared.Class.{Class}
 use Rattle.demands.specs.Duties.{PacketDuties}
+use Rattle.topology.specs.Networks.{Network}
+use Rattle.round_mix.specs.Prepared.{MixedState}
 use Rattle.update_model.specs.Changes.{switch_of, rule_of, changes_at, round_after, IsGoodRound}
 use Rattle.update_model.specs.Mixtures.{Rollout, tables_before, MayHold, IsPossible, IsOnMixedWalk}
 use Rattle.update_model.specs.declared.Change.{Change}
@@ -27,12 +29,13 @@ use Rattle.certificates.specs.Valid.{IsValidOrdered, IsValidPick}
 use Rattle.certificates.specs.declared.OrderedPick.{OrderedPick}
 use Rattle.certificates.specs.declared.OrderedEvidence.{OrderedEvidence}
 use Rattle.certificates.specs.declared.Evidence.TheVariants.{Ordered}
+use Rattle.check_reasons.specs.Loaded.{AreLoaded}
 use Rattle.check_reasons.specs.Passed.{ChangesPass, RoundsPass, RoundKeepsVlans}
 use Rattle.check_reasons.specs.Reasons.{class_duties}
 use Rattle.check_reasons.specs.Touched.{may_cover}
 use Rattle.check_reasons.proofs.TouchLaws.{not_covered}
 use Rattle.check_reasons.proofs.SameWalks.{was_on_walk, was_safe, NoneCovers, unchanged_at, possible_after}
-use Rattle.mixed_walks.specs.Walks.{KeepVlansUpTo, TablesKeepVlans}
+use Rattle.mixed_walks.specs.Walks.{KeepVlansUpTo, TablesKeepVlans, IsRoundOf}
 use Rattle.mixed_walks.proofs.PlaceLaws.{tables_keep, on_walk_vlan}
 use Rattle.ordered_check.specs.Picks.{IsKeptPick}
 use Rattle.ordered_check.specs.Kept.{is_marked, HoldsWalks, HoldsWalksBefore, touches_walk}
@@ -92,6 +95,10 @@ rounds_keep t e k before pass j le =
       | inl less ↦ (before j less).0.keeps
       | inr ge ↦ let same : k ≡ j = omega arith in subst (λ i. RoundKeepsVlans (Ordered e) (round_after i t.rounds)) same pass.keeps
     ]
+
+-- the switches are prepared for a round
+pub round_of : (net : Network) (mixes : List MixedState) (u : Rollout) (k : ℕ) → net ≡ u.net → TablesKeepVlans u.old → AreLoaded u k mixes → KeepVlansUpTo u k → IsRoundOf net mixes u k
+round_of net mixes u k net_is keeps_old loaded keeps = record { net_is = sym net_is; loaded = loaded; keeps_old = keeps_old; keeps = keeps }
 
 pub certificate_stands : (t : Task) (e : OrderedEvidence) (k n : ℕ) (class : Class) (pick : OrderedPick) (marks : List Bool) → IsUserConfig t.update.net t.update.old
     → IsValidOrdered t.update.net (length t.rounds) e → k < length t.rounds → RoundsPass t (Ordered e) k → ChangesPass t (Ordered e) k → IsClass (classes_for t) n class

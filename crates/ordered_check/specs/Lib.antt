@@ -1,5 +1,7 @@
 pub mod Cases
 pub mod Picks
-pub mod Kept
 pub mod Judged
+pub mod Guarded
+pub mod Kept
 pub mod Firsts
+pub mod Together

@@ -71,6 +71,17 @@ impl<'a> OrderedCase<'a> {
         self.classes.count()
     }
 
+    /// How many classes each host port has: one for each VLAN and atom. Classes whose numbers differ by a multiple of it have the
+    /// same VLAN and atom.
+    pub(crate) fn classes_of_host(&self) -> u32 {
+        let case = self.case;
+        let hosts = u32::try_from(case.net.hosts().len()).unwrap_or(0);
+        if hosts == 0 {
+            return 0;
+        }
+        self.classes.count() / hosts
+    }
+
     /// The duties of the classes.
     pub(crate) fn class_duties(&self) -> &'a Duties
         ensures { result.now ≡ record { demands = self.now.task.update.demands; classes = classes_for self.now.task } }

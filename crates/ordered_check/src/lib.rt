@@ -2,10 +2,12 @@
 #![tactic(auto)]
 
 mod cases;
+mod guarded;
 mod judging;
 mod least;
 mod ordered;
 mod picks;
+mod together;
 mod ways;
 
 pub use cases::OrderedCase;

@@ -14,14 +14,18 @@ ghost use Rattle.check_reasons.specs.Passed.{IsFirstFrom, ChangesPass, ClassesPa
 ghost use Rattle.check_reasons.specs.Touched.{touches};
 ghost use Rattle.mixed_walks.specs.Walks.{IsWalked};
 ghost use Rattle.ordered_check.specs.Cases.{IsRound};
+ghost use Rattle.ordered_check.specs.Guarded.{HoldsGuarded};
 ghost use Rattle.ordered_check.specs.Picks.{IsKeptPick, PicksStand};
 ghost use Rattle.check_reasons.specs.AtomMarks.{AreTouched};
-ghost use Rattle.ordered_check.specs.Kept.{is_marked, AreClasses, AreAtoms, HasClassRoom, HoldsWalks, HoldsWalksBefore, WalksStand, touches_walk};
+ghost use Rattle.ordered_check.specs.Kept.{is_marked, AreClasses, AreAtoms, HasClassRoom, HoldsWalks, WalksStand, IsSettled, AreSettled, KeepsRoom, touches_walk};
+ghost use Rattle.ordered_check.specs.Together.{IsMember, AreGathered};
 ghost use Rattle.ordered_check.specs.Firsts.{first_of, IsFirstOfClass, IsFoundBelow};
 
 use crate::cases::{OrderedCase, PreparedRound};
+use crate::guarded::Guarded;
 use crate::judging::first_of_class;
 use crate::picks::PicksInForce;
+use crate::together::{Group, are_safe, group_of, is_other, settle_members, walk_members};
 use certificates::OrderedPick;
 use check_reasons::{Reason, TouchedAtoms, may_cover};
 use dest_classes::{Class, ClassMap, NumberedClass};
@@ -36,16 +40,20 @@ use update_model::Change;
 /// class anew costs no more than to compare them all.
 const MOST_COMPARED: usize = 64;
 
-/// Room for the classes of an ordered plan: the walks of one class, and of each class its pick in force, the number of its
-/// atom, and the switches that its last walk came to; of each atom whether a change of the round that is judged touches it.
+/// Room for the classes of an ordered plan: walks, the class whose positions were found guarded last, and of each class its pick
+/// in force, the number of its atom, the switches that its last walk came to, and whether it is settled in the round that is
+/// judged; of each atom whether a change of the round touches it; and the classes that are walked together.
 #[derive(Drop)]
 pub struct OrderedRoom {
     walk: WalkRoom,
+    guarded: Guarded,
     picks: PicksInForce,
     classes: Vec<Class>,
     atoms: Vec<u32>,
     came: Vec<[bool; 128]>,
     touched: TouchedAtoms,
+    settled: Vec<bool>,
+    members: Vec<NumberedClass>,
 }
 
 impl Model for OrderedRoom {
@@ -53,7 +61,7 @@ impl Model for OrderedRoom {
 
     ghost Value = { OrderedState };
 
-    ghost view = { λ r. record { picks = r.picks; classes = r.classes.items; atoms = r.atoms.items; came = r.came.items; touched = r.touched } };
+    ghost view = { λ r. record { guarded = r.guarded; picks = r.picks; classes = r.classes.items; atoms = r.atoms.items; came = r.came.items; touched = r.touched; settled = r.settled.items; members = r.members.items } };
 }
 
 /// The first of two reasons, where there are two and the second is of a later class.
@@ -166,6 +174,7 @@ fn walk_class(walk: &mut WalkRoom, of: &OrderedCase, round: &PreparedRound, numb
 /// walks are those that were walked last.
 fn judge_class(
     walk: &mut WalkRoom,
+    guarded: &mut Guarded,
     of: &OrderedCase,
     round: &PreparedRound,
     numbered: NumberedClass,
@@ -174,9 +183,11 @@ fn judge_class(
     requires class { IsNumbered (classes_for of.now.task) numbered }
     requires round { IsRound of.now.task of.now.evidence round.now.number round.now.changes.now round.now.mixes.now }
     requires in_force { IsKeptPick of.now.evidence.picks (suc round.now.number) numbered.number in_force }
+    requires guarded { HoldsGuarded of.now.task of.now.evidence guarded.old }
     ensures none { IfNone result (HasCertificate of.now.task (Ordered of.now.evidence) round.now.number numbered.number numbered.class) }
     ensures some { IfSome result (IsFirstOfClass of.now.task of.now.evidence round.now.number numbered.number) }
     ensures walked { IfNone result (IsWalked (rollout of.now.task) round.now.number numbered.class.first numbered.class.entry walk.new) }
+    ensures guarded { HoldsGuarded of.now.task of.now.evidence guarded.new }
 {
     of.keeps_valid();
     let Some(pick) = in_force else {
@@ -186,21 +197,25 @@ fn judge_class(
         });
     };
     walk_class(walk, of, round, numbered);
-    first_of_class(of, walk, round.number, numbered, pick)
+    first_of_class(of, walk, guarded, round.number, numbered, pick)
 }
 
 impl OrderedRoom {
-    /// Room for the classes of a map: less than 200 bytes for each, and 8192 for the atoms.
+    /// Room for the classes of a map: less than 200 bytes for each, and 8192 for the atoms; beside that room for the walks of
+    /// any class twice, which is the same for each map.
     pub fn make(alloc: Global, classes: &ClassMap) -> Result<OrderedRoom, Memory>
         ensures { IfOk result (HasClassRoom classes.now) }
     {
         Ok(OrderedRoom {
             walk: WalkRoom::make(alloc)?,
+            guarded: Guarded::make(alloc)?,
             picks: PicksInForce::make(alloc, classes.count())?,
             classes: all_classes(alloc, classes)?,
             atoms: all_atoms(alloc, classes)?,
             came: vec![in alloc; [false; 128]; classes.count() as usize]?,
             touched: TouchedAtoms::make(alloc)?,
+            settled: vec![in alloc; false; classes.count() as usize]?,
+            members: Vec::with_capacity(alloc, classes.count() as usize)?,
         })
     }
 
@@ -216,7 +231,7 @@ impl OrderedRoom {
     }
 
     /// The first reason why the class of this number has no certificate in a round. Where its pick was in force in the round
-    /// before, and no change of the round touches its atom, no more is looked at.
+    /// before, and no change of the round touches its atom, or the class is settled, no more is looked at.
     fn judge_number(
         &mut self,
         of: &OrderedCase,
@@ -224,23 +239,64 @@ impl OrderedRoom {
         number: u32,
     ) -> Option<Reason>
         requires number { number < class_count (classes_for of.now.task) }
+        requires guarded { HoldsGuarded of.now.task of.now.evidence self.old.guarded }
         requires round { IsRound of.now.task of.now.evidence round.now.number round.now.changes.now round.now.mixes.now }
         requires stands { PicksStand of.now.evidence.picks (suc round.now.number) self.old.picks }
         requires room { HasClassRoom (classes_for of.now.task) self.old }
         requires touched { AreTouched (classes_for of.now.task) round.now.changes.now self.old.touched }
-        requires walks { (class : Class) (marks : List Bool) → slice_get self.old.classes number ≡ Some class → slice_get self.old.came number ≡ Some marks
-            → HoldsWalksBefore (rollout of.now.task) round.now.number class marks }
+        requires settled { (class : Class) (marks : List Bool) (settled : Bool) → slice_get self.old.classes number ≡ Some class
+            → slice_get self.old.came number ≡ Some marks → slice_get self.old.settled number ≡ Some settled
+            → IsSettled of.now.task of.now.evidence round.now.number number class marks settled }
         ensures none { (class : Class) → slice_get self.old.classes number ≡ Some class
             → IfNone result (HasCertificate of.now.task (Ordered of.now.evidence) round.now.number number class) }
         ensures some { IfSome result (IsFirstOfClass of.now.task of.now.evidence round.now.number number) }
+        ensures guarded { HoldsGuarded of.now.task of.now.evidence self.new.guarded }
         ensures picks { self.new.picks ≡ self.old.picks }
         ensures classes { self.new.classes ≡ self.old.classes }
         ensures atoms { self.new.atoms ≡ self.old.atoms }
         ensures touched { self.new.touched ≡ self.old.touched }
+        ensures settled { self.new.settled ≡ self.old.settled }
         ensures count { length self.new.came ≡ length self.old.came }
         ensures others { (n : ℕ) → n ≢ number → slice_get self.new.came n ≡ slice_get self.old.came n }
         ensures walks { IfNone result ((class : Class) (marks : List Bool) → slice_get self.new.classes number ≡ Some class → slice_get self.new.came number ≡ Some marks
             → HoldsWalks (rollout of.now.task) round.now.number class marks) }
+    {
+        of.keeps_valid();
+        let place = number as usize;
+        let settled = self.settled[place];
+        if settled {
+            return None;
+        }
+        let class = self.classes[place];
+        let atom = self.atoms[place];
+        let touched = self.touched.has(atom);
+        let in_force = self.picks.of(number);
+        if is_unchanged(round, class, touched, &self.came[place], in_force) {
+            return None;
+        }
+        let numbered = NumberedClass { number, class };
+        let reason = judge_class(
+            &mut self.walk,
+            &mut self.guarded,
+            of,
+            round,
+            numbered,
+            in_force,
+        );
+        let marks = marks_of(self.walk.switches());
+        self.came[place] = marks;
+        reason
+    }
+
+    /// The group of the class of this number, where the class has to be walked in a round and has one.
+    fn group_at(&self, of: &OrderedCase, round: &PreparedRound, number: u32) -> Option<Group>
+        requires number { number < class_count (classes_for of.now.task) }
+        requires round { IsRound of.now.task of.now.evidence round.now.number round.now.changes.now round.now.mixes.now }
+        requires stands { PicksStand of.now.evidence.picks (suc round.now.number) self.now.picks }
+        requires room { HasClassRoom (classes_for of.now.task) self.now }
+        requires touched { AreTouched (classes_for of.now.task) round.now.changes.now self.now.touched }
+        ensures { (class : Class) → slice_get self.now.classes number ≡ Some class
+            → IfSome result (λ group. IsMember of.now.task of.now.evidence round.now.number group (record { number = number; class = class })) }
     {
         of.keeps_valid();
         let place = number as usize;
@@ -251,11 +307,107 @@ impl OrderedRoom {
         if is_unchanged(round, class, touched, &self.came[place], in_force) {
             return None;
         }
-        let numbered = NumberedClass { number, class };
-        let reason = judge_class(&mut self.walk, of, round, numbered, in_force);
-        let marks = marks_of(self.walk.switches());
-        self.came[place] = marks;
-        reason
+        let pick = in_force?;
+        group_of(of, NumberedClass { number, class }, pick)
+    }
+
+    /// Takes the class of this number, where it is of the group, or no group is begun and it has one: then this group is begun.
+    /// The answer is the group that is begun after that.
+    fn gather_class(
+        &mut self,
+        of: &OrderedCase,
+        round: &PreparedRound,
+        begun: Option<Group>,
+        number: u32,
+    ) -> Option<Group>
+        requires number { number < class_count (classes_for of.now.task) }
+        requires round { IsRound of.now.task of.now.evidence round.now.number round.now.changes.now round.now.mixes.now }
+        requires stands { PicksStand of.now.evidence.picks (suc round.now.number) self.old.picks }
+        requires room { HasClassRoom (classes_for of.now.task) self.old }
+        requires touched { AreTouched (classes_for of.now.task) round.now.changes.now self.old.touched }
+        requires so_far { AreGathered of.now.task of.now.evidence round.now.number begun self.old.members }
+        ensures gathered { AreGathered of.now.task of.now.evidence round.now.number result self.new.members }
+        ensures rest { self.new ≡ record self.old { members = self.new.members } }
+    {
+        let Some(group) = self.group_at(of, round, number) else {
+            return begun;
+        };
+        if is_other(begun, group) || self.members.len() >= self.members.capacity() {
+            return begun;
+        }
+        let class = self.classes[number as usize];
+        self.members.push_reserved(NumberedClass { number, class });
+        Some(group)
+    }
+
+    /// Takes the classes of a group: of each host port at most one, the one with this number from 0 among its classes. The group
+    /// is that of the first of them that has to be walked in a round and has one.
+    fn gather(
+        &mut self,
+        of: &OrderedCase,
+        round: &PreparedRound,
+        first: u32,
+        of_host: u32,
+    ) -> Option<Group>
+        requires some { 0 < of_host }
+        requires round { IsRound of.now.task of.now.evidence round.now.number round.now.changes.now round.now.mixes.now }
+        requires stands { PicksStand of.now.evidence.picks (suc round.now.number) self.old.picks }
+        requires room { HasClassRoom (classes_for of.now.task) self.old }
+        requires touched { AreTouched (classes_for of.now.task) round.now.changes.now self.old.touched }
+        ensures gathered { AreGathered of.now.task of.now.evidence round.now.number result self.new.members }
+        ensures rest { self.new ≡ record self.old { members = self.new.members } }
+    {
+        of.keeps_valid();
+        self.members.clear();
+        let mut begun = None;
+        let mut number = first;
+        'gathering: while number < of.class_count() {
+            begun = self.gather_class(of, round, begun, number);
+            number = number.saturating_add(of_host);
+        }
+        begun
+    }
+
+    /// Walks a group of at least two classes together, if there is one, and settles them if their walks keep them safe.
+    fn settle_group(&mut self, of: &OrderedCase, round: &PreparedRound, first: u32, of_host: u32)
+        requires some { 0 < of_host }
+        requires round { IsRound of.now.task of.now.evidence round.now.number round.now.changes.now round.now.mixes.now }
+        requires stands { PicksStand of.now.evidence.picks (suc round.now.number) self.old.picks }
+        requires room { HasClassRoom (classes_for of.now.task) self.old }
+        requires touched { AreTouched (classes_for of.now.task) round.now.changes.now self.old.touched }
+        requires settled { AreSettled of.now.task of.now.evidence round.now.number self.old }
+        ensures settled { AreSettled of.now.task of.now.evidence round.now.number self.new }
+        ensures room { KeepsRoom self.old self.new }
+    {
+        of.keeps_valid();
+        let Some(group) = self.gather(of, round, first, of_host) else {
+            return;
+        };
+        if self.members.len() < 2 {
+            return;
+        }
+        walk_members(&mut self.walk, of, round, group, &self.members);
+        if are_safe(&self.walk, of, group) {
+            let marks = marks_of(self.walk.switches());
+            settle_members(&self.members, marks, &mut self.settled, &mut self.came);
+        }
+    }
+
+    /// Settles those classes that are kept safe by walks that are walked together, of one group after the other.
+    fn settle(&mut self, of: &OrderedCase, round: &PreparedRound)
+        requires round { IsRound of.now.task of.now.evidence round.now.number round.now.changes.now round.now.mixes.now }
+        requires stands { PicksStand of.now.evidence.picks (suc round.now.number) self.old.picks }
+        requires room { HasClassRoom (classes_for of.now.task) self.old }
+        requires touched { AreTouched (classes_for of.now.task) round.now.changes.now self.old.touched }
+        requires walks { WalksStand (rollout of.now.task) round.now.number self.old }
+        ensures settled { AreSettled of.now.task of.now.evidence round.now.number self.new }
+        ensures room { KeepsRoom self.old self.new }
+    {
+        self.settled.fill(false);
+        let of_host = of.classes_of_host();
+        for first in 0..of_host {
+            self.settle_group(of, round, first, of_host);
+        }
     }
 
     /// The first reason why a class has no certificate in a round.
@@ -264,13 +416,14 @@ impl OrderedRoom {
         requires stands { PicksStand of.now.evidence.picks (suc round.now.number) self.old.picks }
         requires room { HasClassRoom (classes_for of.now.task) self.old }
         requires touched { AreTouched (classes_for of.now.task) round.now.changes.now self.old.touched }
-        requires walks { WalksStand (rollout of.now.task) round.now.number self.old }
+        requires settled { AreSettled of.now.task of.now.evidence round.now.number self.old }
         ensures found { IsFoundBelow of.now.task of.now.evidence round.now.number (class_count (classes_for of.now.task)) result }
         ensures picks { self.new.picks ≡ self.old.picks }
         ensures room { HasClassRoom (classes_for of.now.task) self.new }
         ensures walks { IfNone result (WalksStand (rollout of.now.task) (suc round.now.number) self.new) }
     {
         of.keeps_valid();
+        self.guarded.forget();
         let mut found = None;
         for number in 0..of.class_count() {
             let reason = self.judge_number(of, round, number);
@@ -280,11 +433,15 @@ impl OrderedRoom {
     }
 
     /// The first reason why a class has no certificate in a round: by the reason's number, then by the class.
-    /// The rounds are judged in their order, each once. A class whose pick was in force in the round before is walked only
+    /// The rounds are judged in their order, each once. Classes that have to be walked, of one address and VLAN with the same use and
+    /// without waypoints, are walked together first, which takes time by the places that at least one of them comes to; where all
+    /// that is found keeps them safe, none is walked alone. A class whose pick was in force in the round before is walked only
     /// where a change's prefix holds the class's address, and the round has more than 64 changes or such a change is at a
     /// switch that the walk of then came to and its VLAN test admits the VLAN of the class's entry. Only a class whose address
     /// such a prefix holds is compared with the changes. Beside that and the walks a round takes time linear in the classes, in
-    /// its changes, and in the atoms in the prefix of each.
+    /// its changes, and in the atoms in the prefix of each. Where classes follow one another that enter at one switch, have the
+    /// same walks and use, and are covered by the same demands, the positions of their chains are looked at once, if they are
+    /// 64 or more.
     pub fn judge_round(&mut self, of: &OrderedCase, mixes: &[Mixed], k: usize) -> Option<Reason>
         requires round { k < length of.now.task.rounds }
         requires loaded { AreLoaded (rollout of.now.task) k mixes.now }
@@ -309,6 +466,7 @@ impl OrderedRoom {
             mixes,
         };
         self.touched.mark(case, of.class_map(), k);
+        self.settle(of, &round);
         self.judge_classes(of, &round)
     }
 }

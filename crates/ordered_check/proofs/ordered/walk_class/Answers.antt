@@ -1,21 +1,13 @@
 use Rattle.certificates.specs.Updates.{rollout}
-use Rattle.std.proofs.Common.{◌≡◌, ℕ, ◌<◌, refl, sym, ◌∙◌, ap, subst}
+use Rattle.std.proofs.Common.{◌<◌, refl, sym, ◌∙◌, ap, subst}
 use Rattle.topology.specs.Networks.{Network, switch_count}
-use Rattle.update_model.specs.Mixtures.{Rollout}
-use Rattle.round_mix.specs.Prepared.{MixedState}
-use Rattle.std.specs.Prelude.{List}
 use Rattle.certificates.specs.Certified.{classes_for}
 use Rattle.config_check.proofs.JudgeLaws.{class_within}
 use Rattle.check_reasons.specs.Cases.{CaseView}
-use Rattle.check_reasons.specs.Loaded.{AreLoaded}
-use Rattle.mixed_walks.specs.Walks.{KeepVlansUpTo, TablesKeepVlans, IsRoundOf}
 use Rattle.mixed_walks.proofs.PlaceLaws.{tables_keep}
 use Rattle.ordered_check.specs.Cases.{OrderedView}
-use Rattle.ordered_check.proofs.StandLaws.{rounds_keep}
+use Rattle.ordered_check.proofs.StandLaws.{rounds_keep, round_of}
 use Rattle.ordered_check.proofs.ordered.walk_class.Goals as goal
-
-round_of : (net : Network) (mixes : List MixedState) (u : Rollout) (k : ℕ) → net ≡ u.net → TablesKeepVlans u.old → AreLoaded u k mixes → KeepVlansUpTo u k → IsRoundOf net mixes u k
-round_of net mixes u k net_is keeps_old loaded keeps = record { net_is = sym net_is; loaded = loaded; keeps_old = keeps_old; keeps = keeps }
 
 pub walk-requires-clause-round : goal.walk-requires-clause-round
 walk-requires-clause-round c =

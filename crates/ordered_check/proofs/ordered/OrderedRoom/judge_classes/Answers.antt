@@ -1,15 +1,21 @@
-use Rattle.std.proofs.Common.{◌≡◌, suc, ◌+◌, ◌<◌, sym, subst, arith}
+use Rattle.std.proofs.Common.{◌≡◌, suc, ◌+◌, ◌<◌, sym, ap, subst, arith}
 use Rattle.dest_classes.specs.Classes.{class_count}
 use Rattle.certificates.specs.Certified.{classes_for}
+use Rattle.ordered_check.specs.Kept.{OrderedState}
 use Rattle.ordered_check.specs.Picks.{PicksStand}
-use Rattle.ordered_check.proofs.KeptLaws.{AreJudged, judged_none, judged_more, room_after, still_touched, still_before, walks_after}
+use Rattle.ordered_check.proofs.KeptLaws.{AreJudged, judged_none, judged_more, room_after, still_touched, still_settled, walks_after}
 use Rattle.ordered_check.proofs.ordered.OrderedRoom.judge_classes.Goals as goal
 
 pub loop-number-init : goal.loop-number-init
-loop-number-init c = judged_none c.args.of.now.task c.args.of.now.evidence c.args.round.now.number c.args.self.now
+loop-number-init c =
+    judged_none c.args.of.now.task c.args.of.now.evidence c.args.round.now.number c.args.self.now _
+    (c.forget.ensures c.args.of.now.task c.args.of.now.evidence) (ap (λ (s : OrderedState). record s { guarded = c.forget.new.self }) c.self.view_is)
 
 pub judge_number-reason-requires-clause-number : goal.judge_number-reason-requires-clause-number
 judge_number-reason-requires-clause-number c = let lt = c.loop-number-test.true in let end = c.class_count-number-end.ensures in omega arith
+
+pub judge_number-reason-requires-clause-guarded : goal.judge_number-reason-requires-clause-guarded
+judge_number-reason-requires-clause-guarded c = c.loop-number.invariant.guarded
 
 pub judge_number-reason-requires-clause-stands : goal.judge_number-reason-requires-clause-stands
 judge_number-reason-requires-clause-stands c =
@@ -23,9 +29,9 @@ pub judge_number-reason-requires-clause-touched : goal.judge_number-reason-requi
 judge_number-reason-requires-clause-touched c =
     still_touched c.args.of.now.task c.args.of.now.evidence c.args.round.now.number c.loop-number.number c.loop-number.found c.args.self.now c.loop-number.self c.loop-number.invariant c.args.round.now.changes.now c.requires.touched
 
-pub judge_number-reason-requires-clause-walks : goal.judge_number-reason-requires-clause-walks
-judge_number-reason-requires-clause-walks c =
-    still_before c.args.of.now.task c.args.of.now.evidence c.args.round.now.number c.loop-number.number c.loop-number.found c.args.self.now c.loop-number.self c.loop-number.invariant c.requires.walks
+pub judge_number-reason-requires-clause-settled : goal.judge_number-reason-requires-clause-settled
+judge_number-reason-requires-clause-settled c =
+    still_settled c.args.of.now.task c.args.of.now.evidence c.args.round.now.number c.loop-number.number c.loop-number.found c.args.self.now c.loop-number.self c.loop-number.invariant c.requires.settled
 
 pub loop-number-preserved : goal.loop-number-preserved
 loop-number-preserved c =
@@ -38,7 +44,7 @@ loop-number-preserved c =
     subst (λ found. AreJudged t e k (n + 1) found c.args.self.now c.judge_number-reason.new.self) (sym c.first_of-found.ensures)
     (judged_more t e k n c.loop-number.found c.judge_number-reason.result c.args.self.now c.loop-number.self c.judge_number-reason.new.self c.keeps_valid.ensures.valid.ascending c.requires.room.classes_are within
     c.loop-number.invariant
-    (record { none = one.none; some = one.some; picks = one.picks; classes = one.classes; atoms = one.atoms; touched = one.touched; count = one.count; others = one.others; walks = one.walks }))
+    (record { none = one.none; some = one.some; guarded = one.guarded; picks = one.picks; classes = one.classes; atoms = one.atoms; touched = one.touched; settled = one.settled; count = one.count; others = one.others; walks = one.walks }))
 
 pub returns : goal.returns
 returns c =

@@ -1,7 +1,6 @@
-use Rattle.std.proofs.Common.{◌≡◌, ℕ, suc, ◌<◌, ◌≤◌, Bool, false, List, length, get_or, set, Option, Some, IfNone, sym, ◌∙◌, ap, subst, arith}
+use Rattle.std.proofs.Common.{◌≡◌, ℕ, suc, ◌<◌, ◌≤◌, Bool, true, false, List, length, set, Option, Some, IfNone, sym, ◌∙◌, ap, subst, arith}
 use Rattle.std.specs.Prelude.{slice_get, IsSomeAnd}
 use Rattle.std.proofs.lemmas.Option.{same_Some}
-use Rattle.dest_classes.specs.Classes.{IsClass}
 use Rattle.dest_classes.specs.declared.Class.{Class}
 use Rattle.update_model.specs.declared.Change.{Change}
 use Rattle.path_walk.specs.UserConfigs.{IsUserConfig}
@@ -18,18 +17,10 @@ use Rattle.round_mix.specs.Prepared.{MixedState}
 use Rattle.ordered_check.specs.Cases.{IsRound}
 use Rattle.ordered_check.specs.Picks.{PicksStand}
 use Rattle.ordered_check.specs.Kept.{OrderedState, HasClassRoom, HoldsWalks, HoldsWalksBefore, touches_walk}
-use Rattle.ordered_check.proofs.KeptLaws.{read_at, none_then, walks_marked}
+use Rattle.ordered_check.proofs.KeptLaws.{some_at, read_at, none_then, walks_marked, class_at, is_at}
 use Rattle.ordered_check.proofs.PickLaws.{get_set_same, get_set_other}
 use Rattle.ordered_check.proofs.StandLaws.{class_stands}
 use Rattle.ordered_check.proofs.ordered.OrderedRoom.judge_number.Goals as goal
-
--- the class that was read is the one of the number
-module _ (t : Task) (n : ℕ) (state : OrderedState) (items : List Class) (items_are : items ≡ state.classes) (class : Class) (within : n < length items) (read : class ≡ get_or items n class) where
-  class_at : slice_get state.classes n ≡ Some class
-  class_at = ap (λ (cs : List Class). slice_get cs n) (sym items_are) ∙ read_at items n class within read
-
-  class_is : HasClassRoom (classes_for t) state → IsClass (classes_for t) n class
-  class_is room = room.classes_are.each n class class_at
 
 -- a class that isn't touched
 stands_there : (t : Task) (e : OrderedEvidence) (k n : ℕ) (changes : List Change) (mixes : List MixedState) (state : OrderedState) (class : Class) (marks : List Bool) (in_force : Option OrderedPick)
@@ -40,6 +31,30 @@ stands_there : (t : Task) (e : OrderedEvidence) (k n : ℕ) (changes : List Chan
 stands_there t e k n changes mixes state class marks in_force user valid round room picks walks is came kept begun off =
     class_stands t e k n class in_force marks user valid round.within round.before round.pass (room.classes_are.each n class is) (picks.each n in_force kept) begun (walks class marks is came)
     (subst (λ (cs : List Change). touches_walk cs class marks ≡ false) round.changes_are off)
+
+-- a class that is settled
+pub returns-then-settled-clause-none : goal.returns-then-settled-clause-none
+returns-then-settled-clause-none c class is =
+    let n = c.args.number in
+    let state = c.args.self.now in
+    let number = c.requires.number in
+    let (marks, came) = some_at state.came n (let count = c.requires.room.came in omega arith) in
+    let settled_is = ap (λ (s : OrderedState). s.settled) c.self.view_is in
+    let known : n < length c.self.inside.settled.items = (let same = ap (λ (bs : List Bool). length bs) settled_is in let count = c.requires.room.settled in omega arith) in
+    let on : slice_get state.settled n ≡ Some true =
+    ap (λ (bs : List Bool). slice_get bs n) (sym settled_is) ∙ read_at c.self.inside.settled.items n c.index-settled.result.now known c.index-settled.ensures ∙ ap (λ (b : Bool). Some b) c.if-settled.true in
+    (c.requires.settled class marks true is came on).0
+
+pub returns-then-settled-clause-walks : goal.returns-then-settled-clause-walks
+returns-then-settled-clause-walks c class marks is came =
+    let n = c.args.number in
+    let state = c.args.self.now in
+    let number = c.requires.number in
+    let settled_is = ap (λ (s : OrderedState). s.settled) c.self.view_is in
+    let known : n < length c.self.inside.settled.items = (let same = ap (λ (bs : List Bool). length bs) settled_is in let count = c.requires.room.settled in omega arith) in
+    let on : slice_get state.settled n ≡ Some true =
+    ap (λ (bs : List Bool). slice_get bs n) (sym settled_is) ∙ read_at c.self.inside.settled.items n c.index-settled.result.now known c.index-settled.ensures ∙ ap (λ (b : Bool). Some b) c.if-settled.true in
+    (c.requires.settled class marks true is came on).1
 
 pub returns-then-is_unchanged-clause-none : goal.returns-then-is_unchanged-clause-none
 returns-then-is_unchanged-clause-none c other is =
@@ -56,8 +71,13 @@ returns-then-is_unchanged-clause-none c other is =
     let within : n < length c.self.inside.classes.items = (let same = ap (λ (cs : List Class). length cs) classes_are in let count = c.requires.room.classes_are.count in omega arith) in
     let marked : n < length c.self.inside.came.items = (let same = ap (λ (ms : List (List Bool)). length ms) came_is in let count = c.requires.room.came in omega arith) in
     let here = class_at t n state c.self.inside.classes.items classes_are class within c.index-class.ensures in
+    let settled_is = ap (λ (s : OrderedState). s.settled) c.self.view_is in
+    let known : n < length c.self.inside.settled.items = (let same = ap (λ (bs : List Bool). length bs) settled_is in let count = c.requires.room.settled in omega arith) in
+    let off : slice_get state.settled n ≡ Some false =
+    ap (λ (bs : List Bool). slice_get bs n) (sym settled_is) ∙ read_at c.self.inside.settled.items n c.index-settled.result.now known c.index-settled.ensures ∙ ap (λ (b : Bool). Some b) c.if-settled.false in
+    let before = λ (cl : Class) (ms : List Bool) (at : slice_get state.classes n ≡ Some cl) (there_is : slice_get state.came n ≡ Some ms). c.requires.settled cl ms false at there_is off in
     let stands = stands_there t e k n c.args.round.now.changes.now c.args.round.now.mixes.now state class c.index.result.now c.of-in_force.result c.keeps_valid.ensures.old_user c.keeps_valid.ensures.valid c.requires.round
-    c.requires.room c.requires.stands c.requires.walks here (ap (λ (ms : List (List Bool)). slice_get ms n) (sym came_is) ∙ read_at c.self.inside.came.items n c.index.result.now marked c.index.ensures)
+    c.requires.room c.requires.stands before here (ap (λ (ms : List (List Bool)). slice_get ms n) (sym came_is) ∙ read_at c.self.inside.came.items n c.index.result.now marked c.index.ensures)
     (ap (λ (ps : List (Option OrderedPick)). slice_get ps n) (sym picks_are) ∙ c.of-in_force.ensures) (c.is_unchanged.ensures.pick c.if-is_unchanged.true) (c.is_unchanged.ensures.walk c.if-is_unchanged.true) in
     subst (λ (x : Class). OrderedCertificate (rollout t) e k n x.first x.entry (class_duties t x)) (same_Some class other (sym here ∙ is)) stands.0
 
@@ -78,8 +98,13 @@ returns-then-is_unchanged-clause-walks c other them is came =
     let marked : n < length c.self.inside.came.items = (let same = ap (λ (ms : List (List Bool)). length ms) came_is in let count = c.requires.room.came in omega arith) in
     let here = class_at t n state c.self.inside.classes.items classes_are class within c.index-class.ensures in
     let there : slice_get state.came n ≡ Some marks = ap (λ (ms : List (List Bool)). slice_get ms n) (sym came_is) ∙ read_at c.self.inside.came.items n marks marked c.index.ensures in
+    let settled_is = ap (λ (s : OrderedState). s.settled) c.self.view_is in
+    let known : n < length c.self.inside.settled.items = (let same = ap (λ (bs : List Bool). length bs) settled_is in let count = c.requires.room.settled in omega arith) in
+    let off : slice_get state.settled n ≡ Some false =
+    ap (λ (bs : List Bool). slice_get bs n) (sym settled_is) ∙ read_at c.self.inside.settled.items n c.index-settled.result.now known c.index-settled.ensures ∙ ap (λ (b : Bool). Some b) c.if-settled.false in
+    let before = λ (cl : Class) (ms : List Bool) (at : slice_get state.classes n ≡ Some cl) (there_is : slice_get state.came n ≡ Some ms). c.requires.settled cl ms false at there_is off in
     let stands = stands_there t e k n c.args.round.now.changes.now c.args.round.now.mixes.now state class marks c.of-in_force.result c.keeps_valid.ensures.old_user c.keeps_valid.ensures.valid c.requires.round
-    c.requires.room c.requires.stands c.requires.walks here there
+    c.requires.room c.requires.stands before here there
     (ap (λ (ps : List (Option OrderedPick)). slice_get ps n) (sym picks_are) ∙ c.of-in_force.ensures) (c.is_unchanged.ensures.pick c.if-is_unchanged.true) (c.is_unchanged.ensures.walk c.if-is_unchanged.true) in
     subst (λ (ms : List Bool). HoldsWalks (rollout t) k other ms) (same_Some marks them (sym there ∙ came))
     (subst (λ (x : Class). HoldsWalks (rollout t) k x marks) (same_Some class other (sym here ∙ is)) stands.1)
@@ -98,7 +123,7 @@ is_unchanged-requires c =
     let known : n < length c.self.inside.atoms.items = (let same = ap (λ (s : OrderedState). length s.atoms) c.self.view_is in let count = room.atoms_are.count in omega arith) in
     let at : slice_get state.atoms n ≡ Some atom = sym (ap (λ (s : OrderedState). slice_get s.atoms n) c.self.view_is) ∙ read_at c.self.inside.atoms.items n atom known c.index-atom.ensures in
     c.has-touched.ensures ∙ ap (λ (s : OrderedState). is_marked s.touched atom) c.self.view_is ∙ ap (is_marked state.touched) (room.atoms_are.each n atom at)
-    ∙ c.requires.touched n class (class_is t n state c.self.inside.classes.items classes_are class within c.index-class.ensures room)
+    ∙ c.requires.touched n class (is_at t n state c.self.inside.classes.items classes_are class within c.index-class.ensures room)
 
 pub judge_class-reason-requires-clause-class : goal.judge_class-reason-requires-clause-class
 judge_class-reason-requires-clause-class c =
@@ -106,7 +131,7 @@ judge_class-reason-requires-clause-class c =
     let classes_are = ap (λ (s : OrderedState). s.classes) c.self.view_is in
     let number = c.requires.number in
     let within : c.args.number < length c.self.inside.classes.items = (let same = ap (λ (cs : List Class). length cs) classes_are in let count = c.requires.room.classes_are.count in omega arith) in
-    class_is t c.args.number c.args.self.now c.self.inside.classes.items classes_are c.index-class.result.now within c.index-class.ensures c.requires.room
+    is_at t c.args.number c.args.self.now c.self.inside.classes.items classes_are c.index-class.result.now within c.index-class.ensures c.requires.room
 
 pub returns-clause-none : goal.returns-clause-none
 returns-clause-none c other is =

@@ -1,0 +1,61 @@
+use Rattle.std.proofs.Common.{◌≡◌, suc, ◌<◌, List, length, Option, Some, IfSome, sym, ◌∙◌, ap, subst, arith}
+use Rattle.std.proofs.lemmas.Option.{same_Some}
+use Rattle.certificates.specs.Ordered.{IsPickInForce}
+use Rattle.certificates.specs.declared.OrderedPick.{OrderedPick}
+use Rattle.ordered_check.specs.Picks.{IsKeptPick}
+use Rattle.ordered_check.specs.Together.{IsOfGroup, IsMember}
+use Rattle.ordered_check.proofs.TogetherLaws.{use_within, some_then}
+use Rattle.std.specs.Prelude.{slice_get}
+use Rattle.dest_classes.specs.declared.Class.{Class}
+use Rattle.check_reasons.specs.AtomMarks.{is_marked}
+use Rattle.ordered_check.specs.Kept.{OrderedState}
+use Rattle.ordered_check.proofs.KeptLaws.{read_at, class_at, is_at}
+use Rattle.ordered_check.proofs.ordered.OrderedRoom.group_at.Goals as goal
+
+pub is_unchanged-requires : goal.is_unchanged-requires
+is_unchanged-requires c =
+    let t = c.args.of.now.task in
+    let n = c.args.number in
+    let state = c.args.self.now in
+    let class = c.index-class.result.now in
+    let atom = c.index-atom.result.now in
+    let room = c.requires.room in
+    let number = c.requires.number in
+    let classes_are = ap (λ (s : OrderedState). s.classes) c.self.view_is in
+    let within : n < length c.self.inside.classes.items = (let same = ap (λ (cs : List Class). length cs) classes_are in let count = room.classes_are.count in omega arith) in
+    let known : n < length c.self.inside.atoms.items = (let same = ap (λ (s : OrderedState). length s.atoms) c.self.view_is in let count = room.atoms_are.count in omega arith) in
+    let at : slice_get state.atoms n ≡ Some atom = sym (ap (λ (s : OrderedState). slice_get s.atoms n) c.self.view_is) ∙ read_at c.self.inside.atoms.items n atom known c.index-atom.ensures in
+    c.has-touched.ensures ∙ ap (λ (s : OrderedState). is_marked s.touched atom) c.self.view_is ∙ ap (is_marked state.touched) (room.atoms_are.each n atom at)
+    ∙ c.requires.touched n class (is_at t n state c.self.inside.classes.items classes_are class within c.index-class.ensures room)
+
+pub group_of-requires-clause-pick : goal.group_of-requires-clause-pick
+group_of-requires-clause-pick c =
+    let t = c.args.of.now.task in
+    let e = c.args.of.now.evidence in
+    let k = c.args.round.now.number in
+    let n = c.args.number in
+    let picks_are = ap (λ (s : OrderedState). s.picks.of_class) c.self.view_is in
+    let kept = c.requires.stands.each n c.of-in_force.result (ap (λ (ps : List (Option OrderedPick)). slice_get ps n) (sym picks_are) ∙ c.of-in_force.ensures) in
+    let force : IsPickInForce e.picks (suc k) n c.in_ok-pick.pick = subst (IsKeptPick e.picks (suc k) n) c.in_ok-pick.was kept in
+    use_within t e (suc k) n c.in_ok-pick.pick c.keeps_valid.ensures.valid force
+
+pub returns : goal.returns
+returns c other is =
+    let t = c.args.of.now.task in
+    let e = c.args.of.now.evidence in
+    let k = c.args.round.now.number in
+    let n = c.args.number in
+    let state = c.args.self.now in
+    let class = c.index-class.result.now in
+    let pick = c.in_ok-pick.pick in
+    let room = c.requires.room in
+    let number = c.requires.number in
+    let classes_are = ap (λ (s : OrderedState). s.classes) c.self.view_is in
+    let within : n < length c.self.inside.classes.items = (let same = ap (λ (cs : List Class). length cs) classes_are in let count = room.classes_are.count in omega arith) in
+    let here = class_at t n state c.self.inside.classes.items classes_are class within c.index-class.ensures in
+    let picks_are = ap (λ (s : OrderedState). s.picks.of_class) c.self.view_is in
+    let kept = c.requires.stands.each n c.of-in_force.result (ap (λ (ps : List (Option OrderedPick)). slice_get ps n) (sym picks_are) ∙ c.of-in_force.ensures) in
+    let force : IsPickInForce e.picks (suc k) n pick = subst (IsKeptPick e.picks (suc k) n) c.in_ok-pick.was kept in
+    subst (λ (x : Class). IfSome c.group_of.result (λ group. IsMember t e k group (record { number = n; class = x }))) (same_Some class other (sym here ∙ is))
+    (some_then c.group_of.result (IsOfGroup t e class pick) (λ group. IsMember t e k group (record { number = n; class = class })) c.group_of.ensures
+    (λ group found. record { pick = pick; is = is_at t n state c.self.inside.classes.items classes_are class within c.index-class.ensures room; in_force = force; of_group = found }))
