@@ -16,7 +16,7 @@ use Rattle.net_base.specs.declared.ids.SwitchId.{SwitchId}
 use Rattle.net_base.specs.declared.ids.Vlan.TheVariants.{Untagged}
 use Rattle.topology.specs.declared.net.Link.{Link}
 use Rattle.topology.specs.Networks.{Network, used_ports, stop_eq}
-use Rattle.topology.specs.Topology.{no_network, is_on, switch_at, name_at, switches_in, reference, free_port, link_at, links_in, host_at, hosts_in, vlan_at, vlans_in, tags_in, ports_in, members_in, network_in}
+use Rattle.topology.specs.Topology.{no_network, is_on, switch_at, named_at, name_at, switches_in, reference, free_port, link_at, linked_at, links_in, host_at, host_port_at, hosts_in, vlan_at, new_vlan_at, vlans_in, tags_in, range_in, ports_in, members_in, network_in}
 use Rattle.topology.proofs.PortLaws.{count_append}
 use Rattle.ring_sample.specs.Ring.{below, ring_name, ring_stop, ring_link, ring_network}
 use Rattle.ring_sample.specs.RingTrees.{switch_tree, link_tree, host_tree, topology_tree, port_text}
@@ -34,7 +34,7 @@ unfolding name_at
 name_again place k lt = rw (name_form k lt, new_name k lt) refl
 
 switch_again : (place k : ℕ) → k < 128 → switch_at place (switches_of k) (switch_tree k) ≡ Ok (switches_of (k + 1))
-unfolding switch_at
+unfolding switch_at named_at
 switch_again place k lt =
     rw (
       name_again place k lt,
@@ -132,7 +132,7 @@ module _ (n place k : ℕ) (some : 4 ≤ n) (few : n ≤ 128) (lt : k < n) where
       count
 
   pub link_again : link_at place (links_of n k) (link_tree n k) ≡ Ok (links_of n (k + 1))
-  unfolding link_at
+  unfolding link_at linked_at
   link_again = rw (first_free, second_free, map-range_with_len_more (ring_link n) 0 k k (omega arith)) refl
 
 links_again : (n : ℕ) → 4 ≤ n → n ≤ 128 → links_in (switches_of n) (topology_tree n) ≡ Ok (links_of n n)
@@ -159,7 +159,7 @@ module _ (n place k : ℕ) (few : n ≤ 128) (lt : k < n) where
       free_again (hosts_of n k) Hosts place (hosted 0 k ++ linked n 0 n) (port_text k 1) (ring_stop k 1) (reference_again (hosts_of n k) n k 1 Hosts place refl few lt (omega arith) (omega arith)) none count
 
   pub host_again : host_at place (hosts_of n k) (host_tree k) ≡ Ok (hosts_of n (k + 1))
-  unfolding host_at
+  unfolding host_at host_port_at
   host_again = rw (host_free, map-range_with_len_more (λ i. ring_stop i 1) 0 k k (omega arith)) refl
 
 hosts_again : (n : ℕ) → n ≤ 128 → hosts_in (links_of n n) (topology_tree n) ≡ Ok (hosts_of n n)
@@ -179,11 +179,11 @@ abbrev vlans_of : ℕ → Network
 vlans_of n = record (hosts_of n n) { vlans = Untagged ∷ [] }
 
 vlans_again : (n : ℕ) → vlans_in (hosts_of n n) (topology_tree n) ≡ Ok (vlans_of n)
-unfolding vlans_in vlan_at in_turn topology_tree
+unfolding vlans_in vlan_at new_vlan_at in_turn topology_tree
 vlans_again n = refl
 
 tags_again : (n : ℕ) → tags_in (vlans_of n) (topology_tree n) ≡ Ok (ring_network n)
-unfolding tags_in topology_tree ring_network
+unfolding tags_in range_in topology_tree ring_network
 tags_again n = refl
 
 members_again : (n : ℕ) → 4 ≤ n → n ≤ 128 → members_in (topology_tree n) ≡ Ok (ring_network n)

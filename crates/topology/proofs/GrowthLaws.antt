@@ -1,5 +1,5 @@
 -- What every network keeps as it grows.
-use Rattle.std.proofs.Common.{◌≡◌, ℕ, ◌+◌, ◌<◌, ◌≤◌, Bool, true, false, cond, IsTrue, List, [], ◌∷◌, ◌++◌, map, length, Option, None, IfSome, is_some, position, refl, sym, ◌∙◌, ap, subst, inl, inr, arith, append_assoc}
+use Rattle.std.proofs.Common.{◌≡◌, ℕ, ◌+◌, ◌<◌, ◌≤◌, Bool, true, false, cond, IsTrue, List, [], ◌∷◌, ◌++◌, map, length, None, is_some, position, refl, sym, ◌∙◌, ap, subst, inl, inr, arith, append_assoc}
 use Rattle.std.specs.Prelude.{◌==◌, count_by, filter}
 use Rattle.std.specs.Str.{bytes_eq}
 use Rattle.std.specs.List.{AllByRecursion, list_any, list_all}
@@ -18,9 +18,9 @@ use Rattle.net_base.specs.declared.ids.Vlan.{Vlan}
 use Rattle.topology.proofs.LinkLaws.{any_from_in, ends_of}
 use Rattle.topology.proofs.EntryLaws.{found, vlan_eq-true, vlan_eq-refl}
 use Rattle.net_base.proofs.ItemLaws.{distinct_push}
-use Rattle.topology.specs.Networks.{Network, TagRange, IsNetwork, IsName, IsPortNumber, IsVlan, IsVlanId, stop_eq, vlan_eq, used_ports, switch_named, is_name_byte}
+use Rattle.topology.specs.Networks.{Network, IsNetwork, IsName, IsPortNumber, IsVlan, stop_eq, vlan_eq, used_ports, switch_named, is_name_byte}
 use Rattle.topology.specs.Ends.{port_ends, IsPort}
-use Rattle.topology.specs.Topology.{is_name, is_capacity, is_on, with_switch, with_link, with_host, with_vlan, with_tags}
+use Rattle.topology.specs.Topology.{is_name, is_capacity, is_on, with_switch, with_link, with_host, with_vlan}
 use Rattle.topology.specs.declared.net.Link.{Link}
 use Rattle.topology.specs.declared.net.End.{End}
 use Rattle.topology.specs.declared.net.End.TheVariants as at
@@ -178,6 +178,23 @@ module _ (net : Network) (is : IsNetwork net) where
         few_vlans = is.few_vlans;
         tags = is.tags;
       }
+
+  -- without links and host ports
+  pub unlinked_kept : IsNetwork (record net { links = []; hosts = [] })
+  unlinked_kept = record {
+    same_count = is.same_count;
+    few = is.few;
+    names = is.names;
+    name_forms = is.name_forms;
+    capacities = is.capacities;
+    ports_once = tt;
+    ports = tt;
+    few_ports = λ s. omega arith;
+    vlans_once = is.vlans_once;
+    vlans = is.vlans;
+    few_vlans = is.few_vlans;
+    tags = is.tags;
+  }
 
   pub host_kept : (stop : Stop) → IsPort net stop → list_any (stop_eq stop) (used_ports net) ≡ false → count_by (is_on stop.switch) (used_ports net) < 64 → IsNetwork (with_host net stop)
   host_kept stop port free room =

@@ -256,11 +256,9 @@ module _ (net : Network) (ends : List Entry) (kept : ends ≡ port_ends net.link
   used_test stop = ap (list_any (stop_eq stop)) same_ports ∙ any_turned (stop_eq stop) (ends_of net.links) net.hosts
 
   -- the same with one port more
-  pub beside_test : (more : List Entry) (a : Stop) (e : End) (b : Stop) → more ≡ ends ++ (a, e) ∷ [] → list_any (stop_eq b) (map port_of more) ≡ list_any (stop_eq b) (used_ports net ++ a ∷ [])
-  beside_test more a e b is =
-      ap (λ es. list_any (stop_eq b) (map port_of es)) is
-      ∙ ap (list_any (stop_eq b)) (map-push port_of ends (a, e))
-      ∙ list_any-append (stop_eq b) (map port_of ends) (a ∷ [])
+  pub used_beside : (a b : Stop) → list_any (stop_eq b) (map port_of ends ++ a ∷ []) ≡ list_any (stop_eq b) (used_ports net ++ a ∷ [])
+  used_beside a b =
+      list_any-append (stop_eq b) (map port_of ends) (a ∷ [])
       ∙ ap (λ x. x || list_any (stop_eq b) (a ∷ [])) (used_test b)
       ∙ sym (list_any-append (stop_eq b) (used_ports net) (a ∷ []))
 
@@ -268,11 +266,9 @@ module _ (net : Network) (ends : List Entry) (kept : ends ≡ port_ends net.link
   used_count s = ap (count_by (is_on s)) same_ports ∙ count_turned (is_on s) (ends_of net.links) net.hosts
 
   -- the same with one port more
-  pub beside_count : (more : List Entry) (a : Stop) (e : End) (s : SwitchId) → more ≡ ends ++ (a, e) ∷ [] → count_by (is_on s) (map port_of more) ≡ count_by (is_on s) (used_ports net ++ a ∷ [])
-  beside_count more a e s is =
-      ap (λ es. count_by (is_on s) (map port_of es)) is
-      ∙ ap (count_by (is_on s)) (map-push port_of ends (a, e))
-      ∙ count_append (is_on s) (map port_of ends) (a ∷ [])
+  pub count_beside : (a : Stop) (s : SwitchId) → count_by (is_on s) (map port_of ends ++ a ∷ []) ≡ count_by (is_on s) (used_ports net ++ a ∷ [])
+  count_beside a s =
+      count_append (is_on s) (map port_of ends) (a ∷ [])
       ∙ ap (λ n. n + count_by (is_on s) (a ∷ [])) (used_count s)
       ∙ sym (count_append (is_on s) (used_ports net) (a ∷ []))
 

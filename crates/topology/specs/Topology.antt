@@ -45,14 +45,20 @@ name_at place net d = do
   _ ← check (is_none (switch_named net.names name)) (DoubleName place)
   Ok name
 
--- one item of `switches`
-unfoldable pub switch_at : ℕ → Network → Data → Result Network NetFault
-switch_at place net d = do
+-- the name and the capacity of one item of `switches`
+unfoldable pub named_at : ℕ → Network → Data → Result (List ℕ × ℕ) NetFault
+named_at place net d = do
   _ ← check (nat_lt (length net.names) 128) (TooMany Switches place)
   name ← name_at place net d
   capacity ← need (whole_at (codes "capacity") d) (Shape Capacity place)
   _ ← check (is_capacity capacity) (BadCapacity place)
-  Ok (with_switch net name capacity)
+  Ok (name, capacity)
+
+-- one item of `switches`
+unfoldable pub switch_at : ℕ → Network → Data → Result Network NetFault
+switch_at place net d = do
+  named ← named_at place net d
+  Ok (with_switch net named.0 named.1)
 
 unfoldable pub switches_in : Network → Data → Result Network NetFault
 switches_in net top = do
@@ -96,13 +102,19 @@ two_texts other = None
 abbrev pub with_link : Network → Stop → Stop → Network
 with_link net a b = record net { links = net.links ++ record { one = a; other = b } ∷ [] }
 
--- one item of `links`
-unfoldable pub link_at : ℕ → Network → Data → Result Network NetFault
-link_at place net d = do
+-- the two ports of one item of `links`
+unfoldable pub linked_at : ℕ → Network → Data → Result (Stop × Stop) NetFault
+linked_at place net d = do
   texts ← need (option_and_then two_texts (list_in d)) (Shape Links place)
   a ← free_port net Links place (used_ports net) texts.0
   b ← free_port net Links place (used_ports net ++ a ∷ []) texts.1
-  Ok (with_link net a b)
+  Ok (a, b)
+
+-- one item of `links`
+unfoldable pub link_at : ℕ → Network → Data → Result Network NetFault
+link_at place net d = do
+  linked ← linked_at place net d
+  Ok (with_link net linked.0 linked.1)
 
 unfoldable pub links_in : Network → Data → Result Network NetFault
 links_in net top = do
@@ -115,11 +127,16 @@ links_in net top = do
 abbrev pub with_host : Network → Stop → Network
 with_host net stop = record net { hosts = net.hosts ++ stop ∷ [] }
 
+-- the port of one item of `hosts`
+unfoldable pub host_port_at : ℕ → Network → Data → Result Stop NetFault
+host_port_at place net d = do
+  text ← need (as_str d) (Shape Hosts place)
+  free_port net Hosts place (used_ports net) text
+
 -- one item of `hosts`
 unfoldable pub host_at : ℕ → Network → Data → Result Network NetFault
 host_at place net d = do
-  text ← need (as_str d) (Shape Hosts place)
-  stop ← free_port net Hosts place (used_ports net) text
+  stop ← host_port_at place net d
   Ok (with_host net stop)
 
 unfoldable pub hosts_in : Network → Data → Result Network NetFault
@@ -142,13 +159,19 @@ vlan_with (Some id) = if is_vlan_id id then Some (Id id) else None
 abbrev pub with_vlan : Network → Vlan → Network
 with_vlan net v = record net { vlans = net.vlans ++ v ∷ [] }
 
--- one item of `vlans`
-unfoldable pub vlan_at : ℕ → Network → Data → Result Network NetFault
-vlan_at place net d = do
+-- the VLAN of one item of `vlans`
+unfoldable pub new_vlan_at : ℕ → Network → Data → Result Vlan NetFault
+new_vlan_at place net d = do
   _ ← check (nat_lt (length net.vlans) 64) (TooMany Vlans place)
   id ← need (vlan_id d) (Shape Vlans place)
   v ← need (vlan_with id) (BadVlan place)
   _ ← check (not (list_any (vlan_eq v) net.vlans)) (VlanTwice place)
+  Ok v
+
+-- one item of `vlans`
+unfoldable pub vlan_at : ℕ → Network → Data → Result Network NetFault
+vlan_at place net d = do
+  v ← new_vlan_at place net d
   Ok (with_vlan net v)
 
 unfoldable pub vlans_in : Network → Data → Result Network NetFault
@@ -177,10 +200,16 @@ is_range (Some t) = is_vlan_id t.first && is_vlan_id t.last && nat_le t.first t.
 abbrev pub with_tags : Network → Option TagRange → Network
 with_tags net range = record net { tags = range }
 
-unfoldable pub tags_in : Network → Data → Result Network NetFault
-tags_in net top = do
+-- the range of the member `tags`
+unfoldable pub range_in : Data → Result (Option TagRange) NetFault
+range_in top = do
   range ← need (option_and_then range_of (list_at (codes "tags") top)) (Shape Tags 0)
   _ ← check (is_range range) BadTags
+  Ok range
+
+unfoldable pub tags_in : Network → Data → Result Network NetFault
+tags_in net top = do
+  range ← range_in top
   Ok (with_tags net range)
 
 -- ---- the file

@@ -1,6 +1,6 @@
 //! The network that contracts see, and what is at a port.
 
-ghost use Rattle.std.specs.Prelude.{◌≡◌, ◌≢◌, ◌↔◌, ◌<◌, ◌≤◌, ◌++◌, ◌∷◌, [], IsTrue, ◌&&◌, not, length, count_by, option_map, slice_get, IfSome, IfOk, None, Some, true, false};
+ghost use Rattle.std.specs.Prelude.{◌≡◌, ◌≢◌, ◌↔◌, ◌<◌, ◌≤◌, ◌++◌, ◌∷◌, [], IsTrue, ◌&&◌, not, length, count_by, option_map, map, slice_get, IfSome, OnOk, None, Some, true, false};
 ghost use Rattle.std.specs.List.{list_any};
 ghost use Rattle.topology.specs.Networks.{IsNetwork, IsVlan, IsVlanId, IsUsed, IsAvailableTag, stop_eq, end_at, vlan_eq, IsEntry, switch_count, switch_named, capacity_of, used_ports, is_used, is_host, is_tag, in_range};
 ghost use Rattle.topology.specs.Topology.{no_network, is_name, is_capacity, is_on, with_switch, with_link, with_host, with_vlan, with_tags};
@@ -222,6 +222,46 @@ impl Net {
     }
 }
 
+/// Puts a link between two ports, and what is at each.
+fn put_link(ends: &mut Ports, links: &mut Vec<Link>, a: Stop, b: Stop) -> Result<(), AllocError>
+    requires a_free { list_any (stop_eq a) (map (λ p. p.0) ends.old) ≡ false }
+    requires b_free { list_any (stop_eq b) (map (λ p. p.0) ends.old ++ a ∷ []) ≡ false }
+    requires within { (a.switch.0 < 128) × (b.switch.0 < 128) }
+    requires a_room { count_by (is_on a.switch) (map (λ p. p.0) ends.old) < 64 }
+    requires b_room { count_by (is_on b.switch) (map (λ p. p.0) ends.old ++ a ∷ []) < 64 }
+    ensures ends { OnOk result (ends.new ≡ (ends.old ++ (a, at.Link b.switch b.port) ∷ []) ++ (b, at.Link a.switch a.port) ∷ []) }
+    ensures links { OnOk result (links.new.items ≡ links.old.items ++ record { one = a; other = b } ∷ []) }
+{
+    ends.add(a, End::Link(b.switch, b.port))?;
+    ends.add(b, End::Link(a.switch, a.port))?;
+    links.push(Link { one: a, other: b })?;
+    Ok(())
+}
+
+/// No link and no host port any more.
+fn clear_ports(ends: &mut Ports, links: &mut Vec<Link>, hosts: &mut Vec<Stop>)
+    ensures ends { ends.new ≡ [] }
+    ensures links { links.new.items ≡ [] }
+    ensures hosts { hosts.new.items ≡ [] }
+{
+    ends.clear();
+    links.clear();
+    hosts.clear();
+}
+
+/// Puts a host port, and what is there.
+fn put_host(ends: &mut Ports, hosts: &mut Vec<Stop>, stop: Stop) -> Result<(), AllocError>
+    requires free { list_any (stop_eq stop) (map (λ p. p.0) ends.old) ≡ false }
+    requires within { stop.switch.0 < 128 }
+    requires room { count_by (is_on stop.switch) (map (λ p. p.0) ends.old) < 64 }
+    ensures ends { OnOk result (ends.new ≡ ends.old ++ (stop, at.Host) ∷ []) }
+    ensures hosts { OnOk result (hosts.new.items ≡ hosts.old.items ++ stop ∷ []) }
+{
+    ends.add(stop, End::Host)?;
+    hosts.push(stop)?;
+    Ok(())
+}
+
 impl Net {
     /// No switch, link, host port, VLAN or tag.
     pub(crate) fn empty(alloc: Global) -> Self
@@ -245,130 +285,75 @@ impl Net {
         self.ends.count_on(switch)
     }
 
-    /// With one switch more.
-    pub(crate) fn with_switch(
-        self,
+    /// Adds a switch.
+    pub(crate) fn add_switch(
+        &mut self,
         alloc: Global,
         name: &str,
         capacity: u32,
-    ) -> Result<Net, AllocError>
-        requires room { length self.names < 128 }
+    ) -> Result<(), AllocError>
+        requires room { length self.old.names < 128 }
         requires form { is_name name.now ≡ true }
-        requires new { switch_named self.names name.now ≡ None }
+        requires new { switch_named self.old.names name.now ≡ None }
         requires capacity { is_capacity capacity ≡ true }
-        ensures { IfOk result (λ net. net ≡ with_switch self name.now capacity) }
+        ensures { OnOk result (self.new ≡ with_switch self.old name.now capacity) }
     {
-        let Net {
-            mut switches,
-            ends,
-            links,
-            hosts,
-            vlans,
-            tags,
-        } = self;
-        switches.add(alloc, name, capacity)?;
-        Ok(Net {
-            switches,
-            ends,
-            links,
-            hosts,
-            vlans,
-            tags,
-        })
+        self.switches.add(alloc, name, capacity)?;
+        Ok(())
     }
 
-    /// With one link more between ports that aren't used. No host port stands yet.
-    pub(crate) fn with_link(self, a: Stop, b: Stop) -> Result<Net, AllocError>
-        requires first { self.hosts ≡ [] }
-        requires a_port { IsPort self a }
-        requires b_port { IsPort self b }
-        requires a_free { list_any (stop_eq a) (used_ports self) ≡ false }
-        requires b_free { list_any (stop_eq b) (used_ports self ++ a ∷ []) ≡ false }
-        requires a_room { count_by (is_on a.switch) (used_ports self) < 64 }
-        requires b_room { count_by (is_on b.switch) (used_ports self ++ a ∷ []) < 64 }
-        ensures { IfOk result (λ net. net ≡ with_link self a b) }
+    /// Adds a link between ports that aren't used. No host port stands yet. Where memory is wanting neither a link nor
+    /// a host port is left.
+    pub(crate) fn add_link(&mut self, a: Stop, b: Stop) -> Result<(), AllocError>
+        requires first { self.old.hosts ≡ [] }
+        requires ports { IsPort self.old a × IsPort self.old b }
+        requires a_free { list_any (stop_eq a) (used_ports self.old) ≡ false }
+        requires b_free { list_any (stop_eq b) (used_ports self.old ++ a ∷ []) ≡ false }
+        requires a_room { count_by (is_on a.switch) (used_ports self.old) < 64 }
+        requires b_room { count_by (is_on b.switch) (used_ports self.old ++ a ∷ []) < 64 }
+        ensures { OnOk result (self.new ≡ with_link self.old a b) }
     {
-        let Net {
-            switches,
-            mut ends,
-            mut links,
-            hosts,
-            vlans,
-            tags,
-        } = self;
-        ends.add(a, End::Link(b.switch, b.port))?;
-        ends.add(b, End::Link(a.switch, a.port))?;
-        links.push(Link { one: a, other: b })?;
-        Ok(Net {
-            switches,
-            ends,
-            links,
-            hosts,
-            vlans,
-            tags,
-        })
+        match put_link(&mut self.ends, &mut self.links, a, b) {
+            Ok(()) => Ok(()),
+            Err(e) => {
+                clear_ports(&mut self.ends, &mut self.links, &mut self.hosts);
+                Err(e)
+            }
+        }
     }
 
-    /// With one host port more, which isn't used.
-    pub(crate) fn with_host(self, stop: Stop) -> Result<Net, AllocError>
-        requires port { IsPort self stop }
-        requires free { list_any (stop_eq stop) (used_ports self) ≡ false }
-        requires room { count_by (is_on stop.switch) (used_ports self) < 64 }
-        ensures { IfOk result (λ net. net ≡ with_host self stop) }
+    /// Adds a host port, which isn't used. Where memory is wanting neither a link nor a host port is left.
+    pub(crate) fn add_host(&mut self, stop: Stop) -> Result<(), AllocError>
+        requires port { IsPort self.old stop }
+        requires free { list_any (stop_eq stop) (used_ports self.old) ≡ false }
+        requires room { count_by (is_on stop.switch) (used_ports self.old) < 64 }
+        ensures { OnOk result (self.new ≡ with_host self.old stop) }
     {
-        let Net {
-            switches,
-            mut ends,
-            links,
-            mut hosts,
-            vlans,
-            tags,
-        } = self;
-        ends.add(stop, End::Host)?;
-        hosts.push(stop)?;
-        Ok(Net {
-            switches,
-            ends,
-            links,
-            hosts,
-            vlans,
-            tags,
-        })
+        match put_host(&mut self.ends, &mut self.hosts, stop) {
+            Ok(()) => Ok(()),
+            Err(e) => {
+                clear_ports(&mut self.ends, &mut self.links, &mut self.hosts);
+                Err(e)
+            }
+        }
     }
 
-    /// With one declared VLAN more.
-    pub(crate) fn with_vlan(self, vlan: Vlan) -> Result<Net, AllocError>
-        requires room { length self.vlans < 64 }
+    /// Adds a declared VLAN.
+    pub(crate) fn add_vlan(&mut self, vlan: Vlan) -> Result<(), AllocError>
+        requires room { length self.old.vlans < 64 }
         requires form { IsVlan vlan }
-        requires new { list_any (vlan_eq vlan) self.vlans ≡ false }
-        ensures { IfOk result (λ net. net ≡ with_vlan self vlan) }
+        requires new { list_any (vlan_eq vlan) self.old.vlans ≡ false }
+        ensures { OnOk result (self.new ≡ with_vlan self.old vlan) }
     {
-        let Net {
-            switches,
-            ends,
-            links,
-            hosts,
-            mut vlans,
-            tags,
-        } = self;
-        vlans.push(vlan)?;
-        Ok(Net {
-            switches,
-            ends,
-            links,
-            hosts,
-            vlans,
-            tags,
-        })
+        self.vlans.push(vlan)?;
+        Ok(())
     }
 
-    /// With this tag range.
-    pub(crate) fn with_tags(self, tags: Option<(u16, u16)>) -> Net
+    /// Takes this tag range.
+    pub(crate) fn set_tags(&mut self, tags: Option<(u16, u16)>)
         requires { IfSome tags (λ t. IsVlanId t.0 × IsVlanId t.1 × (t.0 ≤ t.1)) }
-        ensures { result ≡ with_tags self (option_map (λ t. record { first = t.0; last = t.1 }) tags) }
+        ensures { self.new ≡ with_tags self.old (option_map (λ t. record { first = t.0; last = t.1 }) tags) }
     {
-        let mut net = self;
-        net.tags = tags;
-        net
+        self.tags = tags;
     }
 }

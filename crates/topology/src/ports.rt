@@ -116,4 +116,12 @@ impl Ports {
         self.counts[stop.switch.0 as usize] += 1;
         Ok(())
     }
+
+    /// No port is used any more.
+    pub fn clear(&mut self)
+        ensures { self.new ≡ [] }
+    {
+        self.ends.clear();
+        self.counts = [0; 128];
+    }
 }

@@ -1,12 +1,12 @@
 //! The reader of a topology.
-ghost use Rattle.std.specs.Prelude.{◌≡◌, ◌<◌, ◌++◌, ◌∷◌, [], Ok, None, map, option_map, count_by, true, false, IfOk};
+ghost use Rattle.std.specs.Prelude.{◌≡◌, ◌<◌, ◌≤◌, ◌++◌, ◌∷◌, [], Ok, None, length, map, option_map, count_by, true, false, IfOk, IfSome, OnOk, MatchResult};
 ghost use Rattle.std.specs.List.{list_any};
 ghost use Rattle.std.specs.Option.{option_and_then};
 ghost use Rattle.serde_json.specs.View.{view};
-ghost use Rattle.net_base.specs.Reading.{Gives, in_turn};
+ghost use Rattle.net_base.specs.Reading.{Gives, Fails, in_turn};
 ghost use Rattle.net_base.specs.Tree as tree;
 ghost use Rattle.topology.specs.declared.fault.NetFault.TheVariants.{Memory};
-ghost use Rattle.topology.specs.Networks.{switch_named, used_ports, stop_eq};
+ghost use Rattle.topology.specs.Networks.{switch_named, used_ports, stop_eq, vlan_eq, IsVlan, IsVlanId};
 ghost use Rattle.topology.specs.Ends.{IsPort};
 ghost use Rattle.topology.specs.Beside.{beside_list};
 ghost use Rattle.topology.specs.Topology as topology;
@@ -17,7 +17,7 @@ use crate::net::Net;
 use crate::references::reference_parts;
 use crate::small::{is_capacity, is_name, is_range, range_of, vlan_id, vlan_with};
 use net_base::{
-    Field, Port, Stop, is_object, list_at, list_in, parse_json, place_of, text_at, whole_at,
+    Field, Port, Stop, Vlan, is_object, list_at, list_in, parse_json, place_of, text_at, whole_at,
 };
 use serde_json::Value;
 use std::alloc::Global;
@@ -50,39 +50,52 @@ fn read_name<'v>(net: &Net, place: u32, item: &'v Value) -> Result<&'v str, NetF
     Ok(name)
 }
 
-/// Reads one switch.
-#[tactic(auto, unfolding(crate::specs::Topology::switch_at))]
-fn read_switch(alloc: Global, net: Net, place: u32, item: &Value) -> Result<Net, NetFault>
-    ensures value { Gives Memory (λ n. n) result (topology.switch_at place net (view item.now)) }
-    ensures hosts { IfOk result (λ n. n.hosts ≡ net.hosts) }
+/// Reads the name and the capacity of one switch.
+#[tactic(auto, unfolding(crate::specs::Topology::named_at))]
+fn read_named<'v>(net: &Net, place: u32, item: &'v Value) -> Result<(&'v str, u32), NetFault>
+    ensures value { Gives Memory (λ s. (s.0.now, s.1)) result (topology.named_at place net.now (view item.now)) }
+    ensures room { OnOk result (length net.now.names < 128) }
+    ensures form { IfOk result (λ s. topology.is_name s.0.now ≡ true) }
+    ensures new { IfOk result (λ s. switch_named net.now.names s.0.now ≡ None) }
+    ensures capacity { IfOk result (λ s. topology.is_capacity s.1 ≡ true) }
 {
     if net.switches() >= MAX_SWITCHES {
         return Err(NetFault::TooMany(Field::Switches, place));
     }
-    let name = read_name(&net, place, item)?;
+    let name = read_name(net, place, item)?;
     let capacity = whole_at(item, "capacity").ok_or(NetFault::Shape(Field::Capacity, place))?;
     if !is_capacity(capacity) {
         return Err(NetFault::BadCapacity(place));
     }
-    Ok(net.with_switch(alloc, name, capacity as u32)?)
+    Ok((name, capacity as u32))
 }
 
-fn read_each_switch(alloc: Global, empty: Net, items: &[Value]) -> Result<Net, NetFault>
-    ensures value { Gives Memory (λ n. n) result (in_turn topology.switch_at 0 empty (map view items.now)) }
-    ensures hosts { IfOk result (λ n. n.hosts ≡ empty.hosts) }
+/// Reads one switch.
+#[tactic(auto, unfolding(crate::specs::Topology::switch_at))]
+fn read_switch(alloc: Global, net: &mut Net, place: u32, item: &Value) -> Result<(), NetFault>
+    ensures value { MatchResult result (λ _. topology.switch_at place net.old (view item.now) ≡ Ok net.new) (λ e. Fails Memory e (topology.switch_at place net.old (view item.now))) }
+    ensures hosts { OnOk result (net.new.hosts ≡ net.old.hosts) }
 {
-    let mut net = empty;
+    let (name, capacity) = read_named(net, place, item)?;
+    net.add_switch(alloc, name, capacity)?;
+    Ok(())
+}
+
+fn read_each_switch(alloc: Global, net: &mut Net, items: &[Value]) -> Result<(), NetFault>
+    ensures value { MatchResult result (λ _. in_turn topology.switch_at 0 net.old (map view items.now) ≡ Ok net.new) (λ e. Fails Memory e (in_turn topology.switch_at 0 net.old (map view items.now))) }
+    ensures hosts { OnOk result (net.new.hosts ≡ net.old.hosts) }
+{
     for (i, item) in items.iter().enumerate() {
-        net = read_switch(alloc, net, place_of(i), item)?;
+        read_switch(alloc, net, place_of(i), item)?;
     }
-    Ok(net)
+    Ok(())
 }
 
 /// Reads the member `switches`.
 #[tactic(auto, unfolding(crate::specs::Topology::switches_in))]
-fn read_switches(alloc: Global, net: Net, top: &Value) -> Result<Net, NetFault>
-    ensures value { Gives Memory (λ n. n) result (topology.switches_in net (view top.now)) }
-    ensures hosts { IfOk result (λ n. n.hosts ≡ net.hosts) }
+fn read_switches(alloc: Global, net: &mut Net, top: &Value) -> Result<(), NetFault>
+    ensures value { MatchResult result (λ _. topology.switches_in net.old (view top.now) ≡ Ok net.new) (λ e. Fails Memory e (topology.switches_in net.old (view top.now))) }
+    ensures hosts { OnOk result (net.new.hosts ≡ net.old.hosts) }
 {
     let items = list_at(top, "switches").ok_or(NetFault::Shape(Field::Switches, 0))?;
     read_each_switch(alloc, net, items)
@@ -161,73 +174,101 @@ fn two_texts(value: &Value) -> Option<(&str, &str)>
     }
 }
 
-/// Reads one link.
-#[tactic(auto, unfolding(crate::specs::Topology::link_at))]
-fn read_link(net: Net, place: u32, item: &Value) -> Result<Net, NetFault>
-    requires { net.hosts ≡ [] }
-    ensures value { Gives Memory (λ n. n) result (topology.link_at place net (view item.now)) }
-    ensures hosts { IfOk result (λ n. n.hosts ≡ []) }
+/// Reads the ports of one link.
+#[tactic(auto, unfolding(crate::specs::Topology::linked_at))]
+fn read_linked(net: &Net, place: u32, item: &Value) -> Result<(Stop, Stop), NetFault>
+    ensures value { Gives Memory (λ p. p) result (topology.linked_at place net.now (view item.now)) }
+    ensures ports { IfOk result (λ p. IsPort net.now p.0 × IsPort net.now p.1) }
+    ensures first_free { IfOk result (λ p. list_any (stop_eq p.0) (used_ports net.now) ≡ false) }
+    ensures second_free { IfOk result (λ p. list_any (stop_eq p.1) (used_ports net.now ++ p.0 ∷ []) ≡ false) }
+    ensures first_room { IfOk result (λ p. count_by (is_on p.0.switch) (used_ports net.now) < 64) }
+    ensures second_room { IfOk result (λ p. count_by (is_on p.1.switch) (used_ports net.now ++ p.0 ∷ []) < 64) }
 {
     let (first, second) = two_texts(item).ok_or(NetFault::Shape(Field::Links, place))?;
-    let a = read_free_port(&net, None, Field::Links, place, first)?;
-    let b = read_free_port(&net, Some(a), Field::Links, place, second)?;
-    Ok(net.with_link(a, b)?)
+    let a = read_free_port(net, None, Field::Links, place, first)?;
+    let b = read_free_port(net, Some(a), Field::Links, place, second)?;
+    Ok((a, b))
 }
 
-fn read_each_link(before: Net, items: &[Value]) -> Result<Net, NetFault>
-    requires { before.hosts ≡ [] }
-    ensures { Gives Memory (λ n. n) result (in_turn topology.link_at 0 before (map view items.now)) }
+/// Reads one link.
+#[tactic(auto, unfolding(crate::specs::Topology::link_at))]
+fn read_link(net: &mut Net, place: u32, item: &Value) -> Result<(), NetFault>
+    requires { net.old.hosts ≡ [] }
+    ensures value { MatchResult result (λ _. topology.link_at place net.old (view item.now) ≡ Ok net.new) (λ e. Fails Memory e (topology.link_at place net.old (view item.now))) }
+    ensures hosts { OnOk result (net.new.hosts ≡ []) }
 {
-    let mut net = before;
+    let (a, b) = read_linked(net, place, item)?;
+    net.add_link(a, b)?;
+    Ok(())
+}
+
+fn read_each_link(net: &mut Net, items: &[Value]) -> Result<(), NetFault>
+    requires { net.old.hosts ≡ [] }
+    ensures { MatchResult result (λ _. in_turn topology.link_at 0 net.old (map view items.now) ≡ Ok net.new) (λ e. Fails Memory e (in_turn topology.link_at 0 net.old (map view items.now))) }
+{
     for (i, item) in items.iter().enumerate() {
-        net = read_link(net, place_of(i), item)?;
+        read_link(net, place_of(i), item)?;
     }
-    Ok(net)
+    Ok(())
 }
 
 /// Reads the member `links`.
 #[tactic(auto, unfolding(crate::specs::Topology::links_in))]
-fn read_links(net: Net, top: &Value) -> Result<Net, NetFault>
-    requires { net.hosts ≡ [] }
-    ensures { Gives Memory (λ n. n) result (topology.links_in net (view top.now)) }
+fn read_links(net: &mut Net, top: &Value) -> Result<(), NetFault>
+    requires { net.old.hosts ≡ [] }
+    ensures { MatchResult result (λ _. topology.links_in net.old (view top.now) ≡ Ok net.new) (λ e. Fails Memory e (topology.links_in net.old (view top.now))) }
 {
     let items = list_at(top, "links").ok_or(NetFault::Shape(Field::Links, 0))?;
     read_each_link(net, items)
 }
 
-/// Reads one host port.
-#[tactic(auto, unfolding(crate::specs::Topology::host_at))]
-fn read_host(net: Net, place: u32, item: &Value) -> Result<Net, NetFault>
-    ensures { Gives Memory (λ n. n) result (topology.host_at place net (view item.now)) }
+/// Reads the port of one host.
+#[tactic(auto, unfolding(crate::specs::Topology::host_port_at))]
+fn read_host_port(net: &Net, place: u32, item: &Value) -> Result<Stop, NetFault>
+    ensures value { Gives Memory (λ s. s) result (topology.host_port_at place net.now (view item.now)) }
+    ensures port { IfOk result (λ s. IsPort net.now s) }
+    ensures free { IfOk result (λ s. list_any (stop_eq s) (used_ports net.now) ≡ false) }
+    ensures room { IfOk result (λ s. count_by (is_on s.switch) (used_ports net.now) < 64) }
 {
     let text = item.as_str().ok_or(NetFault::Shape(Field::Hosts, place))?;
-    let stop = read_free_port(&net, None, Field::Hosts, place, text)?;
-    Ok(net.with_host(stop)?)
+    read_free_port(net, None, Field::Hosts, place, text)
 }
 
-fn read_each_host(before: Net, items: &[Value]) -> Result<Net, NetFault>
-    ensures { Gives Memory (λ n. n) result (in_turn topology.host_at 0 before (map view items.now)) }
+/// Reads one host port.
+#[tactic(auto, unfolding(crate::specs::Topology::host_at))]
+fn read_host(net: &mut Net, place: u32, item: &Value) -> Result<(), NetFault>
+    ensures { MatchResult result (λ _. topology.host_at place net.old (view item.now) ≡ Ok net.new) (λ e. Fails Memory e (topology.host_at place net.old (view item.now))) }
 {
-    let mut net = before;
+    let stop = read_host_port(net, place, item)?;
+    net.add_host(stop)?;
+    Ok(())
+}
+
+fn read_each_host(net: &mut Net, items: &[Value]) -> Result<(), NetFault>
+    ensures { MatchResult result (λ _. in_turn topology.host_at 0 net.old (map view items.now) ≡ Ok net.new) (λ e. Fails Memory e (in_turn topology.host_at 0 net.old (map view items.now))) }
+{
     for (i, item) in items.iter().enumerate() {
-        net = read_host(net, place_of(i), item)?;
+        read_host(net, place_of(i), item)?;
     }
-    Ok(net)
+    Ok(())
 }
 
 /// Reads the member `hosts`.
 #[tactic(auto, unfolding(crate::specs::Topology::hosts_in))]
-fn read_hosts(net: Net, top: &Value) -> Result<Net, NetFault>
-    ensures { Gives Memory (λ n. n) result (topology.hosts_in net (view top.now)) }
+fn read_hosts(net: &mut Net, top: &Value) -> Result<(), NetFault>
+    ensures { MatchResult result (λ _. topology.hosts_in net.old (view top.now) ≡ Ok net.new) (λ e. Fails Memory e (topology.hosts_in net.old (view top.now))) }
 {
     let items = list_at(top, "hosts").ok_or(NetFault::Shape(Field::Hosts, 0))?;
     read_each_host(net, items)
 }
 
-/// Reads one declared VLAN.
-#[tactic(auto, unfolding(crate::specs::Topology::vlan_at))]
-fn read_vlan(net: Net, place: u32, item: &Value) -> Result<Net, NetFault>
-    ensures { Gives Memory (λ n. n) result (topology.vlan_at place net (view item.now)) }
+/// Reads a VLAN that isn't declared yet.
+#[tactic(auto, unfolding(crate::specs::Topology::new_vlan_at))]
+fn read_new_vlan(net: &Net, place: u32, item: &Value) -> Result<Vlan, NetFault>
+    ensures value { Gives Memory (λ v. v) result (topology.new_vlan_at place net.now (view item.now)) }
+    ensures room { OnOk result (length net.now.vlans < 64) }
+    ensures form { IfOk result IsVlan }
+    ensures new { IfOk result (λ v. list_any (vlan_eq v) net.now.vlans ≡ false) }
 {
     if net.vlans().len() >= MAX_VLANS {
         return Err(NetFault::TooMany(Field::Vlans, place));
@@ -237,67 +278,89 @@ fn read_vlan(net: Net, place: u32, item: &Value) -> Result<Net, NetFault>
     if net.is_declared(vlan) {
         return Err(NetFault::VlanTwice(place));
     }
-    Ok(net.with_vlan(vlan)?)
+    Ok(vlan)
 }
 
-fn read_each_vlan(before: Net, items: &[Value]) -> Result<Net, NetFault>
-    ensures { Gives Memory (λ n. n) result (in_turn topology.vlan_at 0 before (map view items.now)) }
+/// Reads one declared VLAN.
+#[tactic(auto, unfolding(crate::specs::Topology::vlan_at))]
+fn read_vlan(net: &mut Net, place: u32, item: &Value) -> Result<(), NetFault>
+    ensures { MatchResult result (λ _. topology.vlan_at place net.old (view item.now) ≡ Ok net.new) (λ e. Fails Memory e (topology.vlan_at place net.old (view item.now))) }
 {
-    let mut net = before;
+    let vlan = read_new_vlan(net, place, item)?;
+    net.add_vlan(vlan)?;
+    Ok(())
+}
+
+fn read_each_vlan(net: &mut Net, items: &[Value]) -> Result<(), NetFault>
+    ensures { MatchResult result (λ _. in_turn topology.vlan_at 0 net.old (map view items.now) ≡ Ok net.new) (λ e. Fails Memory e (in_turn topology.vlan_at 0 net.old (map view items.now))) }
+{
     for (i, item) in items.iter().enumerate() {
-        net = read_vlan(net, place_of(i), item)?;
+        read_vlan(net, place_of(i), item)?;
     }
-    Ok(net)
+    Ok(())
 }
 
 /// Reads the member `vlans`.
 #[tactic(auto, unfolding(crate::specs::Topology::vlans_in))]
-fn read_vlans(net: Net, top: &Value) -> Result<Net, NetFault>
-    ensures { Gives Memory (λ n. n) result (topology.vlans_in net (view top.now)) }
+fn read_vlans(net: &mut Net, top: &Value) -> Result<(), NetFault>
+    ensures { MatchResult result (λ _. topology.vlans_in net.old (view top.now) ≡ Ok net.new) (λ e. Fails Memory e (topology.vlans_in net.old (view top.now))) }
 {
     let items = list_at(top, "vlans").ok_or(NetFault::Shape(Field::Vlans, 0))?;
     read_each_vlan(net, items)
 }
 
-/// Reads the member `tags`.
-#[tactic(auto, unfolding(crate::specs::Topology::tags_in))]
-fn read_tags(net: Net, top: &Value) -> Result<Net, NetFault>
-    ensures { Gives Memory (λ n. n) result (topology.tags_in net (view top.now)) }
+/// Reads a tag range, as the member `tags` has it.
+#[tactic(auto, unfolding(crate::specs::Topology::range_in))]
+fn read_range(top: &Value) -> Result<Option<(u16, u16)>, NetFault>
+    ensures value { Gives Memory (option_map (λ t. record { first = t.0; last = t.1 })) result (topology.range_in (view top.now)) }
+    ensures meaning { IfOk result (λ range. IfSome range (λ t. IsVlanId t.0 × IsVlanId t.1 × (t.0 ≤ t.1))) }
 {
     let range = list_at(top, "tags")
         .and_then(range_of)
         .ok_or(NetFault::Shape(Field::Tags, 0))?;
     match range {
-        None => Ok(net.with_tags(None)),
+        None => Ok(None),
         Some((first, last)) => {
             if !is_range(first, last) {
                 return Err(NetFault::BadTags);
             }
-            Ok(net.with_tags(Some((first as u16, last as u16))))
+            Ok(Some((first as u16, last as u16)))
         }
     }
 }
 
-/// Reads the switches and their ports.
-#[tactic(auto, unfolding(crate::specs::Topology::ports_in))]
-fn read_ports(alloc: Global, top: &Value) -> Result<Net, NetFault>
-    ensures { Gives Memory (λ n. n) result (topology.ports_in (view top.now)) }
+/// Reads the member `tags`.
+#[tactic(auto, unfolding(crate::specs::Topology::tags_in))]
+fn read_tags(net: &mut Net, top: &Value) -> Result<(), NetFault>
+    ensures { MatchResult result (λ _. topology.tags_in net.old (view top.now) ≡ Ok net.new) (λ e. Fails Memory e (topology.tags_in net.old (view top.now))) }
 {
-    let net = read_switches(alloc, Net::empty(alloc), top)?;
-    let net = read_links(net, top)?;
+    let range = read_range(top)?;
+    net.set_tags(range);
+    Ok(())
+}
+
+/// Reads the switches and their ports into an empty network.
+#[tactic(auto, unfolding(crate::specs::Topology::ports_in))]
+fn read_ports(alloc: Global, net: &mut Net, top: &Value) -> Result<(), NetFault>
+    requires { net.old ≡ topology.no_network }
+    ensures { MatchResult result (λ _. topology.ports_in (view top.now) ≡ Ok net.new) (λ e. Fails Memory e (topology.ports_in (view top.now))) }
+{
+    read_switches(alloc, net, top)?;
+    read_links(net, top)?;
     read_hosts(net, top)
 }
 
-/// Reads the members in their order.
+/// Reads the members in their order into an empty network.
 #[tactic(auto, unfolding(crate::specs::Topology::members_in))]
-fn read_members(alloc: Global, top: &Value) -> Result<Net, NetFault>
-    ensures { Gives Memory (λ n. n) result (topology.members_in (view top.now)) }
+fn read_members(alloc: Global, net: &mut Net, top: &Value) -> Result<(), NetFault>
+    requires { net.old ≡ topology.no_network }
+    ensures { MatchResult result (λ _. topology.members_in (view top.now) ≡ Ok net.new) (λ e. Fails Memory e (topology.members_in (view top.now))) }
 {
     if !is_object(top) {
         return Err(NetFault::Shape(Field::Top, 0));
     }
-    let net = read_ports(alloc, top)?;
-    let net = read_vlans(net, top)?;
+    read_ports(alloc, net, top)?;
+    read_vlans(net, top)?;
     read_tags(net, top)
 }
 
@@ -308,5 +371,7 @@ pub fn read_net(alloc: Global, bytes: &[u8]) -> Result<Net, NetFault>
     ensures { Gives Memory (λ n. n) result (topology.network_in bytes.now) }
 {
     let top = parse_json(alloc, bytes)?;
-    read_members(alloc, &top)
+    let mut net = Net::empty(alloc);
+    read_members(alloc, &mut net, &top)?;
+    Ok(net)
 }

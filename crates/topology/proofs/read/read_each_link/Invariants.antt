@@ -5,4 +5,4 @@ use Rattle.topology.specs.Topology.{link_at}
 use Rattle.topology.proofs.read.read_each_link.Given as goal
 
 abbrev pub invariant-loop-i : goal.invariant-loop-i
-invariant-loop-i l = record { turn : in_turn link_at l.i l.net (map view (drop l.i l.items)) ≡ in_turn link_at 0 l.fn.before (map view l.items); hosts : l.net.hosts ≡ [] }
+invariant-loop-i l = record { turn : in_turn link_at l.i l.net (map view (drop l.i l.items)) ≡ in_turn link_at 0 l.fn.net (map view l.items); hosts : l.net.hosts ≡ [] }
