@@ -1,5 +1,5 @@
 -- A rule that was read is one that a user may write.
-use Rattle.std.proofs.Common.{◌≡◌, ℕ, ◌≤◌, ◌&&◌, true, false, Result, Ok, List, refl, sym, ap, subst, arith}
+use Rattle.std.proofs.Common.{◌≡◌, ℕ, ◌≤◌, ◌&&◌, true, false, Ok, List, refl, sym, ap, subst, arith}
 use Rattle.std.specs.Prelude.{Option, Some, None, IfSome, not, nat_le, codes, if◌then◌else◌}
 use Rattle.std.specs.List.{list_any}
 use Rattle.std.proofs.lemmas.Bool.{false≢true, and_parts, and_from, eqb-true, leb-true, le-leb, not-true, both_ways}
@@ -24,13 +24,14 @@ use Rattle.net_base.proofs.ListLaws.{in_from_any}
 use Rattle.topology.specs.Networks.{Network, TagRange, IsUsed, IsAvailableTag, is_used, is_tag, in_range, vlan_eq}
 use Rattle.flow_rules.specs.declared.rules.VlanTest.{VlanTest}
 use Rattle.flow_rules.specs.declared.rules.VlanTest.TheVariants as test
+use Rattle.flow_rules.specs.declared.rules.Pattern.{Pattern}
+use Rattle.flow_rules.specs.declared.rules.Action.{Action}
 use Rattle.flow_rules.specs.declared.rules.Rule.{Rule}
 use Rattle.path_walk.specs.UserConfigs.{IsUserPort, IsUserVlan, IsUserAction, IsUserRule}
-use Rattle.config_files.specs.declared.fault.ConfigFault.{ConfigFault}
 use Rattle.config_files.specs.declared.fault.ConfigFault.TheVariants.{Shape, BadPriority, BadPort, BadVlan, ReservedVlan, BadPrefix}
-use Rattle.config_files.specs.Configuration.{is_text, port_in, some_port, port_or, in_port_in, id_in, vlan_in, action_by, rule_in}
+use Rattle.config_files.specs.Configuration.{is_text, port_in, some_port, port_or, in_port_in, id_in, vlan_in, action_by, priority_in, dst_in, pattern_in, action_in, rule_in}
 use Rattle.config_files.proofs.Ports.{used_shown}
-use Rattle.config_files.proofs.Steps.{need_passed, check_passed}
+use Rattle.config_files.proofs.Steps.{need_is, need_passed, check_passed}
 
 -- ---- prefixes
 
@@ -74,9 +75,9 @@ in_port_shown : (place : ℕ) (net : Network) (s : SwitchId) (d : Option Data) (
 in_port_shown place net s None o e = subst (IsUserPort net s) (ok_is None o e) tt
 in_port_shown place net s (Some d) o e = port_or_shown (codes "any") field.InPort place net s d o e
 
-action_shown : (net : Network) (s : SwitchId) (o : Option Port) → IsUserPort net s o → IsUserAction net s (action_by o)
-action_shown net s None used = tt
-action_shown net s (Some p) used = (used, refl)
+user_action : (net : Network) (s : SwitchId) (o : Option Port) → IsUserPort net s o → IsUserAction net s (action_by o)
+user_action net s None used = tt
+user_action net s (Some p) used = (used, refl)
 
 -- ---- VLANs
 
@@ -118,45 +119,63 @@ vlan_shown place net (Some d) t e =
       ] f
     ] e
 
+-- ---- the parts of a rule
+
+priority_shown : (place : ℕ) (d : Data) (n : ℕ) → priority_in place d ≡ Ok n → (1 ≤ n) × (n ≤ 16383)
+unfolding priority_in
+priority_shown place d n e =
+    let (priority, there, e1) = need_passed (whole_at (codes "priority") d) (Shape field.Priority place) (λ k. check (nat_le 1 k && nat_le k 16383) (BadPriority place) >>= λ _. Ok k) n e in
+    let (within, e2) = check_passed (nat_le 1 priority && nat_le priority 16383) (BadPriority place) (Ok priority) n e1 in
+    let (low, high) = and_parts (nat_le 1 priority) (nat_le priority 16383) within in
+    subst (λ (k : ℕ). (1 ≤ k) × (k ≤ 16383)) (ok_is priority n e2) (leb-true 1 priority low, leb-true priority 16383 high)
+
+dst_shown : (place : ℕ) (d : Data) (b : Block) → dst_in place d ≡ Ok b → IsBlock b
+unfolding dst_in
+dst_shown place d b e =
+    let (text, there, e1) = need_passed (text_at (codes "dst") d) (Shape field.Dst place) (λ text. need (prefix_in text) (BadPrefix place)) b e in
+    block_read text b (need_is (prefix_in text) (BadPrefix place) b e1)
+
+record IsUserPattern (net : Network) (s : SwitchId) (p : Pattern) : Type 0 where
+  pub port : IsUserPort net s p.in_port
+  pub vlan : IsUserVlan net p.vlan
+  pub dst : IsBlock p.dst
+
+pattern_shown : (place : ℕ) (net : Network) (s : SwitchId) (d : Data) (p : Pattern) → pattern_in place net s d ≡ Ok p → IsUserPattern net s p
+unfolding pattern_in
+pattern_shown place net s d p e =
+    let made : Option Port → VlanTest → Block → Pattern = λ in_port vlan dst. record { in_port = in_port; vlan = vlan; dst = dst } in
+    let (in_port, port_read, e1) = bind_ok (in_port_in place net s (get (codes "in_port") d)) (λ o. vlan_in place net (get (codes "vlan") d) >>= λ t. dst_in place d >>= λ b. Ok (made o t b)) p e in
+    let (vlan, vlan_read, e2) = bind_ok (vlan_in place net (get (codes "vlan") d)) (λ t. dst_in place d >>= λ b. Ok (made in_port t b)) p e1 in
+    let (dst, dst_read, e3) = bind_ok (dst_in place d) (λ b. Ok (made in_port vlan b)) p e2 in
+    subst (IsUserPattern net s) {x = made in_port vlan dst} (ok_is (made in_port vlan dst) p e3) (record {
+      port = in_port_shown place net s (get (codes "in_port") d) in_port port_read;
+      vlan = vlan_shown place net (get (codes "vlan") d) vlan vlan_read;
+      dst = dst_shown place d dst dst_read;
+    })
+
+action_shown : (place : ℕ) (net : Network) (s : SwitchId) (d : Data) (a : Action) → action_in place net s d ≡ Ok a → IsUserAction net s a
+unfolding action_in
+action_shown place net s d a e =
+    let (out, there, e1) = need_passed (get (codes "out") d) (Shape field.Out place) (λ out. port_or (codes "drop") field.Out place net s out >>= λ o. Ok (action_by o)) a e in
+    let (port, read, e2) = bind_ok (port_or (codes "drop") field.Out place net s out) (λ o. Ok (action_by o)) a e1 in
+    subst (IsUserAction net s) (ok_is (action_by port) a e2) (user_action net s port (port_or_shown (codes "drop") field.Out place net s out port read))
+
 -- ---- the rule
 
-module _ (place : ℕ) (net : Network) (s : SwitchId) (d : Data) where
-  abbrev rule_of : ℕ → Option Port → VlanTest → Block → Option Port → Rule
-  rule_of priority in_port vlan dst port = record { key = record { priority = priority; pattern = record { in_port = in_port; vlan = vlan; dst = dst } }; action = action_by port }
-
-  abbrev after_out : ℕ → Option Port → VlanTest → Block → Data → Result Rule ConfigFault
-  after_out priority in_port vlan dst out = port_or (codes "drop") field.Out place net s out >>= λ port. Ok (rule_of priority in_port vlan dst port)
-
-  abbrev after_dst : ℕ → Option Port → VlanTest → Block → Result Rule ConfigFault
-  after_dst priority in_port vlan dst = need (get (codes "out") d) (Shape field.Out place) >>= λ out. after_out priority in_port vlan dst out
-
-  abbrev after_vlan : ℕ → Option Port → VlanTest → Result Rule ConfigFault
-  after_vlan priority in_port vlan = need (text_at (codes "dst") d) (Shape field.Dst place) >>= λ text. need (prefix_in text) (BadPrefix place) >>= λ dst. after_dst priority in_port vlan dst
-
-  abbrev after_port : ℕ → Option Port → Result Rule ConfigFault
-  after_port priority in_port = vlan_in place net (get (codes "vlan") d) >>= λ vlan. after_vlan priority in_port vlan
-
-  abbrev after_priority : ℕ → Result Rule ConfigFault
-  after_priority priority = in_port_in place net s (get (codes "in_port") d) >>= λ in_port. after_port priority in_port
-
-  pub rule_shown : (r : Rule) → rule_in place net s d ≡ Ok r → IsUserRule net s r
-  unfolding rule_in
-  rule_shown r e =
-      let (priority, there, e1) = need_passed (whole_at (codes "priority") d) (Shape field.Priority place)
-      (λ priority. check (nat_le 1 priority && nat_le priority 16383) (BadPriority place) >>= λ _. after_priority priority) r e in
-      let (within, e2) = check_passed (nat_le 1 priority && nat_le priority 16383) (BadPriority place) (after_priority priority) r e1 in
-      let (low, high) = and_parts (nat_le 1 priority) (nat_le priority 16383) within in
-      let (in_port, port_read, e3) = bind_ok (in_port_in place net s (get (codes "in_port") d)) (λ p. after_port priority p) r e2 in
-      let (vlan, vlan_read, e4) = bind_ok (vlan_in place net (get (codes "vlan") d)) (λ v. after_vlan priority in_port v) r e3 in
-      let (text, text_there, e5) = need_passed (text_at (codes "dst") d) (Shape field.Dst place) (λ text. need (prefix_in text) (BadPrefix place) >>= λ dst. after_dst priority in_port vlan dst) r e4 in
-      let (dst, dst_read, e6) = need_passed (prefix_in text) (BadPrefix place) (λ dst. after_dst priority in_port vlan dst) r e5 in
-      let (out, out_there, e7) = need_passed (get (codes "out") d) (Shape field.Out place) (λ out. after_out priority in_port vlan dst out) r e6 in
-      let (port, out_read, e8) = bind_ok (port_or (codes "drop") field.Out place net s out) (λ port. Ok (rule_of priority in_port vlan dst port)) r e7 in
-      subst (IsUserRule net s) {x = rule_of priority in_port vlan dst port} (ok_is (rule_of priority in_port vlan dst port) r e8) (record {
-        above = leb-true 1 priority low;
-        below = leb-true priority 16383 high;
-        port = in_port_shown place net s (get (codes "in_port") d) in_port port_read;
-        vlan = vlan_shown place net (get (codes "vlan") d) vlan vlan_read;
-        dst = block_read text dst dst_read;
-        action = action_shown net s port (port_or_shown (codes "drop") field.Out place net s out port out_read);
-      })
+pub rule_shown : (place : ℕ) (net : Network) (s : SwitchId) (d : Data) (r : Rule) → rule_in place net s d ≡ Ok r → IsUserRule net s r
+unfolding rule_in
+rule_shown place net s d r e =
+    let made : ℕ → Pattern → Action → Rule = λ priority pattern action. record { key = record { priority = priority; pattern = pattern }; action = action } in
+    let (priority, priority_read, e1) = bind_ok (priority_in place d) (λ n. pattern_in place net s d >>= λ p. action_in place net s d >>= λ a. Ok (made n p a)) r e in
+    let (pattern, pattern_read, e2) = bind_ok (pattern_in place net s d) (λ p. action_in place net s d >>= λ a. Ok (made priority p a)) r e1 in
+    let (action, action_read, e3) = bind_ok (action_in place net s d) (λ a. Ok (made priority pattern a)) r e2 in
+    let (low, high) = priority_shown place d priority priority_read in
+    let user = pattern_shown place net s d pattern pattern_read in
+    subst (IsUserRule net s) {x = made priority pattern action} (ok_is (made priority pattern action) r e3) (record {
+      above = low;
+      below = high;
+      port = user.port;
+      vlan = user.vlan;
+      dst = user.dst;
+      action = action_shown place net s d action action_read;
+    })

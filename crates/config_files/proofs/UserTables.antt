@@ -11,7 +11,7 @@ use Rattle.std.proofs.lemmas.List.Sums.{sum_by-set}
 use Rattle.serde_json.specs.Data.{Data}
 use Rattle.net_base.specs.Members.{IsIn}
 use Rattle.net_base.specs.Reading.{◌>>=◌, check, in_turn, place_of}
-use Rattle.net_base.specs.Tree.{is_object, text_at, list_at, tree_in}
+use Rattle.net_base.specs.Tree.{is_object, text_at, tree_in}
 use Rattle.net_base.specs.declared.ids.SwitchId.{SwitchId}
 use Rattle.net_base.specs.declared.field.Field.TheVariants as field
 use Rattle.net_base.proofs.Turns.{bind_ok, ok_is}
@@ -28,7 +28,7 @@ use Rattle.net_base.specs.Reading.{Gives}
 use Rattle.path_walk.specs.UserConfigs.{IsUserRule, IsUserConfig}
 use Rattle.config_files.specs.declared.fault.ConfigFault.{ConfigFault}
 use Rattle.config_files.specs.declared.fault.ConfigFault.TheVariants.{Memory, NotJson, Shape, UnknownSwitch, KeyTwice, Overlap, TooMany}
-use Rattle.config_files.specs.Configuration.{rule_in, rules_with, with_rule, rule_to, switch_in, rule_at, is_over, over_capacity, fit, tables_in, configuration_in}
+use Rattle.config_files.specs.Configuration.{rule_in, rules_with, with_rule, rule_to, switch_in, rule_at, is_over, over_capacity, fit, items_in, filled_in, tables_in, configuration_in}
 use Rattle.config_files.proofs.Steps.{need_passed, check_passed}
 use Rattle.config_files.proofs.TableUpdates.{each_after}
 use Rattle.config_files.proofs.UserRules.{rule_shown}
@@ -187,13 +187,12 @@ module _ (net : Network) where
   -- ---- the file
 
   pub configuration_shown : (bytes : List ℕ) (tables : List (List Rule)) → configuration_in net bytes ≡ Ok tables → IsUserConfig net tables
-  unfolding configuration_in tables_in
+  unfolding configuration_in tables_in items_in filled_in
   configuration_shown bytes tables e =
       let (top, there, e1) = need_passed (tree_in bytes) NotJson (λ top. tables_in net top) tables e in
-      let (object, e2) = check_passed (is_object top) (Shape field.Top 0) _ tables e1 in
-      let (items, listed, e3) = need_passed (list_at (codes "rules") top) (Shape field.Rules 0) _ tables e2 in
-      let (read, all, e4) = bind_ok (in_turn (rule_at net) 0 (replicate (switch_count net) []) items) (λ ts. fit (over_capacity net ts) ts) tables e3 in
-      let (within, same) = fit_same (over_capacity net read) read tables e4 in
+      let (items, listed, e2) = bind_ok (items_in top) (λ items. filled_in net (replicate (switch_count net) []) items) tables e1 in
+      let (read, all, e3) = bind_ok (in_turn (rule_at net) 0 (replicate (switch_count net) []) items) (λ ts. fit (over_capacity net ts) ts) tables e2 in
+      let (within, same) = fit_same (over_capacity net read) read tables e3 in
       let user = rules_kept 0 (replicate (switch_count net) []) read items no_rules all in
       let sum = user.sum in
       let few = user.few in

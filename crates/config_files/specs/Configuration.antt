@@ -10,6 +10,7 @@ use Rattle.net_base.specs.declared.ids.Port.{Port}
 use Rattle.net_base.specs.declared.field.Field.{Field}
 use Rattle.net_base.specs.declared.field.Field.TheVariants as field
 use Rattle.net_base.specs.Reading.{◌>>=◌, check, need, in_turn}
+use Rattle.net_base.specs.Blocks.{Block}
 use Rattle.net_base.specs.Text.{prefix_in}
 use Rattle.net_base.specs.Tree.{is_object, text_at, whole_at, whole_in, list_at, tree_in}
 use Rattle.topology.specs.Networks.{Network, switch_count, switch_named, capacity_of, is_used, is_tag, is_vlan_id}
@@ -21,6 +22,7 @@ use Rattle.flow_rules.specs.declared.rules.VlanTest.TheVariants as test
 use Rattle.flow_rules.specs.declared.rules.Rewrite.TheVariants.{Keep}
 use Rattle.flow_rules.specs.declared.rules.Action.{Action}
 use Rattle.flow_rules.specs.declared.rules.Action.TheVariants.{Discard, Out}
+use Rattle.flow_rules.specs.declared.rules.Pattern.{Pattern}
 use Rattle.flow_rules.specs.declared.rules.Rule.{Rule}
 use Rattle.config_files.specs.declared.fault.ConfigFault.{ConfigFault}
 use Rattle.config_files.specs.declared.fault.ConfigFault.TheVariants.{NotJson, Shape, UnknownSwitch, BadPriority, BadPort, BadVlan, ReservedVlan, BadPrefix, KeyTwice, Overlap, OverCapacity, TooMany}
@@ -72,18 +74,41 @@ abbrev pub action_by : Option Port → Action
 action_by None = Discard
 action_by (Some port) = Out port Keep
 
+-- a priority of 1 to 16383
+unfoldable pub priority_in : ℕ → Data → Result ℕ ConfigFault
+priority_in place d = do
+  priority ← need (whole_at (codes "priority") d) (Shape field.Priority place)
+  _ ← check (nat_le 1 priority && nat_le priority 16383) (BadPriority place)
+  Ok priority
+
+-- the prefix of the destinations
+unfoldable pub dst_in : ℕ → Data → Result Block ConfigFault
+dst_in place d = do
+  text ← need (text_at (codes "dst") d) (Shape field.Dst place)
+  need (prefix_in text) (BadPrefix place)
+
+-- the pattern of a rule
+unfoldable pub pattern_in : ℕ → Network → SwitchId → Data → Result Pattern ConfigFault
+pattern_in place net s d = do
+  in_port ← in_port_in place net s (get (codes "in_port") d)
+  vlan ← vlan_in place net (get (codes "vlan") d)
+  dst ← dst_in place d
+  Ok (record { in_port = in_port; vlan = vlan; dst = dst })
+
+-- the action of a rule
+unfoldable pub action_in : ℕ → Network → SwitchId → Data → Result Action ConfigFault
+action_in place net s d = do
+  out ← need (get (codes "out") d) (Shape field.Out place)
+  port ← port_or (codes "drop") field.Out place net s out
+  Ok (action_by port)
+
 -- one rule of a switch
 unfoldable pub rule_in : ℕ → Network → SwitchId → Data → Result Rule ConfigFault
 rule_in place net s d = do
-  priority ← need (whole_at (codes "priority") d) (Shape field.Priority place)
-  _ ← check (nat_le 1 priority && nat_le priority 16383) (BadPriority place)
-  in_port ← in_port_in place net s (get (codes "in_port") d)
-  vlan ← vlan_in place net (get (codes "vlan") d)
-  text ← need (text_at (codes "dst") d) (Shape field.Dst place)
-  dst ← need (prefix_in text) (BadPrefix place)
-  out ← need (get (codes "out") d) (Shape field.Out place)
-  port ← port_or (codes "drop") field.Out place net s out
-  Ok (record { key = record { priority = priority; pattern = record { in_port = in_port; vlan = vlan; dst = dst } }; action = action_by port })
+  priority ← priority_in place d
+  pattern ← pattern_in place net s d
+  action ← action_in place net s d
+  Ok (record { key = record { priority = priority; pattern = pattern }; action = action })
 
 -- ---- the rules, in their order
 
@@ -136,13 +161,23 @@ abbrev pub fit : Option ℕ → List (List Rule) → Result (List (List Rule)) C
 fit None tables = Ok tables
 fit (Some s) tables = Err (OverCapacity (record { 0 = s }))
 
+-- the items of `rules`
+unfoldable pub items_in : Data → Result (List Data) ConfigFault
+items_in top = do
+  _ ← check (is_object top) (Shape field.Top 0)
+  need (list_at (codes "rules") top) (Shape field.Rules 0)
+
+-- the tables with the rules of the items, where none becomes too long
+unfoldable pub filled_in : Network → List (List Rule) → List Data → Result (List (List Rule)) ConfigFault
+filled_in net before items = do
+  tables ← in_turn (rule_at net) 0 before items
+  fit (over_capacity net tables) tables
+
 -- the tables of the file
 unfoldable pub tables_in : Network → Data → Result (List (List Rule)) ConfigFault
 tables_in net top = do
-  _ ← check (is_object top) (Shape field.Top 0)
-  items ← need (list_at (codes "rules") top) (Shape field.Rules 0)
-  tables ← in_turn (rule_at net) 0 (replicate (switch_count net) []) items
-  fit (over_capacity net tables) tables
+  items ← items_in top
+  filled_in net (replicate (switch_count net) []) items
 
 -- the configuration that the bytes describe, or the first refusal
 unfoldable pub configuration_in : Network → List ℕ → Result (List (List Rule)) ConfigFault

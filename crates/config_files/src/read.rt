@@ -149,21 +149,40 @@ fn over_capacity(net: &Net, config: &Config) -> Option<SwitchId>
     None
 }
 
+/// The items of `rules`.
+#[tactic(auto, unfolding(crate::specs::Configuration::items_in))]
+fn items_of(top: &Value) -> Result<&[Value], ConfigFault>
+    ensures { Gives Memory (λ items. map view items.now) result (configuration.items_in (view top.now)) }
+{
+    if !is_object(top) {
+        return Err(ConfigFault::Shape(Field::Top, 0));
+    }
+    list_at(top, "rules").ok_or(ConfigFault::Shape(Field::Rules, 0))
+}
+
+/// Reads the items into the tables, and makes their indexes.
+#[tactic(auto, unfolding(crate::specs::Configuration::filled_in))]
+fn fill(net: &Net, config: &mut Config, items: &[Value]) -> Result<(), ConfigFault>
+    requires { length config.old ≡ switch_count net.now }
+    ensures { let read = configuration.filled_in net.now (rules_of_all config.old) (map view items.now) in
+        MatchResult result (λ _. read ≡ Ok (rules_of_all config.new)) (λ e. Fails Memory e read) }
+{
+    read_items(net, config, items)?;
+    if let Some(switch) = over_capacity(net, config) {
+        return Err(ConfigFault::OverCapacity(switch));
+    }
+    config.index()?;
+    Ok(())
+}
+
 /// Reads the tables of the file.
 #[tactic(auto, unfolding(crate::specs::Configuration::tables_in))]
 fn read_tables(alloc: Global, net: &Net, top: &Value) -> Result<Config, ConfigFault>
     ensures { Gives Memory rules_of_all result (configuration.tables_in net.now (view top.now)) }
 {
-    if !is_object(top) {
-        return Err(ConfigFault::Shape(Field::Top, 0));
-    }
-    let items = list_at(top, "rules").ok_or(ConfigFault::Shape(Field::Rules, 0))?;
+    let items = items_of(top)?;
     let mut config = Config::make(alloc, net.switches())?;
-    read_items(net, &mut config, items)?;
-    if let Some(switch) = over_capacity(net, &config) {
-        return Err(ConfigFault::OverCapacity(switch));
-    }
-    config.index()?;
+    fill(net, &mut config, items)?;
     Ok(config)
 }
 

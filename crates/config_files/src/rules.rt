@@ -8,7 +8,7 @@ ghost use Rattle.config_files.specs.Configuration as configuration;
 
 use crate::fault::ConfigFault;
 use flow_rules::{Action, Key, Pattern, Rewrite, Rule, VlanTest};
-use net_base::{Field, Port, SwitchId, read_prefix, text_at, whole, whole_at};
+use net_base::{Field, Port, Prefix, SwitchId, read_prefix, text_at, whole, whole_at};
 use serde_json::Value;
 use topology::{Net, is_vlan_id};
 
@@ -131,29 +131,65 @@ fn action_by(port: Option<Port>) -> Action
     }
 }
 
-/// Reads one rule of a switch.
-#[tactic(auto, unfolding(crate::specs::Configuration::rule_in))]
-pub fn read_rule(net: &Net, place: u32, switch: SwitchId, item: &Value) -> Result<Rule, ConfigFault>
-    ensures { Gives Memory (λ r. r) result (configuration.rule_in place net.now switch (view item.now)) }
+/// Reads the priority.
+#[tactic(auto, unfolding(crate::specs::Configuration::priority_in))]
+fn read_priority(place: u32, item: &Value) -> Result<u16, ConfigFault>
+    ensures { Gives Memory (λ n. n) result (configuration.priority_in place (view item.now)) }
 {
     let priority = whole_at(item, "priority").ok_or(ConfigFault::Shape(Field::Priority, place))?;
     if !(1..=MAX_PRIORITY).contains(&priority) {
         return Err(ConfigFault::BadPriority(place));
     }
+    Ok(priority as u16)
+}
+
+/// Reads the prefix of the destinations.
+#[tactic(auto, unfolding(crate::specs::Configuration::dst_in))]
+fn read_dst(place: u32, item: &Value) -> Result<Prefix, ConfigFault>
+    ensures { Gives Memory (λ p. p) result (configuration.dst_in place (view item.now)) }
+{
+    let text = text_at(item, "dst").ok_or(ConfigFault::Shape(Field::Dst, place))?;
+    read_prefix(text).ok().ok_or(ConfigFault::BadPrefix(place))
+}
+
+/// Reads the pattern of a rule.
+#[tactic(auto, unfolding(crate::specs::Configuration::pattern_in))]
+fn read_pattern(
+    net: &Net,
+    place: u32,
+    switch: SwitchId,
+    item: &Value,
+) -> Result<Pattern, ConfigFault>
+    ensures { Gives Memory (λ p. p) result (configuration.pattern_in place net.now switch (view item.now)) }
+{
     let in_port = read_in_port(net, place, switch, item.get("in_port"))?;
     let vlan = read_test(net, place, item.get("vlan"))?;
-    let text = text_at(item, "dst").ok_or(ConfigFault::Shape(Field::Dst, place))?;
-    let dst = read_prefix(text).ok().ok_or(ConfigFault::BadPrefix(place))?;
+    let dst = read_dst(place, item)?;
+    Ok(Pattern { in_port, vlan, dst })
+}
+
+/// Reads the action of a rule.
+#[tactic(auto, unfolding(crate::specs::Configuration::action_in))]
+fn read_action(net: &Net, place: u32, switch: SwitchId, item: &Value) -> Result<Action, ConfigFault>
+    ensures { Gives Memory (λ a. a) result (configuration.action_in place net.now switch (view item.now)) }
+{
     let out = item
         .get("out")
         .ok_or(ConfigFault::Shape(Field::Out, place))?;
     let port = read_port_or(net, "drop", Field::Out, place, switch, out)?;
-    let pattern = Pattern { in_port, vlan, dst };
+    Ok(action_by(port))
+}
+
+/// Reads one rule of a switch.
+#[tactic(auto, unfolding(crate::specs::Configuration::rule_in))]
+pub fn read_rule(net: &Net, place: u32, switch: SwitchId, item: &Value) -> Result<Rule, ConfigFault>
+    ensures { Gives Memory (λ r. r) result (configuration.rule_in place net.now switch (view item.now)) }
+{
+    let priority = read_priority(place, item)?;
+    let pattern = read_pattern(net, place, switch, item)?;
+    let action = read_action(net, place, switch, item)?;
     Ok(Rule {
-        key: Key {
-            priority: priority as u16,
-            pattern,
-        },
-        action: action_by(port),
+        key: Key { priority, pattern },
+        action,
     })
 }

@@ -26,12 +26,13 @@ use Rattle.topology.proofs.LinkLaws.{stop_eq-true}
 use Rattle.net_base.proofs.ListLaws.{in_from_any}
 use Rattle.flow_rules.specs.declared.rules.VlanTest.{VlanTest}
 use Rattle.flow_rules.specs.declared.rules.VlanTest.TheVariants as test
+use Rattle.demands.specs.declared.Cover.{Cover}
 use Rattle.demands.specs.declared.fault.DemandFault.{DemandFault}
 use Rattle.demands.specs.declared.fault.DemandFault.TheVariants.{NotJson, Shape, UnknownSwitch, NotHost, BadVlan, BadPrefix, TooMany, Memory}
 use Rattle.demands.specs.declared.read.TestWord.{TestWord}
 use Rattle.demands.specs.declared.read.TestWord.TheVariants as word
 use Rattle.demands.specs.Duties.{DemandView}
-use Rattle.demands.specs.Policy.{host_with, host_in, source_in, from_in, test_word, test_of, test_in, waypoint_at, waypoints_in, through_in, deliver_in, demand_at, members_in, demands_in}
+use Rattle.demands.specs.Policy.{host_with, host_in, source_in, from_in, test_word, test_of, test_in, waypoint_at, waypoints_in, through_in, deliver_in, dst_in, cover_in, demand_in, demand_at, members_in, demands_in}
 use Rattle.demands.specs.Ranges.{IsTest, IsDemand, AreDemands}
 
 abbrev Read : Type 0 → Type 0
@@ -147,29 +148,57 @@ module _ (net : Network) (place : ℕ) where
       let all = each_waypoint 0 [] through items tt e2 in
       (all.0, omega (arith, few, all.1))))
 
-  demand_range : (before after : List DemandView) (d : Data) → AreDemands net before → demand_at net place before d ≡ Ok after → AreDemands net after
-  unfolding demand_at
-  demand_range before after d known e =
-      step (check (nat_lt (length before) 512) (TooMany Demands place)) _ after e (λ _ h0 e0.
-      step (check (is_object d) (Shape Demands place)) _ after e0 (λ _ h1 e1.
-      step (from_in net place (get (codes "from") d)) _ after e1 (λ from hf e2.
-      step (test_in place (get (codes "vlan") d)) _ after e2 (λ vlan hv e3.
-      step (need (text_at (codes "dst") d) (Shape Dst place)) _ after e3 (λ text ht e4.
-      step (need (prefix_in text) (BadPrefix place)) _ after e4 (λ dst hd e5.
-      step (through_in net place (get (codes "through") d)) _ after e5 (λ through hw e6.
-      step (deliver_in place (get (codes "deliver") d)) _ after e6 (λ deliver hl e7.
-      let one : DemandView = record { from = from; vlan = vlan; dst = dst; through = through; deliver = deliver } in
-      let is = ok_is {E = DemandFault} (before ++ one ∷ []) after e7 in
-      let room = ltb-true (length before) 512 (checked (nat_lt (length before) 512) (TooMany Demands place) tt h0) in
-      let way = through_range (get (codes "through") d) through hw in
-      let this : IsDemand net one = record {
+  dst_range : (d : Data) (dst : Block) → dst_in place d ≡ Ok dst → IsBlock dst
+  unfolding dst_in
+  dst_range d dst e =
+      step (need (text_at (codes "dst") d) (Shape Dst place)) _ dst e (λ text ht e1.
+      prefix_range text dst (needed (prefix_in text) (BadPrefix place) dst e1))
+
+  record IsCover (cover : Cover) : Type 0 where
+    pub from : IfSome cover.from (λ s. IsIn s net.hosts)
+    pub vlan : IsTest cover.vlan
+    pub dst : IsBlock cover.dst
+
+  cover_range : (d : Data) (cover : Cover) → cover_in net place d ≡ Ok cover → IsCover cover
+  unfolding cover_in
+  cover_range d cover e =
+      step (from_in net place (get (codes "from") d)) _ cover e (λ from hf e1.
+      step (test_in place (get (codes "vlan") d)) _ cover e1 (λ vlan hv e2.
+      step (dst_in place d) _ cover e2 (λ dst hd e3.
+      let made : Cover = record { from = from; vlan = vlan; dst = dst } in
+      subst IsCover (ok_is {E = DemandFault} made cover e3) (record {
         from = from_range net place (get (codes "from") d) from hf;
         vlan = test_range place (get (codes "vlan") d) vlan hv;
-        dst = prefix_range text dst (needed (prefix_in text) (BadPrefix place) dst hd);
+        dst = dst_range d dst hd;
+      }))))
+
+  demand_range : (d : Data) (demand : DemandView) → demand_in net place d ≡ Ok demand → IsDemand net demand
+  unfolding demand_in
+  demand_range d demand e =
+      step (cover_in net place d) _ demand e (λ cover hc e1.
+      step (through_in net place (get (codes "through") d)) _ demand e1 (λ through hw e2.
+      step (deliver_in place (get (codes "deliver") d)) _ demand e2 (λ deliver hl e3.
+      let made : DemandView = record { from = cover.from; vlan = cover.vlan; dst = cover.dst; through = through; deliver = deliver } in
+      let covered = cover_range d cover hc in
+      let way = through_range (get (codes "through") d) through hw in
+      subst (IsDemand net) (ok_is {E = DemandFault} made demand e3) (record {
+        from = covered.from;
+        vlan = covered.vlan;
+        dst = covered.dst;
         through = way.0;
         few = way.1;
-      } in
-      subst (AreDemands net) is (record { few = omega (arith, length-append before (one ∷ []), room); each = each_append (IsDemand net) before (one ∷ []) known.each (this, tt) })))))))))
+      }))))
+
+  item_range : (before after : List DemandView) (d : Data) → AreDemands net before → demand_at net place before d ≡ Ok after → AreDemands net after
+  unfolding demand_at
+  item_range before after d known e =
+      step (check (nat_lt (length before) 512) (TooMany Demands place)) _ after e (λ _ h0 e0.
+      step (check (is_object d) (Shape Demands place)) _ after e0 (λ _ h1 e1.
+      step (demand_in net place d) _ after e1 (λ demand hd e2.
+      let is = ok_is {E = DemandFault} (before ++ demand ∷ []) after e2 in
+      let room = ltb-true (length before) 512 (checked (nat_lt (length before) 512) (TooMany Demands place) tt h0) in
+      let longer = length-append before (demand ∷ []) in
+      subst (AreDemands net) is (record { few = omega arith; each = each_append (IsDemand net) before (demand ∷ []) known.each (demand_range d demand hd, tt) }))))
 
 -- what is read is in range
 pub demands_are : (net : Network) (bytes : List ℕ) (demands : List DemandView) → demands_in net bytes ≡ Ok demands → AreDemands net demands
@@ -178,7 +207,7 @@ demands_are net bytes demands e =
     step (need (tree_in bytes) NotJson) _ demands e (λ top ht e1.
     step (check (is_object top) (Shape Top 0)) _ demands e1 (λ _ ho e2.
     step (need (list_at (codes "demands") top) (Shape Demands 0)) _ demands e2 (λ items hi e3.
-    in_turn-keeps (demand_at net) (AreDemands net) (λ n s t x p f. demand_range net n s t x p f) 0 [] demands items (record { few = omega arith; each = tt }) e3)))
+    in_turn-keeps (demand_at net) (AreDemands net) (λ n s t x p f. item_range net n s t x p f) 0 [] demands items (record { few = omega arith; each = tt }) e3)))
 
 pub demands_range : (net : Network) (bytes : List ℕ) (result : Result (List DemandView) DemandFault) → Gives Memory (λ d. d) result (demands_in net bytes) → IfOk result (AreDemands net)
 demands_range net bytes (Ok demands) h = demands_are net bytes demands h

@@ -4,6 +4,7 @@ use Rattle.std.specs.Option.{option_or}
 use Rattle.std.specs.Str.{bytes_eq}
 use Rattle.serde_json.specs.Data.{Data}
 use Rattle.serde_json.specs.Find.{get, as_str, as_bool}
+use Rattle.net_base.specs.Blocks.{Block}
 use Rattle.net_base.specs.declared.ids.SwitchId.{SwitchId}
 use Rattle.net_base.specs.declared.ids.Stop.{Stop}
 use Rattle.net_base.specs.declared.field.Field.TheVariants.{Top, Demands, From, Vlan, Dst, Through, Deliver}
@@ -14,6 +15,7 @@ use Rattle.topology.specs.Networks.{Network, switch_named, is_host, is_vlan_id}
 use Rattle.topology.specs.References.{reference_parts}
 use Rattle.flow_rules.specs.declared.rules.VlanTest.{VlanTest}
 use Rattle.flow_rules.specs.declared.rules.VlanTest.TheVariants as test
+use Rattle.demands.specs.declared.Cover.{Cover}
 use Rattle.demands.specs.declared.read.TestWord.{TestWord}
 use Rattle.demands.specs.declared.read.TestWord.TheVariants as word
 use Rattle.demands.specs.declared.fault.DemandFault.{DemandFault}
@@ -94,6 +96,30 @@ unfoldable pub deliver_in : ℕ → Option Data → Result Bool DemandFault
 deliver_in place None = Ok false
 deliver_in place (Some d) = need (as_bool d) (Shape Deliver place)
 
+-- ---- a demand
+
+-- the prefix of the destinations
+unfoldable pub dst_in : ℕ → Data → Result Block DemandFault
+dst_in place d = do
+  text ← need (text_at (codes "dst") d) (Shape Dst place)
+  need (prefix_in text) (BadPrefix place)
+
+-- the packets that a demand speaks of
+unfoldable pub cover_in : Network → ℕ → Data → Result Cover DemandFault
+cover_in net place d = do
+  from ← from_in net place (get (codes "from") d)
+  vlan ← test_in place (get (codes "vlan") d)
+  dst ← dst_in place d
+  Ok (record { from = from; vlan = vlan; dst = dst })
+
+-- one demand
+unfoldable pub demand_in : Network → ℕ → Data → Result DemandView DemandFault
+demand_in net place d = do
+  cover ← cover_in net place d
+  through ← through_in net place (get (codes "through") d)
+  deliver ← deliver_in place (get (codes "deliver") d)
+  Ok (record { from = cover.from; vlan = cover.vlan; dst = cover.dst; through = through; deliver = deliver })
+
 -- ---- the file
 
 -- one item of `demands`, after these demands
@@ -101,13 +127,8 @@ unfoldable pub demand_at : Network → ℕ → List DemandView → Data → Resu
 demand_at net place before d = do
   _ ← check (nat_lt (length before) 512) (TooMany Demands place)
   _ ← check (is_object d) (Shape Demands place)
-  from ← from_in net place (get (codes "from") d)
-  vlan ← test_in place (get (codes "vlan") d)
-  text ← need (text_at (codes "dst") d) (Shape Dst place)
-  dst ← need (prefix_in text) (BadPrefix place)
-  through ← through_in net place (get (codes "through") d)
-  deliver ← deliver_in place (get (codes "deliver") d)
-  Ok (before ++ record { from = from; vlan = vlan; dst = dst; through = through; deliver = deliver } ∷ [])
+  demand ← demand_in net place d
+  Ok (before ++ demand ∷ [])
 
 -- the member `demands`
 unfoldable pub members_in : Network → Data → Result (List DemandView) DemandFault

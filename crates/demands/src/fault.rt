@@ -5,34 +5,27 @@ ghost use Rattle.demands.specs.Faults.{of_json, fault_number, fault_name, fault_
 
 use net_base::{Field, JsonFault};
 use std::alloc::{AllocError, AllocFailed};
+use std::fmt;
 use thiserror::Error;
 
 /// Why bytes are no policy. The number is the place: that of the demand, from 0. A fault of the whole file has none.
 #[derive(Clone, Copy, Debug, PartialEq, Eq, Error)]
 pub enum DemandFault {
     /// `serde_json` finds no value.
-    #[error("NotJson")]
     NotJson,
     /// The member is absent or of the wrong kind.
-    #[error("Shape")]
     Shape(Field, u32),
     /// No switch has the name.
-    #[error("UnknownSwitch")]
     UnknownSwitch(u32),
     /// The port is no host port of the network.
-    #[error("NotHost")]
     NotHost(u32),
     /// The VLAN id isn't 1 to 4094.
-    #[error("BadVlan")]
     BadVlan(u32),
     /// The text is no prefix.
-    #[error("BadPrefix")]
     BadPrefix(u32),
     /// More than 512 demands, or more than 16 waypoints of a demand.
-    #[error("TooMany")]
     TooMany(Field, u32),
     /// Memory was wanting.
-    #[error("Memory")]
     Memory,
 }
 
@@ -92,6 +85,12 @@ impl DemandFault {
             | DemandFault::BadPrefix(place)
             | DemandFault::TooMany(_, place) => place,
         }
+    }
+}
+
+impl fmt::Display for DemandFault {
+    fn fmt<W: fmt::Write>(&self, f: &mut fmt::Formatter<W>) -> fmt::Result {
+        f.write_str(self.name())
     }
 }
 

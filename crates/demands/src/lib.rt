@@ -19,7 +19,7 @@ use std::marker::Model;
 
 /// Which packets a demand speaks of: those that enter at the host port, or at any, whose VLAN the test admits, to an
 /// address in the prefix.
-#[derive(Clone, Copy, Debug, PartialEq, Eq)]
+#[derive(Clone, Copy)]
 pub(crate) struct Cover {
     from: Option<Stop>,
     vlan: VlanTest,

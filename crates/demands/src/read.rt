@@ -11,8 +11,8 @@ use crate::fault::DemandFault;
 use crate::{Cover, Demand, Demands};
 use flow_rules::VlanTest;
 use net_base::{
-    Field, Port, Stop, SwitchId, is_object, list_at, list_in, parse_json, place_of, read_prefix,
-    text_at, whole,
+    Field, Port, Prefix, Stop, SwitchId, is_object, list_at, list_in, parse_json, place_of,
+    read_prefix, text_at, whole,
 };
 use serde_json::Value;
 use std::alloc::Global;
@@ -215,9 +215,44 @@ fn read_deliver(place: u32, member: Option<&Value>) -> Result<bool, DemandFault>
     }
 }
 
+/// Reads the prefix of the destinations.
+#[tactic(auto, unfolding(crate::specs::Policy::dst_in))]
+fn read_dst(place: u32, item: &Value) -> Result<Prefix, DemandFault>
+    ensures { Gives Memory (λ p. p) result (policy.dst_in place (view item.now)) }
+{
+    let text = text_at(item, "dst").ok_or(DemandFault::Shape(Field::Dst, place))?;
+    read_prefix(text).ok().ok_or(DemandFault::BadPrefix(place))
+}
+
+/// Reads the packets that a demand speaks of.
+#[tactic(auto, unfolding(crate::specs::Policy::cover_in))]
+fn read_cover(net: &Net, place: u32, item: &Value) -> Result<Cover, DemandFault>
+    ensures { Gives Memory (λ c. c) result (policy.cover_in net.now place (view item.now)) }
+{
+    let from = read_from(net, place, item.get("from"))?;
+    let vlan = read_test(place, item.get("vlan"))?;
+    let dst = read_dst(place, item)?;
+    Ok(Cover { from, vlan, dst })
+}
+
 /// Reads one demand.
+#[tactic(auto, unfolding(crate::specs::Policy::demand_in))]
+fn read_demand(alloc: Global, net: &Net, place: u32, item: &Value) -> Result<Demand, DemandFault>
+    ensures { Gives Memory (λ d. d) result (policy.demand_in net.now place (view item.now)) }
+{
+    let cover = read_cover(net, place, item)?;
+    let through = read_through(alloc, net, place, item.get("through"))?;
+    let deliver = read_deliver(place, item.get("deliver"))?;
+    Ok(Demand {
+        cover,
+        through,
+        deliver,
+    })
+}
+
+/// Reads one item of `demands`.
 #[tactic(auto, unfolding(crate::specs::Policy::demand_at))]
-fn read_demand(
+fn read_item(
     alloc: Global,
     net: &Net,
     place: u32,
@@ -234,18 +269,8 @@ fn read_demand(
     if !is_object(item) {
         return Err(DemandFault::Shape(Field::Demands, place));
     }
-    let from = read_from(net, place, item.get("from"))?;
-    let vlan = read_test(place, item.get("vlan"))?;
-    let text = text_at(item, "dst").ok_or(DemandFault::Shape(Field::Dst, place))?;
-    let dst = read_prefix(text).map_err(|_| DemandFault::BadPrefix(place))?;
-    let through = read_through(alloc, net, place, item.get("through"))?;
-    let deliver = read_deliver(place, item.get("deliver"))?;
-    let cover = Cover { from, vlan, dst };
-    demands.add(Demand {
-        cover,
-        through,
-        deliver,
-    })?;
+    let demand = read_demand(alloc, net, place, item)?;
+    demands.add(demand)?;
     Ok(())
 }
 
@@ -254,7 +279,7 @@ fn read_each_demand(alloc: Global, net: &Net, items: &[Value]) -> Result<Demands
 {
     let mut demands = Demands::empty(alloc);
     for (i, item) in items.iter().enumerate() {
-        read_demand(alloc, net, place_of(i), &mut demands, item)?;
+        read_item(alloc, net, place_of(i), &mut demands, item)?;
     }
     Ok(demands)
 }

@@ -22,7 +22,7 @@ use Rattle.flow_rules.proofs.KeyLaws.{key_eq-true}
 use Rattle.flow_rules.proofs.OverlapLaws.{meet_in}
 use Rattle.path_walk.specs.UserConfigs.{IsUserRule, IsUserConfig}
 use Rattle.config_files.specs.declared.fault.ConfigFault.{ConfigFault}
-use Rattle.config_files.specs.Configuration.{rules_with, with_rule, rule_to, rule_at, is_over, over_capacity, tables_in, configuration_in}
+use Rattle.config_files.specs.Configuration.{rules_with, with_rule, rule_to, rule_at, is_over, over_capacity, items_in, filled_in, tables_in, configuration_in}
 use Rattle.flow_stats.specs.ConfigText.{rule_tree, rule_trees, config_tree}
 use Rattle.flow_stats.proofs.RuleAgain.{rule_again, switch_again}
 use Rattle.config_files.proofs.UserTables.{IsUserTable}
@@ -137,7 +137,7 @@ module _ (net : Network) (distinct : IsDistinct net.names) where
   -- ---- the file
 
   config_again : (tables : List (List Rule)) → IsUserConfig net tables → tables_in net (config_tree net tables) ≡ Ok tables
-  unfolding tables_in
+  unfolding tables_in items_in filled_in
   config_again tables user =
       let few = user.few in
       let count = user.count in

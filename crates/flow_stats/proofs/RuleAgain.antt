@@ -23,7 +23,7 @@ use Rattle.flow_rules.specs.declared.rules.Action.{Action}
 use Rattle.flow_rules.specs.declared.rules.Action.TheVariants.{Discard, Out}
 use Rattle.flow_rules.specs.declared.rules.Rule.{Rule}
 use Rattle.path_walk.specs.UserConfigs.{IsUserPort, IsUserVlan, IsUserAction, IsUserRule}
-use Rattle.config_files.specs.Configuration.{port_or, port_in, some_port, in_port_in, id_in, vlan_in, action_by, rule_in, switch_in}
+use Rattle.config_files.specs.Configuration.{port_or, port_in, some_port, in_port_in, id_in, vlan_in, action_by, priority_in, dst_in, pattern_in, action_in, rule_in, switch_in}
 use Rattle.flow_stats.specs.ConfigText.{whole_tree, put_some, in_port_tree, test_tree, out_tree, rule_members, rule_tree}
 
 -- ---- the members of a rule
@@ -101,7 +101,7 @@ action_made net s Discard user = refl
 action_made net s (Out port rewrite) user = ap (Out port) (sym user.1)
 
 pub rule_again : (net : Network) (place : ℕ) (s : SwitchId) (r : Rule) → IsUserRule net s r → rule_in place net s (rule_tree net s r) ≡ Ok r
-unfolding rule_in
+unfolding rule_in priority_in pattern_in dst_in action_in
 rule_again net place s r user =
     rw (
       fixed_again net s r (codes "priority") refl refl,

@@ -26,7 +26,7 @@ pub(crate) const NO_BUFFER: u32 = 0xffff_ffff;
 pub(crate) const ANY_OUT_PORT: u16 = 0xffff;
 
 /// The fields of struct ofp_flow_mod between the header and the actions.
-#[derive(Clone, Copy, Debug, PartialEq, Eq)]
+#[derive(Clone, Copy)]
 pub(crate) struct FlowModFields {
     pub(crate) pattern: MatchFields,
     pub(crate) cookie: u64,

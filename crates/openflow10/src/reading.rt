@@ -27,7 +27,7 @@ pub(crate) const BARRIER_REQUEST: u8 = 18;
 const BARRIER_REPLY: u8 = 19;
 
 /// The types of messages that are read.
-#[derive(Clone, Copy, Debug, PartialEq, Eq)]
+#[derive(Clone, Copy)]
 enum MessageType {
     FlowMod,
     BarrierRequest,

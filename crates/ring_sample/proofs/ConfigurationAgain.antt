@@ -15,7 +15,7 @@ use Rattle.topology.specs.Networks.{switch_count}
 use Rattle.flow_rules.specs.Overlaps.{keys_clash}
 use Rattle.flow_rules.specs.Patterns.{key_eq}
 use Rattle.flow_rules.specs.declared.rules.Rule.{Rule}
-use Rattle.config_files.specs.Configuration.{port_in, some_port, rule_in, rules_with, with_rule, rule_to, switch_in, rule_at, is_over, over_capacity, tables_in, configuration_in}
+use Rattle.config_files.specs.Configuration.{port_in, some_port, priority_in, dst_in, pattern_in, action_in, rule_in, rules_with, with_rule, rule_to, switch_in, rule_at, is_over, over_capacity, items_in, filled_in, tables_in, configuration_in}
 use Rattle.ring_sample.specs.Ring.{below, ring_name, ring_network, destinations, ring_prefix, ring_rule, ring_table, ring_tables}
 use Rattle.ring_sample.specs.RingTrees.{rule_tree, configuration_tree}
 use Rattle.ring_sample.proofs.Ranges.{group_turns}
@@ -38,7 +38,7 @@ module _ (n : ℕ) (few : n ≤ 128) (port : ℕ) (low : 2 ≤ port) (high : por
     switch_again place j small = rw (lt-ltb place 2048 small, named n i few lt) refl
 
     rule_again : (place j : ℕ) → j < 4 → rule_in place (ring_network n) (record { 0 = i }) (rule_tree port i j) ≡ Ok (ring_rule port i j)
-    unfolding rule_in some_port port_in
+    unfolding rule_in priority_in pattern_in dst_in action_in some_port port_in
     rule_again place j within = rw (prefix_in-text (ring_prefix j) (prefix_block j within), out_used n i lt port j low high) refl
 
     -- the tables with these rules at the switch
@@ -109,7 +109,7 @@ module _ (n : ℕ) (few : n ≤ 128) (port : ℕ) (low : 2 ≤ port) (high : por
   none_over = none_found (is_over (ring_network n) (ring_tables n port)) 0 (switch_count (ring_network n)) (λ i low high. within_capacity i (omega (arith, many)))
 
   tables_again : tables_in (ring_network n) (configuration_tree n port) ≡ Ok (ring_tables n port)
-  unfolding tables_in configuration_tree
+  unfolding tables_in items_in filled_in configuration_tree
   tables_again = rw (list_of-items_of (flat_map (λ i. map (rule_tree port i) destinations) (below n)), rules_again, none_over) refl
 
   pub configuration_again : (bytes : List ℕ) (d : Data) → d ≡ configuration_tree n port → tree_in bytes ≡ Some d → configuration_in (ring_network n) bytes ≡ Ok (ring_tables n port)
