@@ -8,7 +8,7 @@ use Rattle.net_base.specs.Walks.{IsWalk, end_of}
 use Rattle.net_base.proofs.WalkLaws.{IsWalk-push, end_of-push}
 use Rattle.net_base.proofs.MemberLaws.{in_append_left, in_append_right}
 use Rattle.net_base.specs.declared.ids.SwitchId.{SwitchId}
-use Rattle.acyclic_numbering.specs.Numbered.{IsOpen, IsWalkedSoFar, IsClosedWalk}
+use Rattle.acyclic_numbering.specs.Numbered.{IsOpen, IsWalkedSoFar, IsClosedAt, IsClosedWalk}
 use Rattle.net_base.proofs.NameLaws.{same_switch}
 
 module _ (edge : SwitchId → SwitchId → Type 0) where
@@ -31,11 +31,20 @@ module _ (edge : SwitchId → SwitchId → Type 0) where
     };
   }
 
-  pub closed_from_walk : (p : ℕ) (start at next : SwitchId) (rest : List SwitchId) → IsWalk edge start rest → end_of start rest ≡ at → slice_get (start ∷ rest) p ≡ Some next → edge at next
+  closed_from_walk : (p : ℕ) (start at next : SwitchId) (rest : List SwitchId) → IsWalk edge start rest → end_of start rest ≡ at → slice_get (start ∷ rest) p ≡ Some next → edge at next
       → IsClosedWalk edge (drop p (start ∷ rest) ++ next ∷ [])
   closed_from_walk zero start at next rest walk ends is goes = let same : start ≡ next = cc in closed_here start at next rest walk ends same goes
   closed_from_walk (suc p) start at next [] walk ends is goes = absurd (let f : None ≡ Some next = is in cc)
   closed_from_walk (suc p) start at next (n ∷ rest) walk ends is goes = closed_from_walk p n at next rest walk.1 ends is goes
+
+  -- a walk so far, closed where it stands before an edge to one of its switches
+  pub closed_at : (pending left : List Bool) (at next : SwitchId) (switches closed : List SwitchId) → IsWalkedSoFar edge pending left at switches → edge at next → IsClosedAt next switches closed
+      → IsClosedWalk edge closed
+  closed_at pending left at next switches closed so_far goes c =
+      let walk : List SwitchId = so_far.start ∷ so_far.rest in
+      let found : slice_get walk c.place ≡ Some next = subst (λ (xs : List SwitchId). slice_get xs c.place ≡ Some next) so_far.is c.at in
+      subst (IsClosedWalk edge) (sym (c.is ∙ ap (λ (xs : List SwitchId). drop c.place xs ++ next ∷ []) so_far.is))
+      (closed_from_walk c.place so_far.start at next so_far.rest so_far.walk so_far.ends found goes)
 
   -- one switch more
   pub walked_more : (pending left : List Bool) (at next : SwitchId) (switches new : List SwitchId) → IsWalkedSoFar edge pending left at switches → edge at next → IsOpen pending next

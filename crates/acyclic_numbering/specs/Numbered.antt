@@ -1,5 +1,5 @@
 -- Numbering switches one by one, each after all that its edges lead to.
-use Rattle.std.specs.Prelude.{◌≡◌, ◌⊎◌, ℕ, zero, suc, ◌+◌, ◌<◌, ◌≤◌, Bool, true, false, List, [], ◌∷◌, length, set, slice_index_or}
+use Rattle.std.specs.Prelude.{◌≡◌, ◌⊎◌, ℕ, zero, suc, ◌+◌, ◌<◌, ◌≤◌, Bool, true, false, List, [], ◌∷◌, ◌++◌, length, set, drop, slice_get, slice_index_or, Some}
 use Rattle.net_base.specs.Members.{IsIn}
 use Rattle.net_base.specs.Walks.{IsWalk, end_of}
 use Rattle.net_base.specs.declared.ids.SwitchId.{SwitchId}
@@ -46,6 +46,12 @@ pub record AreHeightsSoFar (edge : SwitchId → SwitchId → Type 0) (open_marks
   pub count : length numbers ≡ length open_marks
   pub each : (s : SwitchId) → s.0 < length open_marks → ¬ IsOpen open_marks s → IsHeight edge s (number_of numbers s)
   pub low : (s : SwitchId) → s.0 < length open_marks → ¬ IsOpen open_marks s → number_of numbers s + open_count open_marks < length open_marks
+
+-- the switches of a walk from a place of this one on, and then this one again
+pub record IsClosedAt (s : SwitchId) (walk closed : List SwitchId) : Type 0 where
+  pub place : ℕ
+  pub at : slice_get walk place ≡ Some s
+  pub is : closed ≡ drop place walk ++ s ∷ []
 
 -- a closed walk: its first switch stands at its end again
 pub record IsClosedWalk (edge : SwitchId → SwitchId → Type 0) (switches : List SwitchId) : Type 0 where

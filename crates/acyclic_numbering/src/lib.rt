@@ -3,7 +3,7 @@
 
 ghost use Rattle.std.specs.Prelude.{◌≡◌, ◌↔◌, ◌<◌, ◌≤◌, ◌+◌, ◌++◌, ◌∷◌, [], length, IsTrue, All, MatchOption, IfOk, OnOk, OnErr, slice_get, Some};
 ghost use Rattle.acyclic_numbering.specs.Heights.{IsLower, IsEdge, AreHeights, number_of};
-ghost use Rattle.acyclic_numbering.specs.Numbered.{IsOpen, open_count, IsReady, IsNextNumber, IsRaised, IsRaisedAlong, AreReached, AreHeightsSoFar, IsNumbered, IsStuck, IsWalkedSoFar, IsClosedWalk};
+ghost use Rattle.acyclic_numbering.specs.Numbered.{IsOpen, open_count, IsReady, IsNextNumber, IsRaised, IsRaisedAlong, AreReached, AreHeightsSoFar, IsNumbered, IsStuck, IsWalkedSoFar, IsClosedAt, IsClosedWalk};
 ghost use Rattle.net_base.specs.Members.{IsIn};
 ghost use Rattle.net_base.specs.declared.ids.SwitchId.{SwitchId};
 
@@ -182,6 +182,16 @@ fn place_in(walk: &[SwitchId], s: SwitchId) -> usize
     unreachable!()
 }
 
+/// The walk from the place of the switch on, and then the switch once more.
+fn close_at(alloc: Global, walk: &[SwitchId], s: SwitchId) -> Result<Vec<SwitchId>, Memory>
+    requires { IsIn s walk.now }
+    ensures { IfOk result (λ closed. IsClosedAt s walk.now closed.items) }
+{
+    let mut closed = Vec::from_slice(alloc, &walk[place_in(walk, s)..])?;
+    closed.push(s)?;
+    Ok(closed)
+}
+
 /// A closed walk, where each switch without a number has an edge to one without a number.
 fn closed_walk(
     alloc: Global,
@@ -201,9 +211,7 @@ fn closed_walk(
     let mut at = start;
     'walking: while let Some(next) = open_successor(edges, pending, at) {
         if !left[next.0 as usize] {
-            let mut cycle = Vec::from_slice(alloc, &walk[place_in(&walk, next)..])?;
-            cycle.push(next)?;
-            return Ok(cycle);
+            return close_at(alloc, &walk, next);
         }
         left[next.0 as usize] = false;
         walk.push(next)?;
@@ -225,6 +233,23 @@ fn first_open(pending: &[bool]) -> Option<SwitchId>
     None
 }
 
+/// A closed walk from a switch without a number, where each such switch has an edge to one without a number.
+fn cycle_from(
+    alloc: Global,
+    edges: &[Edge],
+    pending: &[bool],
+    start: SwitchId,
+) -> Result<SwitchList, Memory>
+    requires edges { All (λ e. (e.from.0 < length pending.now) × (e.to.0 < length pending.now)) edges.now }
+    requires stuck { IsStuck (IsEdge edges.now) pending.now }
+    requires start { IsOpen pending.now start }
+    ensures { IfOk result (λ walk. IsClosedWalk (IsEdge edges.now) walk) }
+{
+    let mut left = Vec::from_slice(alloc, pending)?;
+    let walk = closed_walk(alloc, edges, pending, &mut left, start)?;
+    Ok(SwitchList::of(walk))
+}
+
 /// The heights, found switch by switch, each after those to which its edges lead; or a closed walk of edges.
 /// It looks at each edge once for each pair of switches at most.
 fn number_each(alloc: Global, switches: u32, edges: &[Edge]) -> Result<Numbered, Memory>
@@ -240,11 +265,7 @@ fn number_each(alloc: Global, switches: u32, edges: &[Edge]) -> Result<Numbered,
     }
     match first_open(&pending) {
         None => Ok(Numbered::Heights(Numbering { numbers })),
-        Some(start) => {
-            let mut left = Vec::from_slice(alloc, &pending)?;
-            let walk = closed_walk(alloc, edges, &pending, &mut left, start)?;
-            Ok(Numbered::Cycle(SwitchList::of(walk)))
-        }
+        Some(start) => Ok(Numbered::Cycle(cycle_from(alloc, edges, &pending, start)?)),
     }
 }
 

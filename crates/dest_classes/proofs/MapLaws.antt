@@ -114,6 +114,12 @@ distinct_place (y ∷ xs) x distinct zero (suc j) e f = absurd (distinct.0 (subs
 distinct_place (y ∷ xs) x distinct (suc i) zero e f = absurd (distinct.0 (subst (λ z. IsIn z xs) (sym (same_Some y x f)) (in_from_get xs i x e)))
 distinct_place (y ∷ xs) x distinct (suc i) (suc j) e f = ap suc (distinct_place xs x distinct.1 i j e f)
 
+-- the number of a pair of a host port and a VLAN is below their count
+pub row_fits : (classes : ClassList) (host vlan : ℕ) (stop : Stop) (user : Vlan) → slice_get classes.hosts host ≡ Some stop → slice_get classes.vlans vlan ≡ Some user
+    → host * length classes.vlans + vlan < length classes.vlans * length classes.hosts
+row_fits classes host vlan stop user host_is vlan_is =
+    mul-add-lt host (length classes.vlans) vlan (length classes.hosts) (slice_get_within classes.hosts host stop host_is) (slice_get_within classes.vlans vlan user vlan_is)
+
 -- the places of a class number are in range
 pub number_fits : (classes : ClassList) (n : ℕ) (c : Class) → IsClass classes n c → n < class_count classes
 number_fits classes n c h =

@@ -219,11 +219,3 @@ so_far_named w chooses entries events after rest made so e next left more offere
     (offered, i, here, subst (λ m. chooses made m i) count chosen, named_is offered i e within is) in
     subst (λ l. SoFar w chooses entries l next left (made + 1)) (sym more_is)
     (so_far_next w chooses entries events after rest made e next left so named next_is left_is)
-
-module _ (w : WorldState) (chooses : ℕ → ℕ → ℕ → Type 0) (entries : List Entry) (events : List Event) (after : WorldState) (rest : List Entry) (made : ℕ)
-    (so : SoFar w chooses entries events after rest made) (net : IsNetwork w.net) (sure : BeginsSafely w) (are : AreEntries w.net entries) (budget : ℕ) (ending : Ending) (ends : EndsAs w entries budget events ending) where
-  pub so_unblocked : ¬ (ending ≡ Blocked)
-  so_unblocked = ends_unblocked w chooses entries net sure are events so.driven budget ending ends
-
-  pub so_finished : full_budget (update_of w) entries ≤ budget → ending ≡ Finished
-  so_finished full = ends_finished w chooses entries net sure are events so.driven budget ending ends full

@@ -3,6 +3,7 @@ ghost use Rattle.std.specs.Prelude.{◌≡◌, ◌≢◌, ◌≤◌, ◌++◌, �
 ghost use Rattle.update_model.specs.States.{IsEnabled};
 ghost use Rattle.update_model.specs.Worlds.{world_after};
 ghost use Rattle.schedule_pilot.specs.Offered.{full_budget};
+ghost use Rattle.schedule_pilot.specs.Agendas.{IsAgenda};
 ghost use Rattle.schedule_pilot.specs.Ends.{AreEntries};
 ghost use Rattle.schedule_pilot.specs.Driving.{IsPilot, update_of, IsRunFrom, EndsAs, BeginsSafely, ending_at};
 
@@ -37,6 +38,40 @@ fn ending_of(over: bool, offered: usize, made: u64, budget: u64) -> Option<Endin
     }
 }
 
+/// Makes events until the run ends, where none was made before. What is under way in the world is on the agenda.
+fn run_on<F: Fn(u64, u64) -> u64>(
+    alloc: Global,
+    world: &mut World,
+    agenda: &mut Agenda,
+    events: &mut Events,
+    pilot: &Pilot<F>,
+    entries: &[Entry],
+    budget: u64,
+) -> Result<Ending, Memory>
+    requires names_one { IsPilot (F.pre pilot.now) (F.post pilot.now) }
+    requires entries { AreEntries world.old.net entries.now }
+    requires agenda { IsAgenda world.old.state agenda.old.pending.items agenda.old.under_way.items }
+    requires none { events.old ≡ [] }
+    ensures run { OnOk result (IsRunFrom world.old (F.post pilot.now) entries.now events.new world.new) }
+    ensures ends { IfOk result (EndsAs world.old entries.now budget events.new) }
+{
+    let mut rest = entries;
+    let mut made = 0;
+    'steps: loop {
+        let offered = offered_of(alloc, world, agenda, rest)?;
+        let over = is_over(world, agenda, rest);
+        if let Some(ending) = ending_of(over, offered.len(), made, budget) {
+            return Ok(ending);
+        }
+        let named = pilot.ask(made, offered.len() as u64);
+        let event = offered[named as usize];
+        agenda.make_event(world, event)?;
+        events.add(event)?;
+        rest = entries_past(event, rest);
+        made += 1;
+    }
+}
+
 /// Drives a world: at step n, from 0, the pilot is asked with n and with how many events are offered, and the event at the
 /// position that it names is made. Offered are, of these and in this order, the events that may happen: the start of the
 /// next round; the settling of the running one; its pending changes, ascending; the next of the entries; a hop of each
@@ -66,23 +101,18 @@ pub fn drive<'a, F: Fn(u64, u64) -> u64>(
     let mut agenda = Agenda::of(alloc, &world)?;
     let mut now = world;
     let mut events = Events::make(alloc)?;
-    let mut rest = entries;
-    let mut made = 0;
-    'steps: loop {
-        let offered = offered_of(alloc, &now, &agenda, rest)?;
-        let over = is_over(&now, &agenda, rest);
-        if let Some(ending) = ending_of(over, offered.len(), made, budget) {
-            return Ok(Driven {
-                events,
-                world: now,
-                ending,
-            });
-        }
-        let named = pilot.ask(made, offered.len() as u64);
-        let event = offered[named as usize];
-        agenda.make_event(&mut now, event)?;
-        events.add(event)?;
-        rest = entries_past(event, rest);
-        made += 1;
-    }
+    let ending = run_on(
+        alloc,
+        &mut now,
+        &mut agenda,
+        &mut events,
+        pilot,
+        entries,
+        budget,
+    )?;
+    Ok(Driven {
+        events,
+        world: now,
+        ending,
+    })
 }

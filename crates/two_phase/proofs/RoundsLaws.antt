@@ -12,14 +12,8 @@ round_added f ranks i within before now after round e g h =
     ∙ ap (λ rs. before ++ rs) (sym (map-append f (take i ranks) (get_or ranks i 0 ∷ [])) ∙ ap (map f) (sym (take_more ranks i 0 within)))
 
 -- all rounds in turn
-pub rounds_joined : (a b : List Change) (exchange : List (List Change)) (f g : ℕ → List Change) (ranks : List ℕ) (lay take_away : List Change) (rising falling : List ℕ) (r0 r1 r2 r3 r4 r5 : List (List Change))
-    → lay ≡ a → take_away ≡ b → rising ≡ ranks → falling ≡ reverse rising
-    → r0 ≡ [] → r1 ≡ r0 ++ lay ∷ [] → r2 ≡ r1 ++ map f falling → r3 ≡ r2 ++ exchange → r4 ≡ r3 ++ map g rising → r5 ≡ r4 ++ take_away ∷ []
-    → r5 ≡ (a ∷ []) ++ map f (reverse ranks) ++ exchange ++ map g ranks ++ (b ∷ [])
-rounds_joined a b exchange f g ranks lay take_away rising falling r0 r1 r2 r3 r4 r5 at_a at_b at_rising at_falling h0 h1 h2 h3 h4 h5 =
-    h5
-    ∙ ap (λ r. r ++ take_away ∷ []) (h4 ∙ ap (λ r. r ++ map g rising) (h3 ∙ ap (λ r. r ++ exchange) (h2 ∙ ap (λ r. r ++ map f falling) (h1 ∙ ap (λ r. r ++ lay ∷ []) h0))))
-    ∙ ap (λ x. (x ∷ []) ++ map f falling ++ exchange ++ map g rising ++ take_away ∷ []) at_a
-    ∙ ap (λ ns. (a ∷ []) ++ map f ns ++ exchange ++ map g rising ++ take_away ∷ []) (at_falling ∙ ap reverse at_rising)
-    ∙ ap (λ ns. (a ∷ []) ++ map f (reverse ranks) ++ exchange ++ map g ns ++ take_away ∷ []) at_rising
-    ∙ ap (λ x. (a ∷ []) ++ map f (reverse ranks) ++ exchange ++ map g ranks ++ x ∷ []) at_b
+pub rounds_joined : (a b : List Change) (exchange : List (List Change)) (f g : ℕ → List Change) (ranks : List ℕ) (r0 r1 r2 r3 : List (List Change))
+    → r0 ≡ [] → r1 ≡ r0 ++ (a ∷ []) ++ map f (reverse ranks) → r2 ≡ r1 ++ exchange → r3 ≡ r2 ++ map g ranks ++ (b ∷ [])
+    → r3 ≡ (a ∷ []) ++ map f (reverse ranks) ++ exchange ++ map g ranks ++ (b ∷ [])
+rounds_joined a b exchange f g ranks r0 r1 r2 r3 h0 h1 h2 h3 =
+    h3 ∙ ap (λ r. r ++ map g ranks ++ (b ∷ [])) (h2 ∙ ap (λ r. r ++ exchange) (h1 ∙ ap (λ r. r ++ (a ∷ []) ++ map f (reverse ranks)) h0))

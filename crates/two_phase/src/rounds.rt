@@ -1,16 +1,17 @@
 //! The rounds of the two-phase plan.
-ghost use Rattle.std.specs.Prelude.{◌≡◌, ◌==◌, ◌<◌, ◌≤◌, ◌^◌, ◌++◌, ◌∷◌, [], List, not, IfOk, OnOk, length, map, reverse, filter};
+ghost use Rattle.std.specs.Prelude.{◌≡◌, ◌<◌, ◌≤◌, ◌^◌, ◌++◌, ◌∷◌, [], List, not, IfOk, OnOk, length, map, reverse, filter};
 ghost use Rattle.net_base.specs.declared.ids.SwitchId.{SwitchId};
 ghost use Rattle.topology.specs.Networks.{switch_count};
-ghost use Rattle.flow_rules.specs.Tables.{rules_of_all};
+ghost use Rattle.flow_rules.specs.Tables.{rules_of_all, rules_at};
 ghost use Rattle.flow_rules.specs.declared.rules.Rule.{Rule};
 ghost use Rattle.path_walk.specs.UserConfigs.{IsUserConfig};
 ghost use Rattle.update_model.specs.Mixtures.{is_insert};
 ghost use Rattle.update_model.specs.Remaining.{remaining};
+ghost use Rattle.update_model.specs.declared.Change.TheVariants.{Insert, Delete};
 ghost use Rattle.tag_allocator.specs.Tags.{tags_of, available_tags};
 ghost use Rattle.two_phase.specs.Laws.{FitsTwoPhase};
-ghost use Rattle.two_phase.specs.SwitchRules.{AreOrdered, change_by};
-ghost use Rattle.two_phase.specs.TwoPhasePlan.{by_switch, two_phase_rounds, ranks};
+ghost use Rattle.two_phase.specs.SwitchRules.{AreOrdered, change_by, by_rank};
+ghost use Rattle.two_phase.specs.TwoPhasePlan.{by_switch, ingress_rules, tagged_rules, two_phase_rounds, ranks};
 
 use crate::ranks::{all_ingress, all_tagged, ranks_of};
 use crate::switch_rules::{Step, SwitchRules};
@@ -41,7 +42,7 @@ fn add_rank_rounds(
 ) -> Result<(), Memory>
     requires { length ingress.now ≡ switch_count net.now }
     ensures { (rules : SwitchId → List Rule) → AreOrdered net.now rules ingress.now
-        → OnOk result (rounds.new ≡ rounds.old ++ map (λ rank. by_switch net.now (change_by step) (λ s. filter (λ r. r.key.priority == rank) (rules s))) ranks.now) }
+        → OnOk result (rounds.new ≡ rounds.old ++ map (by_rank net.now (change_by step) rules) ranks.now) }
 {
     for rank in ranks {
         rounds.push_round(ingress.round_of(alloc, net, step, *rank)?)?;
@@ -59,6 +60,31 @@ fn is_insert(change: &Change) -> bool
     }
 }
 
+/// The changes that insert a rule.
+fn inserts(alloc: Global, changes: &[Change]) -> Result<Vec<Change>, Memory>
+    ensures { IfOk result (λ v. v.items ≡ filter is_insert changes.now) }
+{
+    let inserts = changes.iter().copied().filter(|change| is_insert(change));
+    Ok(inserts.collect(alloc)?)
+}
+
+/// The changes that delete or replace a rule.
+fn others(alloc: Global, changes: &[Change]) -> Result<Vec<Change>, Memory>
+    ensures { IfOk result (λ v. v.items ≡ filter (λ c. not (is_insert c)) changes.now) }
+{
+    let others = changes.iter().copied().filter(|change| !is_insert(change));
+    Ok(others.collect(alloc)?)
+}
+
+/// Adds a round of what deletes and replaces rules, and then one of what inserts them.
+fn add_halves(alloc: Global, rounds: &mut Rounds, changes: &[Change]) -> Result<(), Memory>
+    ensures { OnOk result (rounds.new ≡ rounds.old ++ filter (λ c. not (is_insert c)) changes.now ∷ filter is_insert changes.now ∷ []) }
+{
+    rounds.push_round(others(alloc, changes)?)?;
+    rounds.push_round(inserts(alloc, changes)?)?;
+    Ok(())
+}
+
 /// Adds the two rounds of the exchange: first what deletes and replaces old rules, and then what inserts new ones.
 fn add_exchange(
     alloc: Global,
@@ -71,11 +97,84 @@ fn add_exchange(
         ++ filter (λ c. not (is_insert c)) (remaining (rules_of_all old.now) (rules_of_all new.now)) ∷ filter is_insert (remaining (rules_of_all old.now) (rules_of_all new.now)) ∷ []) }
 {
     let changes = remaining(alloc, old, new)?;
-    let first = changes.iter().copied().filter(|change| !is_insert(change));
-    rounds.push_round(first.collect(alloc)?)?;
-    let second = changes.iter().copied().filter(|change| is_insert(change));
-    rounds.push_round(second.collect(alloc)?)?;
+    add_halves(alloc, rounds, &changes)
+}
+
+/// Adds the round of all rules.
+fn add_round(
+    alloc: Global,
+    rounds: &mut Rounds,
+    net: &Net,
+    step: Step,
+    lists: &SwitchRules,
+) -> Result<(), Memory>
+    requires { length lists.now ≡ switch_count net.now }
+    ensures { (rules : SwitchId → List Rule) → AreOrdered net.now rules lists.now → OnOk result (rounds.new ≡ rounds.old ++ (by_switch net.now (change_by step) rules ∷ [])) }
+{
+    rounds.push_round(lists.round(alloc, net, step)?)?;
     Ok(())
+}
+
+/// Adds the rounds that lay the tagged rules, and then the ingress rules by descending rank.
+fn add_laying(
+    alloc: Global,
+    rounds: &mut Rounds,
+    net: &Net,
+    tagged: &SwitchRules,
+    ingress: &SwitchRules,
+    ranks: &[u16],
+) -> Result<(), Memory>
+    requires tagged { length tagged.now ≡ switch_count net.now }
+    requires ingress { length ingress.now ≡ switch_count net.now }
+    ensures { (first rest : SwitchId → List Rule) → AreOrdered net.now first tagged.now → AreOrdered net.now rest ingress.now
+        → OnOk result (rounds.new ≡ rounds.old ++ (by_switch net.now Insert first ∷ []) ++ map (by_rank net.now Insert rest) (reverse ranks.now)) }
+{
+    let falling = reversed(alloc, ranks)?;
+    add_round(alloc, rounds, net, Step::Lay, tagged)?;
+    add_rank_rounds(alloc, rounds, net, Step::Lay, ingress, &falling)
+}
+
+/// Adds the rounds that take the ingress rules away by ascending rank, and then the tagged rules.
+fn add_taking(
+    alloc: Global,
+    rounds: &mut Rounds,
+    net: &Net,
+    tagged: &SwitchRules,
+    ingress: &SwitchRules,
+    ranks: &[u16],
+) -> Result<(), Memory>
+    requires tagged { length tagged.now ≡ switch_count net.now }
+    requires ingress { length ingress.now ≡ switch_count net.now }
+    ensures { (first rest : SwitchId → List Rule) → AreOrdered net.now first tagged.now → AreOrdered net.now rest ingress.now
+        → OnOk result (rounds.new ≡ rounds.old ++ map (by_rank net.now Delete rest) ranks.now ++ (by_switch net.now Delete first ∷ [])) }
+{
+    add_rank_rounds(alloc, rounds, net, Step::Take, ingress, ranks)?;
+    add_round(alloc, rounds, net, Step::Take, tagged)
+}
+
+/// The rounds of the plan, from its rules in key order and its ranks.
+fn rounds_of(
+    alloc: Global,
+    net: &Net,
+    old: &Config,
+    new: &Config,
+    tagged: &SwitchRules,
+    ingress: &SwitchRules,
+    rising: &[u16],
+) -> Result<Rounds, Memory>
+    requires few { length old.now < 2 ^ 32 }
+    requires tagged_count { length tagged.now ≡ switch_count net.now }
+    requires ingress_count { length ingress.now ≡ switch_count net.now }
+    requires tagged { AreOrdered net.now (λ s. tagged_rules net.now s (rules_at (rules_of_all new.now) s)) tagged.now }
+    requires ingress { AreOrdered net.now (λ s. ingress_rules net.now s (rules_at (rules_of_all new.now) s)) ingress.now }
+    requires ranks { rising.now ≡ ranks net.now (rules_of_all new.now) }
+    ensures { IfOk result (λ r. r ≡ two_phase_rounds net.now (rules_of_all old.now) (rules_of_all new.now)) }
+{
+    let mut rounds = Rounds::make(alloc)?;
+    add_laying(alloc, &mut rounds, net, tagged, ingress, rising)?;
+    add_exchange(alloc, &mut rounds, old, new)?;
+    add_taking(alloc, &mut rounds, net, tagged, ingress, rising)?;
+    Ok(rounds)
 }
 
 /// The rounds of the plan, and the number of its ranks.
@@ -98,12 +197,6 @@ pub(crate) fn make_rounds(
     let tagged = all_tagged(alloc, net, &pairs, new)?;
     let ingress = all_ingress(alloc, net, &pairs, new)?;
     let rising = ranks_of(&ingress)?;
-    let falling = reversed(alloc, &rising)?;
-    let mut rounds = Rounds::make(alloc)?;
-    rounds.push_round(tagged.round(alloc, net, Step::Lay)?)?;
-    add_rank_rounds(alloc, &mut rounds, net, Step::Lay, &ingress, &falling)?;
-    add_exchange(alloc, &mut rounds, old, new)?;
-    add_rank_rounds(alloc, &mut rounds, net, Step::Take, &ingress, &rising)?;
-    rounds.push_round(tagged.round(alloc, net, Step::Take)?)?;
+    let rounds = rounds_of(alloc, net, old, new, &tagged, &ingress, &rising)?;
     Ok((rounds, rising.len()))
 }

@@ -1,13 +1,11 @@
-use Rattle.std.proofs.Common.{◌≡◌, ◌<◌, false, List, [], ◌∷◌, ◌++◌, set, drop, refl, sym, ◌∙◌, subst, ap, arith}
-use Rattle.std.specs.Prelude.{slice_get, Some}
-use Rattle.std.proofs.lemmas.List.{take_rest}
-use Rattle.net_base.specs.declared.ids.SwitchId.{SwitchId}
+use Rattle.std.proofs.Common.{◌≡◌, ◌<◌, false, set, refl, subst, arith}
+use Rattle.std.proofs.lemmas.Result.{IfOk-weaker}
 use Rattle.acyclic_numbering.specs.Heights.{IsEdge}
-use Rattle.acyclic_numbering.specs.Numbered.{IsOpen, open_count, IsClosedWalk}
+use Rattle.acyclic_numbering.specs.Numbered.{IsOpen, open_count, IsClosedAt, IsClosedWalk}
 use Rattle.acyclic_numbering.specs.declared.Edge.{Edge}
 use Rattle.acyclic_numbering.proofs.ListLaws.{all_members}
 use Rattle.acyclic_numbering.proofs.HeightLaws.{count_set}
-use Rattle.acyclic_numbering.proofs.CycleLaws.{closed_from_walk, walked_more}
+use Rattle.acyclic_numbering.proofs.CycleLaws.{closed_at, walked_more}
 use Rattle.acyclic_numbering.proofs.closed_walk.Goals as goal
 
 pub walking-smaller : goal.walking-smaller
@@ -18,7 +16,7 @@ walking-smaller c =
 pub walking-preserved : goal.walking-preserved
 walking-preserved c =
     walked_more (IsEdge c.args.edges.now) c.args.pending.now c.walking.left c.walking.at c.in-Some.next c.walking.walk.items c.push-in-Some.new.self.items
-    c.walking.invariant c.in-Some.ensures.0 c.in-Some.ensures.1 c.in_ok-push-3.ensures.items
+    c.walking.invariant c.in-Some.ensures.0 c.in-Some.ensures.1 c.in_ok-push-2.ensures.items
 
 pub unreachable-requires : goal.unreachable-requires
 unreachable-requires c =
@@ -27,13 +25,6 @@ unreachable-requires c =
 
 pub returns-then-not-left-next : goal.returns-then-not-left-next
 returns-then-not-left-next c =
-    let inv = c.walking.invariant in
-    let next = c.in-Some.next in
-    let p = c.place_in.result in
-    let walk = inv.start ∷ inv.rest in
-    let found : slice_get walk p ≡ Some next =
-    subst (λ (xs : List SwitchId). slice_get xs p ≡ Some next) (c.deref-then-not-left-next.ensures.value ∙ inv.is) c.place_in.ensures in
-    let from : c.in_ok-cycle.cycle.items ≡ drop p walk =
-    c.in_ok-cycle.ensures.items ∙ take_rest c.deref.result.now p ∙ ap (λ (xs : List SwitchId). drop p xs) (c.deref.ensures.value ∙ inv.is) in
-    subst (λ (xs : List SwitchId). IsClosedWalk (IsEdge c.args.edges.now) xs) (sym (c.in_ok-push-2.ensures.items ∙ ap (λ (xs : List SwitchId). xs ++ next ∷ []) from))
-    (closed_from_walk (IsEdge c.args.edges.now) p inv.start c.walking.at next inv.rest inv.walk inv.ends found c.in-Some.ensures.0)
+    IfOk-weaker c.close_at.result (λ v. IsClosedAt c.in-Some.next c.deref.result.now v.items) (λ v. IsClosedWalk (IsEdge c.args.edges.now) v.items)
+    (λ v is. closed_at (IsEdge c.args.edges.now) c.args.pending.now c.walking.left c.walking.at c.in-Some.next c.walking.walk.items v.items c.walking.invariant c.in-Some.ensures.0
+    (subst (λ xs. IsClosedAt c.in-Some.next xs v.items) c.deref.ensures.value is)) c.close_at.ensures

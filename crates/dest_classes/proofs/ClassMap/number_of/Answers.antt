@@ -8,10 +8,10 @@ use Rattle.net_base.specs.declared.ids.Vlan.{Vlan}
 use Rattle.dest_classes.specs.Atoms.{IsAtomOf}
 use Rattle.dest_classes.specs.Classes.{ClassList, class_count, atom_count, boundaries}
 use Rattle.dest_classes.specs.Numbered.{IsClassOf}
-use Rattle.dest_classes.proofs.MapLaws.{class_of_places, one_number, right_class, none_in, number_fits, distinct_hosts}
+use Rattle.dest_classes.proofs.MapLaws.{class_of_places, one_number, right_class, none_in, number_fits, row_fits, pairs_fit, distinct_hosts}
 use Rattle.net_base.proofs.ItemLaws.{in_from_get}
 use Rattle.dest_classes.proofs.ClassMap.number_of.Goals as goal
-use Rattle.dest_classes.proofs.ClassMap.number_of.Goals.{After-count}
+use Rattle.dest_classes.proofs.ClassMap.number_of.Goals.{After-count, After-len}
 
 pub returns-in_err-host-clause-none : goal.returns-in_err-host-clause-none
 returns-in_err-host-clause-none c = (
@@ -58,6 +58,32 @@ few c =
     let seen : ClassList = record { hosts = c.self.inside.hosts.items; vlans = c.self.inside.vlans.items; prefixes = c.self.inside.prefixes.items } in
     let same : seen ≡ c.args.self.now = c.self.view_is in
     subst (λ (m : ClassList). class_count m ≤ 8192) same (subst (λ xs. length seen.hosts * length seen.vlans * length xs ≤ 8192) c.self.invariant.0 c.self.invariant.1)
+
+-- the number of the pair of a host port and a VLAN
+row_below : (c : After-len) → c.in_ok-host.host * c.len.result + c.in_ok-vlan.vlan ≤ 8192
+row_below c =
+    let seen : ClassList = record { hosts = c.self.inside.hosts.items; vlans = c.self.inside.vlans.items; prefixes = c.self.inside.prefixes.items } in
+    let host = c.in_ok-host.host in
+    let vlan = c.in_ok-vlan.vlan in
+    let vlans : length seen.vlans ≡ c.len.result = sym (c.len.ensures ∙ c.self.inside.vlans.ok.0) in
+    let host_is : slice_get seen.hosts host ≡ Some (stop_of c.args.entry) = subst (λ (xs : List Stop). slice_get xs host ≡ Some (stop_of c.args.entry)) c.deref.ensures.value c.in_ok-host.ensures.some in
+    let vlan_is : slice_get seen.vlans vlan ≡ Some c.args.entry.vlan = subst (λ (xs : List Vlan). slice_get xs vlan ≡ Some c.args.entry.vlan) c.deref-2.ensures.value c.in_ok-vlan.ensures.some in
+    let few : class_count seen ≤ 8192 = subst (λ xs. length seen.hosts * length seen.vlans * length xs ≤ 8192) c.self.invariant.0 c.self.invariant.1 in
+    let row = row_fits seen host vlan (stop_of c.args.entry) c.args.entry.vlan host_is vlan_is in
+    let pairs = pairs_fit seen 8192 few in
+    subst (λ v. host * v + vlan ≤ 8192) vlans (omega arith)
+
+pub overflow_mul-result : goal.overflow_mul-result
+overflow_mul-result c = let h = row_below c in omega arith
+
+pub overflow_add-result : goal.overflow_add-result
+overflow_add-result c = let h = row_below c in omega arith
+
+pub overflow_mul-result-2 : goal.overflow_mul-result-2
+overflow_mul-result-2 c = let h = is_below c in let k = few c in omega arith
+
+pub overflow_add-result-2 : goal.overflow_add-result-2
+overflow_add-result-2 c = let h = is_below c in let k = few c in omega arith
 
 pub overflow_cast-result : goal.overflow_cast-result
 overflow_cast-result c = let h = is_below c in let k = few c in omega arith

@@ -1,48 +1,15 @@
-use Rattle.std.proofs.Common.{List, ◌≡◌, ◌≢◌, length, arith, sym, ◌∙◌, ap, subst}
+use Rattle.std.proofs.Common.{subst}
 use Rattle.topology.specs.Networks.{IsNetwork}
-use Rattle.schedule_pilot.specs.Driving.{update_of, ending_at}
-use Rattle.update_model.specs.Worlds.{WorldState}
-use Rattle.schedule_pilot.specs.Ends.{AreEntries}
-use Rattle.schedule_pilot.specs.declared.Entry.{Entry}
-use Rattle.schedule_pilot.proofs.DriveLaws.{run_from, ends_as, so_unblocked, so_finished, named_enabled, so_far_named, entries_kept}
+use Rattle.schedule_pilot.proofs.DriveLaws.{ends_unblocked, ends_finished}
+use Rattle.schedule_pilot.proofs.driving.drive.Given.{F-post}
 use Rattle.schedule_pilot.proofs.driving.drive.Goals as goal
 
-pub returns-in-Some-clause-run : goal.returns-in-Some-clause-run
-returns-in-Some-clause-run g c = run_from c.args.world _ c.args.entries.now c.steps.events c.steps.now c.steps.rest.now c.steps.made c.steps.invariant.0
+pub returns-clause-unblocked : goal.returns-clause-unblocked
+returns-clause-unblocked g c = λ sure.
+    ends_unblocked c.args.world (F-post g c.args.pilot.now) c.args.entries.now (subst IsNetwork c.net.ensures c.keeps_rules.ensures) sure c.requires.entries c.run_on.new.events c.in_ok-ending.ensures.run.driven c.args.budget c.in_ok-ending.ending
+    c.in_ok-ending.ensures.ends
 
-pub returns-in-Some-clause-ends : goal.returns-in-Some-clause-ends
-returns-in-Some-clause-ends g c =
-    let count : c.len.result ≡ length c.in_ok-offered.offered.items = omega arith in
-    ends_as c.args.world _ c.args.entries.now c.steps.events c.steps.now c.steps.rest.now c.steps.made c.steps.invariant.0 c.args.budget c.in_ok-offered.offered.items c.is_over-over.result
-    c.in-Some.ending c.is_over-over.ensures c.in_ok-offered.ensures c.steps.invariant.3
-    (ap (λ n. ending_at c.is_over-over.result n c.steps.made c.args.budget) (sym count) ∙ sym c.in-Some.ensures.is)
-
-pub returns-in-Some-clause-unblocked : goal.returns-in-Some-clause-unblocked
-returns-in-Some-clause-unblocked g c = λ sure.
-    so_unblocked c.args.world _ c.args.entries.now c.steps.events c.steps.now c.steps.rest.now c.steps.made c.steps.invariant.0 (subst IsNetwork c.net.ensures c.keeps_rules.ensures) sure c.requires.entries c.args.budget c.in-Some.ending
-    (returns-in-Some-clause-ends g c)
-
-pub returns-in-Some-clause-finished : goal.returns-in-Some-clause-finished
-returns-in-Some-clause-finished g c = λ sure full.
-    so_finished c.args.world _ c.args.entries.now c.steps.events c.steps.now c.steps.rest.now c.steps.made c.steps.invariant.0 (subst IsNetwork c.net.ensures c.keeps_rules.ensures) sure c.requires.entries c.args.budget c.in-Some.ending
-    (returns-in-Some-clause-ends g c) full
-
-pub make_event-requires-clause-may : goal.make_event-requires-clause-may
-make_event-requires-clause-may g c =
-    let count : c.len-in-steps.result ≡ length c.in_ok-offered.offered.items = omega arith in
-    named_enabled (update_of c.steps.now) c.steps.now.state c.steps.rest.now c.in_ok-offered.offered.items c.ask-named.result c.len-in-steps.result c.index-event.result.now
-    c.in_ok-offered.ensures count c.ask-named.ensures.below c.index-event.ensures
-
-pub steps-preserved : goal.steps-preserved
-steps-preserved g c =
-    let count : c.len-in-steps.result ≡ length c.in_ok-offered.offered.items = omega arith in
-    let on : c.steps.made ≢ c.args.budget = c.in_default.ensures.goes_on.1 in (
-      so_far_named c.args.world _ c.args.entries.now c.steps.events c.steps.now c.steps.rest.now c.steps.made c.steps.invariant.0 c.index-event.result.now c.make_event.new.world
-          c.entries_past-rest.result.now c.add.new.self c.in_ok-offered.offered.items c.ask-named.result c.len-in-steps.result
-          c.in_ok-offered.ensures count c.ask-named.ensures.named c.ask-named.ensures.below c.index-event.ensures
-          c.in_ok-make_event.ensures.world c.entries_past-rest.ensures c.in_ok-add.ensures.ok,
-      c.in_ok-make_event.ensures.kept,
-      subst (λ (l : List Entry). AreEntries c.make_event.new.world.net l) (sym c.entries_past-rest.ensures) (entries_kept c.make_event.new.world.net c.index-event.result.now c.steps.rest.now
-          (subst (λ (x : WorldState). AreEntries x.net c.steps.rest.now) (sym c.in_ok-make_event.ensures.world) c.steps.invariant.2)),
-      (let within = c.steps.invariant.3 in omega (arith, on)),
-    )
+pub returns-clause-finished : goal.returns-clause-finished
+returns-clause-finished g c = λ sure.
+    ends_finished c.args.world (F-post g c.args.pilot.now) c.args.entries.now (subst IsNetwork c.net.ensures c.keeps_rules.ensures) sure c.requires.entries c.run_on.new.events c.in_ok-ending.ensures.run.driven c.args.budget c.in_ok-ending.ending
+    c.in_ok-ending.ensures.ends

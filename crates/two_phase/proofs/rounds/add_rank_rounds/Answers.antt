@@ -1,11 +1,9 @@
 use Rattle.std.proofs.Common.{arith}
-use Rattle.std.specs.Prelude.{◌==◌, filter}
-use Rattle.two_phase.specs.TwoPhasePlan.{by_switch}
-use Rattle.two_phase.specs.SwitchRules.{change_by}
+use Rattle.two_phase.specs.SwitchRules.{change_by, by_rank}
 use Rattle.two_phase.proofs.RoundsLaws.{round_added}
 use Rattle.two_phase.proofs.rounds.add_rank_rounds.Goals as goal
 
 pub loop-rank-preserved : goal.loop-rank-preserved
 loop-rank-preserved c = λ rules o.
-    round_added (λ rank. by_switch c.args.net.now (change_by c.args.step) (λ s. filter (λ r. r.key.priority == rank) (rules s))) c.args.ranks.now c.loop-rank.rank-index (omega arith)
+    round_added (by_rank c.args.net.now (change_by c.args.step) rules) c.args.ranks.now c.loop-rank.rank-index (omega arith)
     c.args.rounds.now c.loop-rank.rounds c.push_round.new.self c.in_ok-round_of.field-0.items (c.loop-rank.invariant rules o) (c.in_ok-round_of.ensures rules o) c.in_ok-push_round.ensures.ok
