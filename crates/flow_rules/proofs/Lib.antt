@@ -9,3 +9,5 @@ pub mod TableLaws
 pub mod TupleLaws
 pub mod SearchLaws
 pub mod DeleteLaws
+pub mod DistinctLaws
+pub mod ReplaceLaws

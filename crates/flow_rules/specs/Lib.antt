@@ -2,6 +2,7 @@ pub mod Patterns
 pub mod Order
 pub mod Tuples
 pub mod Tables
+pub mod Replaced
 pub mod Scan
 pub mod Overlaps
 pub mod Frees

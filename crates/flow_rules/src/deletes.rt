@@ -8,7 +8,7 @@ use crate::order::key_order;
 use crate::rules::{Key, Rule};
 
 /// Sorts rules by their keys, in place.
-fn sort_by_key(rules: &mut [Rule])
+pub(crate) fn sort_by_key(rules: &mut [Rule])
     ensures permutation { IsPermutation rules.old rules.new }
     ensures order { AreByKey rules.new }
 {

@@ -6,6 +6,7 @@ mod deletes;
 pub mod laws;
 mod order;
 mod overlaps;
+mod replaces;
 mod rules;
 mod searches;
 mod tables;

@@ -4,11 +4,13 @@ ghost use Rattle.std.specs.List.{list_any};
 ghost use Rattle.net_base.specs.Members.{IsIn};
 ghost use Rattle.flow_rules.specs.Overlaps.{IsLeastClash};
 ghost use Rattle.flow_rules.specs.Patterns.{key_eq};
+ghost use Rattle.flow_rules.specs.Replaced.{replaced_in_turn};
 ghost use Rattle.flow_rules.specs.Same.{rule_eq};
 ghost use Rattle.flow_rules.specs.Tables.{lookup, matched, action_of, IsTable, IsClear, keys_of};
 
 use crate::deletes::delete_keys;
 use crate::overlaps::least_clash;
+use crate::replaces::replace_keys;
 use crate::rules::{Action, Key, Rule};
 use crate::searches::{Packet, best_in_space, best_of, space_of};
 use crate::tuple_space::TupleSpace;
@@ -194,6 +196,17 @@ impl Table {
     {
         self.space = None;
         replace_in(&mut self.entries, rule);
+    }
+
+    /// Puts each of the others, of which no two have one key, in the place of the rule with its key, and sorts them. All rules
+    /// keep their places. It takes time n log n.
+    pub fn replace_all(&mut self, others: &mut [Rule])
+        requires distinct { IsTable others.old }
+        ensures rules { self.new.rules ≡ replaced_in_turn others.old self.old.rules }
+        ensures spare { self.new.spare ≡ self.old.spare }
+    {
+        self.space = None;
+        replace_keys(&mut self.entries, others);
     }
 
     /// Gives the rule with a key another action. All rules keep their places.

@@ -11,6 +11,7 @@ use Rattle.flow_rules.specs.Overlaps.{IsClash}
 use Rattle.flow_rules.specs.Tables.{keys_of, IsTable}
 use Rattle.flow_rules.specs.declared.rules.Key.{Key}
 use Rattle.flow_rules.specs.declared.rules.Rule.{Rule}
+use Rattle.flow_rules.proofs.DistinctLaws.{keys_moved}
 use Rattle.flow_rules.proofs.KeyLaws.{key_eq-true}
 use Rattle.flow_rules.proofs.TableLaws.{rule_eq-true}
 use Rattle.update_model.specs.Changes.{AppliesTo}
@@ -23,7 +24,6 @@ use Rattle.round_mix.specs.Named.{IsNamed, AreMarked}
 use Rattle.round_mix.specs.Prepared.{AreGood, IsFalling, IsPrepared}
 use Rattle.round_mix.specs.declared.Mark.TheVariants.{Sure}
 use Rattle.round_mix.specs.declared.MarkedRule.{MarkedRule}
-use Rattle.round_mix.proofs.ApartLaws.{keys_moved}
 use Rattle.round_mix.proofs.ClearLaws.{one_by, clear_from_free, rules_of-marked}
 use Rattle.round_mix.proofs.MarkLaws.{in_permutation, IsInsertOf, in_inserted, in_from_inserted, insert_writes}
 

@@ -16,6 +16,7 @@ use Rattle.flow_rules.specs.Overlaps.{IsClash, keys_clash, patterns_meet}
 use Rattle.flow_rules.specs.Tables.{keys_of, IsTable, IsClear}
 use Rattle.flow_rules.specs.declared.rules.Key.{Key}
 use Rattle.flow_rules.specs.declared.rules.Rule.{Rule}
+use Rattle.flow_rules.proofs.DistinctLaws.{keys_moved, flips}
 use Rattle.flow_rules.proofs.OverlapLaws.{meet_in, meet_out}
 use Rattle.flow_rules.proofs.KeyLaws.{key_eq-true, key_eq-refl, key_ne}
 use Rattle.update_model.specs.Changes.{AppliesTo, rules_after_change, rules_after}
@@ -33,7 +34,6 @@ use Rattle.round_mix.specs.Nearest.{patterns_in, is_delete}
 use Rattle.round_mix.specs.declared.Mark.{Mark}
 use Rattle.round_mix.specs.declared.Mark.TheVariants.{Sure, Possible, Replaced}
 use Rattle.round_mix.specs.declared.MarkedRule.{MarkedRule}
-use Rattle.round_mix.proofs.ApartLaws.{keys_moved, flips}
 use Rattle.round_mix.proofs.ClearLaws.{clear_from_free, rules_of-marked, keys_apart}
 use Rattle.round_mix.proofs.MarkLaws.{in_permutation, marked_from, all_mixed}
 

@@ -6,5 +6,5 @@ pub mod ApplyLaws
 pub mod PassLaws
 pub mod AloneLaws
 pub mod TrialLaws
-pub mod GoneLaws
+pub mod ByKindLaws
 pub mod MeetLaws

@@ -3,5 +3,5 @@ pub mod Loading
 pub mod Ends
 pub mod Trials
 pub mod Steps
-pub mod Deleted
+pub mod ByKind
 pub mod Meeting

@@ -2,11 +2,12 @@
 ghost use Rattle.std.specs.Prelude.{◌≡◌, ◌≢◌, ◌<◌, ◌≤◌, ◌^◌, [], ◌∷◌, true, false, length, vec_capacity};
 ghost use Rattle.net_base.specs.declared.ids.SwitchId.{SwitchId as Switch};
 ghost use Rattle.update_model.specs.Changes.{changes_at, rules_after, rules_after_change, switch_of};
+ghost use Rattle.update_model.specs.Mixtures.{is_insert};
 ghost use Rattle.round_mix.specs.Prepared.{AreGood};
 ghost use Rattle.round_tables.specs.Present.{IsMixed, is_touched, mix_at, room_of, rules_there, table_at};
 ghost use Rattle.round_tables.specs.Loading.{AreWithin, insert_count};
 ghost use Rattle.round_tables.specs.Meeting.{AreMet};
-ghost use Rattle.round_tables.specs.Deleted.{is_delete, deleted, others};
+ghost use Rattle.round_tables.specs.ByKind.{is_delete, is_replace, deleted, replacing, inserts};
 
 use crate::changed::keep_at;
 use crate::loading::{collect, keeps_keys};
@@ -23,6 +24,20 @@ fn is_delete(change: &Change) -> bool
     matches!(change, Change::Delete(_, _))
 }
 
+/// Whether a change replaces.
+fn is_replace(change: &Change) -> bool
+    ensures { result ≡ is_replace change.now }
+{
+    matches!(change, Change::Replace(_, _))
+}
+
+/// Whether a change inserts.
+fn is_insert(change: &Change) -> bool
+    ensures { result ≡ is_insert change.now }
+{
+    matches!(change, Change::Insert(_, _))
+}
+
 /// Replaces the list by the rules that changes delete.
 fn collect_deleted(changes: &[Change], rules: &mut Vec<Rule>)
     requires { length changes.now ≤ vec_capacity rules.old }
@@ -37,21 +52,36 @@ fn collect_deleted(changes: &[Change], rules: &mut Vec<Rule>)
     }
 }
 
-/// Makes the changes of a table that don't delete.
-fn change_others(table: &mut Table, changes: &[Change])
-    requires good { AreGood table.old.rules (others changes.now) }
-    requires fits { insert_count (others changes.now) ≤ table.old.spare }
-    ensures rules { table.new.rules ≡ rules_after (others changes.now) table.old.rules }
+/// Replaces the list by the rules that changes put in the place of others.
+fn collect_replacing(changes: &[Change], rules: &mut Vec<Rule>)
+    requires { length changes.now ≤ vec_capacity rules.old }
+    ensures items { rules.new.items ≡ replacing changes.now }
+    ensures room { vec_capacity rules.old ≤ vec_capacity rules.new }
+{
+    rules.clear();
+    for change in changes {
+        if is_replace(change) {
+            rules.push_reserved(change.rule());
+        }
+    }
+}
+
+/// Makes the inserts among the changes of a table.
+fn insert_rules(table: &mut Table, changes: &[Change])
+    requires good { AreGood table.old.rules (inserts changes.now) }
+    requires fits { insert_count (inserts changes.now) ≤ table.old.spare }
+    ensures rules { table.new.rules ≡ rules_after (inserts changes.now) table.old.rules }
     ensures room { room_of table.new ≡ room_of table.old }
 {
     for change in changes {
-        if !is_delete(change) {
+        if is_insert(change) {
             change_table(table, change);
         }
     }
 }
 
-/// Makes good changes of a table: first its deletes, in one pass over the table, and then the others in turn.
+/// Makes good changes of a table: first its deletes and then its replaces, each in one pass over the table, and then its
+/// inserts.
 fn change_rules(table: &mut Table, changes: &[Change], rules: &mut Vec<Rule>)
     requires good { AreGood table.old.rules changes.now }
     requires fits { insert_count changes.now ≤ table.old.spare }
@@ -62,7 +92,9 @@ fn change_rules(table: &mut Table, changes: &[Change], rules: &mut Vec<Rule>)
 {
     collect_deleted(changes, rules);
     table.delete_all(rules);
-    change_others(table, changes);
+    collect_replacing(changes, rules);
+    table.replace_all(rules);
+    insert_rules(table, changes);
 }
 
 /// Makes the changes of a round at one switch.

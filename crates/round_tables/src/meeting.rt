@@ -1,5 +1,5 @@
 //! The changes of a round that are the only ones at their switches: the switch is prepared for one without sorting.
-ghost use Rattle.std.specs.Prelude.{◌≡◌, ◌≢◌, ◌+◌, ◌<◌, ◌≤◌, [], ◌∷◌, true, false, length};
+ghost use Rattle.std.specs.Prelude.{◌≡◌, ◌≢◌, ◌↔◌, ◌+◌, ◌<◌, ◌≤◌, [], ◌∷◌, true, false, length, IsTrue};
 ghost use Rattle.net_base.specs.declared.ids.SwitchId.{SwitchId as Switch};
 ghost use Rattle.topology.specs.Networks.{switch_count};
 ghost use Rattle.update_model.specs.Changes.{changes_at, switch_of};
@@ -14,17 +14,20 @@ use net_base::SwitchId;
 use round_mix::Mixed;
 use update_model::Change;
 
-/// How many changes a round has at a switch.
-fn count_at(round: &[Change], switch: SwitchId) -> usize
-    ensures { result ≡ length (changes_at switch round.now) }
+/// Whether a round has one change at a switch. It looks no further than at a second one.
+fn has_one_at(round: &[Change], switch: SwitchId) -> bool
+    ensures { IsTrue result ↔ (length (changes_at switch round.now) ≡ 1) }
 {
-    let mut count = 0;
+    let mut is_seen = false;
     for change in round {
         if change.switch().0 == switch.0 {
-            count += 1;
+            if is_seen {
+                return false;
+            }
+            is_seen = true;
         }
     }
-    count
+    is_seen
 }
 
 /// Prepares the switch of a change, which is prepared for its table alone, for the change, if this applies and each mixture
@@ -73,7 +76,7 @@ fn meet(
         return;
     }
     touched[i] = true;
-    if count_at(round, switch) == 1 && begin_good(mixes, tables.table(switch), change) {
+    if has_one_at(round, switch) && begin_good(mixes, tables.table(switch), change) {
         touched[i] = false;
     }
 }

@@ -176,12 +176,12 @@ impl Present {
         ensures { IfOk result (HasRoom net.now rounds.now) }
     {
         let counts = counts_of(alloc, net.switches(), rounds)?;
-        let tables = roomy_tables(alloc, net)?;
-        let mixes = roomy_mixes(alloc, net, &counts)?;
-        let touched = vec![in alloc; true; counts.len()]?;
         let room = longest(rounds);
         let changes = Vec::with_capacity(alloc, room)?;
         let rules = Vec::with_capacity(alloc, room)?;
+        let touched = vec![in alloc; true; counts.len()]?;
+        let tables = roomy_tables(alloc, net)?;
+        let mixes = roomy_mixes(alloc, net, &counts)?;
         Ok(Present {
             tables,
             mixes,

@@ -183,8 +183,8 @@ pub(crate) fn change_table(table: &mut Table, change: &Change)
 }
 
 impl Present {
-    /// Makes the changes of round k. Each switch that it changes more than once is to be prepared anew. The deletes at a
-    /// switch take time n log n together, each other change a look at its rules.
+    /// Makes the changes of round k. Each switch that it changes more than once is to be prepared anew. The changes at a
+    /// switch take time n log n together.
     pub fn apply_round(&mut self, case: &Case, k: usize)
         requires round { k < length case.now.task.rounds }
         requires room { HasRoom case.now.task.update.net case.now.task.rounds self.old }

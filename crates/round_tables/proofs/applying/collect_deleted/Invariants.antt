@@ -1,5 +1,5 @@
 use Rattle.std.proofs.Common.{◌≡◌, ◌≤◌, take, vec_len, vec_capacity}
-use Rattle.round_tables.specs.Deleted.{deleted}
+use Rattle.round_tables.specs.ByKind.{deleted}
 use Rattle.round_tables.proofs.applying.collect_deleted.Given as goal
 
 abbrev pub invariant-loop-change : goal.invariant-loop-change

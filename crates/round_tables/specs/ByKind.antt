@@ -1,9 +1,10 @@
--- The changes of one table, the deletes apart from the others.
+-- The changes of one table by their kinds: the deletes, the replaces and the inserts.
 use Rattle.std.specs.Prelude.{Bool, true, false, not, List, map, filter}
 use Rattle.std.specs.List.{list_any}
 use Rattle.flow_rules.specs.Patterns.{key_eq}
 use Rattle.flow_rules.specs.declared.rules.Rule.{Rule}
 use Rattle.update_model.specs.Changes.{rule_of}
+use Rattle.update_model.specs.Mixtures.{is_insert}
 use Rattle.update_model.specs.declared.Change.{Change}
 use Rattle.update_model.specs.declared.Change.TheVariants.{Insert, Delete, Replace}
 
@@ -13,13 +14,23 @@ is_delete (Insert s r) = false
 is_delete (Delete s r) = true
 is_delete (Replace s r) = false
 
+-- whether a change replaces
+abbrev pub is_replace : Change → Bool
+is_replace (Insert s r) = false
+is_replace (Delete s r) = false
+is_replace (Replace s r) = true
+
 -- the rules that the changes delete
 abbrev pub deleted : List Change → List Rule
 deleted changes = map rule_of (filter is_delete changes)
 
--- the changes that don't delete
-abbrev pub others : List Change → List Change
-others changes = filter (λ c. not (is_delete c)) changes
+-- the rules that the changes put in the place of others
+abbrev pub replacing : List Change → List Rule
+replacing changes = map rule_of (filter is_replace changes)
+
+-- the changes that insert
+abbrev pub inserts : List Change → List Change
+inserts changes = filter is_insert changes
 
 -- the rules with other keys than these
 abbrev pub without : List Rule → List Rule → List Rule
