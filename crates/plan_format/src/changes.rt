@@ -1,15 +1,16 @@
 //! The changes and the rounds of a plan.
 ghost use Rattle.std.specs.Prelude.{◌≡◌, ◌+◌, ◌-◌, ◌<◌, ◌≤◌, slice_get, IfErr, ◌++◌, ◌∷◌, [], Ok, length, sum_by, map, option_map, IfOk, OnOk, MatchResult};
 ghost use Rattle.std.specs.Option.{option_and_then};
-ghost use Rattle.serde_json.specs.View.{view};
+ghost use Rattle.flat_json.specs.Trees.{data_of};
 ghost use Rattle.net_base.specs.Reading.{Gives, Fails, in_turn};
+ghost use Rattle.net_base.specs.Tree.{list_in};
 ghost use Rattle.plan_format.specs.declared.fault.PlanFault.TheVariants.{Memory};
 ghost use Rattle.plan_format.specs.Changes as plan;
 
 use crate::fault::PlanFault;
 use crate::rules::{PlanRule, read_rule};
-use net_base::{Field, is_object, list_at, list_in, place_of, text_at, whole};
-use serde_json::Value;
+use flat_json::{Node, Tree};
+use net_base::{Field, place_of};
 use std::alloc::Global;
 use std::marker::Model;
 use topology::Net;
@@ -170,25 +171,32 @@ fn change_of(kind: ChangeKind, rule: PlanRule) -> Change
 
 /// Reads a change as an object. The list is the member that it stands in.
 #[tactic(auto, unfolding(crate::specs::Changes::object_change))]
-fn read_object(net: &Net, list: Field, place: u32, item: &Value) -> Result<Change, PlanFault>
-    ensures { Gives Memory (λ c. c) result (plan.object_change net.now list place (view item.now)) }
+fn read_object(
+    net: &Net,
+    list: Field,
+    place: u32,
+    tree: &Tree<'_>,
+    item: &Node,
+) -> Result<Change, PlanFault>
+    ensures { Gives Memory (λ c. c) result (plan.object_change net.now list place (data_of tree.now item.now)) }
 {
-    if !is_object(item) {
+    if !tree.is_object(item) {
         return Err(PlanFault::Shape(list, place));
     }
-    let kind = text_at(item, "do")
+    let kind = tree
+        .text_at(item, "do")
         .and_then(kind_of)
         .ok_or(PlanFault::Shape(Field::Do, place))?;
-    let rule = read_rule(net, place, item)?;
+    let rule = read_rule(net, place, tree, item)?;
     Ok(change_of(kind, rule))
 }
 
 /// What a change does, and the number of its rule.
-fn kind_and_number(items: &[Value]) -> Option<(ChangeKind, u64)>
-    ensures { result ≡ plan.kind_and_number (map view items.now) }
+fn kind_and_number(tree: &Tree<'_>, item: &Node) -> Option<(ChangeKind, u64)>
+    ensures { result ≡ option_and_then plan.kind_and_number (list_in (data_of tree.now item.now)) }
 {
-    match items {
-        [word, number] => Some((kind_of(word.as_str()?)?, whole(number)?)),
+    match tree.list_in(item)? {
+        [word, number] => Some((kind_of(tree.as_str(word)?)?, tree.whole(number)?)),
         _ => None,
     }
 }
@@ -199,24 +207,28 @@ fn read_numbered(
     rules: &PlanRules,
     list: Field,
     place: u32,
-    item: &Value,
+    tree: &Tree<'_>,
+    item: &Node,
 ) -> Result<Change, PlanFault>
-    ensures { Gives Memory (λ c. c) result (plan.numbered_change rules.now list place (view item.now)) }
+    ensures { Gives Memory (λ c. c) result (plan.numbered_change rules.now list place (data_of tree.now item.now)) }
 {
-    let (kind, number) = list_in(item)
-        .and_then(kind_and_number)
-        .ok_or(PlanFault::Shape(list, place))?;
+    let (kind, number) = kind_and_number(tree, item).ok_or(PlanFault::Shape(list, place))?;
     let rule = rules.get(number).ok_or(PlanFault::BadIndex(place))?;
     Ok(change_of(kind, rule))
 }
 
 /// Reads a change, by the spelling of the format.
-fn read_spelled(list: ChangeList, place: u32, item: &Value) -> Result<Change, PlanFault>
-    ensures { Gives Memory (λ c. c) result (plan.change_in list.entry.net.now list.entry.spelling.now list.entry.name place (view item.now)) }
+fn read_spelled(
+    list: ChangeList,
+    place: u32,
+    tree: &Tree<'_>,
+    item: &Node,
+) -> Result<Change, PlanFault>
+    ensures { Gives Memory (λ c. c) result (plan.change_in list.entry.net.now list.entry.spelling.now list.entry.name place (data_of tree.now item.now)) }
 {
     match list.spelling {
-        Spelling::Objects => read_object(list.net, list.name, place, item),
-        Spelling::Numbers(rules) => read_numbered(rules, list.name, place, item),
+        Spelling::Objects => read_object(list.net, list.name, place, tree, item),
+        Spelling::Numbers(rules) => read_numbered(rules, list.name, place, tree, item),
     }
 }
 
@@ -226,18 +238,19 @@ fn read_change(
     list: ChangeList,
     changes: &mut Vec<Change>,
     place: u32,
-    item: &Value,
+    tree: &Tree<'_>,
+    item: &Node,
 ) -> Result<(), PlanFault>
     ensures value { MatchResult result
-        (λ _. plan.change_at list.entry.net.now list.entry.spelling.now list.entry.name place changes.old.items (view item.now) ≡ Ok changes.new.items)
-        (λ e. Fails Memory e (plan.change_at list.entry.net.now list.entry.spelling.now list.entry.name place changes.old.items (view item.now))) }
+        (λ _. plan.change_at list.entry.net.now list.entry.spelling.now list.entry.name place changes.old.items (data_of tree.now item.now) ≡ Ok changes.new.items)
+        (λ e. Fails Memory e (plan.change_at list.entry.net.now list.entry.spelling.now list.entry.name place changes.old.items (data_of tree.now item.now))) }
     ensures few { OnOk result (place < 2200000) }
     ensures one { OnOk result (length changes.new.items ≡ length changes.old.items + 1) }
 {
     if place >= MAX_CHANGES {
         return Err(PlanFault::TooMany(list.name));
     }
-    changes.push(read_spelled(list, place, item)?)?;
+    changes.push(read_spelled(list, place, tree, item)?)?;
     Ok(())
 }
 
@@ -246,16 +259,17 @@ fn read_changes(
     alloc: Global,
     list: ChangeList,
     first: usize,
-    items: &[Value],
+    tree: &Tree<'_>,
+    items: &[Node],
 ) -> Result<Vec<Change>, PlanFault>
     ensures value { Gives Memory (λ v. v.items) result
-        (in_turn (plan.change_at list.entry.net.now list.entry.spelling.now list.entry.name) first [] (map view items.now)) }
+        (in_turn (plan.change_at list.entry.net.now list.entry.spelling.now list.entry.name) first [] (map (data_of tree.now) items.now)) }
     ensures few { IfOk result (λ v. length v.items ≤ 2200000 - first) }
 {
     let mut changes = Vec::new(alloc);
     let mut number = first;
     for item in items {
-        read_change(list, &mut changes, place_of(number), item)?;
+        read_change(list, &mut changes, place_of(number), tree, item)?;
         number += 1;
     }
     Ok(changes)
@@ -268,14 +282,17 @@ fn read_round(
     list: ChangeList,
     place: u32,
     number: usize,
-    item: &Value,
+    tree: &Tree<'_>,
+    item: &Node,
 ) -> Result<Vec<Change>, PlanFault>
     ensures value { Gives Memory (λ v. v.items) result
-        (plan.round_in list.entry.net.now list.entry.spelling.now list.entry.name place number (view item.now)) }
+        (plan.round_in list.entry.net.now list.entry.spelling.now list.entry.name place number (data_of tree.now item.now)) }
     ensures few { IfOk result (λ v. length v.items ≤ 2200000 - number) }
 {
-    let items = list_in(item).ok_or(PlanFault::Shape(list.name, place))?;
-    read_changes(alloc, list, number, items)
+    let items = tree
+        .list_in(item)
+        .ok_or(PlanFault::Shape(list.name, place))?;
+    read_changes(alloc, list, number, tree, items)
 }
 
 /// Reads one more round.
@@ -286,16 +303,17 @@ fn read_next_round(
     first: usize,
     rounds: &mut CountedRounds,
     place: u32,
-    item: &Value,
+    tree: &Tree<'_>,
+    item: &Node,
 ) -> Result<(), PlanFault>
     requires { first ≤ 2200000 }
     ensures value { MatchResult result
-        (λ _. plan.round_at list.entry.net.now list.entry.spelling.now list.entry.name first place rounds.old (view item.now) ≡ Ok rounds.new)
-        (λ e. Fails Memory e (plan.round_at list.entry.net.now list.entry.spelling.now list.entry.name first place rounds.old (view item.now))) }
+        (λ _. plan.round_at list.entry.net.now list.entry.spelling.now list.entry.name first place rounds.old (data_of tree.now item.now) ≡ Ok rounds.new)
+        (λ e. Fails Memory e (plan.round_at list.entry.net.now list.entry.spelling.now list.entry.name first place rounds.old (data_of tree.now item.now))) }
     ensures one { OnOk result (length rounds.new ≡ length rounds.old + 1) }
 {
     let number = first + rounds.changes();
-    let round = read_round(alloc, list, place, number, item)?;
+    let round = read_round(alloc, list, place, number, tree, item)?;
     rounds.push(round)?;
     Ok(())
 }
@@ -304,16 +322,17 @@ fn read_each_round(
     alloc: Global,
     list: ChangeList,
     first: usize,
-    items: &[Value],
+    tree: &Tree<'_>,
+    items: &[Node],
 ) -> Result<CountedRounds, PlanFault>
     requires { first ≤ 2200000 }
     ensures value { Gives Memory (λ r. r) result
-        (in_turn (plan.round_at list.entry.net.now list.entry.spelling.now list.entry.name first) 0 [] (map view items.now)) }
+        (in_turn (plan.round_at list.entry.net.now list.entry.spelling.now list.entry.name first) 0 [] (map (data_of tree.now) items.now)) }
     ensures count { IfOk result (λ r. length r ≡ length items.now) }
 {
     let mut rounds = CountedRounds::make(alloc)?;
     for (i, item) in items.iter().enumerate() {
-        read_next_round(alloc, list, first, &mut rounds, place_of(i), item)?;
+        read_next_round(alloc, list, first, &mut rounds, place_of(i), tree, item)?;
     }
     Ok(rounds)
 }
@@ -325,18 +344,21 @@ pub(crate) fn read_rounds(
     list: ChangeList,
     most: usize,
     first: usize,
-    top: &Value,
+    tree: &Tree<'_>,
+    top: &Node,
 ) -> Result<CountedRounds, PlanFault>
     requires { first ≤ 2200000 }
     ensures value { Gives Memory (λ r. r) result
-        (plan.rounds_in list.entry.net.now list.entry.spelling.now list.entry.name most first (view top.now)) }
+        (plan.rounds_in list.entry.net.now list.entry.spelling.now list.entry.name most first (data_of tree.now top.now)) }
     ensures few { IfOk result (λ r. length r ≤ most) }
 {
-    let items = list_at(top, list.name.name()).ok_or(PlanFault::Shape(list.name, 0))?;
+    let items = tree
+        .list_at(top, list.name.name())
+        .ok_or(PlanFault::Shape(list.name, 0))?;
     if items.len() > most {
         return Err(PlanFault::TooMany(list.name));
     }
-    read_each_round(alloc, list, first, items)
+    read_each_round(alloc, list, first, tree, items)
 }
 
 /// Reads one more rule.
@@ -345,38 +367,51 @@ fn read_next_rule(
     net: &Net,
     rules: &mut PlanRules,
     place: u32,
-    item: &Value,
+    tree: &Tree<'_>,
+    item: &Node,
 ) -> Result<(), PlanFault>
     ensures { MatchResult result
-        (λ _. plan.rule_at net.now place rules.old (view item.now) ≡ Ok rules.new)
-        (λ e. Fails Memory e (plan.rule_at net.now place rules.old (view item.now))) }
+        (λ _. plan.rule_at net.now place rules.old (data_of tree.now item.now) ≡ Ok rules.new)
+        (λ e. Fails Memory e (plan.rule_at net.now place rules.old (data_of tree.now item.now))) }
 {
     if place >= MAX_RULES {
         return Err(PlanFault::TooMany(Field::Rules));
     }
-    if !is_object(item) {
+    if !tree.is_object(item) {
         return Err(PlanFault::Shape(Field::Rules, place));
     }
-    let rule = read_rule(net, place, item)?;
+    let rule = read_rule(net, place, tree, item)?;
     rules.add(rule)?;
     Ok(())
 }
 
-fn read_each_rule(alloc: Global, net: &Net, items: &[Value]) -> Result<PlanRules, PlanFault>
-    ensures { Gives Memory (λ r. r) result (in_turn (plan.rule_at net.now) 0 [] (map view items.now)) }
+fn read_each_rule(
+    alloc: Global,
+    net: &Net,
+    tree: &Tree<'_>,
+    items: &[Node],
+) -> Result<PlanRules, PlanFault>
+    ensures { Gives Memory (λ r. r) result (in_turn (plan.rule_at net.now) 0 [] (map (data_of tree.now) items.now)) }
 {
     let mut rules = PlanRules::empty(alloc);
     for (i, item) in items.iter().enumerate() {
-        read_next_rule(net, &mut rules, place_of(i), item)?;
+        read_next_rule(net, &mut rules, place_of(i), tree, item)?;
     }
     Ok(rules)
 }
 
 /// Reads the member `rules`.
 #[tactic(auto, unfolding(crate::specs::Changes::rules_in))]
-pub(crate) fn read_rules(alloc: Global, net: &Net, top: &Value) -> Result<PlanRules, PlanFault>
-    ensures { Gives Memory (λ r. r) result (plan.rules_in net.now (view top.now)) }
+pub(crate) fn read_rules(
+    alloc: Global,
+    net: &Net,
+    tree: &Tree<'_>,
+    top: &Node,
+) -> Result<PlanRules, PlanFault>
+    ensures { Gives Memory (λ r. r) result (plan.rules_in net.now (data_of tree.now top.now)) }
 {
-    let items = list_at(top, "rules").ok_or(PlanFault::Shape(Field::Rules, 0))?;
-    read_each_rule(alloc, net, items)
+    let items = tree
+        .list_at(top, "rules")
+        .ok_or(PlanFault::Shape(Field::Rules, 0))?;
+    read_each_rule(alloc, net, tree, items)
 }

@@ -1,6 +1,6 @@
 //! The numberings and the before sets of a plan, and the evidence that names them.
 ghost use Rattle.std.specs.Prelude.{◌≡◌, ◌≤◌, [], Ok, true, map, nat_lt, MatchResult};
-ghost use Rattle.serde_json.specs.View.{view};
+ghost use Rattle.flat_json.specs.Trees.{data_of};
 ghost use Rattle.net_base.specs.Reading.{Gives, Fails, in_turn};
 ghost use Rattle.plan_format.specs.declared.fault.PlanFault.TheVariants.{Memory};
 ghost use Rattle.plan_format.specs.Evidence as plan;
@@ -9,8 +9,8 @@ use crate::fault::PlanFault;
 use crate::lists::{Counts, are_below, ascends, is_index, read_numbers};
 use acyclic_numbering::Numbering;
 use certificates::{Befores, IndexList, Numberings, Shared};
-use net_base::{Field, SwitchId, list_at, list_in, place_of, whole};
-use serde_json::Value;
+use flat_json::{Node, Tree};
+use net_base::{Field, SwitchId, place_of};
 use std::alloc::Global;
 use topology::Net;
 use waypoint_evidence::Before;
@@ -19,12 +19,19 @@ const MAX_HEIGHT: u64 = 65535;
 
 /// Reads one more number of a numbering.
 #[tactic(auto, unfolding(crate::specs::Evidence::height_at))]
-fn read_height(place: u32, numbering: &mut Numbering, item: &Value) -> Result<(), PlanFault>
+fn read_height(
+    place: u32,
+    numbering: &mut Numbering,
+    tree: &Tree<'_>,
+    item: &Node,
+) -> Result<(), PlanFault>
     ensures { MatchResult result
-        (λ _. plan.height_at place numbering.old (view item.now) ≡ Ok numbering.new)
-        (λ e. Fails Memory e (plan.height_at place numbering.old (view item.now))) }
+        (λ _. plan.height_at place numbering.old (data_of tree.now item.now) ≡ Ok numbering.new)
+        (λ e. Fails Memory e (plan.height_at place numbering.old (data_of tree.now item.now))) }
 {
-    let number = whole(item).ok_or(PlanFault::Shape(Field::Numberings, place))?;
+    let number = tree
+        .whole(item)
+        .ok_or(PlanFault::Shape(Field::Numberings, place))?;
     if number > MAX_HEIGHT {
         return Err(PlanFault::Shape(Field::Numberings, place));
     }
@@ -32,12 +39,17 @@ fn read_height(place: u32, numbering: &mut Numbering, item: &Value) -> Result<()
     Ok(())
 }
 
-fn read_each_height(alloc: Global, place: u32, items: &[Value]) -> Result<Numbering, PlanFault>
-    ensures { Gives Memory (λ n. n) result (in_turn (λ i. plan.height_at place) 0 [] (map view items.now)) }
+fn read_each_height(
+    alloc: Global,
+    place: u32,
+    tree: &Tree<'_>,
+    items: &[Node],
+) -> Result<Numbering, PlanFault>
+    ensures { Gives Memory (λ n. n) result (in_turn (λ i. plan.height_at place) 0 [] (map (data_of tree.now) items.now)) }
 {
     let mut numbering = Numbering::make(alloc)?;
     for item in items {
-        read_height(place, &mut numbering, item)?;
+        read_height(place, &mut numbering, tree, item)?;
     }
     Ok(numbering)
 }
@@ -48,15 +60,18 @@ fn read_numbering(
     alloc: Global,
     net: &Net,
     place: u32,
-    item: &Value,
+    tree: &Tree<'_>,
+    item: &Node,
 ) -> Result<Numbering, PlanFault>
-    ensures { Gives Memory (λ n. n) result (plan.numbering_in net.now place (view item.now)) }
+    ensures { Gives Memory (λ n. n) result (plan.numbering_in net.now place (data_of tree.now item.now)) }
 {
-    let items = list_in(item).ok_or(PlanFault::Shape(Field::Numberings, place))?;
+    let items = tree
+        .list_in(item)
+        .ok_or(PlanFault::Shape(Field::Numberings, place))?;
     if items.len() != net.switches() as usize {
         return Err(PlanFault::Shape(Field::Numberings, place));
     }
-    read_each_height(alloc, place, items)
+    read_each_height(alloc, place, tree, items)
 }
 
 /// Reads one more numbering.
@@ -66,23 +81,29 @@ fn read_next_numbering(
     net: &Net,
     numberings: &mut Numberings,
     place: u32,
-    item: &Value,
+    tree: &Tree<'_>,
+    item: &Node,
 ) -> Result<(), PlanFault>
     ensures { MatchResult result
-        (λ _. plan.numbering_at net.now place numberings.old (view item.now) ≡ Ok numberings.new)
-        (λ e. Fails Memory e (plan.numbering_at net.now place numberings.old (view item.now))) }
+        (λ _. plan.numbering_at net.now place numberings.old (data_of tree.now item.now) ≡ Ok numberings.new)
+        (λ e. Fails Memory e (plan.numbering_at net.now place numberings.old (data_of tree.now item.now))) }
 {
-    let numbering = read_numbering(alloc, net, place, item)?;
+    let numbering = read_numbering(alloc, net, place, tree, item)?;
     numberings.add(numbering)?;
     Ok(())
 }
 
-fn read_each_numbering(alloc: Global, net: &Net, items: &[Value]) -> Result<Numberings, PlanFault>
-    ensures { Gives Memory (λ n. n) result (in_turn (plan.numbering_at net.now) 0 [] (map view items.now)) }
+fn read_each_numbering(
+    alloc: Global,
+    net: &Net,
+    tree: &Tree<'_>,
+    items: &[Node],
+) -> Result<Numberings, PlanFault>
+    ensures { Gives Memory (λ n. n) result (in_turn (plan.numbering_at net.now) 0 [] (map (data_of tree.now) items.now)) }
 {
     let mut numberings = Numberings::make(alloc)?;
     for (i, item) in items.iter().enumerate() {
-        read_next_numbering(alloc, net, &mut numberings, place_of(i), item)?;
+        read_next_numbering(alloc, net, &mut numberings, place_of(i), tree, item)?;
     }
     Ok(numberings)
 }
@@ -92,12 +113,15 @@ fn read_each_numbering(alloc: Global, net: &Net, items: &[Value]) -> Result<Numb
 pub(crate) fn read_numberings(
     alloc: Global,
     net: &Net,
-    top: &Value,
+    tree: &Tree<'_>,
+    top: &Node,
 ) -> Result<Numberings, PlanFault>
-    ensures { Gives Memory (λ n. n) result (plan.numberings_in net.now (view top.now)) }
+    ensures { Gives Memory (λ n. n) result (plan.numberings_in net.now (data_of tree.now top.now)) }
 {
-    let items = list_at(top, "numberings").ok_or(PlanFault::Shape(Field::Numberings, 0))?;
-    read_each_numbering(alloc, net, items)
+    let items = tree
+        .list_at(top, "numberings")
+        .ok_or(PlanFault::Shape(Field::Numberings, 0))?;
+    read_each_numbering(alloc, net, tree, items)
 }
 
 fn set_of(switches: &[u64]) -> Before
@@ -128,13 +152,14 @@ fn read_before(
     net: &Net,
     befores: &mut Befores,
     place: u32,
-    item: &Value,
+    tree: &Tree<'_>,
+    item: &Node,
 ) -> Result<(), PlanFault>
     ensures { MatchResult result
-        (λ _. plan.before_at net.now place befores.old (view item.now) ≡ Ok befores.new)
-        (λ e. Fails Memory e (plan.before_at net.now place befores.old (view item.now))) }
+        (λ _. plan.before_at net.now place befores.old (data_of tree.now item.now) ≡ Ok befores.new)
+        (λ e. Fails Memory e (plan.before_at net.now place befores.old (data_of tree.now item.now))) }
 {
-    let numbers = read_numbers(alloc, Field::Befores, place, item)?;
+    let numbers = read_numbers(alloc, Field::Befores, place, tree, item)?;
     if !are_below(&numbers, net.switches() as usize) {
         return Err(PlanFault::BadIndex(place));
     }
@@ -145,23 +170,35 @@ fn read_before(
     Ok(())
 }
 
-fn read_each_before(alloc: Global, net: &Net, items: &[Value]) -> Result<Befores, PlanFault>
-    ensures { Gives Memory (λ b. b) result (in_turn (plan.before_at net.now) 0 [] (map view items.now)) }
+fn read_each_before(
+    alloc: Global,
+    net: &Net,
+    tree: &Tree<'_>,
+    items: &[Node],
+) -> Result<Befores, PlanFault>
+    ensures { Gives Memory (λ b. b) result (in_turn (plan.before_at net.now) 0 [] (map (data_of tree.now) items.now)) }
 {
     let mut befores = Befores::make(alloc)?;
     for (i, item) in items.iter().enumerate() {
-        read_before(alloc, net, &mut befores, place_of(i), item)?;
+        read_before(alloc, net, &mut befores, place_of(i), tree, item)?;
     }
     Ok(befores)
 }
 
 /// Reads the member `befores`.
 #[tactic(auto, unfolding(crate::specs::Evidence::befores_in))]
-pub(crate) fn read_befores(alloc: Global, net: &Net, top: &Value) -> Result<Befores, PlanFault>
-    ensures { Gives Memory (λ b. b) result (plan.befores_in net.now (view top.now)) }
+pub(crate) fn read_befores(
+    alloc: Global,
+    net: &Net,
+    tree: &Tree<'_>,
+    top: &Node,
+) -> Result<Befores, PlanFault>
+    ensures { Gives Memory (λ b. b) result (plan.befores_in net.now (data_of tree.now top.now)) }
 {
-    let items = list_at(top, "befores").ok_or(PlanFault::Shape(Field::Befores, 0))?;
-    read_each_before(alloc, net, items)
+    let items = tree
+        .list_at(top, "befores")
+        .ok_or(PlanFault::Shape(Field::Befores, 0))?;
+    read_each_before(alloc, net, tree, items)
 }
 
 /// Reads the numbers of before sets, beside the number of a numbering.
@@ -172,11 +209,12 @@ pub(crate) fn read_shared(
     place: u32,
     counts: Counts,
     numbering: u64,
-    item: &Value,
+    tree: &Tree<'_>,
+    item: &Node,
 ) -> Result<Shared, PlanFault>
-    ensures { Gives Memory (λ s. s) result (plan.shared_in field place counts.numberings counts.befores numbering (view item.now)) }
+    ensures { Gives Memory (λ s. s) result (plan.shared_in field place counts.numberings counts.befores numbering (data_of tree.now item.now)) }
 {
-    let numbers = read_numbers(alloc, field, place, item)?;
+    let numbers = read_numbers(alloc, field, place, tree, item)?;
     if !is_index(counts.numberings, numbering) {
         return Err(PlanFault::BadIndex(place));
     }

@@ -1,7 +1,9 @@
 //! The picks of an ordered plan of format 1, which carry their evidence.
 ghost use Rattle.std.specs.Prelude.{◌≡◌, ◌≤◌, ◌<◌, [], Ok, length, IfErr, not, map, option_map, IfOk, OnOk, MatchResult};
-ghost use Rattle.serde_json.specs.View.{view};
+ghost use Rattle.flat_json.specs.Trees.{data_of};
+ghost use Rattle.std.specs.Option.{option_and_then};
 ghost use Rattle.net_base.specs.Reading.{Gives, Fails, in_turn};
+ghost use Rattle.net_base.specs.Tree.{list_in};
 ghost use Rattle.plan_format.specs.declared.fault.PlanFault.TheVariants.{Memory};
 ghost use Rattle.plan_format.specs.Evidence as plan;
 ghost use Rattle.plan_format.specs.Evidence.{shared_eq};
@@ -13,9 +15,9 @@ use crate::fault::PlanFault;
 use crate::lists::{Counts, three_numbers};
 use crate::picks::{PickTable, add_pick, is_round_and_class};
 use certificates::{IndexList, OrderedPick, OrderedPicks, Shared, SharedKey, Uses};
+use flat_json::{Node, Tree};
 use indexmap::IndexSet;
-use net_base::{Field, list_at, list_in, place_of};
-use serde_json::Value;
+use net_base::{Field, place_of};
 use std::alloc::Global;
 use std::marker::Model;
 
@@ -106,11 +108,11 @@ fn add_full_pick(
 }
 
 /// Three whole numbers, and what comes fourth.
-fn numbers_and_list(items: &[Value]) -> Option<((u64, u64, u64), &Value)>
-    ensures { option_map (λ p. (p.0, view p.1.now)) result ≡ plan.numbers_and_list (map view items.now) }
+fn numbers_and_list<'t>(tree: &'t Tree<'_>, item: &Node) -> Option<((u64, u64, u64), &'t Node)>
+    ensures { option_map (λ p. (p.0, data_of tree.now p.1.now)) result ≡ option_and_then plan.numbers_and_list (list_in (data_of tree.now item.now)) }
 {
-    match items {
-        [a, b, c, list] => Some((three_numbers(a, b, c)?, list)),
+    match tree.list_in(item)? {
+        [a, b, c, list] => Some((three_numbers(tree, a, b, c)?, list)),
         _ => None,
     }
 }
@@ -123,21 +125,23 @@ fn read_full_pick(
     keys: &mut SharedKeys,
     table: &mut PickTable,
     place: u32,
-    item: &Value,
+    tree: &Tree<'_>,
+    item: &Node,
 ) -> Result<(), PlanFault>
     requires rounds { counts.rounds ≤ 4200 }
     requires keys { keys.old ≡ table.old.uses }
     requires few { HasFew table.old }
     ensures value { MatchResult result
-        (λ _. plan.full_pick_at counts.rounds counts.numberings counts.befores place table.old (view item.now) ≡ Ok table.new)
-        (λ e. Fails Memory e (plan.full_pick_at counts.rounds counts.numberings counts.befores place table.old (view item.now))) }
+        (λ _. plan.full_pick_at counts.rounds counts.numberings counts.befores place table.old (data_of tree.now item.now) ≡ Ok table.new)
+        (λ e. Fails Memory e (plan.full_pick_at counts.rounds counts.numberings counts.befores place table.old (data_of tree.now item.now))) }
     ensures keys { OnOk result (keys.new ≡ table.new.uses) }
     ensures few { OnOk result (HasFew table.new) }
 {
-    let ((round, class, numbering), list) = list_in(item)
-        .and_then(numbers_and_list)
-        .ok_or(PlanFault::Shape(Field::Picks, place))?;
-    let shared = read_shared(alloc, Field::Picks, place, counts, numbering, list)?;
+    let ((round, class, numbering), list) = numbers_and_list(tree, item).ok_or(PlanFault::Shape(
+        Field::Picks,
+        place,
+    ))?;
+    let shared = read_shared(alloc, Field::Picks, place, counts, numbering, tree, list)?;
     if !is_round_and_class(counts.rounds, round, class) {
         return Err(PlanFault::BadIndex(place));
     }
@@ -147,15 +151,24 @@ fn read_full_pick(
 fn read_each_full_pick(
     alloc: Global,
     counts: Counts,
-    items: &[Value],
+    tree: &Tree<'_>,
+    items: &[Node],
 ) -> Result<PickTable, PlanFault>
     requires { counts.rounds ≤ 4200 }
-    ensures { Gives Memory (λ t. t) result (in_turn (plan.full_pick_at counts.rounds counts.numberings counts.befores) 0 (record { uses = []; picks = [] }) (map view items.now)) }
+    ensures { Gives Memory (λ t. t) result (in_turn (plan.full_pick_at counts.rounds counts.numberings counts.befores) 0 (record { uses = []; picks = [] }) (map (data_of tree.now) items.now)) }
 {
     let mut keys = SharedKeys::empty(alloc);
     let mut table = PickTable::empty(alloc)?;
     for (i, item) in items.iter().enumerate() {
-        read_full_pick(alloc, counts, &mut keys, &mut table, place_of(i), item)?;
+        read_full_pick(
+            alloc,
+            counts,
+            &mut keys,
+            &mut table,
+            place_of(i),
+            tree,
+            item,
+        )?;
     }
     Ok(table)
 }
@@ -165,11 +178,14 @@ fn read_each_full_pick(
 pub(crate) fn read_full_picks(
     alloc: Global,
     counts: Counts,
-    top: &Value,
+    tree: &Tree<'_>,
+    top: &Node,
 ) -> Result<PickTable, PlanFault>
     requires { counts.rounds ≤ 4200 }
-    ensures { Gives Memory (λ t. t) result (plan.full_picks_in counts.rounds counts.numberings counts.befores (view top.now)) }
+    ensures { Gives Memory (λ t. t) result (plan.full_picks_in counts.rounds counts.numberings counts.befores (data_of tree.now top.now)) }
 {
-    let items = list_at(top, "picks").ok_or(PlanFault::Shape(Field::Picks, 0))?;
-    read_each_full_pick(alloc, counts, items)
+    let items = tree
+        .list_at(top, "picks")
+        .ok_or(PlanFault::Shape(Field::Picks, 0))?;
+    read_each_full_pick(alloc, counts, tree, items)
 }

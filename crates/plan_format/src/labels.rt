@@ -1,7 +1,9 @@
 //! Label tables, and the picks of a two-phase plan.
 ghost use Rattle.std.specs.Prelude.{◌≡◌, ◌≤◌, [], Ok, map, MatchResult};
-ghost use Rattle.serde_json.specs.View.{view};
+ghost use Rattle.flat_json.specs.Trees.{data_of};
+ghost use Rattle.std.specs.Option.{option_and_then};
 ghost use Rattle.net_base.specs.Reading.{Gives, Fails, in_turn};
+ghost use Rattle.net_base.specs.Tree.{list_in};
 ghost use Rattle.plan_format.specs.declared.fault.PlanFault.TheVariants.{Memory};
 ghost use Rattle.plan_format.specs.Evidence as plan;
 ghost use Rattle.plan_format.specs.Evidence.{round_before};
@@ -10,46 +12,46 @@ use crate::fault::PlanFault;
 use crate::lists::{is_index, is_round};
 use crate::rules::is_text;
 use certificates::{Label, LabelPick, LabelPicks, LabelTables, Labels};
-use net_base::{Field, Vlan, list_at, list_in, place_of, whole};
-use serde_json::Value;
+use flat_json::{Node, Tree};
+use net_base::{Field, Vlan, place_of};
 use std::alloc::Global;
 use topology::is_vlan_id;
 
 /// The text `untagged`, or the id of a VLAN that may be.
-fn vlan_in(item: &Value) -> Option<Vlan>
-    ensures { result ≡ plan.vlan_in (view item.now) }
+fn vlan_in(tree: &Tree<'_>, item: &Node) -> Option<Vlan>
+    ensures { result ≡ plan.vlan_in (data_of tree.now item.now) }
 {
-    if is_text(item, "untagged") {
+    if is_text(tree, item, "untagged") {
         return Some(Vlan::Untagged);
     }
-    match whole(item) {
+    match tree.whole(item) {
         Some(id) if is_vlan_id(id) => Some(Vlan::Id(id as u16)),
         _ => None,
     }
 }
 
 /// The text `old` or `new`: whether it is new.
-fn version_in(item: &Value) -> Option<bool>
-    ensures { result ≡ plan.version_in (view item.now) }
+fn version_in(tree: &Tree<'_>, item: &Node) -> Option<bool>
+    ensures { result ≡ plan.version_in (data_of tree.now item.now) }
 {
-    if is_text(item, "old") {
+    if is_text(tree, item, "old") {
         return Some(false);
     }
-    if is_text(item, "new") {
+    if is_text(tree, item, "new") {
         return Some(true);
     }
     None
 }
 
 /// A VLAN, a version, and the VLAN of its user.
-fn label_in(items: &[Value]) -> Option<Label>
-    ensures { result ≡ plan.label_in (map view items.now) }
+fn label_in(tree: &Tree<'_>, item: &Node) -> Option<Label>
+    ensures { result ≡ option_and_then plan.label_in (list_in (data_of tree.now item.now)) }
 {
-    match items {
+    match tree.list_in(item)? {
         [vlan, version, user] => Some(Label {
-            vlan: vlan_in(vlan)?,
-            new: version_in(version)?,
-            user: vlan_in(user)?,
+            vlan: vlan_in(tree, vlan)?,
+            new: version_in(tree, version)?,
+            user: vlan_in(tree, user)?,
         }),
         _ => None,
     }
@@ -57,24 +59,32 @@ fn label_in(items: &[Value]) -> Option<Label>
 
 /// Reads one more label of a table.
 #[tactic(auto, unfolding(crate::specs::Evidence::label_at))]
-fn read_label(place: u32, labels: &mut Labels, item: &Value) -> Result<(), PlanFault>
+fn read_label(
+    place: u32,
+    labels: &mut Labels,
+    tree: &Tree<'_>,
+    item: &Node,
+) -> Result<(), PlanFault>
     ensures { MatchResult result
-        (λ _. plan.label_at place labels.old (view item.now) ≡ Ok labels.new)
-        (λ e. Fails Memory e (plan.label_at place labels.old (view item.now))) }
+        (λ _. plan.label_at place labels.old (data_of tree.now item.now) ≡ Ok labels.new)
+        (λ e. Fails Memory e (plan.label_at place labels.old (data_of tree.now item.now))) }
 {
-    let label = list_in(item)
-        .and_then(label_in)
-        .ok_or(PlanFault::Shape(Field::Labels, place))?;
+    let label = label_in(tree, item).ok_or(PlanFault::Shape(Field::Labels, place))?;
     labels.add(label)?;
     Ok(())
 }
 
-fn read_each_label(alloc: Global, place: u32, items: &[Value]) -> Result<Labels, PlanFault>
-    ensures { Gives Memory (λ l. l) result (in_turn (λ i. plan.label_at place) 0 [] (map view items.now)) }
+fn read_each_label(
+    alloc: Global,
+    place: u32,
+    tree: &Tree<'_>,
+    items: &[Node],
+) -> Result<Labels, PlanFault>
+    ensures { Gives Memory (λ l. l) result (in_turn (λ i. plan.label_at place) 0 [] (map (data_of tree.now) items.now)) }
 {
     let mut labels = Labels::make(alloc)?;
     for item in items {
-        read_label(place, &mut labels, item)?;
+        read_label(place, &mut labels, tree, item)?;
     }
     Ok(labels)
 }
@@ -117,11 +127,13 @@ fn ascends(labels: &Labels) -> bool
 
 /// Reads a label table.
 #[tactic(auto, unfolding(crate::specs::Evidence::table_in))]
-fn read_table(alloc: Global, place: u32, item: &Value) -> Result<Labels, PlanFault>
-    ensures { Gives Memory (λ l. l) result (plan.table_in place (view item.now)) }
+fn read_table(alloc: Global, place: u32, tree: &Tree<'_>, item: &Node) -> Result<Labels, PlanFault>
+    ensures { Gives Memory (λ l. l) result (plan.table_in place (data_of tree.now item.now)) }
 {
-    let items = list_in(item).ok_or(PlanFault::Shape(Field::Labels, place))?;
-    let labels = read_each_label(alloc, place, items)?;
+    let items = tree
+        .list_in(item)
+        .ok_or(PlanFault::Shape(Field::Labels, place))?;
+    let labels = read_each_label(alloc, place, tree, items)?;
     if !ascends(&labels) {
         return Err(PlanFault::BadIndex(place));
     }
@@ -134,34 +146,41 @@ fn read_next_table(
     alloc: Global,
     tables: &mut LabelTables,
     place: u32,
-    item: &Value,
+    tree: &Tree<'_>,
+    item: &Node,
 ) -> Result<(), PlanFault>
     ensures { MatchResult result
-        (λ _. plan.table_at place tables.old (view item.now) ≡ Ok tables.new)
-        (λ e. Fails Memory e (plan.table_at place tables.old (view item.now))) }
+        (λ _. plan.table_at place tables.old (data_of tree.now item.now) ≡ Ok tables.new)
+        (λ e. Fails Memory e (plan.table_at place tables.old (data_of tree.now item.now))) }
 {
-    let labels = read_table(alloc, place, item)?;
+    let labels = read_table(alloc, place, tree, item)?;
     tables.add(labels)?;
     Ok(())
 }
 
-fn read_each_table(alloc: Global, items: &[Value]) -> Result<LabelTables, PlanFault>
-    ensures { Gives Memory (λ t. t) result (in_turn plan.table_at 0 [] (map view items.now)) }
+fn read_each_table(alloc: Global, tree: &Tree<'_>, items: &[Node]) -> Result<LabelTables, PlanFault>
+    ensures { Gives Memory (λ t. t) result (in_turn plan.table_at 0 [] (map (data_of tree.now) items.now)) }
 {
     let mut tables = LabelTables::make(alloc)?;
     for (i, item) in items.iter().enumerate() {
-        read_next_table(alloc, &mut tables, place_of(i), item)?;
+        read_next_table(alloc, &mut tables, place_of(i), tree, item)?;
     }
     Ok(tables)
 }
 
 /// Reads the member `labels`.
 #[tactic(auto, unfolding(crate::specs::Evidence::labels_in))]
-pub(crate) fn read_labels(alloc: Global, top: &Value) -> Result<LabelTables, PlanFault>
-    ensures { Gives Memory (λ t. t) result (plan.labels_in (view top.now)) }
+pub(crate) fn read_labels(
+    alloc: Global,
+    tree: &Tree<'_>,
+    top: &Node,
+) -> Result<LabelTables, PlanFault>
+    ensures { Gives Memory (λ t. t) result (plan.labels_in (data_of tree.now top.now)) }
 {
-    let items = list_at(top, "labels").ok_or(PlanFault::Shape(Field::Labels, 0))?;
-    read_each_table(alloc, items)
+    let items = tree
+        .list_at(top, "labels")
+        .ok_or(PlanFault::Shape(Field::Labels, 0))?;
+    read_each_table(alloc, tree, items)
 }
 
 /// Whether the last of the picks, if there is one, comes before this one.
@@ -189,11 +208,11 @@ fn add_pick(picks: &mut LabelPicks, place: u32, pick: LabelPick) -> Result<(), P
 }
 
 /// A list of two whole numbers.
-fn list_of_two(items: &[Value]) -> Option<(u64, u64)>
-    ensures { result ≡ plan.list_of_two (map view items.now) }
+fn list_of_two(tree: &Tree<'_>, item: &Node) -> Option<(u64, u64)>
+    ensures { result ≡ option_and_then plan.list_of_two (list_in (data_of tree.now item.now)) }
 {
-    match items {
-        [a, b] => Some((whole(a)?, whole(b)?)),
+    match tree.list_in(item)? {
+        [a, b] => Some((tree.whole(a)?, tree.whole(b)?)),
         _ => None,
     }
 }
@@ -205,16 +224,15 @@ fn read_label_pick(
     tables: usize,
     picks: &mut LabelPicks,
     place: u32,
-    item: &Value,
+    tree: &Tree<'_>,
+    item: &Node,
 ) -> Result<(), PlanFault>
     requires { rounds ≤ 4200 }
     ensures { MatchResult result
-        (λ _. plan.label_pick_at rounds tables place picks.old (view item.now) ≡ Ok picks.new)
-        (λ e. Fails Memory e (plan.label_pick_at rounds tables place picks.old (view item.now))) }
+        (λ _. plan.label_pick_at rounds tables place picks.old (data_of tree.now item.now) ≡ Ok picks.new)
+        (λ e. Fails Memory e (plan.label_pick_at rounds tables place picks.old (data_of tree.now item.now))) }
 {
-    let (round, labels) = list_in(item)
-        .and_then(list_of_two)
-        .ok_or(PlanFault::Shape(Field::Picks, place))?;
+    let (round, labels) = list_of_two(tree, item).ok_or(PlanFault::Shape(Field::Picks, place))?;
     if !is_round(rounds, round) {
         return Err(PlanFault::BadIndex(place));
     }
@@ -232,14 +250,15 @@ fn read_each_label_pick(
     alloc: Global,
     rounds: usize,
     tables: usize,
-    items: &[Value],
+    tree: &Tree<'_>,
+    items: &[Node],
 ) -> Result<LabelPicks, PlanFault>
     requires { rounds ≤ 4200 }
-    ensures { Gives Memory (λ p. p) result (in_turn (plan.label_pick_at rounds tables) 0 [] (map view items.now)) }
+    ensures { Gives Memory (λ p. p) result (in_turn (plan.label_pick_at rounds tables) 0 [] (map (data_of tree.now) items.now)) }
 {
     let mut picks = LabelPicks::make(alloc)?;
     for (i, item) in items.iter().enumerate() {
-        read_label_pick(rounds, tables, &mut picks, place_of(i), item)?;
+        read_label_pick(rounds, tables, &mut picks, place_of(i), tree, item)?;
     }
     Ok(picks)
 }
@@ -250,11 +269,14 @@ pub(crate) fn read_label_picks(
     alloc: Global,
     rounds: usize,
     tables: usize,
-    top: &Value,
+    tree: &Tree<'_>,
+    top: &Node,
 ) -> Result<LabelPicks, PlanFault>
     requires { rounds ≤ 4200 }
-    ensures { Gives Memory (λ p. p) result (plan.label_picks_in rounds tables (view top.now)) }
+    ensures { Gives Memory (λ p. p) result (plan.label_picks_in rounds tables (data_of tree.now top.now)) }
 {
-    let items = list_at(top, "picks").ok_or(PlanFault::Shape(Field::Picks, 0))?;
-    read_each_label_pick(alloc, rounds, tables, items)
+    let items = tree
+        .list_at(top, "picks")
+        .ok_or(PlanFault::Shape(Field::Picks, 0))?;
+    read_each_label_pick(alloc, rounds, tables, tree, items)
 }

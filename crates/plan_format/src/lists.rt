@@ -1,14 +1,14 @@
 //! Lists of numbers, and what stands beside them.
 ghost use Rattle.std.specs.Prelude.{◌≡◌, ◌≤◌, ◌<◌, [], Ok, true, map, nat_lt, nat_le, option_map, IfOk, OnOk, MatchResult};
-ghost use Rattle.serde_json.specs.View.{view};
+ghost use Rattle.flat_json.specs.Trees.{data_of};
 ghost use Rattle.net_base.specs.Reading.{Gives, Fails, in_turn};
 ghost use Rattle.plan_format.specs.declared.fault.PlanFault.TheVariants.{Memory};
 ghost use Rattle.plan_format.specs.Evidence as plan;
 
 use crate::fault::PlanFault;
 use certificates::IndexList;
-use net_base::{Field, list_in, whole};
-use serde_json::Value;
+use flat_json::{Node, Tree};
+use net_base::Field;
 use std::alloc::Global;
 
 /// How many rounds, numberings and before sets a plan has.
@@ -25,13 +25,14 @@ fn read_number(
     field: Field,
     place: u32,
     numbers: &mut IndexList,
-    item: &Value,
+    tree: &Tree<'_>,
+    item: &Node,
 ) -> Result<(), PlanFault>
     ensures { MatchResult result
-        (λ _. plan.number_at field place numbers.old (view item.now) ≡ Ok numbers.new)
-        (λ e. Fails Memory e (plan.number_at field place numbers.old (view item.now))) }
+        (λ _. plan.number_at field place numbers.old (data_of tree.now item.now) ≡ Ok numbers.new)
+        (λ e. Fails Memory e (plan.number_at field place numbers.old (data_of tree.now item.now))) }
 {
-    let number = whole(item).ok_or(PlanFault::Shape(field, place))?;
+    let number = tree.whole(item).ok_or(PlanFault::Shape(field, place))?;
     numbers.add(number)?;
     Ok(())
 }
@@ -40,13 +41,14 @@ fn read_each_number(
     alloc: Global,
     field: Field,
     place: u32,
-    items: &[Value],
+    tree: &Tree<'_>,
+    items: &[Node],
 ) -> Result<IndexList, PlanFault>
-    ensures { Gives Memory (λ l. l) result (in_turn (λ i. plan.number_at field place) 0 [] (map view items.now)) }
+    ensures { Gives Memory (λ l. l) result (in_turn (λ i. plan.number_at field place) 0 [] (map (data_of tree.now) items.now)) }
 {
     let mut numbers = IndexList::make(alloc)?;
     for item in items {
-        read_number(field, place, &mut numbers, item)?;
+        read_number(field, place, &mut numbers, tree, item)?;
     }
     Ok(numbers)
 }
@@ -57,12 +59,13 @@ pub(crate) fn read_numbers(
     alloc: Global,
     field: Field,
     place: u32,
-    item: &Value,
+    tree: &Tree<'_>,
+    item: &Node,
 ) -> Result<IndexList, PlanFault>
-    ensures { Gives Memory (λ l. l) result (plan.numbers_in field place (view item.now)) }
+    ensures { Gives Memory (λ l. l) result (plan.numbers_in field place (data_of tree.now item.now)) }
 {
-    let items = list_in(item).ok_or(PlanFault::Shape(field, place))?;
-    read_each_number(alloc, field, place, items)
+    let items = tree.list_in(item).ok_or(PlanFault::Shape(field, place))?;
+    read_each_number(alloc, field, place, tree, items)
 }
 
 /// Whether all numbers are below a limit.
@@ -108,8 +111,13 @@ pub(crate) fn is_index(count: usize, number: u64) -> bool
 }
 
 /// Three whole numbers.
-pub(crate) fn three_numbers(a: &Value, b: &Value, c: &Value) -> Option<(u64, u64, u64)>
-    ensures { result ≡ plan.three_numbers (view a.now) (view b.now) (view c.now) }
+pub(crate) fn three_numbers(
+    tree: &Tree<'_>,
+    a: &Node,
+    b: &Node,
+    c: &Node,
+) -> Option<(u64, u64, u64)>
+    ensures { result ≡ plan.three_numbers (data_of tree.now a.now) (data_of tree.now b.now) (data_of tree.now c.now) }
 {
-    Some((whole(a)?, whole(b)?, whole(c)?))
+    Some((tree.whole(a)?, tree.whole(b)?, tree.whole(c)?))
 }

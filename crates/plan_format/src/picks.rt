@@ -1,7 +1,9 @@
 //! The picks of an ordered plan of format 2, and the evidence that they name.
 ghost use Rattle.std.specs.Prelude.{◌≡◌, ◌≤◌, ◌&&◌, [], Ok, true, map, nat_le, option_map, IfOk, IfErr, MatchResult};
-ghost use Rattle.serde_json.specs.View.{view};
+ghost use Rattle.flat_json.specs.Trees.{data_of};
+ghost use Rattle.std.specs.Option.{option_and_then};
 ghost use Rattle.net_base.specs.Reading.{Gives, Fails, in_turn};
+ghost use Rattle.net_base.specs.Tree.{list_in};
 ghost use Rattle.plan_format.specs.declared.fault.PlanFault.TheVariants.{Memory};
 ghost use Rattle.plan_format.specs.Evidence as plan;
 
@@ -9,8 +11,8 @@ use crate::evidence::read_shared;
 use crate::fault::PlanFault;
 use crate::lists::{Counts, is_index, is_round, three_numbers};
 use certificates::{OrderedPick, OrderedPicks, Uses};
-use net_base::{Field, list_at, list_in, place_of, whole};
-use serde_json::Value;
+use flat_json::{Node, Tree};
+use net_base::{Field, place_of};
 use std::alloc::Global;
 
 const MAX_CLASS: u64 = 8191;
@@ -36,11 +38,11 @@ impl PickTable {
 }
 
 /// A whole number, and what comes second.
-fn number_and_list(items: &[Value]) -> Option<(u64, &Value)>
-    ensures { option_map (λ p. (p.0, view p.1.now)) result ≡ plan.number_and_list (map view items.now) }
+fn number_and_list<'t>(tree: &'t Tree<'_>, item: &Node) -> Option<(u64, &'t Node)>
+    ensures { option_map (λ p. (p.0, data_of tree.now p.1.now)) result ≡ option_and_then plan.number_and_list (list_in (data_of tree.now item.now)) }
 {
-    match items {
-        [number, list] => Some((whole(number)?, list)),
+    match tree.list_in(item)? {
+        [number, list] => Some((tree.whole(number)?, list)),
         _ => None,
     }
 }
@@ -52,37 +54,46 @@ fn read_use(
     counts: Counts,
     uses: &mut Uses,
     place: u32,
-    item: &Value,
+    tree: &Tree<'_>,
+    item: &Node,
 ) -> Result<(), PlanFault>
     ensures { MatchResult result
-        (λ _. plan.use_at counts.numberings counts.befores place uses.old (view item.now) ≡ Ok uses.new)
-        (λ e. Fails Memory e (plan.use_at counts.numberings counts.befores place uses.old (view item.now))) }
+        (λ _. plan.use_at counts.numberings counts.befores place uses.old (data_of tree.now item.now) ≡ Ok uses.new)
+        (λ e. Fails Memory e (plan.use_at counts.numberings counts.befores place uses.old (data_of tree.now item.now))) }
 {
-    let (numbering, list) = list_in(item)
-        .and_then(number_and_list)
-        .ok_or(PlanFault::Shape(Field::Uses, place))?;
-    let shared = read_shared(alloc, Field::Uses, place, counts, numbering, list)?;
+    let (numbering, list) = number_and_list(tree, item).ok_or(PlanFault::Shape(
+        Field::Uses,
+        place,
+    ))?;
+    let shared = read_shared(alloc, Field::Uses, place, counts, numbering, tree, list)?;
     uses.add(shared)?;
     Ok(())
 }
 
-fn read_each_use(alloc: Global, counts: Counts, items: &[Value]) -> Result<Uses, PlanFault>
-    ensures { Gives Memory (λ u. u) result (in_turn (plan.use_at counts.numberings counts.befores) 0 [] (map view items.now)) }
+fn read_each_use(
+    alloc: Global,
+    counts: Counts,
+    tree: &Tree<'_>,
+    items: &[Node],
+) -> Result<Uses, PlanFault>
+    ensures { Gives Memory (λ u. u) result (in_turn (plan.use_at counts.numberings counts.befores) 0 [] (map (data_of tree.now) items.now)) }
 {
     let mut uses = Uses::make(alloc)?;
     for (i, item) in items.iter().enumerate() {
-        read_use(alloc, counts, &mut uses, place_of(i), item)?;
+        read_use(alloc, counts, &mut uses, place_of(i), tree, item)?;
     }
     Ok(uses)
 }
 
 /// Reads the member `uses`.
 #[tactic(auto, unfolding(crate::specs::Evidence::uses_in))]
-fn read_uses(alloc: Global, counts: Counts, top: &Value) -> Result<Uses, PlanFault>
-    ensures { Gives Memory (λ u. u) result (plan.uses_in counts.numberings counts.befores (view top.now)) }
+fn read_uses(alloc: Global, counts: Counts, tree: &Tree<'_>, top: &Node) -> Result<Uses, PlanFault>
+    ensures { Gives Memory (λ u. u) result (plan.uses_in counts.numberings counts.befores (data_of tree.now top.now)) }
 {
-    let items = list_at(top, "uses").ok_or(PlanFault::Shape(Field::Uses, 0))?;
-    read_each_use(alloc, counts, items)
+    let items = tree
+        .list_at(top, "uses")
+        .ok_or(PlanFault::Shape(Field::Uses, 0))?;
+    read_each_use(alloc, counts, tree, items)
 }
 
 /// Whether one pick comes before another, by round and then by class.
@@ -130,11 +141,11 @@ pub(crate) fn is_round_and_class(rounds: usize, round: u64, class: u64) -> bool
 }
 
 /// A list of three whole numbers.
-fn list_of_three(items: &[Value]) -> Option<(u64, u64, u64)>
-    ensures { result ≡ plan.list_of_three (map view items.now) }
+fn list_of_three(tree: &Tree<'_>, item: &Node) -> Option<(u64, u64, u64)>
+    ensures { result ≡ option_and_then plan.list_of_three (list_in (data_of tree.now item.now)) }
 {
-    match items {
-        [a, b, c] => three_numbers(a, b, c),
+    match tree.list_in(item)? {
+        [a, b, c] => three_numbers(tree, a, b, c),
         _ => None,
     }
 }
@@ -146,16 +157,18 @@ fn read_pick(
     uses: usize,
     picks: &mut OrderedPicks,
     place: u32,
-    item: &Value,
+    tree: &Tree<'_>,
+    item: &Node,
 ) -> Result<(), PlanFault>
     requires { rounds ≤ 4200 }
     ensures { MatchResult result
-        (λ _. plan.pick_at rounds uses place picks.old (view item.now) ≡ Ok picks.new)
-        (λ e. Fails Memory e (plan.pick_at rounds uses place picks.old (view item.now))) }
+        (λ _. plan.pick_at rounds uses place picks.old (data_of tree.now item.now) ≡ Ok picks.new)
+        (λ e. Fails Memory e (plan.pick_at rounds uses place picks.old (data_of tree.now item.now))) }
 {
-    let (round, class, shared) = list_in(item)
-        .and_then(list_of_three)
-        .ok_or(PlanFault::Shape(Field::Picks, place))?;
+    let (round, class, shared) = list_of_three(tree, item).ok_or(PlanFault::Shape(
+        Field::Picks,
+        place,
+    ))?;
     if !is_round_and_class(rounds, round, class) {
         return Err(PlanFault::BadIndex(place));
     }
@@ -174,14 +187,15 @@ fn read_each_pick(
     alloc: Global,
     rounds: usize,
     uses: usize,
-    items: &[Value],
+    tree: &Tree<'_>,
+    items: &[Node],
 ) -> Result<OrderedPicks, PlanFault>
     requires { rounds ≤ 4200 }
-    ensures { Gives Memory (λ p. p) result (in_turn (plan.pick_at rounds uses) 0 [] (map view items.now)) }
+    ensures { Gives Memory (λ p. p) result (in_turn (plan.pick_at rounds uses) 0 [] (map (data_of tree.now) items.now)) }
 {
     let mut picks = OrderedPicks::make(alloc)?;
     for (i, item) in items.iter().enumerate() {
-        read_pick(rounds, uses, &mut picks, place_of(i), item)?;
+        read_pick(rounds, uses, &mut picks, place_of(i), tree, item)?;
     }
     Ok(picks)
 }
@@ -192,13 +206,16 @@ fn read_picks(
     alloc: Global,
     rounds: usize,
     uses: usize,
-    top: &Value,
+    tree: &Tree<'_>,
+    top: &Node,
 ) -> Result<OrderedPicks, PlanFault>
     requires { rounds ≤ 4200 }
-    ensures { Gives Memory (λ p. p) result (plan.picks_in rounds uses (view top.now)) }
+    ensures { Gives Memory (λ p. p) result (plan.picks_in rounds uses (data_of tree.now top.now)) }
 {
-    let items = list_at(top, "picks").ok_or(PlanFault::Shape(Field::Picks, 0))?;
-    read_each_pick(alloc, rounds, uses, items)
+    let items = tree
+        .list_at(top, "picks")
+        .ok_or(PlanFault::Shape(Field::Picks, 0))?;
+    read_each_pick(alloc, rounds, uses, tree, items)
 }
 
 /// Reads the members `uses` and `picks`.
@@ -206,12 +223,13 @@ fn read_picks(
 pub(crate) fn read_uses_and_picks(
     alloc: Global,
     counts: Counts,
-    top: &Value,
+    tree: &Tree<'_>,
+    top: &Node,
 ) -> Result<PickTable, PlanFault>
     requires { counts.rounds ≤ 4200 }
-    ensures { Gives Memory (λ t. t) result (plan.uses_and_picks_in counts.rounds counts.numberings counts.befores (view top.now)) }
+    ensures { Gives Memory (λ t. t) result (plan.uses_and_picks_in counts.rounds counts.numberings counts.befores (data_of tree.now top.now)) }
 {
-    let uses = read_uses(alloc, counts, top)?;
-    let picks = read_picks(alloc, counts.rounds, uses.list().len(), top)?;
+    let uses = read_uses(alloc, counts, tree, top)?;
+    let picks = read_picks(alloc, counts.rounds, uses.list().len(), tree, top)?;
     Ok(PickTable { uses, picks })
 }

@@ -1,6 +1,6 @@
 //! The reader of plans.
 ghost use Rattle.std.specs.Prelude.{◌≡◌, ◌≤◌, IfOk, length};
-ghost use Rattle.serde_json.specs.View.{view};
+ghost use Rattle.flat_json.specs.Trees.{data_of};
 ghost use Rattle.net_base.specs.Reading.{Gives};
 ghost use Rattle.plan_format.specs.declared.fault.PlanFault.TheVariants.{Memory};
 ghost use Rattle.plan_format.specs.Plans as plan;
@@ -14,8 +14,9 @@ use crate::labels::{read_label_picks, read_labels};
 use crate::lists::Counts;
 use crate::picks::{PickTable, read_uses_and_picks};
 use certificates::{Evidence, OrderedEvidence, Plan, TwoPhaseEvidence};
-use net_base::{Field, is_object, parse_json, text_at, whole_at};
-use serde_json::Value;
+use flat_json::{Node, Tree, parse_tree};
+use json::Scratch;
+use net_base::Field;
 use std::alloc::Global;
 use topology::Net;
 
@@ -74,14 +75,15 @@ fn read_spelling(
     alloc: Global,
     net: &Net,
     format: Format,
-    top: &Value,
+    tree: &Tree<'_>,
+    top: &Node,
 ) -> Result<Spelling, PlanFault>
-    ensures { Gives Memory (λ s. s) result (plan.spelling_in net.now format (view top.now)) }
+    ensures { Gives Memory (λ s. s) result (plan.spelling_in net.now format (data_of tree.now top.now)) }
 {
     match format {
         Format::One => Ok(Spelling::Objects),
         Format::Two => {
-            let rules = read_rules(alloc, net, top)?;
+            let rules = read_rules(alloc, net, tree, top)?;
             Ok(Spelling::Numbers(rules))
         }
     }
@@ -92,14 +94,15 @@ fn read_pick_table(
     alloc: Global,
     format: Format,
     counts: Counts,
-    top: &Value,
+    tree: &Tree<'_>,
+    top: &Node,
 ) -> Result<PickTable, PlanFault>
     requires { counts.rounds ≤ 4200 }
-    ensures { Gives Memory (λ t. t) result (plan.pick_table_in format counts.rounds counts.numberings counts.befores (view top.now)) }
+    ensures { Gives Memory (λ t. t) result (plan.pick_table_in format counts.rounds counts.numberings counts.befores (data_of tree.now top.now)) }
 {
     match format {
-        Format::One => read_full_picks(alloc, counts, top),
-        Format::Two => read_uses_and_picks(alloc, counts, top),
+        Format::One => read_full_picks(alloc, counts, tree, top),
+        Format::Two => read_uses_and_picks(alloc, counts, tree, top),
     }
 }
 
@@ -110,19 +113,20 @@ fn read_ordered(
     net: &Net,
     format: Format,
     rounds: usize,
-    top: &Value,
+    tree: &Tree<'_>,
+    top: &Node,
 ) -> Result<OrderedEvidence, PlanFault>
     requires { rounds ≤ 4200 }
-    ensures { Gives Memory (λ e. e) result (plan.ordered_in net.now format rounds (view top.now)) }
+    ensures { Gives Memory (λ e. e) result (plan.ordered_in net.now format rounds (data_of tree.now top.now)) }
 {
-    let numberings = read_numberings(alloc, net, top)?;
-    let befores = read_befores(alloc, net, top)?;
+    let numberings = read_numberings(alloc, net, tree, top)?;
+    let befores = read_befores(alloc, net, tree, top)?;
     let counts = Counts {
         rounds,
         numberings: numberings.list().len(),
         befores: befores.list().len(),
     };
-    let table = read_pick_table(alloc, format, counts, top)?;
+    let table = read_pick_table(alloc, format, counts, tree, top)?;
     Ok(OrderedEvidence {
         numberings,
         befores,
@@ -138,19 +142,20 @@ fn read_two_phase(
     net: &Net,
     spelling: &Spelling,
     rounds: &CountedRounds,
-    top: &Value,
+    tree: &Tree<'_>,
+    top: &Node,
 ) -> Result<TwoPhaseEvidence, PlanFault>
     requires { length rounds.now ≤ 4200 }
-    ensures { Gives Memory (λ e. e) result (plan.two_phase_in net.now spelling.now rounds.now (view top.now)) }
+    ensures { Gives Memory (λ e. e) result (plan.two_phase_in net.now spelling.now rounds.now (data_of tree.now top.now)) }
 {
-    let labels = read_labels(alloc, top)?;
-    let picks = read_label_picks(alloc, rounds.count(), labels.list().len(), top)?;
+    let labels = read_labels(alloc, tree, top)?;
+    let picks = read_label_picks(alloc, rounds.count(), labels.list().len(), tree, top)?;
     let list = ChangeList {
         net,
         spelling,
         name: Field::Tried,
     };
-    let tried = read_rounds(alloc, list, MAX_TRIED, rounds.changes(), top)?;
+    let tried = read_rounds(alloc, list, MAX_TRIED, rounds.changes(), tree, top)?;
     Ok(TwoPhaseEvidence {
         labels,
         picks,
@@ -166,18 +171,19 @@ fn read_evidence(
     head: Head,
     spelling: &Spelling,
     rounds: &CountedRounds,
-    top: &Value,
+    tree: &Tree<'_>,
+    top: &Node,
 ) -> Result<Evidence, PlanFault>
     requires { length rounds.now ≤ 4200 }
-    ensures { Gives Memory (λ e. e) result (plan.evidence_in net.now head.format head.kind spelling.now rounds.now (view top.now)) }
+    ensures { Gives Memory (λ e. e) result (plan.evidence_in net.now head.format head.kind spelling.now rounds.now (data_of tree.now top.now)) }
 {
     match head.kind {
         PlanKind::Ordered => {
-            let evidence = read_ordered(alloc, net, head.format, rounds.count(), top)?;
+            let evidence = read_ordered(alloc, net, head.format, rounds.count(), tree, top)?;
             Ok(Evidence::Ordered(evidence))
         }
         PlanKind::TwoPhase => {
-            let evidence = read_two_phase(alloc, net, spelling, rounds, top)?;
+            let evidence = read_two_phase(alloc, net, spelling, rounds, tree, top)?;
             Ok(Evidence::TwoPhase(evidence))
         }
     }
@@ -185,26 +191,29 @@ fn read_evidence(
 
 /// Reads the plan of a tree.
 #[tactic(auto, unfolding(crate::specs::Plans::plan_at))]
-fn read_top(alloc: Global, net: &Net, top: &Value) -> Result<Plan, PlanFault>
-    ensures { Gives Memory (λ p. p) result (plan.plan_at net.now (view top.now)) }
+fn read_top(alloc: Global, net: &Net, tree: &Tree<'_>, top: &Node) -> Result<Plan, PlanFault>
+    ensures { Gives Memory (λ p. p) result (plan.plan_at net.now (data_of tree.now top.now)) }
 {
-    if !is_object(top) {
+    if !tree.is_object(top) {
         return Err(PlanFault::Shape(Field::Top, 0));
     }
-    let number = whole_at(top, "format").ok_or(PlanFault::Shape(Field::Format, 0))?;
+    let number = tree
+        .whole_at(top, "format")
+        .ok_or(PlanFault::Shape(Field::Format, 0))?;
     let format = format_of(number).ok_or(PlanFault::BadFormat)?;
-    let kind = text_at(top, "kind")
+    let kind = tree
+        .text_at(top, "kind")
         .and_then(kind_of)
         .ok_or(PlanFault::Shape(Field::Kind, 0))?;
-    let spelling = read_spelling(alloc, net, format, top)?;
+    let spelling = read_spelling(alloc, net, format, tree, top)?;
     let list = ChangeList {
         net,
         spelling: &spelling,
         name: Field::Rounds,
     };
-    let rounds = read_rounds(alloc, list, MAX_ROUNDS, 0, top)?;
+    let rounds = read_rounds(alloc, list, MAX_ROUNDS, 0, tree, top)?;
     let head = Head { format, kind };
-    let evidence = read_evidence(alloc, net, head, &spelling, &rounds, top)?;
+    let evidence = read_evidence(alloc, net, head, &spelling, &rounds, tree, top)?;
     Ok(Plan {
         rounds: rounds.rounds(),
         evidence,
@@ -215,8 +224,9 @@ fn read_top(alloc: Global, net: &Net, top: &Value) -> Result<Plan, PlanFault>
 fn read_file(alloc: Global, net: &Net, bytes: &[u8]) -> Result<Plan, PlanFault>
     ensures { Gives Memory (λ p. p) result (plan.plan_in net.now bytes.now) }
 {
-    let top = parse_json(alloc, bytes)?;
-    read_top(alloc, net, &top)
+    let mut scratch = Scratch::new(alloc);
+    let tree = parse_tree(alloc, bytes, &mut scratch)?;
+    read_top(alloc, net, &tree, tree.top())
 }
 
 /// The plan that the bytes describe, of format 1 or 2, or the first refusal of the table of members. It takes time and

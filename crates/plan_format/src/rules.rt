@@ -1,14 +1,14 @@
 //! One rule of a plan, by the table of its members.
 ghost use Rattle.std.specs.Prelude.{◌≡◌, ◌≤◌, true, option_map, IfOk, MatchResult};
-ghost use Rattle.serde_json.specs.View.{view};
+ghost use Rattle.flat_json.specs.Trees.{data_of};
 ghost use Rattle.net_base.specs.Reading.{Gives};
 ghost use Rattle.plan_format.specs.declared.fault.PlanFault.TheVariants.{Memory};
 ghost use Rattle.plan_format.specs.Changes as plan;
 
 use crate::fault::PlanFault;
+use flat_json::{Node, Tree};
 use flow_rules::{Action, Key, Pattern, Rewrite, Rule, VlanTest};
-use net_base::{Field, Port, Prefix, SwitchId, read_prefix, text_at, whole, whole_at};
-use serde_json::Value;
+use net_base::{Field, Port, Prefix, SwitchId, read_prefix};
 use topology::{Net, is_vlan_id};
 
 const MAX_PRIORITY: u64 = 65535;
@@ -44,76 +44,76 @@ pub struct PlanRule {
 }
 
 /// Whether the value is this text.
-pub(crate) fn is_text(item: &Value, word: &str) -> bool
-    ensures { result ≡ plan.is_text word.now (view item.now) }
+pub(crate) fn is_text(tree: &Tree<'_>, item: &Node, word: &str) -> bool
+    ensures { result ≡ plan.is_text word.now (data_of tree.now item.now) }
 {
-    match item.as_str() {
+    match tree.as_str(item) {
         Some(text) => text == word,
         None => false,
     }
 }
 
 /// A whole number, or none where the value is the word.
-fn number_or(item: &Value, word: &str) -> Option<Option<u64>>
-    ensures { result ≡ plan.number_or word.now (view item.now) }
+fn number_or(tree: &Tree<'_>, item: &Node, word: &str) -> Option<Option<u64>>
+    ensures { result ≡ plan.number_or word.now (data_of tree.now item.now) }
 {
-    if is_text(item, word) {
+    if is_text(tree, item, word) {
         return Some(None);
     }
-    whole(item).map(Some)
+    tree.whole(item).map(Some)
 }
 
 /// The ingress port; any where it is absent.
-fn in_port_word(member: Option<&Value>) -> Option<Option<u64>>
-    ensures { result ≡ plan.in_port_word (option_map (λ v. view v.now) member.entry) }
+fn in_port_word(tree: &Tree<'_>, member: Option<&Node>) -> Option<Option<u64>>
+    ensures { result ≡ plan.in_port_word (option_map (λ v. data_of tree.now v.now) member.entry) }
 {
     match member {
-        Some(item) => number_or(item, "any"),
+        Some(item) => number_or(tree, item, "any"),
         None => Some(None),
     }
 }
 
 /// The VLAN test; any where it is absent.
-fn vlan_word(member: Option<&Value>) -> Option<TestWord>
-    ensures { result ≡ plan.vlan_word (option_map (λ v. view v.now) member.entry) }
+fn vlan_word(tree: &Tree<'_>, member: Option<&Node>) -> Option<TestWord>
+    ensures { result ≡ plan.vlan_word (option_map (λ v. data_of tree.now v.now) member.entry) }
 {
     match member {
         Some(item) => {
-            if is_text(item, "any") {
+            if is_text(tree, item, "any") {
                 return Some(TestWord::Any);
             }
-            if is_text(item, "untagged") {
+            if is_text(tree, item, "untagged") {
                 return Some(TestWord::Untagged);
             }
-            whole(item).map(TestWord::Number)
+            tree.whole(item).map(TestWord::Number)
         }
         None => Some(TestWord::Any),
     }
 }
 
 /// The port of the output, or none for a drop.
-fn out_word(member: Option<&Value>) -> Option<Option<u64>>
-    ensures { result ≡ plan.out_word (option_map (λ v. view v.now) member.entry) }
+fn out_word(tree: &Tree<'_>, member: Option<&Node>) -> Option<Option<u64>>
+    ensures { result ≡ plan.out_word (option_map (λ v. data_of tree.now v.now) member.entry) }
 {
-    number_or(member?, "drop")
+    number_or(tree, member?, "drop")
 }
 
 /// The id to set; none where it is absent.
-fn set_word(member: Option<&Value>) -> Option<Option<u64>>
-    ensures { result ≡ plan.set_word (option_map (λ v. view v.now) member.entry) }
+fn set_word(tree: &Tree<'_>, member: Option<&Node>) -> Option<Option<u64>>
+    ensures { result ≡ plan.set_word (option_map (λ v. data_of tree.now v.now) member.entry) }
 {
     match member {
-        Some(item) => whole(item).map(Some),
+        Some(item) => tree.whole(item).map(Some),
         None => Some(None),
     }
 }
 
 /// Whether the tag is stripped. The member is true where it is there.
-fn strip_word(member: Option<&Value>) -> Option<bool>
-    ensures { result ≡ plan.strip_word (option_map (λ v. view v.now) member.entry) }
+fn strip_word(tree: &Tree<'_>, member: Option<&Node>) -> Option<bool>
+    ensures { result ≡ plan.strip_word (option_map (λ v. data_of tree.now v.now) member.entry) }
 {
     match member {
-        Some(item) => match item.as_bool() {
+        Some(item) => match tree.as_bool(item) {
             Some(true) => Some(true),
             _ => None,
         },
@@ -218,18 +218,35 @@ fn rule_of(place: u32, words: RuleWords) -> Result<PlanRule, PlanFault>
 
 /// Reads a rule of a switch: its members, each of its kind, and then their ranges.
 #[tactic(auto, unfolding(crate::specs::Changes::rule_in))]
-pub(crate) fn read_rule(net: &Net, place: u32, item: &Value) -> Result<PlanRule, PlanFault>
-    ensures { Gives Memory (λ r. r) result (plan.rule_in net.now place (view item.now)) }
+pub(crate) fn read_rule(
+    net: &Net,
+    place: u32,
+    tree: &Tree<'_>,
+    item: &Node,
+) -> Result<PlanRule, PlanFault>
+    ensures { Gives Memory (λ r. r) result (plan.rule_in net.now place (data_of tree.now item.now)) }
 {
-    let name = text_at(item, "switch").ok_or(PlanFault::Shape(Field::Switch, place))?;
+    let name = tree
+        .text_at(item, "switch")
+        .ok_or(PlanFault::Shape(Field::Switch, place))?;
     let switch = net.find(name).ok_or(PlanFault::UnknownSwitch(place))?;
-    let priority = whole_at(item, "priority").ok_or(PlanFault::Shape(Field::Priority, place))?;
-    let in_port = in_port_word(item.get("in_port")).ok_or(PlanFault::Shape(Field::InPort, place))?;
-    let vlan = vlan_word(item.get("vlan")).ok_or(PlanFault::Shape(Field::Vlan, place))?;
-    let dst = text_at(item, "dst").ok_or(PlanFault::Shape(Field::Dst, place))?;
-    let out = out_word(item.get("out")).ok_or(PlanFault::Shape(Field::Out, place))?;
-    let set = set_word(item.get("set")).ok_or(PlanFault::Shape(Field::Set, place))?;
-    let strip = strip_word(item.get("strip")).ok_or(PlanFault::Shape(Field::Strip, place))?;
+    let priority = tree
+        .whole_at(item, "priority")
+        .ok_or(PlanFault::Shape(Field::Priority, place))?;
+    let in_port = in_port_word(tree, tree.get(item, "in_port")).ok_or(PlanFault::Shape(
+        Field::InPort,
+        place,
+    ))?;
+    let vlan = vlan_word(tree, tree.get(item, "vlan")).ok_or(PlanFault::Shape(Field::Vlan, place))?;
+    let dst = tree
+        .text_at(item, "dst")
+        .ok_or(PlanFault::Shape(Field::Dst, place))?;
+    let out = out_word(tree, tree.get(item, "out")).ok_or(PlanFault::Shape(Field::Out, place))?;
+    let set = set_word(tree, tree.get(item, "set")).ok_or(PlanFault::Shape(Field::Set, place))?;
+    let strip = strip_word(tree, tree.get(item, "strip")).ok_or(PlanFault::Shape(
+        Field::Strip,
+        place,
+    ))?;
     let words = RuleWords {
         switch,
         priority,

@@ -1,6 +1,7 @@
 use Rattle.std.proofs.lemmas.Result.{err_from_is_err_and}
-use Rattle.serde_json.specs.View.{view}
-use Rattle.net_base.proofs.Turns.{goes_on, ends, is_done}
+use Rattle.flat_json.specs.Trees.{data_of}
+use Rattle.net_base.proofs.Turns.{is_done}
+use Rattle.plan_format.proofs.NodeTurns.{goes_on_at, ends_at}
 use Rattle.plan_format.specs.declared.fault.PlanFault.TheVariants.{Memory}
 use Rattle.plan_format.specs.Evidence.{before_at}
 use Rattle.plan_format.proofs.evidence.read_each_before.Goals as goal
@@ -9,13 +10,13 @@ pub returns-in_err-read_before : goal.returns-in_err-read_before
 returns-in_err-read_before c =
     let p = err_from_is_err_and c.from_residual-in_err-read_before.result c.from_residual-in_err-read_before.ensures.1 in
     rw (p.1, p.2)
-    (ends view (before_at c.args.net.now) c.args.items.now c.loop-i.i c.loop-i.i c.loop-i.befores c.index-items-i.result _ c.loop-i-test.true c.index-items-i.is Memory
-    c.in_err-read_before.field-0.0 (rw (← c.place_of.ensures) c.in_err-read_before.ensures) c.loop-i.invariant)
+    (ends_at c.args.tree.now (before_at c.args.net.now) c.args.items.now c.loop-i.i c.loop-i.i c.loop-i.befores _ _ c.loop-i-test.true _ c.place_of.ensures Memory
+    c.in_err-read_before.field-0.0 c.in_err-read_before.ensures c.loop-i.invariant)
 
 pub loop-i-preserved : goal.loop-i-preserved
 loop-i-preserved c =
-    goes_on view (before_at c.args.net.now) c.args.items.now c.loop-i.i c.loop-i.i c.loop-i.befores c.index-items-i.result _ c.loop-i-test.true c.index-items-i.is
-    c.read_before.new.befores (rw (← c.place_of.ensures) c.in_ok-read_before.ensures) c.loop-i.invariant
+    goes_on_at c.args.tree.now (before_at c.args.net.now) c.args.items.now c.loop-i.i c.loop-i.i c.loop-i.befores _ _ c.loop-i-test.true
+    _ c.place_of.ensures c.read_before.new.befores c.in_ok-read_before.ensures c.loop-i.invariant
 
 pub returns : goal.returns
-returns c = is_done view (before_at c.args.net.now) c.args.items.now c.loop-i.i c.loop-i.i c.loop-i.befores _ c.loop-i-test.false c.loop-i.invariant
+returns c = is_done (data_of c.args.tree.now) (before_at c.args.net.now) c.args.items.now c.loop-i.i c.loop-i.i c.loop-i.befores _ c.loop-i-test.false c.loop-i.invariant

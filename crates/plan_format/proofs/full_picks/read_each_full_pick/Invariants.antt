@@ -1,5 +1,5 @@
 use Rattle.std.proofs.Common.{◌≡◌, [], map, drop}
-use Rattle.serde_json.specs.View.{view}
+use Rattle.flat_json.specs.Trees.{data_of}
 use Rattle.net_base.specs.Reading.{in_turn}
 use Rattle.plan_format.specs.Evidence.{full_pick_at}
 use Rattle.plan_format.specs.FewPicks.{HasFew}
@@ -7,8 +7,8 @@ use Rattle.plan_format.proofs.full_picks.read_each_full_pick.Given as goal
 
 abbrev pub invariant-loop-i : goal.invariant-loop-i
 invariant-loop-i l = record {
-  so_far : in_turn (full_pick_at l.counts.rounds l.counts.numberings l.counts.befores) l.i l.table (map view (drop l.i l.items))
-      ≡ in_turn (full_pick_at l.counts.rounds l.counts.numberings l.counts.befores) 0 (record { uses = []; picks = [] }) (map view l.items);
+  so_far : in_turn (full_pick_at l.counts.rounds l.counts.numberings l.counts.befores) l.i l.table (map (data_of l.tree) (drop l.i l.items))
+      ≡ in_turn (full_pick_at l.counts.rounds l.counts.numberings l.counts.befores) 0 (record { uses = []; picks = [] }) (map (data_of l.tree) l.items);
   keys : l.keys ≡ l.table.uses;
   few : HasFew l.table;
 }

@@ -1,8 +1,8 @@
 use Rattle.std.proofs.Common.{◌≡◌, [], map, drop}
-use Rattle.serde_json.specs.View.{view}
+use Rattle.flat_json.specs.Trees.{data_of}
 use Rattle.net_base.specs.Reading.{in_turn}
 use Rattle.plan_format.specs.Evidence.{label_at}
 use Rattle.plan_format.proofs.labels.read_each_label.Given as goal
 
 abbrev pub invariant-loop-item : goal.invariant-loop-item
-invariant-loop-item l = in_turn (λ i. label_at l.place) l.item-index l.labels (map view (drop l.item-index l.items)) ≡ in_turn (λ i. label_at l.place) 0 [] (map view l.items)
+invariant-loop-item l = in_turn (λ i. label_at l.place) l.item-index l.labels (map (data_of l.tree) (drop l.item-index l.items)) ≡ in_turn (λ i. label_at l.place) 0 [] (map (data_of l.tree) l.items)

@@ -1,0 +1,4 @@
+pub mod Nodes
+pub mod Numbers
+pub mod Stores
+pub mod Trees
