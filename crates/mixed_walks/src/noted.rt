@@ -39,10 +39,10 @@ impl Noted {
         ensures { IfOk result (λ noted. noted ≡ record { places = []; steps = []; leaving = []; dropping = [] }) }
     {
         Ok(Noted {
-            reached: Reached::make(alloc)?,
-            steps: EdgeSet::make(alloc)?,
             leaving: SwitchSet::make(alloc)?,
             dropping: SwitchSet::make(alloc)?,
+            steps: EdgeSet::make(alloc)?,
+            reached: Reached::make(alloc)?,
         })
     }
 

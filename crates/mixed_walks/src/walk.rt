@@ -44,8 +44,8 @@ impl WalkRoom {
         ensures { IfOk result (λ room. room ≡ record { places = []; steps = []; leaving = []; dropping = [] }) }
     {
         Ok(WalkRoom {
-            noted: Noted::make(alloc)?,
             outcomes: Outcomes::with_room(alloc, 8193)?,
+            noted: Noted::make(alloc)?,
         })
     }
 

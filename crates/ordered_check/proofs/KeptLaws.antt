@@ -121,6 +121,7 @@ module _ (t : Task) (e : OrderedEvidence) (k : ℕ) where
     pub classes : new.classes ≡ old.classes
     pub atoms : new.atoms ≡ old.atoms
     pub touched : new.touched ≡ old.touched
+    pub looked : new.looked ≡ old.looked
     pub settled : new.settled ≡ old.settled
     pub count : length new.came ≡ length old.came
     pub later : (n : ℕ) → below ≤ n → slice_get new.came n ≡ slice_get old.came n
@@ -134,6 +135,7 @@ module _ (t : Task) (e : OrderedEvidence) (k : ℕ) where
     classes = ap (λ (s : OrderedState). s.classes) same;
     atoms = ap (λ (s : OrderedState). s.atoms) same;
     touched = ap (λ (s : OrderedState). s.touched) same;
+    looked = ap (λ (s : OrderedState). s.looked) same;
     settled = ap (λ (s : OrderedState). s.settled) same;
     count = ap (λ (s : OrderedState). length s.came) same;
     later = λ n le. ap (λ (s : OrderedState). slice_get s.came n) same;
@@ -149,6 +151,7 @@ module _ (t : Task) (e : OrderedEvidence) (k : ℕ) where
     pub classes : new.classes ≡ mid.classes
     pub atoms : new.atoms ≡ mid.atoms
     pub touched : new.touched ≡ mid.touched
+    pub looked : new.looked ≡ mid.looked
     pub settled : new.settled ≡ mid.settled
     pub count : length new.came ≡ length mid.came
     pub others : (m : ℕ) → m ≢ n → slice_get new.came m ≡ slice_get mid.came m
@@ -166,6 +169,7 @@ module _ (t : Task) (e : OrderedEvidence) (k : ℕ) where
         classes = one.classes ∙ so.classes;
         atoms = one.atoms ∙ so.atoms;
         touched = one.touched ∙ so.touched;
+        looked = one.looked ∙ so.looked;
         settled = one.settled ∙ so.settled;
         count = one.count ∙ so.count;
         later = λ m le. one.others m (λ same. omega arith) ∙ so.later m (omega arith);
@@ -187,6 +191,7 @@ module _ (t : Task) (e : OrderedEvidence) (k : ℕ) where
       picks = ap (λ p. length p.of_class) judged.picks ∙ room.picks;
       classes_are = subst (AreClasses (classes_for t)) (sym judged.classes) room.classes_are;
       atoms_are = subst (AreAtoms (classes_for t)) (sym judged.atoms) room.atoms_are;
+      looked = λ some. ap (λ (bs : List Bool). length bs) judged.looked ∙ room.looked some;
       came = judged.count ∙ room.came;
       settled = ap (λ (bs : List Bool). length bs) judged.settled ∙ room.settled;
     }

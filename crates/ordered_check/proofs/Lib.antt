@@ -9,3 +9,4 @@ pub mod StandLaws
 pub mod KeptLaws
 pub mod TouchedLaws
 pub mod TogetherLaws
+pub mod LookedLaws

@@ -1,6 +1,6 @@
 -- Where no change of a round may be met on the walks that a class had in the round before, these walks are all that it has, and
 -- where its pick was in force then, its certificate stands.
-use Rattle.std.proofs.Common.{◌≡◌, ℕ, zero, suc, ◌<◌, ◌≤◌, Bool, true, false, IsTrue, List, [], ◌∷◌, length, sym, ◌∙◌, ap, subst, inl, inr, arith}
+use Rattle.std.proofs.Common.{◌≡◌, ◌↔◌, ℕ, zero, suc, ◌<◌, ◌≤◌, Bool, true, false, IsTrue, List, [], ◌∷◌, length, sym, ◌∙◌, ap, subst, inl, inr, arith}
 use Rattle.std.specs.Prelude.{◌==◌, ◌&&◌, Option, Some, None, IsSomeAnd}
 use Rattle.std.specs.List.{list_any}
 use Rattle.std.proofs.lemmas.Bool.{cases_lt, both_ways, and_from, or_parts, eqb-true}
@@ -12,6 +12,7 @@ use Rattle.flow_rules.specs.Patterns.{covers}
 use Rattle.flow_rules.specs.Tables.{IsClear}
 use Rattle.flow_rules.specs.declared.rules.Rule.{Rule}
 use Rattle.path_walk.specs.Outcomes.{header_at}
+use Rattle.path_walk.specs.Paths.{outcome_in}
 use Rattle.path_walk.specs.UserConfigs.{IsUserConfig}
 use Rattle.path_walk.specs.declared.Outcome.{Outcome}
 use Rattle.dest_classes.specs.Classes.{IsClass}
@@ -38,6 +39,7 @@ use Rattle.check_reasons.proofs.SameWalks.{was_on_walk, was_safe, NoneCovers, un
 use Rattle.mixed_walks.specs.Walks.{KeepVlansUpTo, TablesKeepVlans, IsRoundOf}
 use Rattle.mixed_walks.proofs.PlaceLaws.{tables_keep, on_walk_vlan}
 use Rattle.ordered_check.specs.Picks.{IsKeptPick}
+use Rattle.ordered_check.specs.Laws.{IsMissedAfter}
 use Rattle.ordered_check.specs.Kept.{is_marked, HoldsWalks, HoldsWalksBefore, touches_walk}
 use Rattle.ordered_check.proofs.MeaningLaws.{one_in_force}
 
@@ -76,6 +78,27 @@ module _ (u : Rollout) (k : ℕ) (class : Class) (marks : List Bool) (less : suc
 
   walks_still : HoldsWalks u (suc k) class marks
   walks_still place on = held place (was_on_walk u u k (suc k) class.first class.entry was place on)
+
+  only_before : (place : Place) → IsOnMixedWalk u (suc k) class.first class.entry place → IsOnMixedWalk u k class.first class.entry place
+  only_before = was_on_walk u u k (suc k) class.first class.entry was
+
+  decided : (place : Place) → IsOnMixedWalk u (suc k) class.first class.entry place → (found : Outcome) → IsPossible u (suc k) class.first place found ↔ (found ≡ outcome_in u.net (tables_before u (suc k)) place class.first)
+  decided place on found = unchanged_at u (suc k) class.first good clear place (none_covers place (only_before place on)) found
+
+-- ---- the same of an update all of whose rounds are good and clear
+
+module _ (u : Rollout) (k : ℕ) (class : Class) (marks : List Bool) (is : IsMissedAfter u k class marks) where
+  good_before : IsGoodRound (tables_before u k) (round_after k u.rounds)
+  good_before = let next = is.next in is.good k (omega arith)
+
+  pub was_walked : (place : Place) → IsOnMixedWalk u (suc k) class.first class.entry place → IsOnMixedWalk u k class.first class.entry place
+  was_walked = only_before u k class marks is.next good_before (is.good (suc k) is.next) (is.clear (suc k) is.next) is.old_keep is.rounds_keep is.walked is.missed
+
+  pub one_outcome : (place : Place) → IsOnMixedWalk u (suc k) class.first class.entry place → (found : Outcome) → IsPossible u (suc k) class.first place found ↔ (found ≡ outcome_in u.net (tables_before u (suc k)) place class.first)
+  one_outcome = decided u k class marks is.next good_before (is.good (suc k) is.next) (is.clear (suc k) is.next) is.old_keep is.rounds_keep is.walked is.missed
+
+  pub safe_after : (duties : PacketDuties) (numbers : List ℕ) (sets : List (List ℕ)) → IsSafe u k class.first class.entry duties numbers sets → IsSafe u (suc k) class.first class.entry duties numbers sets
+  safe_after = safe_still u k class marks is.next good_before (is.good (suc k) is.next) (is.clear (suc k) is.next) is.old_keep is.rounds_keep is.walked is.missed
 
 -- ---- the certificate
 

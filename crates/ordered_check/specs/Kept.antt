@@ -1,7 +1,7 @@
 -- What is kept of the classes of an ordered plan while its rounds are checked: beside the picks in force and what was found guarded
 -- the classes, and for each class its atom, the switches that its last walk came to, and whether it is settled; for each atom whether the round
--- touches it; and the classes that are walked together.
-use Rattle.std.specs.Prelude.{◌≡◌, ◌%◌, ◌&&◌, ℕ, zero, suc, Bool, true, false, IsTrue, List, length, slice_get, slice_index_or, Some}
+-- touches it, and whether its classes are looked at; and the classes that are walked together.
+use Rattle.std.specs.Prelude.{◌≡◌, ◌%◌, ◌<◌, ◌&&◌, ℕ, zero, suc, Bool, true, false, IsTrue, List, length, slice_get, slice_index_or, Some}
 use Rattle.std.specs.List.{list_any}
 use Rattle.net_base.specs.declared.ids.SwitchId.{SwitchId}
 use Rattle.net_base.specs.declared.ids.Place.{Place}
@@ -20,7 +20,7 @@ use Rattle.ordered_check.specs.Guarded.{GuardedState}
 use Rattle.ordered_check.specs.Picks.{PicksState, HasPickRoom}
 
 -- the class whose positions were found guarded last, the picks in force, the classes, for each class its atom, which switches its last walk came to and whether it is settled in the round, for each
--- atom whether the round touches it, and the classes that were taken last to be walked together
+-- atom whether the round touches it and whether its classes are looked at, and the classes that were taken last to be walked together
 pub record OrderedState : Type 0 where
   pub guarded : GuardedState
   pub picks : PicksState
@@ -28,6 +28,7 @@ pub record OrderedState : Type 0 where
   pub atoms : List ℕ
   pub came : List (List Bool)
   pub touched : List Bool
+  pub looked : List Bool
   pub settled : List Bool
   pub members : List NumberedClass
 
@@ -45,11 +46,12 @@ pub record AreAtoms (classes : ClassList) (list : List ℕ) : Type 0 where
   pub count : length list ≡ class_count classes
   pub each : (n atom : ℕ) → slice_get list n ≡ Some atom → atom ≡ n % atom_count classes
 
--- there is room for the pick, the marks and the settling of each class, and its atom is known
+-- there is room for the pick, the marks and the settling of each class, and its atom is known; where there are classes, there is a mark for each atom
 pub record HasClassRoom (classes : ClassList) (state : OrderedState) : Type 0 where
   pub picks : HasPickRoom classes state.picks
   pub classes_are : AreClasses classes state.classes
   pub atoms_are : AreAtoms classes state.atoms
+  pub looked : 0 < class_count classes → length state.looked ≡ atom_count classes
   pub came : length state.came ≡ class_count classes
   pub settled : length state.settled ≡ class_count classes
 
@@ -78,12 +80,13 @@ AreSettled t e k state =
     (n : ℕ) (class : Class) (marks : List Bool) (settled : Bool) → slice_get state.classes n ≡ Some class → slice_get state.came n ≡ Some marks → slice_get state.settled n ≡ Some settled
     → IsSettled t e k n class marks settled
 
--- the picks, the classes and the touched atoms are the same, and there is as much room
+-- the picks, the classes and the atoms that are touched or looked at are the same, and there is as much room
 pub record KeepsRoom (old new : OrderedState) : Type 0 where
   pub picks : new.picks ≡ old.picks
   pub classes : new.classes ≡ old.classes
   pub atoms : new.atoms ≡ old.atoms
   pub touched : new.touched ≡ old.touched
+  pub looked : new.looked ≡ old.looked
   pub came : length new.came ≡ length old.came
   pub settled : length new.settled ≡ length old.settled
 

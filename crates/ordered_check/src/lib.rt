@@ -4,7 +4,9 @@
 mod cases;
 mod guarded;
 mod judging;
+pub mod laws;
 mod least;
+mod looked;
 mod ordered;
 mod picks;
 mod together;

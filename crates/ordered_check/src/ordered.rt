@@ -17,6 +17,7 @@ ghost use Rattle.ordered_check.specs.Cases.{IsRound};
 ghost use Rattle.ordered_check.specs.Guarded.{HoldsGuarded};
 ghost use Rattle.ordered_check.specs.Picks.{IsKeptPick, PicksStand};
 ghost use Rattle.check_reasons.specs.AtomMarks.{AreTouched};
+ghost use Rattle.ordered_check.specs.Looked.{AreLookedAt};
 ghost use Rattle.ordered_check.specs.Kept.{is_marked, AreClasses, AreAtoms, HasClassRoom, HoldsWalks, WalksStand, IsSettled, AreSettled, KeepsRoom, touches_walk};
 ghost use Rattle.ordered_check.specs.Together.{IsMember, AreGathered};
 ghost use Rattle.ordered_check.specs.Firsts.{first_of, IsFirstOfClass, IsFoundBelow};
@@ -24,6 +25,7 @@ ghost use Rattle.ordered_check.specs.Firsts.{first_of, IsFirstOfClass, IsFoundBe
 use crate::cases::{OrderedCase, PreparedRound};
 use crate::guarded::Guarded;
 use crate::judging::first_of_class;
+use crate::looked::LookedAtoms;
 use crate::picks::PicksInForce;
 use crate::together::{Group, are_safe, group_of, is_other, settle_members, walk_members};
 use certificates::OrderedPick;
@@ -42,7 +44,8 @@ const MOST_COMPARED: usize = 64;
 
 /// Room for the classes of an ordered plan: walks, the class whose positions were found guarded last, and of each class its pick
 /// in force, the number of its atom, the switches that its last walk came to, and whether it is settled in the round that is
-/// judged; of each atom whether a change of the round touches it; and the classes that are walked together.
+/// judged; of each atom whether a change of the round touches it, and whether its classes are looked at in the round; and the
+/// classes that are walked together.
 #[derive(Drop)]
 pub struct OrderedRoom {
     walk: WalkRoom,
@@ -52,6 +55,7 @@ pub struct OrderedRoom {
     atoms: Vec<u32>,
     came: Vec<[bool; 128]>,
     touched: TouchedAtoms,
+    looked: LookedAtoms,
     settled: Vec<bool>,
     members: Vec<NumberedClass>,
 }
@@ -61,7 +65,7 @@ impl Model for OrderedRoom {
 
     ghost Value = { OrderedState };
 
-    ghost view = { λ r. record { guarded = r.guarded; picks = r.picks; classes = r.classes.items; atoms = r.atoms.items; came = r.came.items; touched = r.touched; settled = r.settled.items; members = r.members.items } };
+    ghost view = { λ r. record { guarded = r.guarded; picks = r.picks; classes = r.classes.items; atoms = r.atoms.items; came = r.came.items; touched = r.touched; looked = r.looked; settled = r.settled.items; members = r.members.items } };
 }
 
 /// The first of two reasons, where there are two and the second is of a later class.
@@ -103,6 +107,13 @@ fn all_atoms(alloc: Global, classes: &ClassMap) -> Result<Vec<u32>, Memory>
         list.push(number % classes.atoms())?;
     }
     Ok(list)
+}
+
+/// As many lists of marks, in none of which a switch is marked.
+fn no_marks(alloc: Global, count: usize) -> Result<Vec<[bool; 128]>, Memory>
+    ensures { IfOk result (λ list. length list.items ≡ count) }
+{
+    Ok(vec![in alloc; [false; 128]; count]?)
 }
 
 /// A mark for each switch below 128: whether it is one of these.
@@ -201,21 +212,22 @@ fn judge_class(
 }
 
 impl OrderedRoom {
-    /// Room for the classes of a map: less than 200 bytes for each, and 8192 for the atoms; beside that room for the walks of
-    /// any class twice, which is the same for each map.
+    /// Room for the classes of a map: less than 200 bytes for each, 8192 for the atoms and 5 for each of them; beside that room
+    /// for the walks of any class twice, which is the same for each map.
     pub fn make(alloc: Global, classes: &ClassMap) -> Result<OrderedRoom, Memory>
         ensures { IfOk result (HasClassRoom classes.now) }
     {
         Ok(OrderedRoom {
-            walk: WalkRoom::make(alloc)?,
-            guarded: Guarded::make(alloc)?,
-            picks: PicksInForce::make(alloc, classes.count())?,
             classes: all_classes(alloc, classes)?,
             atoms: all_atoms(alloc, classes)?,
-            came: vec![in alloc; [false; 128]; classes.count() as usize]?,
-            touched: TouchedAtoms::make(alloc)?,
+            came: no_marks(alloc, classes.count() as usize)?,
             settled: vec![in alloc; false; classes.count() as usize]?,
             members: Vec::with_capacity(alloc, classes.count() as usize)?,
+            touched: TouchedAtoms::make(alloc)?,
+            looked: LookedAtoms::make(alloc, classes)?,
+            picks: PicksInForce::make(alloc, classes.count())?,
+            guarded: Guarded::make(alloc)?,
+            walk: WalkRoom::make(alloc)?,
         })
     }
 
@@ -255,6 +267,7 @@ impl OrderedRoom {
         ensures classes { self.new.classes ≡ self.old.classes }
         ensures atoms { self.new.atoms ≡ self.old.atoms }
         ensures touched { self.new.touched ≡ self.old.touched }
+        ensures looked { self.new.looked ≡ self.old.looked }
         ensures settled { self.new.settled ≡ self.old.settled }
         ensures count { length self.new.came ≡ length self.old.came }
         ensures others { (n : ℕ) → n ≢ number → slice_get self.new.came n ≡ slice_get self.old.came n }
@@ -393,7 +406,8 @@ impl OrderedRoom {
         }
     }
 
-    /// Settles those classes that are kept safe by walks that are walked together, of one group after the other.
+    /// Settles those classes that are kept safe by walks that are walked together, of one group after the other. Only classes
+    /// whose atom is looked at are taken.
     fn settle(&mut self, of: &OrderedCase, round: &PreparedRound)
         requires round { IsRound of.now.task of.now.evidence round.now.number round.now.changes.now round.now.mixes.now }
         requires stands { PicksStand of.now.evidence.picks (suc round.now.number) self.old.picks }
@@ -405,17 +419,20 @@ impl OrderedRoom {
     {
         self.settled.fill(false);
         let of_host = of.classes_of_host();
-        for first in 0..of_host {
+        let mut first = self.looked.next_number(0, of_host);
+        'settling: while first < of_host {
             self.settle_group(of, round, first, of_host);
+            first = self.looked.next_number(first + 1, of_host);
         }
     }
 
-    /// The first reason why a class has no certificate in a round.
+    /// The first reason why a class has no certificate in a round. Classes whose atom isn't looked at have theirs.
     fn judge_classes(&mut self, of: &OrderedCase, round: &PreparedRound) -> Option<Reason>
         requires round { IsRound of.now.task of.now.evidence round.now.number round.now.changes.now round.now.mixes.now }
         requires stands { PicksStand of.now.evidence.picks (suc round.now.number) self.old.picks }
         requires room { HasClassRoom (classes_for of.now.task) self.old }
         requires touched { AreTouched (classes_for of.now.task) round.now.changes.now self.old.touched }
+        requires looked { AreLookedAt of.now.task of.now.evidence round.now.number self.old.looked }
         requires settled { AreSettled of.now.task of.now.evidence round.now.number self.old }
         ensures found { IsFoundBelow of.now.task of.now.evidence round.now.number (class_count (classes_for of.now.task)) result }
         ensures picks { self.new.picks ≡ self.old.picks }
@@ -424,10 +441,13 @@ impl OrderedRoom {
     {
         of.keeps_valid();
         self.guarded.forget();
+        let end = of.class_count();
         let mut found = None;
-        for number in 0..of.class_count() {
+        let mut number = self.looked.next_number(0, end);
+        'judging: while number < end {
             let reason = self.judge_number(of, round, number);
             found = first_of(found, reason);
+            number = self.looked.next_number(number + 1, end);
         }
         found
     }
@@ -438,8 +458,10 @@ impl OrderedRoom {
     /// that is found keeps them safe, none is walked alone. A class whose pick was in force in the round before is walked only
     /// where a change's prefix holds the class's address, and the round has more than 64 changes or such a change is at a
     /// switch that the walk of then came to and its VLAN test admits the VLAN of the class's entry. Only a class whose address
-    /// such a prefix holds is compared with the changes. Beside that and the walks a round takes time linear in the classes, in
-    /// its changes, and in the atoms in the prefix of each. Where classes follow one another that enter at one switch, have the
+    /// such a prefix holds is compared with the changes. After the first round only those classes are looked at whose atom a
+    /// change of the round touches, or has a class whose pick begins with the round: beside the walks a round takes time linear
+    /// in these classes, in the changes and the atoms in the prefix of each, in the picks that begin, and in the atoms; and a
+    /// byte is cleared for each class. Where classes follow one another that enter at one switch, have the
     /// same walks and use, and are covered by the same demands, the positions of their chains are looked at once, if they are
     /// 64 or more.
     pub fn judge_round(&mut self, of: &OrderedCase, mixes: &[Mixed], k: usize) -> Option<Reason>
@@ -458,7 +480,9 @@ impl OrderedRoom {
     {
         of.keeps_valid();
         let evidence = of.evidence;
-        self.picks.advance(evidence.picks.list(), (k + 1) as u32);
+        let picks = evidence.picks.list();
+        let taken = self.picks.taken();
+        self.picks.advance(picks, (k + 1) as u32);
         let case = of.case;
         let round = PreparedRound {
             number: k,
@@ -466,6 +490,8 @@ impl OrderedRoom {
             mixes,
         };
         self.touched.mark(case, of.class_map(), k);
+        let begun = self.picks.taken_since(picks, taken);
+        self.looked.choose(of, &round, &self.touched, begun);
         self.settle(of, &round);
         self.judge_classes(of, &round)
     }

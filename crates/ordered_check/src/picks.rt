@@ -1,5 +1,5 @@
 //! The picks of an ordered plan that are in force.
-ghost use Rattle.std.specs.Prelude.{◌≡◌, ℕ, ◌≤◌, ◌<◌, length, replicate, slice_get, slice_set, Some, None, IfOk};
+ghost use Rattle.std.specs.Prelude.{◌≡◌, ℕ, ◌-◌, ◌≤◌, ◌<◌, length, take, drop, replicate, slice_get, slice_set, Some, None, IfOk};
 ghost use Rattle.certificates.specs.Valid.{IsChain, IsPickBefore};
 ghost use Rattle.ordered_check.specs.Picks.{PicksStand};
 
@@ -59,11 +59,32 @@ impl PicksInForce {
         requires stands { (before : ℕ) × (before ≤ round) × PicksStand picks.now before self.old }
         ensures stands { PicksStand picks.now round self.new }
         ensures classes { length self.new.of_class ≡ length self.old.of_class }
+        ensures further { self.old.next ≤ self.new.next }
     {
         'taking: while self.next < picks.len() && picks[self.next].round <= round {
             note(&mut self.of_class, picks[self.next]);
             self.next += 1;
         }
+    }
+
+    /// How many picks were taken up.
+    pub(crate) fn taken(&self) -> usize
+        ensures { result ≡ self.now.next }
+    {
+        self.next
+    }
+
+    /// The picks that were taken up after the first so many.
+    pub(crate) fn taken_since<'a>(
+        &self,
+        picks: &'a [OrderedPick],
+        before: usize,
+    ) -> &'a [OrderedPick]
+        requires before { before ≤ self.now.next }
+        requires within { self.now.next ≤ length picks.now }
+        ensures { result.now ≡ take (self.now.next - before) (drop before picks.now) }
+    {
+        &picks[before..self.next]
     }
 
     /// The pick in force for a class, if a pick of the class has begun.

@@ -93,10 +93,10 @@ impl CheckRoom {
         let prefixes = prefixes_of(old, new, demands, &plan.rounds)?;
         let classes = class_map(alloc, net, &prefixes)?;
         let duties = Duties::make(alloc, net, demands, &classes)?;
-        let present = Present::make(alloc, net, &plan.rounds)?;
-        let ordered = OrderedRoom::make(alloc, &classes)?;
-        let two_phase = TwoPhaseRoom::make(alloc)?;
         let path = PathRoom::make(alloc, net)?;
+        let present = Present::make(alloc, net, &plan.rounds)?;
+        let two_phase = TwoPhaseRoom::make(alloc)?;
+        let ordered = OrderedRoom::make(alloc, &classes)?;
         Ok(CheckRoom {
             classes,
             duties,

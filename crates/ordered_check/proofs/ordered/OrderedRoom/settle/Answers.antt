@@ -6,4 +6,4 @@ use Rattle.ordered_check.proofs.ordered.OrderedRoom.settle.Goals as goal
 
 pub settle_group-requires-clause-touched : goal.settle_group-requires-clause-touched
 settle_group-requires-clause-touched c =
-    subst (AreTouched (classes_for c.args.of.now.task) c.args.round.now.changes.now) (sym (c.loop-first.invariant.room.touched ∙ ap (λ (s : OrderedState). s.touched) c.self.view_is)) c.requires.touched
+    subst (AreTouched (classes_for c.args.of.now.task) c.args.round.now.changes.now) (sym (c.settling.invariant.room.touched ∙ ap (λ (s : OrderedState). s.touched) c.self.view_is)) c.requires.touched

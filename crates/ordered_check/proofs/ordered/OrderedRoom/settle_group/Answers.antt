@@ -54,6 +54,7 @@ returns-then-are_safe-clause-settled c =
       atoms = inside.atoms.items;
       came = inside.came.items;
       touched = inside.touched;
+      looked = inside.looked;
       settled = inside.settled.items;
       members = inside.members.items;
     } in
