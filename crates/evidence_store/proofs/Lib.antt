@@ -9,3 +9,4 @@ pub mod PositionLaws
 pub mod LeastLaws
 pub mod GuardLaws
 pub mod EvidenceLaws
+pub mod LastLaws

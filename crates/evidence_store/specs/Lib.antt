@@ -5,3 +5,4 @@ pub mod Keys
 pub mod Kept
 pub mod Found
 pub mod Guards
+pub mod Last

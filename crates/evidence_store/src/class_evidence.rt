@@ -1,5 +1,5 @@
 //! Evidence that keeps a class safe in a round of an ordered plan.
-ghost use Rattle.std.specs.Prelude.{◌≡◌, ◌↔◌, ℕ, ◌<◌, ◌≤◌, List, length, All, IsTrue, IfOk, slice_get, Some};
+ghost use Rattle.std.specs.Prelude.{◌≡◌, ◌↔◌, ℕ, ◌<◌, ◌≤◌, List, length, All, IsTrue, IfOk, OnOk, slice_get, Some};
 ghost use Rattle.std.specs.List.{AllByRecursion, AllZip};
 ghost use Rattle.topology.specs.Networks.{switch_count};
 ghost use Rattle.dest_classes.specs.Classes.{class_count};
@@ -9,8 +9,9 @@ ghost use Rattle.certificates.specs.Ordered.{IsSafe};
 ghost use Rattle.dest_classes.specs.Numbered.{IsNumbered};
 ghost use Rattle.mixed_walks.specs.Walks.{IsWalked};
 ghost use Rattle.evidence_store.specs.Found.{IsFound};
+ghost use Rattle.evidence_store.specs.Last.{HoldsLast};
 
-use crate::least::least_befores;
+use crate::last_sets::LastSets;
 use crate::safe::{all_lower, drops_what_must_arrive, guards_all};
 use acyclic_numbering::{Numbered, Numbering};
 use certificates::Befores;
@@ -61,6 +62,29 @@ pub fn evidence_of(
     ensures { IfOk result (λ found. (u : Rollout) (k : ℕ) → u.net ≡ net.now → IsWalked u k numbered.class.first numbered.class.entry walk.now
         → IsFound u k numbered.class (duties_of duties.now.demands numbered.class.entry numbered.class.first) found) }
 {
+    let mut last = LastSets::none();
+    evidence_by_last(alloc, net, walk, duties, numbered, &mut last)
+}
+
+/// The evidence of `evidence_of`. Where the class has the start, the duties and the walks of the one for which the least
+/// before sets were found last, it takes these.
+pub fn evidence_by_last(
+    alloc: Global,
+    net: &Net,
+    walk: &WalkRoom,
+    duties: &Duties,
+    numbered: NumberedClass,
+    last: &mut LastSets,
+) -> Result<Option<ClassEvidence>, Memory>
+    requires number { numbered.number < class_count duties.now.classes }
+    requires class { IsNumbered duties.now.classes numbered }
+    requires entry { numbered.class.entry.switch.0 < switch_count net.now }
+    requires walked { (u : Rollout) × (k : ℕ) × (u.net ≡ net.now) × IsWalked u k numbered.class.first numbered.class.entry walk.now }
+    requires last { HoldsLast net.now duties.now last.old }
+    ensures found { IfOk result (λ found. (u : Rollout) (k : ℕ) → u.net ≡ net.now → IsWalked u k numbered.class.first numbered.class.entry walk.now
+        → IsFound u k numbered.class (duties_of duties.now.demands numbered.class.entry numbered.class.first) found) }
+    ensures last { OnOk result (HoldsLast net.now duties.now last.new) }
+{
     net.keeps_rules();
     if drops_what_must_arrive(duties, numbered, walk) {
         return Ok(None);
@@ -69,7 +93,7 @@ pub fn evidence_of(
     let Numbered::Heights(numbering) = heights else {
         return Ok(None);
     };
-    let Some(befores) = least_befores(alloc, net, walk, duties, numbered)? else {
+    let Some(befores) = last.least_befores(alloc, net, walk, duties, numbered)? else {
         return Ok(None);
     };
     keeps_range(numbering.list());

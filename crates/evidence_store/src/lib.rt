@@ -12,6 +12,7 @@ ghost use Rattle.evidence_store.specs.Stored.{IsStored, IsWithPick, no_evidence}
 
 mod class_evidence;
 mod keys;
+mod last_sets;
 mod least;
 mod safe;
 mod uses;
@@ -20,7 +21,8 @@ use crate::keys::Keys;
 use crate::uses::add_use;
 use acyclic_numbering::Numbering;
 use certificates::{Befores, Numberings, OrderedEvidence, OrderedPick, OrderedPicks, Uses};
-pub use class_evidence::{ClassEvidence, NamedEvidence, evidence_of, keeps_safe};
+pub use class_evidence::{ClassEvidence, NamedEvidence, evidence_by_last, evidence_of, keeps_safe};
+pub use last_sets::LastSets;
 use net_base::Memory;
 use std::alloc::Global;
 use std::marker::Model;

@@ -30,7 +30,7 @@ fn add_numbering(
 }
 
 /// The same set once more.
-fn copied(before: &Before) -> Before
+pub(crate) fn copied(before: &Before) -> Before
     ensures { result ≡ before.now }
 {
     let marks = before.marks();

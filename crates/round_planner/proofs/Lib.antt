@@ -7,6 +7,7 @@ pub mod DifferingLaws
 pub mod TreeSearch
 pub mod UserTables
 pub mod EndLaws
+pub mod LastLaws
 pub mod JudgingLaws
 pub mod PickingLaws
 pub mod SearchingLaws

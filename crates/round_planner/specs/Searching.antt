@@ -12,7 +12,7 @@ use Rattle.update_model.specs.Changes.{tables_after}
 use Rattle.update_model.specs.Remaining.{remaining}
 use Rattle.update_model.specs.declared.Change.{Change}
 use Rattle.certificates.specs.declared.Evidence.TheVariants as evidence
-use Rattle.certificates.specs.declared.Plan.{Plan}
+use Rattle.certificates.specs.declared.OrderedEvidence.{OrderedEvidence}
 use Rattle.evidence_store.specs.State.{StoreState}
 use Rattle.round_tables.specs.Trials.{TrialState, IsSettled, IsTrying}
 use Rattle.round_planner.specs.declared.Ordered.{Ordered}
@@ -105,11 +105,11 @@ abbrev pub IsEnded : Aim → List (List Rule) → SearchState → Bool → Type 
 IsEnded aim old s true = (changes : List Change) × IsAt aim old changes s × EndsOrdered aim old changes
 IsEnded aim old s false = (changes : List Change) × IsAt aim old changes s × EndsStuck aim old changes
 
--- the plan of the rounds so far
-abbrev pub plan_by : SearchState → Plan
-plan_by s = record { rounds = s.rounds; evidence = evidence.Ordered s.store.evidence }
+-- the plan of these rounds and this evidence where no change remains, otherwise the rounds
+abbrev pub answer_of : List (List Change) → OrderedEvidence → Bool → Ordered
+answer_of rounds stored true = Rounds (record { rounds = rounds; evidence = evidence.Ordered stored })
+answer_of rounds stored false = Stuck rounds
 
 -- the answer of a search that has ended: the plan where no change remains, the rounds where it is stuck
 abbrev pub answer_by : SearchState → Bool → Ordered
-answer_by s true = Rounds (plan_by s)
-answer_by s false = Stuck s.rounds
+answer_by s none_remains = answer_of s.rounds s.store.evidence none_remains

@@ -1,5 +1,5 @@
 -- Where a search stands, and what is found while a change is tried.
-use Rattle.std.specs.Prelude.{◌≡◌, ◌⊎◌, ℕ, ◌<◌, ◌≤◌, List, [], ◌∷◌, length}
+use Rattle.std.specs.Prelude.{◌≡◌, ◌⊎◌, ℕ, ◌<◌, ◌≤◌, List, [], ◌∷◌, length, Option}
 use Rattle.std.specs.List.{AllByRecursion}
 use Rattle.net_base.specs.Members.{IsIn}
 use Rattle.net_base.specs.declared.ids.SwitchId.{SwitchId}
@@ -15,6 +15,7 @@ use Rattle.certificates.specs.Ordered.{IsSafe, OrderedCertificate}
 use Rattle.certificates.specs.Valid.{IsChain, IsValidNumbering, IsValidBefore}
 use Rattle.certificates.specs.declared.OrderedEvidence.{OrderedEvidence}
 use Rattle.evidence_store.specs.Found.{IsSafeEvidence}
+use Rattle.evidence_store.specs.Last.{SetsState, HoldsLast}
 use Rattle.evidence_store.specs.Stored.{IsWithPick}
 use Rattle.round_planner.specs.declared.judging.Found.{Found}
 use Rattle.round_planner.specs.declared.judging.Judged.{Judged}
@@ -53,6 +54,10 @@ pub record IsNextRound (aim : Aim) (u : Rollout) (e : OrderedEvidence) (k : ℕ)
 pub record IsUnsafe (aim : Aim) (u : Rollout) (k : ℕ) (f : UnsafeClass) : Type 0 where
   pub never : (numbers : List ℕ) (sets : List (List ℕ)) → ¬ IsSafe u k f.class.first f.class.entry (duties_in aim f.class) numbers sets
   pub visits : (place : Place) → IsOnMixedWalk u k f.class.first f.class.entry place → IsVisited f.visited place.switch
+
+-- the least before sets that were found last, if any were, are those of a class
+abbrev pub HoldsLastOf : Aim → Option SetsState → Type 0
+HoldsLastOf aim last = HoldsLast aim.net (record { demands = aim.demands; classes = aim.classes }) last
 
 -- what is found for a class in round k: the pick in force keeps it safe, or it fails and new evidence does, or nothing does
 abbrev pub IsJudged : Aim → Rollout → OrderedEvidence → ℕ → ℕ → Class → Judged → Type 0

@@ -13,7 +13,7 @@ ghost use Rattle.dest_classes.specs.Numbered.{IsNumbered};
 ghost use Rattle.mixed_walks.specs.Walks.{IsRoundOf, IsWalked};
 ghost use Rattle.round_planner.specs.Search.{duties_in};
 ghost use Rattle.round_planner.specs.declared.judging.Found.{Found as FoundOf};
-ghost use Rattle.round_planner.specs.Standing.{IsNextRound, IsCertifiedClass, IsJudged, IsJudgedIfMet, IsNewlySafe, AreJudged, AreMetJudged};
+ghost use Rattle.round_planner.specs.Standing.{IsNextRound, IsCertifiedClass, IsJudged, IsJudgedIfMet, IsNewlySafe, AreJudged, AreMetJudged, HoldsLastOf};
 ghost use Rattle.round_planner.specs.Visits.{marks_at, HoldsWalks, HoldsTables, HoldTables, HoldRound, HoldAfter};
 
 use crate::came::Came;
@@ -22,7 +22,9 @@ use crate::goal::Goal;
 use acyclic_numbering::Numbering;
 use certificates::{OrderedEvidence, Shared};
 use dest_classes::{Class, NumberedClass};
-use evidence_store::{ClassEvidence, EvidenceStore, NamedEvidence, evidence_of, keeps_safe};
+use evidence_store::{
+    ClassEvidence, EvidenceStore, LastSets, NamedEvidence, evidence_by_last, keeps_safe,
+};
 use mixed_walks::WalkRoom;
 use net_base::Memory;
 use round_mix::Mixed;
@@ -148,6 +150,7 @@ fn judge_class(
     walk: &mut WalkRoom,
     tried: &Tried,
     came: &mut Came,
+    last: &mut LastSets,
     numbered: NumberedClass,
 ) -> Result<Judged, Memory>
     requires number { numbered.number < class_count goal.now.classes }
@@ -156,6 +159,7 @@ fn judge_class(
     requires numberings { AllByRecursion (IsValidNumbering goal.now.net) tried.now.store.now.evidence.numberings }
     requires classes { tried.now.store.now.classes ≡ class_count goal.now.classes }
     requires came { length came.old ≡ class_count goal.now.classes }
+    requires last { HoldsLastOf goal.now last.old }
     ensures judged { IfOk result (λ judged. (u : Rollout) (k : ℕ) → IsRoundOf goal.now.net tried.now.mixes.now u k
         → IsNextRound goal.now u tried.now.store.now.evidence k tried.now.change.now
         → IsJudged goal.now u tried.now.store.now.evidence k numbered.number numbered.class judged) }
@@ -163,6 +167,7 @@ fn judge_class(
         → HoldsWalks u k numbered.class (marks_at came.new numbered.number)) }
     ensures count { length came.new ≡ length came.old }
     ensures others { (n : ℕ) → n ≢ numbered.number → marks_at came.new n ≡ marks_at came.old n }
+    ensures last { OnOk result (HoldsLastOf goal.now last.new) }
 {
     goal.net.keeps_rules();
     let visited = walk_class(goal, walk, tried.mixes, numbered.class);
@@ -170,7 +175,7 @@ fn judge_class(
     if is_kept(goal, walk, tried.store, numbered) {
         return Ok(Judged::Kept);
     }
-    match evidence_of(alloc, goal.net, walk, goal.duties, numbered)? {
+    match evidence_by_last(alloc, goal.net, walk, goal.duties, numbered, last)? {
         Some(evidence) => Ok(Judged::New(evidence)),
         None => Ok(Judged::Unsafe(UnsafeClass {
             class: numbered.class,
@@ -187,6 +192,7 @@ fn judge_if_met(
     walk: &mut WalkRoom,
     tried: &Tried,
     came: &mut Came,
+    last: &mut LastSets,
     number: u32,
 ) -> Result<Judged, Memory>
     requires number { number < class_count goal.now.classes }
@@ -194,6 +200,7 @@ fn judge_if_met(
     requires numberings { AllByRecursion (IsValidNumbering goal.now.net) tried.now.store.now.evidence.numberings }
     requires classes { tried.now.store.now.classes ≡ class_count goal.now.classes }
     requires came { length came.old ≡ class_count goal.now.classes }
+    requires last { HoldsLastOf goal.now last.old }
     ensures judged { IfOk result (λ judged. (u : Rollout) (k : ℕ) (class : Class) → IsRoundOf goal.now.net tried.now.mixes.now u k → IsClass goal.now.classes number class
         → IsNextRound goal.now u tried.now.store.now.evidence k tried.now.change.now → HoldsTables u.net (tables_before u k) class (marks_at came.old number)
         → IsJudgedIfMet goal.now u tried.now.store.now.evidence k number class judged) }
@@ -202,12 +209,13 @@ fn judge_if_met(
         → HoldsWalks u k class (marks_at came.new number)) }
     ensures count { length came.new ≡ length came.old }
     ensures others { (n : ℕ) → n ≢ number → marks_at came.new n ≡ marks_at came.old n }
+    ensures last { OnOk result (HoldsLastOf goal.now last.new) }
 {
     let numbered = goal.numbered(number);
     if !came.of(number).meets(numbered.class, tried.change) {
         return Ok(Judged::Kept);
     }
-    judge_class(alloc, goal, walk, tried, came, numbered)
+    judge_class(alloc, goal, walk, tried, came, last, numbered)
 }
 
 /// What is found for the classes whose packets the change covers at a switch that they come to, class by class, up to the
@@ -229,9 +237,10 @@ fn judge_met(
     ensures count { length came.new ≡ length came.old }
 {
     let numbers = goal.covered(alloc, tried.change)?;
+    let mut last = LastSets::none();
     let mut found = Vec::new(alloc);
     for number in &numbers {
-        match judge_if_met(alloc, goal, walk, tried, came, *number)? {
+        match judge_if_met(alloc, goal, walk, tried, came, &mut last, *number)? {
             Judged::Kept => {}
             Judged::New(evidence) => found.push(Found {
                 class: *number,
@@ -261,6 +270,7 @@ fn judge_next(
     walk: &mut WalkRoom,
     tried: &Tried,
     came: &mut Came,
+    last: &mut LastSets,
     before: &mut Vec<Found>,
     number: u32,
 ) -> Result<Judged, Memory>
@@ -269,6 +279,7 @@ fn judge_next(
     requires numberings { AllByRecursion (IsValidNumbering goal.now.net) tried.now.store.now.evidence.numberings }
     requires classes { tried.now.store.now.classes ≡ class_count goal.now.classes }
     requires came { length came.old ≡ class_count goal.now.classes }
+    requires last { HoldsLastOf goal.now last.old }
     ensures judged { IfOk result (λ judged. (u : Rollout) (k : ℕ) (class : Class) → IsRoundOf goal.now.net tried.now.mixes.now u k → IsClass goal.now.classes number class
         → IsNextRound goal.now u tried.now.store.now.evidence k tried.now.change.now → AllByRecursion (IsNewlySafe goal.now u tried.now.store.now.evidence k) before.old.items
         → IsJudged goal.now u tried.now.store.now.evidence k number class judged) }
@@ -277,12 +288,13 @@ fn judge_next(
     ensures before { (f : FoundOf) → IsIn f before.new.items → IsIn f before.old.items }
     ensures count { length came.new ≡ length came.old }
     ensures others { (n : ℕ) → n ≢ number → marks_at came.new n ≡ marks_at came.old n }
+    ensures last { OnOk result (HoldsLastOf goal.now last.new) }
 {
     if let Some(evidence) = take_last(before, number) {
         return Ok(Judged::New(evidence));
     }
     let alloc = *before.allocator();
-    judge_class(alloc, goal, walk, tried, came, goal.numbered(number))
+    judge_class(alloc, goal, walk, tried, came, last, goal.numbered(number))
 }
 
 /// What is found for all classes, class by class, where something was found before for some of them. It is looked for in the
@@ -306,9 +318,10 @@ fn judge_rest(
 {
     let mut before = met;
     before.reverse();
+    let mut last = LastSets::none();
     let mut found = Vec::new(alloc);
     for number in 0..goal.classes.count() {
-        match judge_next(goal, walk, tried, came, &mut before, number)? {
+        match judge_next(goal, walk, tried, came, &mut last, &mut before, number)? {
             Judged::Kept => {}
             Judged::New(evidence) => found.push(Found {
                 class: number,

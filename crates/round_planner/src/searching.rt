@@ -15,7 +15,7 @@ ghost use Rattle.round_planner.specs.Search.{IsFirstQualifying, update_by};
 ghost use Rattle.round_planner.specs.Standing.{Stands, AreSafeBelow};
 ghost use Rattle.round_planner.specs.declared.left.Left.{Left as LeftOf};
 ghost use Rattle.round_planner.specs.Failures.{HasStanding, AreLeft};
-ghost use Rattle.round_planner.specs.Searching.{IsAt, IsTried, IsLeftTried, IsPlaced, IsMoved, IsTryingAt, IsEnded, plan_by, answer_by};
+ghost use Rattle.round_planner.specs.Searching.{IsAt, IsTried, IsLeftTried, IsPlaced, IsMoved, IsTryingAt, IsEnded, answer_of, answer_by};
 
 use crate::Ordered;
 use crate::came::Came;
@@ -55,6 +55,20 @@ impl Model for Search {
     ghost view = { λ s. record { trial = s.trial; rounds = s.rounds; store = s.store; came = s.came } };
 }
 
+/// The plan of these rounds with the evidence that is stored where no change remains, otherwise the rounds.
+fn answer_of(rounds: Rounds, store: EvidenceStore, none_remains: bool) -> Ordered
+    ensures { result ≡ answer_of rounds store.evidence none_remains }
+{
+    if none_remains {
+        Ordered::Rounds(Plan {
+            rounds,
+            evidence: Evidence::Ordered(store.into_evidence()),
+        })
+    } else {
+        Ordered::Stuck(rounds)
+    }
+}
+
 impl Search {
     /// A search that has made no change.
     pub(crate) fn make(alloc: Global, goal: &Goal, old: &Config) -> Result<Search, Memory>
@@ -63,12 +77,12 @@ impl Search {
         ensures few { IfOk result (λ s. s.store.classes ≤ 8192) }
     {
         goal.net.keeps_rules();
-        let trial = TrialTables::make(alloc, goal.net, old)?;
-        let rounds = Rounds::make(alloc)?;
         let count = goal.classes.count();
-        let store = EvidenceStore::make(alloc, count)?;
-        let walk = WalkRoom::make(alloc)?;
+        let rounds = Rounds::make(alloc)?;
         let came = Came::all(alloc, count)?;
+        let walk = WalkRoom::make(alloc)?;
+        let trial = TrialTables::make(alloc, goal.net, old)?;
+        let store = EvidenceStore::make(alloc, count)?;
         Ok(Search {
             trial,
             rounds,
@@ -216,24 +230,10 @@ impl Search {
         Ok(true)
     }
 
-    /// The plan of the rounds so far.
-    fn into_plan(self) -> Plan
-        ensures { result ≡ plan_by self }
-    {
-        Plan {
-            rounds: self.rounds,
-            evidence: Evidence::Ordered(self.store.into_evidence()),
-        }
-    }
-
     /// The answer: the plan where no change remains, otherwise the rounds.
     pub(crate) fn into_answer(self, none_remains: bool) -> Ordered
         ensures { result ≡ answer_by self none_remains }
     {
-        if none_remains {
-            Ordered::Rounds(self.into_plan())
-        } else {
-            Ordered::Stuck(self.rounds)
-        }
+        answer_of(self.rounds, self.store, none_remains)
     }
 }

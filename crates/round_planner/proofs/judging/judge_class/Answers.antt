@@ -9,6 +9,7 @@ use Rattle.evidence_store.specs.declared.class_evidence.ClassEvidence.{ClassEvid
 use Rattle.round_planner.specs.Search.{Aim, duties_in}
 use Rattle.round_planner.specs.Visits.{marks_at, HoldsWalks}
 use Rattle.round_planner.proofs.JudgingLaws.{picks_up_to, round_here, numbered_within}
+use Rattle.round_planner.proofs.LastLaws.{last_here, last_back}
 use Rattle.round_planner.proofs.VisitLaws.{put_there}
 use Rattle.round_planner.proofs.judging.judge_class.Goals as goal
 
@@ -23,15 +24,27 @@ walk_class-visited-requires-clause-entry c =
 pub is_kept-requires-clause-walked : goal.is_kept-requires-clause-walked
 is_kept-requires-clause-walked c = let (u, k, round) = c.requires.round in (u, k, round.net_is, c.walk_class-visited.ensures.walked u k round)
 
-pub evidence_of-requires-clause-walked : goal.evidence_of-requires-clause-walked
-evidence_of-requires-clause-walked c =
+pub evidence_by_last-requires-clause-walked : goal.evidence_by_last-requires-clause-walked
+evidence_by_last-requires-clause-walked c =
     let (u, k, round) = c.requires.round in
     let here = round_here c.args.goal.now.net c.goal.inside.net.now (ap (λ (a : Aim). a.net) c.goal.view_is) c.args.tried.now.mixes.now u k round in
     (u, k, here.net_is, c.walk_class-visited.ensures.walked u k round)
 
-pub evidence_of-requires-clause-entry : goal.evidence_of-requires-clause-entry
-evidence_of-requires-clause-entry c =
+pub evidence_by_last-requires-clause-entry : goal.evidence_by_last-requires-clause-entry
+evidence_by_last-requires-clause-entry c =
     numbered_within c.goal.inside.net.now c.keeps_rules.ensures c.args.goal.now.classes c.goal.inside.classes.now (ap (λ (a : Aim). a.classes) c.goal.view_is) c.goal.invariant.hosts c.args.numbered c.requires.class
+
+pub evidence_by_last-requires-clause-last : goal.evidence_by_last-requires-clause-last
+evidence_by_last-requires-clause-last c =
+    last_here c.args.goal.now c.goal.inside.net.now c.goal.inside.new.now c.goal.inside.duties.now c.goal.inside.classes.now c.goal.view_is c.goal.invariant.duties_of_them c.args.last.now c.requires.last
+
+pub returns-in-Some-clause-last : goal.returns-in-Some-clause-last
+returns-in-Some-clause-last c =
+    last_back c.args.goal.now c.goal.inside.net.now c.goal.inside.new.now c.goal.inside.duties.now c.goal.inside.classes.now c.goal.view_is c.goal.invariant.duties_of_them c.evidence_by_last.new.last c.in_ok-evidence.ensures.last
+
+pub returns-in-None-clause-last : goal.returns-in-None-clause-last
+returns-in-None-clause-last c =
+    last_back c.args.goal.now c.goal.inside.net.now c.goal.inside.new.now c.goal.inside.duties.now c.goal.inside.classes.now c.goal.view_is c.goal.invariant.duties_of_them c.evidence_by_last.new.last c.in_ok-evidence.ensures.last
 
 pub returns-then-is_kept-clause-judged : goal.returns-then-is_kept-clause-judged
 returns-then-is_kept-clause-judged c = λ u k round next.
@@ -52,7 +65,7 @@ returns-in-Some-clause-judged c = λ u k round next.
     let walked = c.walk_class-visited.ensures.walked u k round in (
       λ certified. absurd (false≢true (sym c.if-is_kept.false ∙ (c.is_kept.ensures u k round.net_is walked begun).1 certified)),
       found_for aim c.goal.inside.duties.now.demands (ap (λ (a : Aim). a.demands) c.goal.view_is) u k c.args.numbered.class c.in_ok-evidence.field-0 (Some c.in-Some.evidence) c.in-Some.is
-          (c.in_ok-evidence.ensures u k here.net_is walked),
+          (c.in_ok-evidence.ensures.found u k here.net_is walked),
     )
 
 pub returns-in-None-clause-judged : goal.returns-in-None-clause-judged
@@ -62,7 +75,7 @@ returns-in-None-clause-judged c = λ u k round next.
     let walked = c.walk_class-visited.ensures.walked u k round in (
       refl,
       record {
-        never = found_for aim c.goal.inside.duties.now.demands (ap (λ (a : Aim). a.demands) c.goal.view_is) u k c.args.numbered.class c.in_ok-evidence.field-0 None c.in-None.is (c.in_ok-evidence.ensures u k here.net_is walked);
+        never = found_for aim c.goal.inside.duties.now.demands (ap (λ (a : Aim). a.demands) c.goal.view_is) u k c.args.numbered.class c.in_ok-evidence.field-0 None c.in-None.is (c.in_ok-evidence.ensures.found u k here.net_is walked);
         visits = c.walk_class-visited.ensures.visits u k round;
       },
     )

@@ -16,7 +16,7 @@ use Rattle.round_planner.proofs.judging.judge_met.Goals as goal
 
 pub loop-number-init : goal.loop-number-init
 loop-number-init c = (
-  refl,
+  (refl, c.none-last.ensures c.args.goal.now.net (record { demands = c.args.goal.now.demands; classes = c.args.goal.now.classes })),
   (
     0,
     omega arith,
@@ -40,7 +40,7 @@ judge_if_met-requires-clause-number c =
     each_at (λ n. n < class_count c.args.goal.now.classes) numbers (get_or numbers c.loop-number.number-index 0) within (in_at numbers c.loop-number.number-index 0 c.loop-number-test.true)
 
 pub judge_if_met-requires-clause-came : goal.judge_if_met-requires-clause-came
-judge_if_met-requires-clause-came c = c.loop-number.invariant.0 ∙ c.requires.came
+judge_if_met-requires-clause-came c = c.loop-number.invariant.0.0 ∙ c.requires.came
 
 pub returns-in-Unsafe-clause-judged : goal.returns-in-Unsafe-clause-judged
 returns-in-Unsafe-clause-judged c u k round next held =
@@ -80,7 +80,7 @@ loop-number-preserved c =
     let (below, fits, past, so_far) = c.loop-number.invariant.1 in
     let left = subst (IsPast (IsCovered aim change) below) (drop_more numbers i 0 c.loop-number-test.true) past in
     let from = left.above.0 in (
-      judged.count ∙ c.loop-number.invariant.0,
+      (judged.count ∙ c.loop-number.invariant.0.0, judged.last),
       (
         number + 1,
         omega arith,

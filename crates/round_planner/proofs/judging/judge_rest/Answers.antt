@@ -13,7 +13,7 @@ use Rattle.round_planner.proofs.judging.judge_rest.Goals as goal
 
 pub loop-number-init : goal.loop-number-init
 loop-number-init c = (
-  refl,
+  (refl, c.none-last.ensures c.args.goal.now.net (record { demands = c.args.goal.now.demands; classes = c.args.goal.now.classes })),
   λ u k round next met held.
       let new = IsNewlySafe c.args.goal.now u c.args.tried.now.store.now.evidence k in (
         subst (AreSafeBelow c.args.goal.now u c.args.tried.now.store.now.evidence k 0) (sym c.new-found.ensures.items) (safe_none c.args.goal.now u c.args.tried.now.store.now.evidence k),
@@ -28,7 +28,7 @@ judge_next-requires-clause-number c =
     omega (arith, c.loop-number-test.true)
 
 pub judge_next-requires-clause-came : goal.judge_next-requires-clause-came
-judge_next-requires-clause-came c = c.loop-number.invariant.0 ∙ c.requires.came
+judge_next-requires-clause-came c = c.loop-number.invariant.0.0 ∙ c.requires.came
 
 pub returns-in-Unsafe : goal.returns-in-Unsafe
 returns-in-Unsafe c u k round next met held =
@@ -47,7 +47,7 @@ returns-in-Unsafe c u k round next met held =
 pub loop-number-preserved : goal.loop-number-preserved
 loop-number-preserved c =
     let judged = c.in_ok-judge_next.ensures in (
-      judged.count ∙ c.loop-number.invariant.0,
+      (judged.count ∙ c.loop-number.invariant.0.0, judged.last),
       λ u k round next met held.
           let aim = c.args.goal.now in
           let e = c.args.tried.now.store.now.evidence in
