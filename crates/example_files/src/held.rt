@@ -22,6 +22,15 @@ pub struct UpdateTexts<'a> {
     pub policy: &'a [u8],
 }
 
+/// The words of a command line.
+pub fn words(alloc: Global, texts: &[&str]) -> Result<Vec<String>, Memory> {
+    let mut words = Vec::new(alloc);
+    for text in texts {
+        words.push(String::from_str(alloc, text)?)?;
+    }
+    Ok(words)
+}
+
 /// The names by which the files of an update are held.
 pub fn update_names() -> UpdateNames<'static> {
     UpdateNames {

@@ -1,5 +1,7 @@
 //! One switch with so many ports and VLANs that few prefixes make many classes.
 
+use crate::held::UpdateTexts;
+use crate::none::no_demands;
 use net_base::Memory;
 use std::alloc::Global;
 
@@ -24,4 +26,14 @@ pub fn two_blocks() -> &'static [u8] {
 /// A rule for some addresses between others.
 pub fn three_blocks() -> &'static [u8] {
     br#"{"rules":[{"switch":"a","priority":100,"dst":"10.0.0.0/24","out":"drop"}]}"#
+}
+
+/// An update of such a network that changes nothing, of 12288 classes.
+pub fn update(topology: &[u8]) -> UpdateTexts<'_> {
+    UpdateTexts {
+        topology,
+        old: three_blocks(),
+        new: three_blocks(),
+        policy: no_demands(),
+    }
 }

@@ -3,7 +3,7 @@ ghost use Rattle.std.specs.Prelude.{◌≤◌};
 
 use command_base::Status;
 use example_files::{
-    Answer, ConfigTexts, UpdateTexts, config_source, driven_source, square, update_source,
+    Answer, ConfigTexts, UpdateTexts, config_source, driven_source, square, update_source, words,
 };
 use net_base::{MemorySink, MemorySource};
 use planner_run::run::run;
@@ -29,15 +29,6 @@ const NO_RUN: &[u8] = b"no run: every mixed walk is good\n";
 const SAMPLE_LINE: &[u8] =
     b"sample 4: ordered, 12 rounds, 24 classes, 21 numberings, 32 picks, accepted\n";
 
-fn words(rt: &impl Abort, alloc: Global, texts: &[&str]) -> Vec<String> {
-    let mut words = Vec::new(alloc);
-    for text in texts {
-        let word = String::from_str(alloc, text).expect(rt, "memory");
-        words.push(word).expect(rt, "memory");
-    }
-    words
-}
-
 /// The topology and a configuration of the square, without a policy. The call of the given number fails.
 fn held(rt: &impl Abort, alloc: Global, topology: &[u8], piece: usize, failing: u64) -> MemorySource
     requires { 1 ≤ piece }
@@ -53,10 +44,8 @@ fn held(rt: &impl Abort, alloc: Global, topology: &[u8], piece: usize, failing: 
 /// The update of the square with another text in the place of the policy, and its plan.
 fn held_beside(rt: &impl Abort, alloc: Global, text: &[u8]) -> MemorySource {
     let texts = UpdateTexts {
-        topology: square::topology(),
-        old: square::old(),
-        new: square::new(),
         policy: text,
+        ..square::update()
     };
     update_source(alloc, &texts, square::plan(), 4096, 0).expect(rt, "a source")
 }
@@ -77,7 +66,7 @@ fn ran(
     source: &mut MemorySource,
     sink: &mut MemorySink,
 ) -> Answer {
-    let words = words(rt, alloc, texts);
+    let words = words(alloc, texts).expect(rt, "memory");
     let status = run(alloc, &words, source, sink);
     let text = sink.bytes().to_vec(alloc).expect(rt, "memory");
     Answer { status, text }

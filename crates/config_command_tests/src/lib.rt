@@ -1,5 +1,0 @@
-//! Tests of the command `config`.
-#![tactic(auto)]
-
-#[cfg(test)]
-mod tests;

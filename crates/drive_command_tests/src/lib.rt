@@ -1,5 +1,0 @@
-//! Tests of the command `drive`.
-#![tactic(auto)]
-
-#[cfg(test)]
-mod tests;

@@ -1,5 +1,0 @@
-//! Tests of the command `emit`.
-#![tactic(auto)]
-
-#[cfg(test)]
-mod tests;

@@ -1,5 +1,0 @@
-//! Tests of the command `import`.
-#![tactic(auto)]
-
-#[cfg(test)]
-mod tests;

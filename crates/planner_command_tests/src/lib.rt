@@ -1,0 +1,11 @@
+//! Tests of `plan` and `sample`, and of `check` on what was planned.
+#![tactic(auto)]
+
+#[cfg(test)]
+mod neighbours;
+#[cfg(test)]
+mod plan_command_tests;
+#[cfg(test)]
+mod retried;
+#[cfg(test)]
+mod sample_command_tests;

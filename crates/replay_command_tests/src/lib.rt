@@ -1,5 +1,0 @@
-//! Tests of `replay`.
-#![tactic(auto)]
-
-#[cfg(test)]
-mod tests;

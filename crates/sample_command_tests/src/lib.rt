@@ -1,5 +1,0 @@
-//! Tests of the command `sample`.
-#![tactic(auto)]
-
-#[cfg(test)]
-mod tests;

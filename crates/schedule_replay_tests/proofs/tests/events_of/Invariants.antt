@@ -1,7 +1,0 @@
-use Rattle.std.proofs.Common.{◌≤◌, length}
-use Rattle.std.specs.List.{AllByRecursion}
-use Rattle.schedule_replay.specs.EventTexts.{HasLine}
-use Rattle.schedule_replay_tests.proofs.tests.events_of.Given as goal
-
-abbrev pub invariant-loop-line : goal.invariant-loop-line
-invariant-loop-line g l = record { lines : AllByRecursion (HasLine l.net) l.events; few : length l.events ≤ l.line-index }

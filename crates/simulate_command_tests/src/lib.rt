@@ -1,5 +1,0 @@
-//! Tests of the command `simulate`.
-#![tactic(auto)]
-
-#[cfg(test)]
-mod tests;

@@ -1,5 +1,0 @@
-//! Tests of the command `upgrade`.
-#![tactic(auto)]
-
-#[cfg(test)]
-mod tests;
