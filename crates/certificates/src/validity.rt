@@ -174,7 +174,7 @@ fn none_from(marks: &[bool], first: usize) -> bool
 fn is_valid_before(net: &Net, before: &Before) -> bool
     ensures { IsTrue result ↔ IsValidBefore net.now before.now }
 {
-    none_from(before.marks(), net.switches() as usize)
+    none_from(&before.marks(), net.switches() as usize)
 }
 
 /// Whether all numbers are below a count.

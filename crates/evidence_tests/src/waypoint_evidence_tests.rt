@@ -141,3 +141,34 @@ fn a_step_past_the_waypoint_is_a_way_round(rt: HostRuntime) {
     let found = before_in_detour(rt.alloc(), &PAST).expect(&rt, "memory");
     is_way_round(&rt, &found, &[SwitchId(0), SwitchId(3), SwitchId(4)]);
 }
+
+/// Switches at both ends of the halves of a set's bits, and some between.
+const PUT: [u32; 6] = [0, 7, 63, 64, 126, 127];
+
+/// The set of the switches that are put.
+fn put_all() -> Before {
+    let mut set = Before::none();
+    for switch in &PUT {
+        if *switch < 128 {
+            set.put(SwitchId(*switch));
+        }
+    }
+    set
+}
+
+/// The set holds and marks the switches that were put, and no others.
+fn holds_put(rt: &impl Abort, set: &Before) {
+    let marks = set.marks();
+    for switch in 0..128u32 {
+        let wanted = PUT.contains(&switch);
+        assert!(rt; set.holds(SwitchId(switch)) == wanted, "{switch}");
+        assert!(rt; marks[switch as usize] == wanted);
+    }
+}
+
+#[test]
+fn a_set_holds_what_was_put(rt: HostRuntime) {
+    let set = put_all();
+    holds_put(&rt, &set);
+    holds_put(&rt, &set.copy());
+}

@@ -1,8 +1,14 @@
 -- Before sets: a packet in the set of a waypoint has yet to meet it.
-use Rattle.std.specs.Prelude.{◌≡◌, ◌⊎◌, ℕ, ◌+◌, Bool, true, false, List, [], ◌∷◌, Option, Some, None}
+use Rattle.std.specs.Prelude.{◌≡◌, ◌⊎◌, ◌==◌, ℕ, ◌+◌, Bool, true, false, List, [], ◌∷◌, map, Option, Some, None}
+use Rattle.std.specs.Int.{bit_at}
+use Rattle.std.specs.List.{range_with_len}
 use Rattle.net_base.specs.Members.{IsIn}
 use Rattle.net_base.specs.declared.ids.SwitchId.{SwitchId}
 use Rattle.acyclic_numbering.specs.declared.Edge.{Edge}
+
+-- for each number below 128 whether its bit is set
+unfoldable pub marks_in : ℕ → List Bool
+marks_in bits = map (λ n. bit_at bits n == 1) (range_with_len 0 128)
 
 -- the places that are marked, counted from a number
 abbrev pub marked_from : ℕ → List Bool → List ℕ

@@ -10,15 +10,18 @@ ghost use Rattle.waypoint_evidence.specs.Befores.{marked_from, Holds, HoldsEarli
 ghost use Rattle.waypoint_evidence.specs.Grown.{AreChained, IsGrown, IsKnown, IsWalkTo, IsBefored};
 ghost use Rattle.acyclic_numbering.specs.Heights.{IsEdge};
 
+mod marks;
+
 use acyclic_numbering::{Edge, SwitchList};
+use marks::Marks;
 use net_base::{Memory, SwitchId};
 use std::alloc::Global;
 use std::marker::Model;
 
-/// A set of switches below 128.
+/// A set of switches below 128. It takes 16 bytes.
 #[derive(Drop)]
 pub struct Before {
-    marks: [bool; 128],
+    marks: Marks,
 }
 
 impl Model for Before {
@@ -43,7 +46,7 @@ impl Before {
         ensures { result ≡ [] }
     {
         Before {
-            marks: [false; 128],
+            marks: Marks::none(),
         }
     }
 
@@ -55,15 +58,24 @@ impl Before {
         ensures most { length self.new ≤ 128 }
         ensures last { AllByRecursion (λ t. t < s.0) self.old → self.new ≡ self.old ++ s.0 ∷ [] }
     {
-        self.marks[s.0 as usize] = true;
+        self.marks.put(s.0);
+    }
+
+    /// The same set once more.
+    pub fn copy(&self) -> Before
+        ensures { result ≡ self.now }
+    {
+        Before {
+            marks: self.marks.copy(),
+        }
     }
 
     /// For each number below 128 whether the switch of that number is in the set.
-    pub fn marks(&self) -> &[bool]
-        ensures value { marked_from 0 result.now ≡ self.now }
-        ensures len { length result.now ≡ 128 }
+    pub fn marks(&self) -> [bool; 128]
+        ensures value { marked_from 0 result ≡ self.now }
+        ensures len { length result ≡ 128 }
     {
-        &self.marks
+        self.marks.list()
     }
 
     /// Whether the set holds a switch.
@@ -71,7 +83,7 @@ impl Before {
         requires { s.0 < 128 }
         ensures { IsTrue result ↔ Holds self.now s }
     {
-        self.marks[s.0 as usize]
+        self.marks.has(s.0)
     }
 }
 

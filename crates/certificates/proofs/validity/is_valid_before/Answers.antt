@@ -7,7 +7,7 @@ use Rattle.certificates.proofs.validity.is_valid_before.Goals as goal
 pub returns : goal.returns
 returns c =
     let told = c.none_from.ensures in
-    let marks = c.marks.result.now in
+    let marks = c.marks.result in
     let at = λ (v : List ℕ). IsValidBefore c.args.net.now v in
     let same = c.switches.ensures in (
       λ t. subst at c.marks.ensures.value (marked_below 0 (switch_count c.args.net.now) marks (λ j ge lt. told.0 t j (omega arith) lt), marked_ascends 0 marks),

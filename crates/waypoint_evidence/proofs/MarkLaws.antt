@@ -1,0 +1,42 @@
+-- 128 marks as the bits of a number.
+use Rattle.std.proofs.Common.{◌≡◌, ◌≢◌, ◌==◌, ◌<◌, ℕ, ◌+◌, Bool, true, false, List, length, length-set, get_or, set, replicate, refl, sym, ap, ◌∙◌, subst, inl, inr, arith}
+use Rattle.std.proofs.lemmas.Bool.{cases_eq}
+use Rattle.std.proofs.lemmas.List.{ext_get_or, get_or-set_same, get_or-set_other}
+use Rattle.std.proofs.lemmas.List.FromFn.{length-map-range_with_len, get_or-map-range_with_len}
+use Rattle.std.specs.Int.{bit_at}
+use Rattle.waypoint_evidence.specs.Befores.{marks_in}
+
+pub length_marks : (bits : ℕ) → length (marks_in bits) ≡ 128
+unfolding marks_in
+length_marks bits = length-map-range_with_len (λ n. bit_at bits n == 1) 0 128
+
+pub mark_at : (bits n : ℕ) → n < 128 → get_or (marks_in bits) n false ≡ (bit_at bits n == 1)
+unfolding marks_in
+mark_at bits n less = get_or-map-range_with_len (λ n. bit_at bits n == 1) 0 128 n n false less (omega arith)
+
+-- marks of which each is as in a list of so many
+pub marks_are : (bits : ℕ) (marks : List Bool) → length marks ≡ 128 → ((n : ℕ) → n < 128 → (bit_at bits n == 1) ≡ get_or marks n false) → marks_in bits ≡ marks
+marks_are bits marks len each =
+    ext_get_or false (marks_in bits) marks (length_marks bits ∙ sym len) (λ n less. let within : n < 128 = subst (λ l. n < l) (length_marks bits) less in mark_at bits n within ∙ each n within)
+
+-- no bit is set
+pub none_are : marks_in 0 ≡ replicate 128 false
+unfolding marks_in
+none_are = refl
+
+-- one more bit is set
+pub more_are : (bits new m : ℕ) → m < 128 → bit_at new m ≡ 1 → ((n : ℕ) → n ≢ m → bit_at new n ≡ bit_at bits n) → marks_in new ≡ set (marks_in bits) m true
+more_are bits new m within there others =
+    marks_are new (set (marks_in bits) m true) (length-set (marks_in bits) m true ∙ length_marks bits) (λ n less. elim (cases_eq n m) [
+      | inl e ↦ subst (λ k. (bit_at new k == 1) ≡ get_or (set (marks_in bits) m true) k false) (sym e)
+          (ap (λ (b : ℕ). b == 1) there ∙ sym (get_or-set_same (marks_in bits) m true false (subst (λ l. m < l) (sym (length_marks bits)) within)))
+      | inr ne ↦ ap (λ (b : ℕ). b == 1) (others n ne) ∙ sym (mark_at bits n less) ∙ sym (get_or-set_other (marks_in bits) m n true false ne)
+    ])
+
+-- the marks that were read so far are those of the bits
+pub list_more : (bits n : ℕ) (marks : List Bool) → n < 128 → length marks ≡ 128 → ((k : ℕ) → k < n → get_or marks k false ≡ (bit_at bits k == 1))
+    → (k : ℕ) → k < n + 1 → get_or (set marks n (bit_at bits n == 1)) k false ≡ (bit_at bits k == 1)
+list_more bits n marks less len so_far k within = elim (cases_eq k n) [
+  | inl e ↦ subst (λ m. get_or (set marks n (bit_at bits n == 1)) m false ≡ (bit_at bits m == 1)) (sym e) (get_or-set_same marks n (bit_at bits n == 1) false (subst (λ l. n < l) (sym len) less))
+  | inr ne ↦ get_or-set_other marks n k (bit_at bits n == 1) false ne ∙ so_far k (omega arith)
+]
