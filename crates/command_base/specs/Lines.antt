@@ -5,8 +5,8 @@ use Rattle.net_base.specs.declared.ids.SwitchId.{SwitchId}
 use Rattle.net_base.specs.Fields.{field_name}
 use Rattle.net_base.specs.Text.{vlan_text, address_text}
 use Rattle.topology.specs.Networks.{Network}
-use Rattle.topology.specs.Faults as net_fault
-use Rattle.topology.specs.declared.fault.NetFault.{NetFault}
+use Rattle.topology_files.specs.Faults as net_fault
+use Rattle.topology_files.specs.declared.fault.NetFault.{NetFault}
 use Rattle.config_files.specs.Faults as config_fault
 use Rattle.config_files.specs.declared.fault.ConfigFault.{ConfigFault}
 use Rattle.demands.specs.Faults as demand_fault

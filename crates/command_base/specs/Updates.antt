@@ -3,7 +3,7 @@ use Rattle.std.specs.Prelude.{◌≡◌, ℕ, List, [], Option, None, Some, Ok}
 use Rattle.std.specs.Io.KnownBytes.{Appends}
 use Rattle.net_base.specs.Outside.{Files}
 use Rattle.topology.specs.Networks.{Network}
-use Rattle.topology.specs.Topology.{network_in}
+use Rattle.topology_files.specs.Topology.{network_in}
 use Rattle.flow_rules.specs.declared.rules.Rule.{Rule}
 use Rattle.flow_rules.specs.Tables.{rules_of_all}
 use Rattle.config_files.specs.Configuration.{configuration_in}

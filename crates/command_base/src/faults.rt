@@ -7,7 +7,7 @@ use config_files::ConfigFault;
 use demands::DemandFault;
 use net_base::Field;
 use plan_format::PlanFault;
-use topology::NetFault;
+use topology_files::NetFault;
 
 /// Why a file isn't read, as it is printed: a number and a name, the member that it names if it names one, and the
 /// number of the item or line where it stands.

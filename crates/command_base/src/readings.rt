@@ -1,6 +1,6 @@
 //! What the files mean: each is fetched and then read.
 ghost use Rattle.std.specs.Prelude.{◌≡◌, ◌≤◌, IfOk, IfErr, OnOk, Ok, Some, Option, option_map};
-ghost use Rattle.topology.specs.Topology.{network_in};
+ghost use Rattle.topology_files.specs.Topology.{network_in};
 ghost use Rattle.flow_rules.specs.Tables.{rules_of_all};
 ghost use Rattle.path_walk.specs.UserConfigs.{IsUserConfig};
 ghost use Rattle.config_files.specs.Configuration.{configuration_in};
@@ -27,7 +27,8 @@ use flow_rules::Config;
 use net_base::{Memory, Source};
 use plan_format::{PlanFault, read_plan};
 use std::alloc::Global;
-use topology::{Net, NetFault, read_net};
+use topology::Net;
+use topology_files::{NetFault, read_net};
 
 /// The reply on a file of the kind that isn't read.
 pub fn bad_reply(alloc: Global, kind: FileKind, fault: Fault) -> Result<Reply, Memory>

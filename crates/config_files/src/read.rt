@@ -1,7 +1,7 @@
 //! The reader of a configuration.
 ghost use Rattle.std.specs.Prelude.{◌≡◌, ◌<◌, ◌↔◌, [], IsTrue, IfOk, Ok, MatchResult, MatchOption, find, length, map, replicate, option_map};
 ghost use Rattle.std.specs.List.{list_any};
-ghost use Rattle.serde_json.specs.View.{view};
+ghost use Rattle.flat_json.specs.Trees.{data_of};
 ghost use Rattle.net_base.specs.Reading.{Gives, Fails, in_turn};
 ghost use Rattle.topology.specs.Networks.{switch_count, capacity_of};
 ghost use Rattle.flow_rules.specs.Overlaps.{keys_clash};
@@ -13,9 +13,10 @@ ghost use Rattle.config_files.specs.Configuration as configuration;
 
 use crate::fault::ConfigFault;
 use crate::rules::read_rule;
+use flat_json::{Node, Tree, parse_tree};
 use flow_rules::{Config, Key, Rule, Table};
-use net_base::{Field, SwitchId, is_object, list_at, parse_json, place_of, text_at};
-use serde_json::Value;
+use json::Scratch;
+use net_base::{Field, SwitchId, place_of};
 use std::alloc::Global;
 use topology::Net;
 
@@ -72,57 +73,71 @@ fn read_into(
     config: &mut Config,
     place: u32,
     switch: SwitchId,
-    item: &Value,
+    tree: &Tree<'_>,
+    item: &Node,
 ) -> Result<(), ConfigFault>
     requires { switch.0 < length config.old }
     ensures read { MatchResult result
-        (λ _. configuration.rule_to net.now place (rules_of_all config.old) switch (view item.now) ≡ Ok (rules_of_all config.new))
-        (λ e. Fails Memory e (configuration.rule_to net.now place (rules_of_all config.old) switch (view item.now))) }
+        (λ _. configuration.rule_to net.now place (rules_of_all config.old) switch (data_of tree.now item.now) ≡ Ok (rules_of_all config.new))
+        (λ e. Fails Memory e (configuration.rule_to net.now place (rules_of_all config.old) switch (data_of tree.now item.now))) }
     ensures count { length config.new ≡ length config.old }
 {
-    let rule = read_rule(net, place, switch, item)?;
+    let rule = read_rule(net, place, switch, tree, item)?;
     add_to(config, place, switch, rule)
 }
 
 /// Reads the switch of a rule.
 #[tactic(auto, unfolding(crate::specs::Configuration::switch_in))]
-fn read_switch(net: &Net, place: u32, item: &Value) -> Result<SwitchId, ConfigFault>
-    ensures read { Gives Memory (λ s. s) result (configuration.switch_in place net.now (view item.now)) }
+fn read_switch(net: &Net, place: u32, tree: &Tree<'_>, item: &Node) -> Result<SwitchId, ConfigFault>
+    ensures read { Gives Memory (λ s. s) result (configuration.switch_in place net.now (data_of tree.now item.now)) }
     ensures within { IfOk result (λ s. s.0 < switch_count net.now) }
 {
     if place >= MAX_RULES {
         return Err(ConfigFault::TooMany(place));
     }
-    if !is_object(item) {
+    if !tree.is_object(item) {
         return Err(ConfigFault::Shape(Field::Rules, place));
     }
-    let name = text_at(item, "switch").ok_or(ConfigFault::Shape(Field::Switch, place))?;
+    let name = tree
+        .text_at(item, "switch")
+        .ok_or(ConfigFault::Shape(Field::Switch, place))?;
     let switch = net.find(name).ok_or(ConfigFault::UnknownSwitch(place))?;
     Ok(switch)
 }
 
 /// Reads one rule into the table of its switch.
 #[tactic(auto, unfolding(crate::specs::Configuration::rule_at))]
-fn read_item(net: &Net, config: &mut Config, place: u32, item: &Value) -> Result<(), ConfigFault>
+fn read_item(
+    net: &Net,
+    config: &mut Config,
+    place: u32,
+    tree: &Tree<'_>,
+    item: &Node,
+) -> Result<(), ConfigFault>
     requires { length config.old ≡ switch_count net.now }
     ensures read { MatchResult result
-        (λ _. configuration.rule_at net.now place (rules_of_all config.old) (view item.now) ≡ Ok (rules_of_all config.new))
-        (λ e. Fails Memory e (configuration.rule_at net.now place (rules_of_all config.old) (view item.now))) }
+        (λ _. configuration.rule_at net.now place (rules_of_all config.old) (data_of tree.now item.now) ≡ Ok (rules_of_all config.new))
+        (λ e. Fails Memory e (configuration.rule_at net.now place (rules_of_all config.old) (data_of tree.now item.now))) }
     ensures count { length config.new ≡ length config.old }
 {
-    let switch = read_switch(net, place, item)?;
-    read_into(net, config, place, switch, item)
+    let switch = read_switch(net, place, tree, item)?;
+    read_into(net, config, place, switch, tree, item)
 }
 
 /// Reads the rules one after the other.
-fn read_items(net: &Net, config: &mut Config, items: &[Value]) -> Result<(), ConfigFault>
+fn read_items(
+    net: &Net,
+    config: &mut Config,
+    tree: &Tree<'_>,
+    items: &[Node],
+) -> Result<(), ConfigFault>
     requires { length config.old ≡ switch_count net.now }
-    ensures read { let read = in_turn (configuration.rule_at net.now) 0 (rules_of_all config.old) (map view items.now) in
+    ensures read { let read = in_turn (configuration.rule_at net.now) 0 (rules_of_all config.old) (map (data_of tree.now) items.now) in
         MatchResult result (λ _. read ≡ Ok (rules_of_all config.new)) (λ e. Fails Memory e read) }
     ensures count { length config.new ≡ length config.old }
 {
     for (i, item) in items.iter().enumerate() {
-        read_item(net, config, place_of(i), item)?;
+        read_item(net, config, place_of(i), tree, item)?;
     }
     Ok(())
 }
@@ -151,23 +166,24 @@ fn over_capacity(net: &Net, config: &Config) -> Option<SwitchId>
 
 /// The items of `rules`.
 #[tactic(auto, unfolding(crate::specs::Configuration::items_in))]
-fn items_of(top: &Value) -> Result<&[Value], ConfigFault>
-    ensures { Gives Memory (λ items. map view items.now) result (configuration.items_in (view top.now)) }
+fn items_of<'a>(tree: &'a Tree<'_>, top: &Node) -> Result<&'a [Node], ConfigFault>
+    ensures { Gives Memory (λ items. map (data_of tree.now) items.now) result (configuration.items_in (data_of tree.now top.now)) }
 {
-    if !is_object(top) {
+    if !tree.is_object(top) {
         return Err(ConfigFault::Shape(Field::Top, 0));
     }
-    list_at(top, "rules").ok_or(ConfigFault::Shape(Field::Rules, 0))
+    tree.list_at(top, "rules")
+        .ok_or(ConfigFault::Shape(Field::Rules, 0))
 }
 
 /// Reads the items into the tables, and makes their indexes.
 #[tactic(auto, unfolding(crate::specs::Configuration::filled_in))]
-fn fill(net: &Net, config: &mut Config, items: &[Value]) -> Result<(), ConfigFault>
+fn fill(net: &Net, config: &mut Config, tree: &Tree<'_>, items: &[Node]) -> Result<(), ConfigFault>
     requires { length config.old ≡ switch_count net.now }
-    ensures { let read = configuration.filled_in net.now (rules_of_all config.old) (map view items.now) in
+    ensures { let read = configuration.filled_in net.now (rules_of_all config.old) (map (data_of tree.now) items.now) in
         MatchResult result (λ _. read ≡ Ok (rules_of_all config.new)) (λ e. Fails Memory e read) }
 {
-    read_items(net, config, items)?;
+    read_items(net, config, tree, items)?;
     if let Some(switch) = over_capacity(net, config) {
         return Err(ConfigFault::OverCapacity(switch));
     }
@@ -177,12 +193,12 @@ fn fill(net: &Net, config: &mut Config, items: &[Value]) -> Result<(), ConfigFau
 
 /// Reads the tables of the file.
 #[tactic(auto, unfolding(crate::specs::Configuration::tables_in))]
-fn read_tables(alloc: Global, net: &Net, top: &Value) -> Result<Config, ConfigFault>
-    ensures { Gives Memory rules_of_all result (configuration.tables_in net.now (view top.now)) }
+fn read_tables(alloc: Global, net: &Net, tree: &Tree<'_>, top: &Node) -> Result<Config, ConfigFault>
+    ensures { Gives Memory rules_of_all result (configuration.tables_in net.now (data_of tree.now top.now)) }
 {
-    let items = items_of(top)?;
+    let items = items_of(tree, top)?;
     let mut config = Config::make(alloc, net.switches())?;
-    fill(net, &mut config, items)?;
+    fill(net, &mut config, tree, items)?;
     Ok(config)
 }
 
@@ -191,8 +207,9 @@ fn read_tables(alloc: Global, net: &Net, top: &Value) -> Result<Config, ConfigFa
 fn read_bytes(alloc: Global, net: &Net, bytes: &[u8]) -> Result<Config, ConfigFault>
     ensures { Gives Memory rules_of_all result (configuration.configuration_in net.now bytes.now) }
 {
-    let top = parse_json(alloc, bytes)?;
-    read_tables(alloc, net, &top)
+    let mut scratch = Scratch::new(alloc);
+    let tree = parse_tree(alloc, bytes, &mut scratch)?;
+    read_tables(alloc, net, &tree, tree.top())
 }
 
 /// The configuration of a network that the bytes describe: for each switch its rules in the order of the file. The first

@@ -1,15 +1,15 @@
 //! One rule of a configuration, by the table of its members.
 ghost use Rattle.std.specs.Prelude.{◌≡◌, ◌≤◌, option_map, true};
-ghost use Rattle.serde_json.specs.View.{view};
+ghost use Rattle.flat_json.specs.Trees.{data_of};
 ghost use Rattle.net_base.specs.Reading.{Gives};
 ghost use Rattle.topology.specs.Networks.{is_used};
 ghost use Rattle.config_files.specs.declared.fault.ConfigFault.TheVariants.{Memory};
 ghost use Rattle.config_files.specs.Configuration as configuration;
 
 use crate::fault::ConfigFault;
+use flat_json::{Node, Tree};
 use flow_rules::{Action, Key, Pattern, Rewrite, Rule, VlanTest};
-use net_base::{Field, Port, Prefix, SwitchId, read_prefix, text_at, whole, whole_at};
-use serde_json::Value;
+use net_base::{Field, Port, Prefix, SwitchId, read_prefix};
 use topology::{Net, is_vlan_id};
 
 const MAX_PRIORITY: u64 = 16383;
@@ -17,10 +17,10 @@ const MAX_PRIORITY: u64 = 16383;
 const MAX_PORT: u64 = 65279;
 
 /// Whether the value is this text.
-fn is_text(item: &Value, word: &str) -> bool
-    ensures { result ≡ configuration.is_text word.now (view item.now) }
+fn is_text(tree: &Tree<'_>, item: &Node, word: &str) -> bool
+    ensures { result ≡ configuration.is_text word.now (data_of tree.now item.now) }
 {
-    match item.as_str() {
+    match tree.as_str(item) {
         Some(text) => text == word,
         None => false,
     }
@@ -42,11 +42,12 @@ fn read_port(
     field: Field,
     place: u32,
     switch: SwitchId,
-    item: &Value,
+    tree: &Tree<'_>,
+    item: &Node,
 ) -> Result<Port, ConfigFault>
-    ensures { Gives Memory (λ p. p) result (configuration.port_in field place net.now switch (view item.now)) }
+    ensures { Gives Memory (λ p. p) result (configuration.port_in field place net.now switch (data_of tree.now item.now)) }
 {
-    let number = whole(item).ok_or(ConfigFault::Shape(field, place))?;
+    let number = tree.whole(item).ok_or(ConfigFault::Shape(field, place))?;
     if !is_port(net, switch, number) {
         return Err(ConfigFault::BadPort(place));
     }
@@ -61,14 +62,15 @@ fn read_port_or(
     field: Field,
     place: u32,
     switch: SwitchId,
-    item: &Value,
+    tree: &Tree<'_>,
+    item: &Node,
 ) -> Result<Option<Port>, ConfigFault>
-    ensures { Gives Memory (λ p. p) result (configuration.port_or word.now field place net.now switch (view item.now)) }
+    ensures { Gives Memory (λ p. p) result (configuration.port_or word.now field place net.now switch (data_of tree.now item.now)) }
 {
-    if is_text(item, word) {
+    if is_text(tree, item, word) {
         return Ok(None);
     }
-    let port = read_port(net, field, place, switch, item)?;
+    let port = read_port(net, field, place, switch, tree, item)?;
     Ok(Some(port))
 }
 
@@ -77,22 +79,25 @@ fn read_in_port(
     net: &Net,
     place: u32,
     switch: SwitchId,
-    item: Option<&Value>,
+    tree: &Tree<'_>,
+    member: Option<&Node>,
 ) -> Result<Option<Port>, ConfigFault>
-    ensures { Gives Memory (λ p. p) result (configuration.in_port_in place net.now switch (option_map (λ v. view v.now) item.entry)) }
+    ensures { Gives Memory (λ p. p) result (configuration.in_port_in place net.now switch (option_map (λ v. data_of tree.now v.now) member.entry)) }
 {
-    match item {
-        Some(item) => read_port_or(net, "any", Field::InPort, place, switch, item),
+    match member {
+        Some(item) => read_port_or(net, "any", Field::InPort, place, switch, tree, item),
         None => Ok(None),
     }
 }
 
 /// Reads an id of a VLAN.
 #[tactic(auto, unfolding(crate::specs::Configuration::id_in))]
-fn read_id(net: &Net, place: u32, item: &Value) -> Result<VlanTest, ConfigFault>
-    ensures { Gives Memory (λ t. t) result (configuration.id_in place net.now (view item.now)) }
+fn read_id(net: &Net, place: u32, tree: &Tree<'_>, item: &Node) -> Result<VlanTest, ConfigFault>
+    ensures { Gives Memory (λ t. t) result (configuration.id_in place net.now (data_of tree.now item.now)) }
 {
-    let id = whole(item).ok_or(ConfigFault::Shape(Field::Vlan, place))?;
+    let id = tree
+        .whole(item)
+        .ok_or(ConfigFault::Shape(Field::Vlan, place))?;
     if !is_vlan_id(id) {
         return Err(ConfigFault::BadVlan(place));
     }
@@ -104,18 +109,23 @@ fn read_id(net: &Net, place: u32, item: &Value) -> Result<VlanTest, ConfigFault>
 }
 
 /// Reads the VLAN test.
-fn read_test(net: &Net, place: u32, item: Option<&Value>) -> Result<VlanTest, ConfigFault>
-    ensures { Gives Memory (λ t. t) result (configuration.vlan_in place net.now (option_map (λ v. view v.now) item.entry)) }
+fn read_test(
+    net: &Net,
+    place: u32,
+    tree: &Tree<'_>,
+    member: Option<&Node>,
+) -> Result<VlanTest, ConfigFault>
+    ensures { Gives Memory (λ t. t) result (configuration.vlan_in place net.now (option_map (λ v. data_of tree.now v.now) member.entry)) }
 {
-    match item {
+    match member {
         Some(item) => {
-            if is_text(item, "any") {
+            if is_text(tree, item, "any") {
                 return Ok(VlanTest::Any);
             }
-            if is_text(item, "untagged") {
+            if is_text(tree, item, "untagged") {
                 return Ok(VlanTest::Untagged);
             }
-            read_id(net, place, item)
+            read_id(net, place, tree, item)
         }
         None => Ok(VlanTest::Any),
     }
@@ -133,10 +143,12 @@ fn action_by(port: Option<Port>) -> Action
 
 /// Reads the priority.
 #[tactic(auto, unfolding(crate::specs::Configuration::priority_in))]
-fn read_priority(place: u32, item: &Value) -> Result<u16, ConfigFault>
-    ensures { Gives Memory (λ n. n) result (configuration.priority_in place (view item.now)) }
+fn read_priority(place: u32, tree: &Tree<'_>, item: &Node) -> Result<u16, ConfigFault>
+    ensures { Gives Memory (λ n. n) result (configuration.priority_in place (data_of tree.now item.now)) }
 {
-    let priority = whole_at(item, "priority").ok_or(ConfigFault::Shape(Field::Priority, place))?;
+    let priority = tree
+        .whole_at(item, "priority")
+        .ok_or(ConfigFault::Shape(Field::Priority, place))?;
     if !(1..=MAX_PRIORITY).contains(&priority) {
         return Err(ConfigFault::BadPriority(place));
     }
@@ -145,10 +157,12 @@ fn read_priority(place: u32, item: &Value) -> Result<u16, ConfigFault>
 
 /// Reads the prefix of the destinations.
 #[tactic(auto, unfolding(crate::specs::Configuration::dst_in))]
-fn read_dst(place: u32, item: &Value) -> Result<Prefix, ConfigFault>
-    ensures { Gives Memory (λ p. p) result (configuration.dst_in place (view item.now)) }
+fn read_dst(place: u32, tree: &Tree<'_>, item: &Node) -> Result<Prefix, ConfigFault>
+    ensures { Gives Memory (λ p. p) result (configuration.dst_in place (data_of tree.now item.now)) }
 {
-    let text = text_at(item, "dst").ok_or(ConfigFault::Shape(Field::Dst, place))?;
+    let text = tree
+        .text_at(item, "dst")
+        .ok_or(ConfigFault::Shape(Field::Dst, place))?;
     read_prefix(text).ok().ok_or(ConfigFault::BadPrefix(place))
 }
 
@@ -158,36 +172,49 @@ fn read_pattern(
     net: &Net,
     place: u32,
     switch: SwitchId,
-    item: &Value,
+    tree: &Tree<'_>,
+    item: &Node,
 ) -> Result<Pattern, ConfigFault>
-    ensures { Gives Memory (λ p. p) result (configuration.pattern_in place net.now switch (view item.now)) }
+    ensures { Gives Memory (λ p. p) result (configuration.pattern_in place net.now switch (data_of tree.now item.now)) }
 {
-    let in_port = read_in_port(net, place, switch, item.get("in_port"))?;
-    let vlan = read_test(net, place, item.get("vlan"))?;
-    let dst = read_dst(place, item)?;
+    let in_port = read_in_port(net, place, switch, tree, tree.get(item, "in_port"))?;
+    let vlan = read_test(net, place, tree, tree.get(item, "vlan"))?;
+    let dst = read_dst(place, tree, item)?;
     Ok(Pattern { in_port, vlan, dst })
 }
 
 /// Reads the action of a rule.
 #[tactic(auto, unfolding(crate::specs::Configuration::action_in))]
-fn read_action(net: &Net, place: u32, switch: SwitchId, item: &Value) -> Result<Action, ConfigFault>
-    ensures { Gives Memory (λ a. a) result (configuration.action_in place net.now switch (view item.now)) }
+fn read_action(
+    net: &Net,
+    place: u32,
+    switch: SwitchId,
+    tree: &Tree<'_>,
+    item: &Node,
+) -> Result<Action, ConfigFault>
+    ensures { Gives Memory (λ a. a) result (configuration.action_in place net.now switch (data_of tree.now item.now)) }
 {
-    let out = item
-        .get("out")
+    let out = tree
+        .get(item, "out")
         .ok_or(ConfigFault::Shape(Field::Out, place))?;
-    let port = read_port_or(net, "drop", Field::Out, place, switch, out)?;
+    let port = read_port_or(net, "drop", Field::Out, place, switch, tree, out)?;
     Ok(action_by(port))
 }
 
 /// Reads one rule of a switch.
 #[tactic(auto, unfolding(crate::specs::Configuration::rule_in))]
-pub fn read_rule(net: &Net, place: u32, switch: SwitchId, item: &Value) -> Result<Rule, ConfigFault>
-    ensures { Gives Memory (λ r. r) result (configuration.rule_in place net.now switch (view item.now)) }
+pub(crate) fn read_rule(
+    net: &Net,
+    place: u32,
+    switch: SwitchId,
+    tree: &Tree<'_>,
+    item: &Node,
+) -> Result<Rule, ConfigFault>
+    ensures { Gives Memory (λ r. r) result (configuration.rule_in place net.now switch (data_of tree.now item.now)) }
 {
-    let priority = read_priority(place, item)?;
-    let pattern = read_pattern(net, place, switch, item)?;
-    let action = read_action(net, place, switch, item)?;
+    let priority = read_priority(place, tree, item)?;
+    let pattern = read_pattern(net, place, switch, tree, item)?;
+    let action = read_action(net, place, switch, tree, item)?;
     Ok(Rule {
         key: Key { priority, pattern },
         action,

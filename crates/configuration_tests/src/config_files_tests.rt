@@ -4,7 +4,8 @@ use flow_rules::{Action, Config, Key, Pattern, Rewrite, Rule, VlanTest};
 use net_base::{Field, Port, SwitchId, read_prefix};
 use std::alloc::Global;
 use std::process::Abort;
-use topology::{Net, read_net};
+use topology::Net;
+use topology_files::read_net;
 
 const NETWORK: &str =
     "{\"switches\":[{\"name\":\"a\",\"capacity\":2048},{\"name\":\"b\",\"capacity\":1}],\"links\":[],\

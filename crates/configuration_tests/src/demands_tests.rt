@@ -4,7 +4,8 @@ use dest_classes::class_map;
 use net_base::Field;
 use std::alloc::Global;
 use std::process::Abort;
-use topology::{Net, read_net};
+use topology::Net;
+use topology_files::read_net;
 
 const NET: &str =
     r#"{"switches":[{"name":"a","capacity":10},{"name":"b","capacity":10},{"name":"c","capacity":10}],"links":[["a:2","b:2"],["b:3","c:2"]],"hosts":["a:1","c:1"],"vlans":["untagged",10],"tags":[]}"#;

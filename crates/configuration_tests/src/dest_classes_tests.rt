@@ -5,7 +5,7 @@ use dest_classes::{AtomRange, Atoms, ClassMap, class_map};
 use net_base::{Prefix, read_prefix};
 use std::alloc::Global;
 use std::process::Abort;
-use topology::read_net;
+use topology_files::read_net;
 
 /// Prefixes, the first addresses of their atoms, and the atoms of other addresses.
 #[derive(Clone, Copy)]

@@ -7,7 +7,8 @@ use net_base::{Place, Port, Prefix, Stop, SwitchId, Vlan};
 use path_walk::{PathEnd, PathRoom, walk};
 use std::alloc::Global;
 use std::process::Abort;
-use topology::{Net, read_net};
+use topology::Net;
+use topology_files::read_net;
 
 const SWITCHES: &str =
     "{\"switches\":[{\"name\":\"h\",\"capacity\":8},{\"name\":\"a\",\"capacity\":8},\

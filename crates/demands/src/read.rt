@@ -1,20 +1,17 @@
 //! The reader of a policy.
 ghost use Rattle.std.specs.Prelude.{◌≡◌, Ok, [], map, option_map, IfOk, MatchResult};
-ghost use Rattle.serde_json.specs.View.{view};
+ghost use Rattle.flat_json.specs.Trees.{data_of};
 ghost use Rattle.net_base.specs.Reading.{Gives, Fails, in_turn};
-ghost use Rattle.net_base.specs.Tree as tree;
 ghost use Rattle.demands.specs.declared.fault.DemandFault.TheVariants.{Memory};
 ghost use Rattle.demands.specs.Policy as policy;
 ghost use Rattle.demands.specs.Ranges.{AreDemands};
 
 use crate::fault::DemandFault;
 use crate::{Cover, Demand, Demands};
+use flat_json::{Node, Tree, parse_tree};
 use flow_rules::VlanTest;
-use net_base::{
-    Field, Port, Prefix, Stop, SwitchId, is_object, list_at, list_in, parse_json, place_of,
-    read_prefix, text_at, whole,
-};
-use serde_json::Value;
+use json::Scratch;
+use net_base::{Field, Port, Prefix, Stop, SwitchId, place_of, read_prefix};
 use std::alloc::Global;
 use topology::{Net, is_vlan_id, reference_parts};
 
@@ -24,6 +21,7 @@ const MAX_DEMANDS: usize = 512;
 /// The greatest number of waypoints of a demand.
 const MAX_WAYPOINTS: usize = 16;
 
+/// The greatest number of a port.
 const MAX_PORT: u64 = 65279;
 
 /// A VLAN test as it is spelled.
@@ -72,20 +70,26 @@ fn read_source(net: &Net, place: u32, text: &str) -> Result<Option<Stop>, Demand
 
 /// Reads the member `from`.
 #[tactic(auto, unfolding(crate::specs::Policy::from_in))]
-fn read_from(net: &Net, place: u32, member: Option<&Value>) -> Result<Option<Stop>, DemandFault>
-    ensures { Gives Memory (λ o. o) result (policy.from_in net.now place (option_map (λ v. view v.now) member.entry)) }
+fn read_from(
+    net: &Net,
+    place: u32,
+    tree: &Tree<'_>,
+    member: Option<&Node>,
+) -> Result<Option<Stop>, DemandFault>
+    ensures { Gives Memory (λ o. o) result (policy.from_in net.now place (option_map (λ v. data_of tree.now v.now) member.entry)) }
 {
     match member {
         None => Ok(None),
         Some(value) => {
-            let text = value
-                .as_str()
+            let text = tree
+                .as_str(value)
                 .ok_or(DemandFault::Shape(Field::From, place))?;
             read_source(net, place, text)
         }
     }
 }
 
+/// The text `any` or `untagged`.
 fn word_of_text(text: &str) -> Option<TestWord>
     ensures { result ≡ policy.word_of_text text.now }
 {
@@ -99,12 +103,12 @@ fn word_of_text(text: &str) -> Option<TestWord>
 }
 
 /// The text `any` or `untagged`, or a whole number.
-fn test_word(value: &Value) -> Option<TestWord>
-    ensures { result ≡ policy.test_word (view value.now) }
+fn test_word(tree: &Tree<'_>, value: &Node) -> Option<TestWord>
+    ensures { result ≡ policy.test_word (data_of tree.now value.now) }
 {
-    match value.as_str().and_then(word_of_text) {
+    match tree.as_str(value).and_then(word_of_text) {
         Some(word) => Some(word),
-        None => whole(value).map(TestWord::Number),
+        None => tree.whole(value).map(TestWord::Number),
     }
 }
 
@@ -122,13 +126,13 @@ fn test_of(word: TestWord) -> Option<VlanTest>
 
 /// Reads the member `vlan`.
 #[tactic(auto, unfolding(crate::specs::Policy::test_in))]
-fn read_test(place: u32, member: Option<&Value>) -> Result<VlanTest, DemandFault>
-    ensures { Gives Memory (λ t. t) result (policy.test_in place (option_map (λ v. view v.now) member.entry)) }
+fn read_test(place: u32, tree: &Tree<'_>, member: Option<&Node>) -> Result<VlanTest, DemandFault>
+    ensures { Gives Memory (λ t. t) result (policy.test_in place (option_map (λ v. data_of tree.now v.now) member.entry)) }
 {
     match member {
         None => Ok(VlanTest::Any),
         Some(value) => {
-            let word = test_word(value).ok_or(DemandFault::Shape(Field::Vlan, place))?;
+            let word = test_word(tree, value).ok_or(DemandFault::Shape(Field::Vlan, place))?;
             test_of(word).ok_or(DemandFault::BadVlan(place))
         }
     }
@@ -140,31 +144,34 @@ fn read_waypoint(
     net: &Net,
     place: u32,
     through: &mut Vec<SwitchId>,
-    item: &Value,
+    tree: &Tree<'_>,
+    item: &Node,
 ) -> Result<(), DemandFault>
     ensures { MatchResult result
-        (λ _. policy.waypoint_at net.now place through.old.items (view item.now) ≡ Ok through.new.items)
-        (λ e. Fails Memory e (policy.waypoint_at net.now place through.old.items (view item.now))) }
+        (λ _. policy.waypoint_at net.now place through.old.items (data_of tree.now item.now) ≡ Ok through.new.items)
+        (λ e. Fails Memory e (policy.waypoint_at net.now place through.old.items (data_of tree.now item.now))) }
 {
-    let name = item
-        .as_str()
+    let name = tree
+        .as_str(item)
         .ok_or(DemandFault::Shape(Field::Through, place))?;
     let switch = net.find(name).ok_or(DemandFault::UnknownSwitch(place))?;
     through.push(switch)?;
     Ok(())
 }
 
+/// Reads the names of `through`, one after the other.
 fn read_each_waypoint(
     alloc: Global,
     net: &Net,
     place: u32,
-    items: &[Value],
+    tree: &Tree<'_>,
+    items: &[Node],
 ) -> Result<Vec<SwitchId>, DemandFault>
-    ensures { Gives Memory (λ v. v.items) result (in_turn (λ i. policy.waypoint_at net.now place) 0 [] (map view items.now)) }
+    ensures { Gives Memory (λ v. v.items) result (in_turn (λ i. policy.waypoint_at net.now place) 0 [] (map (data_of tree.now) items.now)) }
 {
     let mut through = Vec::new(alloc);
     for item in items {
-        read_waypoint(net, place, &mut through, item)?;
+        read_waypoint(net, place, &mut through, tree, item)?;
     }
     Ok(through)
 }
@@ -175,15 +182,18 @@ fn read_waypoints(
     alloc: Global,
     net: &Net,
     place: u32,
-    value: &Value,
+    tree: &Tree<'_>,
+    value: &Node,
 ) -> Result<Vec<SwitchId>, DemandFault>
-    ensures { Gives Memory (λ v. v.items) result (policy.waypoints_in net.now place (view value.now)) }
+    ensures { Gives Memory (λ v. v.items) result (policy.waypoints_in net.now place (data_of tree.now value.now)) }
 {
-    let items = list_in(value).ok_or(DemandFault::Shape(Field::Through, place))?;
+    let items = tree
+        .list_in(value)
+        .ok_or(DemandFault::Shape(Field::Through, place))?;
     if items.len() > MAX_WAYPOINTS {
         return Err(DemandFault::TooMany(Field::Through, place));
     }
-    read_each_waypoint(alloc, net, place, items)
+    read_each_waypoint(alloc, net, place, tree, items)
 }
 
 /// Reads the member `through`.
@@ -192,57 +202,66 @@ fn read_through(
     alloc: Global,
     net: &Net,
     place: u32,
-    member: Option<&Value>,
+    tree: &Tree<'_>,
+    member: Option<&Node>,
 ) -> Result<Vec<SwitchId>, DemandFault>
-    ensures { Gives Memory (λ v. v.items) result (policy.through_in net.now place (option_map (λ v. view v.now) member.entry)) }
+    ensures { Gives Memory (λ v. v.items) result (policy.through_in net.now place (option_map (λ v. data_of tree.now v.now) member.entry)) }
 {
     match member {
         None => Ok(Vec::new(alloc)),
-        Some(value) => read_waypoints(alloc, net, place, value),
+        Some(value) => read_waypoints(alloc, net, place, tree, value),
     }
 }
 
 /// Reads the member `deliver`.
 #[tactic(auto, unfolding(crate::specs::Policy::deliver_in))]
-fn read_deliver(place: u32, member: Option<&Value>) -> Result<bool, DemandFault>
-    ensures { Gives Memory (λ b. b) result (policy.deliver_in place (option_map (λ v. view v.now) member.entry)) }
+fn read_deliver(place: u32, tree: &Tree<'_>, member: Option<&Node>) -> Result<bool, DemandFault>
+    ensures { Gives Memory (λ b. b) result (policy.deliver_in place (option_map (λ v. data_of tree.now v.now) member.entry)) }
 {
     match member {
         None => Ok(false),
-        Some(value) => value
-            .as_bool()
+        Some(value) => tree
+            .as_bool(value)
             .ok_or(DemandFault::Shape(Field::Deliver, place)),
     }
 }
 
 /// Reads the prefix of the destinations.
 #[tactic(auto, unfolding(crate::specs::Policy::dst_in))]
-fn read_dst(place: u32, item: &Value) -> Result<Prefix, DemandFault>
-    ensures { Gives Memory (λ p. p) result (policy.dst_in place (view item.now)) }
+fn read_dst(place: u32, tree: &Tree<'_>, item: &Node) -> Result<Prefix, DemandFault>
+    ensures { Gives Memory (λ p. p) result (policy.dst_in place (data_of tree.now item.now)) }
 {
-    let text = text_at(item, "dst").ok_or(DemandFault::Shape(Field::Dst, place))?;
+    let text = tree
+        .text_at(item, "dst")
+        .ok_or(DemandFault::Shape(Field::Dst, place))?;
     read_prefix(text).ok().ok_or(DemandFault::BadPrefix(place))
 }
 
 /// Reads the packets that a demand speaks of.
 #[tactic(auto, unfolding(crate::specs::Policy::cover_in))]
-fn read_cover(net: &Net, place: u32, item: &Value) -> Result<Cover, DemandFault>
-    ensures { Gives Memory (λ c. c) result (policy.cover_in net.now place (view item.now)) }
+fn read_cover(net: &Net, place: u32, tree: &Tree<'_>, item: &Node) -> Result<Cover, DemandFault>
+    ensures { Gives Memory (λ c. c) result (policy.cover_in net.now place (data_of tree.now item.now)) }
 {
-    let from = read_from(net, place, item.get("from"))?;
-    let vlan = read_test(place, item.get("vlan"))?;
-    let dst = read_dst(place, item)?;
+    let from = read_from(net, place, tree, tree.get(item, "from"))?;
+    let vlan = read_test(place, tree, tree.get(item, "vlan"))?;
+    let dst = read_dst(place, tree, item)?;
     Ok(Cover { from, vlan, dst })
 }
 
 /// Reads one demand.
 #[tactic(auto, unfolding(crate::specs::Policy::demand_in))]
-fn read_demand(alloc: Global, net: &Net, place: u32, item: &Value) -> Result<Demand, DemandFault>
-    ensures { Gives Memory (λ d. d) result (policy.demand_in net.now place (view item.now)) }
+fn read_demand(
+    alloc: Global,
+    net: &Net,
+    place: u32,
+    tree: &Tree<'_>,
+    item: &Node,
+) -> Result<Demand, DemandFault>
+    ensures { Gives Memory (λ d. d) result (policy.demand_in net.now place (data_of tree.now item.now)) }
 {
-    let cover = read_cover(net, place, item)?;
-    let through = read_through(alloc, net, place, item.get("through"))?;
-    let deliver = read_deliver(place, item.get("deliver"))?;
+    let cover = read_cover(net, place, tree, item)?;
+    let through = read_through(alloc, net, place, tree, tree.get(item, "through"))?;
+    let deliver = read_deliver(place, tree, tree.get(item, "deliver"))?;
     Ok(Demand {
         cover,
         through,
@@ -257,51 +276,67 @@ fn read_item(
     net: &Net,
     place: u32,
     demands: &mut Demands,
-    item: &Value,
+    tree: &Tree<'_>,
+    item: &Node,
 ) -> Result<(), DemandFault>
     ensures { MatchResult result
-        (λ _. policy.demand_at net.now place demands.old (view item.now) ≡ Ok demands.new)
-        (λ e. Fails Memory e (policy.demand_at net.now place demands.old (view item.now))) }
+        (λ _. policy.demand_at net.now place demands.old (data_of tree.now item.now) ≡ Ok demands.new)
+        (λ e. Fails Memory e (policy.demand_at net.now place demands.old (data_of tree.now item.now))) }
 {
     if demands.count() >= MAX_DEMANDS {
         return Err(DemandFault::TooMany(Field::Demands, place));
     }
-    if !is_object(item) {
+    if !tree.is_object(item) {
         return Err(DemandFault::Shape(Field::Demands, place));
     }
-    let demand = read_demand(alloc, net, place, item)?;
+    let demand = read_demand(alloc, net, place, tree, item)?;
     demands.add(demand)?;
     Ok(())
 }
 
-fn read_each_demand(alloc: Global, net: &Net, items: &[Value]) -> Result<Demands, DemandFault>
-    ensures { Gives Memory (λ d. d) result (in_turn (policy.demand_at net.now) 0 [] (map view items.now)) }
+/// Reads the items of `demands`, one after the other.
+fn read_each_demand(
+    alloc: Global,
+    net: &Net,
+    tree: &Tree<'_>,
+    items: &[Node],
+) -> Result<Demands, DemandFault>
+    ensures { Gives Memory (λ d. d) result (in_turn (policy.demand_at net.now) 0 [] (map (data_of tree.now) items.now)) }
 {
     let mut demands = Demands::empty(alloc);
     for (i, item) in items.iter().enumerate() {
-        read_item(alloc, net, place_of(i), &mut demands, item)?;
+        read_item(alloc, net, place_of(i), &mut demands, tree, item)?;
     }
     Ok(demands)
 }
 
 /// Reads the member `demands`.
 #[tactic(auto, unfolding(crate::specs::Policy::members_in))]
-fn read_members(alloc: Global, net: &Net, top: &Value) -> Result<Demands, DemandFault>
-    ensures { Gives Memory (λ d. d) result (policy.members_in net.now (view top.now)) }
+fn read_members(
+    alloc: Global,
+    net: &Net,
+    tree: &Tree<'_>,
+    top: &Node,
+) -> Result<Demands, DemandFault>
+    ensures { Gives Memory (λ d. d) result (policy.members_in net.now (data_of tree.now top.now)) }
 {
-    if !is_object(top) {
+    if !tree.is_object(top) {
         return Err(DemandFault::Shape(Field::Top, 0));
     }
-    let items = list_at(top, "demands").ok_or(DemandFault::Shape(Field::Demands, 0))?;
-    read_each_demand(alloc, net, items)
+    let items = tree
+        .list_at(top, "demands")
+        .ok_or(DemandFault::Shape(Field::Demands, 0))?;
+    read_each_demand(alloc, net, tree, items)
 }
 
+/// Reads the bytes of a policy.
 #[tactic(auto, unfolding(crate::specs::Policy::demands_in))]
 fn read_file(alloc: Global, net: &Net, bytes: &[u8]) -> Result<Demands, DemandFault>
     ensures { Gives Memory (λ d. d) result (policy.demands_in net.now bytes.now) }
 {
-    let top = parse_json(alloc, bytes)?;
-    read_members(alloc, net, &top)
+    let mut scratch = Scratch::new(alloc);
+    let tree = parse_tree(alloc, bytes, &mut scratch)?;
+    read_members(alloc, net, &tree, tree.top())
 }
 
 /// The demands that the bytes describe, or the first refusal of the table of members.

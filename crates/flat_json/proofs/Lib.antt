@@ -4,3 +4,4 @@ pub mod Lookups
 pub mod Collected
 pub mod Leaves
 pub mod Reading
+pub mod NodeTurns

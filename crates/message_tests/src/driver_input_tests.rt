@@ -2,7 +2,8 @@
 use driver_input::{Input, InputFault, InputLine, Inputs, read_input};
 use std::alloc::Global;
 use std::process::Abort;
-use topology::{Net, read_net};
+use topology::Net;
+use topology_files::read_net;
 
 const NETWORK: &[u8] =
     br#"{"switches":[{"name":"s1","capacity":8},{"name":"s2","capacity":8}],"links":[["s1:2","s2:2"]],"hosts":["s1:1","s2:1"],"vlans":["untagged"],"tags":[3000,3009]}"#;

@@ -7,7 +7,8 @@ use flow_stats::{StatsFault, config_text, read_replies};
 use net_base::SwitchId;
 use std::alloc::Global;
 use std::process::Abort;
-use topology::{Net, read_net};
+use topology::Net;
+use topology_files::read_net;
 
 /// Ports 1 and 2 of `a` are host ports, as port 1 of `b`; the ports 3 of both are linked. Ids from 3000 to 3009 are tags.
 const NETWORK: &[u8] =

@@ -2,7 +2,8 @@
 use net_base::{Field, Place, Port, Stop, SwitchId, Vlan};
 use std::alloc::Global;
 use std::process::Abort;
-use topology::{End, Net, NetFault, read_net, reference_parts};
+use topology::{End, Net, reference_parts};
+use topology_files::{NetFault, read_net};
 
 /// The square: four switches in a ring with one chord, and a host at each.
 const SWITCHES: &str =

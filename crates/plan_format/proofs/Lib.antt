@@ -1,7 +1,6 @@
 pub mod OrderLaws
 pub mod KeyLaws
 pub mod RankLaws
-pub mod NodeTurns
 pub mod ReadLaws
 pub mod ValidChanges
 pub mod ValidEvidence

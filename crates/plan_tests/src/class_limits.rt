@@ -3,7 +3,8 @@ use dest_classes::{ClassFault, class_map};
 use net_base::{Prefix, read_prefix};
 use std::alloc::Global;
 use std::process::Abort;
-use topology::{Net, read_net};
+use topology::Net;
+use topology_files::read_net;
 
 /// A network of so many host ports, 64 at each switch but the last, and one VLAN.
 fn network(rt: &impl Abort, alloc: Global, hosts: u32) -> Net {

@@ -2,7 +2,7 @@
 use net_base::Field;
 use std::alloc::Global;
 use std::process::Abort;
-use topology::{NetFault, read_net};
+use topology_files::{NetFault, read_net};
 
 /// Why this text isn't read.
 fn fault_of(alloc: Global, text: &str) -> Option<NetFault> {

@@ -9,7 +9,8 @@ use net_base::{Port, Prefix, SwitchId};
 use plan_text::{rounds_text, write_plan};
 use std::alloc::Global;
 use std::process::Abort;
-use topology::{Net, read_net};
+use topology::Net;
+use topology_files::read_net;
 use update_model::{Change, Rounds};
 
 /// The switches of the square.

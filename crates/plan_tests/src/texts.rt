@@ -1,7 +1,8 @@
 //! Texts that repeat, and a network of two switches.
 use std::alloc::Global;
 use std::process::Abort;
-use topology::{Net, read_net};
+use topology::Net;
+use topology_files::read_net;
 
 /// Port 1 of each of two switches is a host port; their ports 2 are linked.
 const PAIR: &str =

@@ -7,7 +7,7 @@ use flow_rules::{Action, Key, Pattern, Rule, VlanTest};
 use net_base::{ListOf, Prefix, SwitchId, Vlan};
 use std::alloc::Global;
 use std::process::Abort;
-use topology::read_net;
+use topology_files::read_net;
 use update_model::{Change, Rounds};
 
 /// Two switches.

@@ -6,7 +6,8 @@ use flow_rules::{Action, Config, Key, Pattern, Rewrite, Rule, VlanTest};
 use net_base::{Port, Prefix, SwitchId};
 use round_tables::TrialTables;
 use std::process::Abort;
-use topology::{Net, read_net};
+use topology::Net;
+use topology_files::read_net;
 use update_model::{Change, applies};
 
 /// Two switches with a link, each with a host. The first has room for two entries.

@@ -1,7 +1,8 @@
 //! The tags of declared VLANs, and too few of them.
 use std::process::Abort;
 use tag_allocator::{TagFault, allot};
-use topology::{Net, read_net};
+use topology::Net;
+use topology_files::read_net;
 
 fn net_with(rt: &(impl Abort + AllocGlobal), vlans_and_tags: &str) -> Net {
     let before = "{\"switches\":[],\"links\":[],\"hosts\":[],";

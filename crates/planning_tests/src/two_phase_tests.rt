@@ -3,7 +3,8 @@ use crate::empty_tables::no_rules;
 use certificates::{Evidence, Plan, TwoPhaseEvidence};
 use net_base::SwitchId;
 use std::process::Abort;
-use topology::{Net, read_net};
+use topology::Net;
+use topology_files::read_net;
 use two_phase::{TwoFault, need, two_phase};
 use update_model::Rounds;
 

@@ -15,9 +15,9 @@ use Rattle.net_base.specs.declared.field.Field.{Field}
 use Rattle.net_base.proofs.Cuts.{Lacks, cut_last-at}
 use Rattle.net_base.proofs.Decimals.{own, decimal_in-decimal}
 use Rattle.net_base.specs.Text.{cut_last, decimal_in}
-use Rattle.topology.specs.Networks.{Network, switch_named, is_name_byte}
+use Rattle.topology.specs.Networks.{Network, switch_named, is_name_byte, is_name}
 use Rattle.topology.specs.References.{reference_parts}
-use Rattle.topology.specs.Topology.{is_name, reference}
+use Rattle.topology_files.specs.Topology.{reference}
 use Rattle.ring_sample.specs.Ring.{below, ring_name, ring_stop}
 use Rattle.ring_sample.specs.RingTrees.{port_text}
 

@@ -15,8 +15,9 @@ use Rattle.net_base.specs.declared.ids.Stop.{Stop}
 use Rattle.net_base.specs.declared.ids.SwitchId.{SwitchId}
 use Rattle.net_base.specs.declared.ids.Vlan.TheVariants.{Untagged}
 use Rattle.topology.specs.declared.net.Link.{Link}
-use Rattle.topology.specs.Networks.{Network, used_ports, stop_eq}
-use Rattle.topology.specs.Topology.{no_network, is_on, switch_at, named_at, name_at, switches_in, reference, free_port, link_at, linked_at, links_in, host_at, host_port_at, hosts_in, vlan_at, new_vlan_at, vlans_in, tags_in, range_in, ports_in, members_in, network_in}
+use Rattle.topology.specs.Networks.{Network, used_ports, stop_eq, is_on}
+use Rattle.topology.specs.Growth.{no_network}
+use Rattle.topology_files.specs.Topology.{switch_at, named_at, name_at, switches_in, reference, free_port, link_at, linked_at, links_in, host_at, host_port_at, hosts_in, vlan_at, new_vlan_at, vlans_in, tags_in, range_in, ports_in, members_in, network_in}
 use Rattle.topology.proofs.PortLaws.{count_append}
 use Rattle.ring_sample.specs.Ring.{below, ring_name, ring_stop, ring_link, ring_network}
 use Rattle.ring_sample.specs.RingTrees.{switch_tree, link_tree, host_tree, topology_tree, port_text}

@@ -2,7 +2,7 @@
 ghost use Rattle.std.specs.Prelude.{◌≡◌, ◌<◌, [], ◌∷◌, Ok, IfOk, map, codes};
 ghost use Rattle.serde_json.specs.Data.{string};
 ghost use Rattle.serde_json.specs.View.{view};
-ghost use Rattle.topology.specs.Topology.{network_in};
+ghost use Rattle.topology_files.specs.Topology.{network_in};
 ghost use Rattle.ring_sample.specs.Ring.{below, ring_network};
 ghost use Rattle.ring_sample.specs.RingTrees.{whole_tree, list_tree, switch_tree, link_tree, host_tree, topology_tree};
 

@@ -19,7 +19,8 @@ use demands::{DemandFault, Demands, read_demands};
 use flow_rules::Config;
 use net_base::Memory;
 use std::alloc::Global;
-use topology::{Net, NetFault, read_net};
+use topology::Net;
+use topology_files::{NetFault, read_net};
 
 fn read_network(alloc: Global, size: RingSize) -> Result<Net, Memory>
     ensures { IfOk result (λ net. net ≡ ring_network size.switches) }

@@ -8,7 +8,8 @@ use path_walk::Outcome;
 use path_walk::following::outcome;
 use round_mix::{Mixed, Outcomes};
 use std::process::Abort;
-use topology::{Net, read_net};
+use topology::Net;
+use topology_files::read_net;
 use update_model::Change;
 
 /// One switch with four hosts.

@@ -5,7 +5,8 @@ use flow_rules::{Action, Config, Key, Pattern, Rewrite, Rule, VlanTest};
 use net_base::{Place, Port, Prefix, SwitchId, Vlan};
 use std::alloc::Global;
 use std::process::Abort;
-use topology::{Net, read_net};
+use topology::Net;
+use topology_files::read_net;
 use update_model::{Change, Rounds, World, applies, change_tables};
 
 /// Four switches in a line, and links from the first to the third and to the fourth. Each has a host.

@@ -18,9 +18,9 @@ use Rattle.net_base.specs.declared.ids.Vlan.{Vlan}
 use Rattle.topology.proofs.LinkLaws.{any_from_in, ends_of}
 use Rattle.topology.proofs.EntryLaws.{found, vlan_eq-true, vlan_eq-refl}
 use Rattle.net_base.proofs.ItemLaws.{distinct_push}
-use Rattle.topology.specs.Networks.{Network, IsNetwork, IsName, IsPortNumber, IsVlan, stop_eq, vlan_eq, used_ports, switch_named, is_name_byte}
+use Rattle.topology.specs.Networks.{Network, IsNetwork, IsName, IsPortNumber, IsVlan, stop_eq, vlan_eq, used_ports, switch_named, is_on, is_name_byte, is_name, is_capacity}
 use Rattle.topology.specs.Ends.{port_ends, IsPort}
-use Rattle.topology.specs.Topology.{is_name, is_capacity, is_on, with_switch, with_link, with_host, with_vlan}
+use Rattle.topology.specs.Growth.{with_switch, with_link, with_host, with_vlan}
 use Rattle.topology.specs.declared.net.Link.{Link}
 use Rattle.topology.specs.declared.net.End.{End}
 use Rattle.topology.specs.declared.net.End.TheVariants as at

@@ -19,8 +19,7 @@ use Rattle.net_base.proofs.MemberLaws.{in_append_left, in_append_right, in_appen
 use Rattle.net_base.specs.declared.ids.SwitchId.{SwitchId}
 use Rattle.net_base.specs.declared.ids.Stop.{Stop}
 use Rattle.topology.proofs.LinkLaws.{stop_eq-true, stop_eq-refl, stop_ne, any_from_in, in_from_any, ends_of, not_both}
-use Rattle.topology.specs.Networks.{Network, IsNetwork, IsUsed, stop_eq, far_end, end_at, used_ports, is_used, is_host}
-use Rattle.topology.specs.Topology.{is_on}
+use Rattle.topology.specs.Networks.{Network, IsNetwork, IsUsed, stop_eq, far_end, end_at, used_ports, is_used, is_host, is_on}
 use Rattle.topology.specs.Ends.{port_ends, is_host_end, AreCounts, IsPort}
 use Rattle.topology.specs.declared.net.Link.{Link}
 use Rattle.topology.specs.declared.net.End.{End}

@@ -1,8 +1,6 @@
 pub mod Networks
+pub mod Growth
 pub mod Ends
-pub mod Beside
 pub mod Named
 pub mod Seen
-pub mod Faults
 pub mod References
-pub mod Topology

@@ -1,6 +1,6 @@
 -- Networks: switches, two-way links, host ports, declared VLANs and available tags.
 use Rattle.std.specs.Prelude.{◌≡◌, ◌≢◌, ℕ, ◌<◌, ◌≤◌, ◌==◌, ◌&&◌, Bool, cond, List, [], ◌∷◌, ◌++◌, length, flat_map, Option, None, Some, slice_index_or, IfSome, ◌||◌, not, nat_le, IsTrue, filter, position, true, false}
-use Rattle.std.specs.List.{AllByRecursion, list_any}
+use Rattle.std.specs.List.{AllByRecursion, list_all, list_any}
 use Rattle.std.specs.Str.{bytes_eq}
 use Rattle.net_base.specs.Members.{IsIn, IsDistinct}
 use Rattle.net_base.specs.declared.ids.SwitchId.{SwitchId}
@@ -37,6 +37,10 @@ capacity_of net s = slice_index_or net.capacities s.0 0
 -- whether two stops are the same port of the same switch
 abbrev pub stop_eq : Stop → Stop → Bool
 stop_eq a b = a.switch.0 == b.switch.0 && a.port.0 == b.port.0
+
+-- whether the port is one of the switch
+abbrev pub is_on : SwitchId → Stop → Bool
+is_on switch stop = stop.switch.0 == switch.0
 
 -- whether two VLANs are the same
 abbrev pub vlan_eq : Vlan → Vlan → Bool
@@ -120,6 +124,14 @@ is_name_byte c =
 -- 1 to 32 of them
 abbrev pub IsName : List ℕ → Type 0
 IsName name = (1 ≤ length name) × (length name ≤ 32) × AllByRecursion (λ c. IsTrue (is_name_byte c)) name
+
+-- whether bytes are 1 to 32 of them
+abbrev pub is_name : List ℕ → Bool
+is_name name = nat_le 1 (length name) && nat_le (length name) 32 && list_all is_name_byte name
+
+-- a capacity that a switch may have
+abbrev pub is_capacity : ℕ → Bool
+is_capacity n = nat_le 1 n && nat_le n 8192
 
 -- what every network keeps
 pub record IsNetwork (net : Network) : Type 0 where

@@ -1,17 +1,13 @@
-//! A network of switches with its links, host ports, declared VLANs and tag range, and the reader of its file.
+//! A network of switches with its links, host ports, declared VLANs and tag range.
 #![tactic(auto)]
 
-mod fault;
 pub mod laws;
 mod net;
 mod ports;
-mod read;
 mod references;
-mod small;
 mod switches;
+mod vlan_ids;
 
-pub use fault::NetFault;
 pub use net::{End, Link, Net};
-pub use read::read_net;
 pub use references::reference_parts;
-pub use small::is_vlan_id;
+pub use vlan_ids::is_vlan_id;

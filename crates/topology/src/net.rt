@@ -2,8 +2,8 @@
 
 ghost use Rattle.std.specs.Prelude.{◌≡◌, ◌≢◌, ◌↔◌, ◌<◌, ◌≤◌, ◌++◌, ◌∷◌, [], IsTrue, ◌&&◌, not, length, count_by, option_map, map, slice_get, IfSome, OnOk, None, Some, true, false};
 ghost use Rattle.std.specs.List.{list_any};
-ghost use Rattle.topology.specs.Networks.{IsNetwork, IsVlan, IsVlanId, IsUsed, IsAvailableTag, stop_eq, end_at, vlan_eq, IsEntry, switch_count, switch_named, capacity_of, used_ports, is_used, is_host, is_tag, in_range};
-ghost use Rattle.topology.specs.Topology.{no_network, is_name, is_capacity, is_on, with_switch, with_link, with_host, with_vlan, with_tags};
+ghost use Rattle.topology.specs.Networks.{IsNetwork, IsVlan, IsVlanId, IsUsed, IsAvailableTag, stop_eq, end_at, vlan_eq, IsEntry, switch_count, switch_named, capacity_of, used_ports, is_used, is_host, is_on, is_tag, in_range, is_name, is_capacity};
+ghost use Rattle.topology.specs.Growth.{no_network, with_switch, with_link, with_host, with_vlan, with_tags};
 ghost use Rattle.topology.specs.Ends.{IsPort};
 ghost use Rattle.topology.specs.Ends as seen;
 ghost use Rattle.topology.specs.declared.net.End.TheVariants as at;
@@ -264,7 +264,7 @@ fn put_host(ends: &mut Ports, hosts: &mut Vec<Stop>, stop: Stop) -> Result<(), A
 
 impl Net {
     /// No switch, link, host port, VLAN or tag.
-    pub(crate) fn empty(alloc: Global) -> Self
+    pub fn empty(alloc: Global) -> Self
         ensures { result ≡ no_network }
     {
         Net {
@@ -277,21 +277,16 @@ impl Net {
         }
     }
 
-    /// How many ports of the switch are used.
-    pub(crate) fn count_on(&self, switch: SwitchId) -> usize
+    /// How many ports of the switch are used, at most 64. The cost is that of one look-up by number.
+    pub fn count_on(&self, switch: SwitchId) -> usize
         ensures value { result ≡ count_by (is_on switch) (used_ports self.now) }
         ensures few { result ≤ 64 }
     {
         self.ends.count_on(switch)
     }
 
-    /// Adds a switch.
-    pub(crate) fn add_switch(
-        &mut self,
-        alloc: Global,
-        name: &str,
-        capacity: u32,
-    ) -> Result<(), AllocError>
+    /// Adds a switch by a name that no other one has, with the most table entries that it takes.
+    pub fn add_switch(&mut self, alloc: Global, name: &str, capacity: u32) -> Result<(), AllocError>
         requires room { length self.old.names < 128 }
         requires form { is_name name.now ≡ true }
         requires new { switch_named self.old.names name.now ≡ None }
@@ -304,7 +299,7 @@ impl Net {
 
     /// Adds a link between ports that aren't used. No host port stands yet. Where memory is wanting neither a link nor
     /// a host port is left.
-    pub(crate) fn add_link(&mut self, a: Stop, b: Stop) -> Result<(), AllocError>
+    pub fn add_link(&mut self, a: Stop, b: Stop) -> Result<(), AllocError>
         requires first { self.old.hosts ≡ [] }
         requires ports { IsPort self.old a × IsPort self.old b }
         requires a_free { list_any (stop_eq a) (used_ports self.old) ≡ false }
@@ -323,7 +318,7 @@ impl Net {
     }
 
     /// Adds a host port, which isn't used. Where memory is wanting neither a link nor a host port is left.
-    pub(crate) fn add_host(&mut self, stop: Stop) -> Result<(), AllocError>
+    pub fn add_host(&mut self, stop: Stop) -> Result<(), AllocError>
         requires port { IsPort self.old stop }
         requires free { list_any (stop_eq stop) (used_ports self.old) ≡ false }
         requires room { count_by (is_on stop.switch) (used_ports self.old) < 64 }
@@ -338,8 +333,8 @@ impl Net {
         }
     }
 
-    /// Adds a declared VLAN.
-    pub(crate) fn add_vlan(&mut self, vlan: Vlan) -> Result<(), AllocError>
+    /// Adds a VLAN that isn't declared yet.
+    pub fn add_vlan(&mut self, vlan: Vlan) -> Result<(), AllocError>
         requires room { length self.old.vlans < 64 }
         requires form { IsVlan vlan }
         requires new { list_any (vlan_eq vlan) self.old.vlans ≡ false }
@@ -349,8 +344,8 @@ impl Net {
         Ok(())
     }
 
-    /// Takes this tag range.
-    pub(crate) fn set_tags(&mut self, tags: Option<(u16, u16)>)
+    /// Takes this tag range, the first and the last id, or none, in place of the one before.
+    pub fn set_tags(&mut self, tags: Option<(u16, u16)>)
         requires { IfSome tags (λ t. IsVlanId t.0 × IsVlanId t.1 × (t.0 ≤ t.1)) }
         ensures { self.new ≡ with_tags self.old (option_map (λ t. record { first = t.0; last = t.1 }) tags) }
     {

@@ -2,8 +2,7 @@
 ghost use Rattle.std.specs.Prelude.{◌≡◌, ◌<◌, ◌^◌, ◌++◌, ◌∷◌, [], count_by, map, unwrap_or, IfSome, Some, OnOk, false};
 ghost use Rattle.std.specs.List.{list_any};
 ghost use Rattle.std.specs.Map.{lookup};
-ghost use Rattle.topology.specs.Networks.{stop_eq};
-ghost use Rattle.topology.specs.Topology.{is_on};
+ghost use Rattle.topology.specs.Networks.{stop_eq, is_on};
 ghost use Rattle.topology.specs.declared.net.End.TheVariants as at;
 
 use crate::net::End;

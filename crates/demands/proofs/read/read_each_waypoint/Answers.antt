@@ -1,6 +1,7 @@
 use Rattle.std.proofs.lemmas.Result.{err_from_is_err_and}
-use Rattle.serde_json.specs.View.{view}
-use Rattle.net_base.proofs.Turns.{goes_on, ends, is_done}
+use Rattle.flat_json.specs.Trees.{data_of}
+use Rattle.flat_json.proofs.NodeTurns.{goes_on, ends}
+use Rattle.net_base.proofs.Turns.{is_done}
 use Rattle.demands.specs.declared.fault.DemandFault.TheVariants.{Memory}
 use Rattle.demands.specs.Policy.{waypoint_at}
 use Rattle.demands.proofs.read.read_each_waypoint.Goals as goal
@@ -9,14 +10,14 @@ pub returns-in_err-read_waypoint : goal.returns-in_err-read_waypoint
 returns-in_err-read_waypoint c =
     let p = err_from_is_err_and c.from_residual.result c.from_residual.ensures.1 in
     rw (p.1, p.2)
-    (ends view (λ i. waypoint_at c.args.net.now c.args.place) c.args.items.now c.loop-item.item-index c.loop-item.item-index c.loop-item.through.items c.item-item.result _ c.loop-item-test.true c.item-item.is Memory
+    (ends c.args.tree.now (λ i. waypoint_at c.args.net.now c.args.place) c.args.items.now c.loop-item.item-index c.loop-item.item-index c.loop-item.through.items _ _ c.loop-item-test.true Memory
     c.in_err-read_waypoint.field-0.0 c.in_err-read_waypoint.ensures c.loop-item.invariant)
 
 pub loop-item-preserved : goal.loop-item-preserved
 loop-item-preserved c =
-    goes_on view (λ i. waypoint_at c.args.net.now c.args.place) c.args.items.now c.loop-item.item-index c.loop-item.item-index c.loop-item.through.items c.item-item.result _ c.loop-item-test.true c.item-item.is
+    goes_on c.args.tree.now (λ i. waypoint_at c.args.net.now c.args.place) c.args.items.now c.loop-item.item-index c.loop-item.item-index c.loop-item.through.items _ _ c.loop-item-test.true
     c.read_waypoint.new.through.items c.in_ok-read_waypoint.ensures c.loop-item.invariant
 
 pub returns : goal.returns
 returns c =
-    is_done view (λ i. waypoint_at c.args.net.now c.args.place) c.args.items.now c.loop-item.item-index c.loop-item.item-index c.loop-item.through.items _ c.loop-item-test.false c.loop-item.invariant
+    is_done (data_of c.args.tree.now) (λ i. waypoint_at c.args.net.now c.args.place) c.args.items.now c.loop-item.item-index c.loop-item.item-index c.loop-item.through.items _ c.loop-item-test.false c.loop-item.invariant

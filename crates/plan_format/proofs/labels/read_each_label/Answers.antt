@@ -1,7 +1,7 @@
 use Rattle.std.proofs.lemmas.Result.{err_from_is_err_and}
 use Rattle.flat_json.specs.Trees.{data_of}
 use Rattle.net_base.proofs.Turns.{is_done}
-use Rattle.plan_format.proofs.NodeTurns.{goes_on, ends}
+use Rattle.flat_json.proofs.NodeTurns.{goes_on, ends}
 use Rattle.plan_format.specs.declared.fault.PlanFault.TheVariants.{Memory}
 use Rattle.plan_format.specs.Evidence.{label_at}
 use Rattle.plan_format.proofs.labels.read_each_label.Goals as goal

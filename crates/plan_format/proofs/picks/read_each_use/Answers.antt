@@ -1,7 +1,7 @@
 use Rattle.std.proofs.lemmas.Result.{err_from_is_err_and}
 use Rattle.flat_json.specs.Trees.{data_of}
 use Rattle.net_base.proofs.Turns.{is_done}
-use Rattle.plan_format.proofs.NodeTurns.{goes_on_at, ends_at}
+use Rattle.flat_json.proofs.NodeTurns.{goes_on_at, ends_at}
 use Rattle.plan_format.specs.declared.fault.PlanFault.TheVariants.{Memory}
 use Rattle.plan_format.specs.Evidence.{use_at}
 use Rattle.plan_format.proofs.picks.read_each_use.Goals as goal

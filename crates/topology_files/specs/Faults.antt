@@ -3,8 +3,8 @@ use Rattle.std.specs.Prelude.{ℕ, List, Option, None, Some, codes}
 use Rattle.net_base.specs.declared.field.Field.{Field}
 use Rattle.net_base.specs.declared.tree.JsonFault.{JsonFault}
 use Rattle.net_base.specs.declared.tree.JsonFault.TheVariants as json
-use Rattle.topology.specs.declared.fault.NetFault.{NetFault}
-use Rattle.topology.specs.declared.fault.NetFault.TheVariants.{NotJson, Shape, BadName, DoubleName, UnknownSwitch, BadPort, PortTwice, BadVlan, VlanTwice, BadTags, BadCapacity, TooMany, Memory}
+use Rattle.topology_files.specs.declared.fault.NetFault.{NetFault}
+use Rattle.topology_files.specs.declared.fault.NetFault.TheVariants.{NotJson, Shape, BadName, DoubleName, UnknownSwitch, BadPort, PortTwice, BadVlan, VlanTwice, BadTags, BadCapacity, TooMany, Memory}
 
 -- how the faults of the tree are told
 abbrev pub of_json : JsonFault → NetFault

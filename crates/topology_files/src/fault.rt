@@ -1,7 +1,7 @@
 //! Why bytes are no topology.
 ghost use Rattle.std.specs.Prelude.{◌≡◌};
-ghost use Rattle.topology.specs.declared.fault.NetFault.TheVariants.{Memory};
-ghost use Rattle.topology.specs.Faults.{of_json, fault_number, fault_name, fault_field, fault_place};
+ghost use Rattle.topology_files.specs.declared.fault.NetFault.TheVariants.{Memory};
+ghost use Rattle.topology_files.specs.Faults.{of_json, fault_number, fault_name, fault_field, fault_place};
 
 use net_base::{Field, JsonFault};
 use std::alloc::{AllocError, AllocFailed};

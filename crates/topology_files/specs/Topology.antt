@@ -1,11 +1,10 @@
 -- The reading of a topology, by the table of its members.
-use Rattle.std.specs.Prelude.{ℕ, ◌&&◌, ◌==◌, List, [], ◌∷◌, ◌++◌, length, count_by, Bool, true, not, nat_lt, nat_le, is_none, Option, None, Some, option_and_then, option_map, Result, Ok, codes, if◌then◌else◌}
-use Rattle.std.specs.List.{list_all, list_any}
+use Rattle.std.specs.Prelude.{ℕ, ◌&&◌, List, [], ◌∷◌, ◌++◌, length, count_by, Bool, true, not, nat_lt, nat_le, is_none, Option, None, Some, option_and_then, option_map, Result, Ok, codes, if◌then◌else◌}
+use Rattle.std.specs.List.{list_any}
 use Rattle.std.specs.Option.{option_or}
 use Rattle.std.specs.Str.{bytes_eq}
 use Rattle.serde_json.specs.Data.{Data}
 use Rattle.serde_json.specs.Find.{as_str}
-use Rattle.net_base.specs.declared.ids.SwitchId.{SwitchId}
 use Rattle.net_base.specs.declared.ids.Stop.{Stop}
 use Rattle.net_base.specs.declared.ids.Vlan.{Vlan}
 use Rattle.net_base.specs.declared.ids.Vlan.TheVariants.{Untagged, Id}
@@ -13,28 +12,13 @@ use Rattle.net_base.specs.declared.field.Field.{Field}
 use Rattle.net_base.specs.declared.field.Field.TheVariants.{Top, Switches, Name, Capacity, Links, Hosts, Vlans, Tags}
 use Rattle.net_base.specs.Reading.{◌>>=◌, check, need, in_turn}
 use Rattle.net_base.specs.Tree.{is_object, text_at, whole_at, whole_in, list_in, list_at, tree_in}
-use Rattle.topology.specs.declared.fault.NetFault.{NetFault}
-use Rattle.topology.specs.declared.fault.NetFault.TheVariants.{NotJson, Shape, BadName, DoubleName, UnknownSwitch, BadPort, PortTwice, BadVlan, VlanTwice, BadTags, BadCapacity, TooMany}
-use Rattle.topology.specs.Networks.{Network, TagRange, switch_named, used_ports, stop_eq, vlan_eq, is_name_byte, is_vlan_id}
+use Rattle.topology_files.specs.declared.fault.NetFault.{NetFault}
+use Rattle.topology_files.specs.declared.fault.NetFault.TheVariants.{NotJson, Shape, BadName, DoubleName, UnknownSwitch, BadPort, PortTwice, BadVlan, VlanTwice, BadTags, BadCapacity, TooMany}
+use Rattle.topology.specs.Networks.{Network, TagRange, switch_named, used_ports, is_on, stop_eq, vlan_eq, is_name, is_capacity, is_vlan_id}
+use Rattle.topology.specs.Growth.{no_network, with_switch, with_link, with_host, with_vlan, with_tags}
 use Rattle.topology.specs.References.{reference_parts}
 
--- no switch, link, host port, VLAN or tag
-abbrev pub no_network : Network
-no_network = record { names = []; capacities = []; links = []; hosts = []; vlans = []; tags = None }
-
 -- ---- switches
-
--- 1 to 32 letters, digits, - and _
-abbrev pub is_name : List ℕ → Bool
-is_name name = nat_le 1 (length name) && nat_le (length name) 32 && list_all is_name_byte name
-
--- a capacity that a switch may have
-abbrev pub is_capacity : ℕ → Bool
-is_capacity n = nat_le 1 n && nat_le n 8192
-
--- with one switch more
-abbrev pub with_switch : Network → List ℕ → ℕ → Network
-with_switch net name capacity = record net { names = net.names ++ name ∷ []; capacities = net.capacities ++ capacity ∷ [] }
 
 -- the name of one item of `switches`
 unfoldable pub name_at : ℕ → Network → Data → Result (List ℕ) NetFault
@@ -71,10 +55,6 @@ switches_in net top = do
 abbrev pub is_port_number : ℕ → Bool
 is_port_number n = nat_le 1 n && nat_le n 65279
 
--- whether the port is one of the switch
-abbrev pub is_on : SwitchId → Stop → Bool
-is_on switch stop = stop.switch.0 == switch.0
-
 -- a port reference
 unfoldable pub reference : Network → Field → ℕ → List ℕ → Result Stop NetFault
 reference net field place text = do
@@ -98,10 +78,6 @@ abbrev pub two_texts : List Data → Option (List ℕ × List ℕ)
 two_texts (a ∷ b ∷ []) = option_and_then (λ s. option_map (λ t. (s, t)) (as_str b)) (as_str a)
 two_texts other = None
 
--- with one link more
-abbrev pub with_link : Network → Stop → Stop → Network
-with_link net a b = record net { links = net.links ++ record { one = a; other = b } ∷ [] }
-
 -- the two ports of one item of `links`
 unfoldable pub linked_at : ℕ → Network → Data → Result (Stop × Stop) NetFault
 linked_at place net d = do
@@ -122,10 +98,6 @@ links_in net top = do
   in_turn link_at 0 net items
 
 -- ---- host ports
-
--- with one host port more
-abbrev pub with_host : Network → Stop → Network
-with_host net stop = record net { hosts = net.hosts ++ stop ∷ [] }
 
 -- the port of one item of `hosts`
 unfoldable pub host_port_at : ℕ → Network → Data → Result Stop NetFault
@@ -154,10 +126,6 @@ vlan_id d = option_or (option_and_then (λ text. if bytes_eq text (codes "untagg
 abbrev pub vlan_with : Option ℕ → Option Vlan
 vlan_with None = Some Untagged
 vlan_with (Some id) = if is_vlan_id id then Some (Id id) else None
-
--- with one declared VLAN more
-abbrev pub with_vlan : Network → Vlan → Network
-with_vlan net v = record net { vlans = net.vlans ++ v ∷ [] }
 
 -- the VLAN of one item of `vlans`
 unfoldable pub new_vlan_at : ℕ → Network → Data → Result Vlan NetFault
@@ -195,10 +163,6 @@ range_of other = None
 abbrev pub is_range : Option TagRange → Bool
 is_range None = true
 is_range (Some t) = is_vlan_id t.first && is_vlan_id t.last && nat_le t.first t.last
-
--- with this tag range
-abbrev pub with_tags : Network → Option TagRange → Network
-with_tags net range = record net { tags = range }
 
 -- the range of the member `tags`
 unfoldable pub range_in : Data → Result (Option TagRange) NetFault

@@ -1,25 +1,28 @@
 //! Names, capacities, VLANs and tag ranges as a topology spells them.
-ghost use Rattle.std.specs.Prelude.{◌≡◌, ◌↔◌, ◌≤◌, Some, map, option_map, IfSome, IsTrue, true};
+ghost use Rattle.std.specs.Prelude.{◌≡◌, ◌≤◌, Some, map, option_map, IfSome, true};
 ghost use Rattle.std.specs.List.{list_all};
-ghost use Rattle.serde_json.specs.View.{view};
-ghost use Rattle.net_base.specs.Tree as tree;
+ghost use Rattle.std.specs.Option.{option_and_then};
+ghost use Rattle.flat_json.specs.Trees.{data_of};
+ghost use Rattle.net_base.specs.Tree.{list_at};
 ghost use Rattle.topology.specs.Networks as networks;
 ghost use Rattle.topology.specs.Networks.{IsVlan, IsVlanId};
-ghost use Rattle.topology.specs.Topology as topology;
+ghost use Rattle.topology_files.specs.Topology as topology;
 
-use net_base::{Vlan, list_in, whole};
-use serde_json::Value;
+use flat_json::{Node, Tree};
+use net_base::Vlan;
+use topology::is_vlan_id;
 
+/// The most table entries of a switch.
 const MAX_CAPACITY: u64 = 8192;
 
-const MAX_VLAN: u64 = 4094;
-
+/// Whether it is an ASCII letter, a digit, `-` or `_`.
 fn is_name_byte(b: u8) -> bool
     ensures { result ≡ networks.is_name_byte b }
 {
     b.is_ascii_digit() || b.is_ascii_uppercase() || b.is_ascii_lowercase() || b == b'-' || b == b'_'
 }
 
+/// Whether the text has such bytes alone.
 fn has_name_bytes(name: &str) -> bool
     ensures { result ≡ list_all networks.is_name_byte name.now }
 {
@@ -28,35 +31,26 @@ fn has_name_bytes(name: &str) -> bool
 
 /// Whether the text is a name: 1 to 32 ASCII letters, digits, `-` and `_`.
 pub(crate) fn is_name(name: &str) -> bool
-    ensures { result ≡ topology.is_name name.now }
+    ensures { result ≡ networks.is_name name.now }
 {
     1 <= name.len() && name.len() <= 32 && has_name_bytes(name)
 }
 
 /// Whether it is a capacity that a switch may have: 1 to 8192.
 pub(crate) fn is_capacity(capacity: u64) -> bool
-    ensures value { result ≡ topology.is_capacity capacity }
+    ensures value { result ≡ networks.is_capacity capacity }
     ensures small { result ≡ true → capacity ≤ 8192 }
 {
     1 <= capacity && capacity <= MAX_CAPACITY
 }
 
-/// Whether the number is an id that a VLAN may have: 1 to 4094 (IEEE 802.1Q).
-pub fn is_vlan_id(id: u64) -> bool
-    ensures value { result ≡ networks.is_vlan_id id }
-    ensures form { result ≡ true → IsVlanId id }
-    ensures meaning { IsTrue result ↔ IsVlanId id }
-{
-    1 <= id && id <= MAX_VLAN
-}
-
 /// The text `untagged`, or a whole number.
-pub(crate) fn vlan_id(item: &Value) -> Option<Option<u64>>
-    ensures { result ≡ topology.vlan_id (view item.now) }
+pub(crate) fn vlan_id(tree: &Tree<'_>, item: &Node) -> Option<Option<u64>>
+    ensures { result ≡ topology.vlan_id (data_of tree.now item.now) }
 {
-    match item.as_str() {
+    match tree.as_str(item) {
         Some(text) if text == "untagged" => Some(None),
-        _ => whole(item).map(Some),
+        _ => tree.whole(item).map(Some),
     }
 }
 
@@ -73,15 +67,23 @@ pub(crate) fn vlan_with(id: Option<u64>) -> Option<Vlan>
 }
 
 /// No ids, or a first and a last one.
-pub(crate) fn range_of(items: &[Value]) -> Option<Option<(u64, u64)>>
+fn range_of(tree: &Tree<'_>, items: &[Node]) -> Option<Option<(u64, u64)>>
     ensures { option_map (option_map (λ t. record { first = t.0; last = t.1 })) result
-        ≡ topology.range_of (map view items.now) }
+        ≡ topology.range_of (map (data_of tree.now) items.now) }
 {
     match items {
         [] => Some(None),
-        [a, b] => Some(Some((whole(a)?, whole(b)?))),
+        [a, b] => Some(Some((tree.whole(a)?, tree.whole(b)?))),
         _ => None,
     }
+}
+
+/// The ids of a member that is a list of none or two.
+pub(crate) fn range_at(tree: &Tree<'_>, node: &Node, name: &str) -> Option<Option<(u64, u64)>>
+    ensures { option_map (option_map (λ t. record { first = t.0; last = t.1 })) result
+        ≡ option_and_then topology.range_of (list_at name.now (data_of tree.now node.now)) }
+{
+    range_of(tree, tree.list_at(node, name)?)
 }
 
 /// Whether each id is one that a VLAN may have, and they stand in order.
