@@ -1,17 +1,16 @@
 -- The rules and the changes that are written are read again.
-use Rattle.std.proofs.Common.{◌≡◌, ℕ, zero, suc, ◌+◌, ◌<◌, ◌≤◌, Bool, true, false, List, [], ◌∷◌, ◌++◌, length, map, sum_by, slice_get, get_or, codes, Option, Some, None, option_map, Ok, refl, sym, ap, subst, inl, inr, ◌∙◌, append_assoc, arith}
-use Rattle.std.specs.List.{AllByRecursion, position_or_len}
+use Rattle.std.proofs.Common.{◌≡◌, ℕ, suc, ◌+◌, ◌<◌, ◌≤◌, Bool, true, false, List, [], ◌∷◌, ◌++◌, length, map, sum_by, slice_get, codes, Option, Some, None, option_map, Ok, refl, sym, ap, subst, ◌∙◌, append_assoc, arith}
+use Rattle.std.specs.List.{AllByRecursion}
 use Rattle.std.specs.Option.{unwrap_or}
 use Rattle.std.specs.Str.{bytes_eq}
-use Rattle.std.proofs.lemmas.Bool.{le-leb, lt-ltb, and_from, false≢true, false_from_ne_true}
+use Rattle.std.proofs.lemmas.Bool.{le-leb, lt-ltb, and_from, false≢true}
 use Rattle.std.proofs.lemmas.List.{append-nil, length-map}
 use Rattle.std.proofs.lemmas.List.Sums.{sum_by_push, sum_by-append}
 use Rattle.std.proofs.lemmas.Option.{unwrap_or-slice_get}
-use Rattle.std.proofs.lemmas.Slice.Eq.{bytes_eq-Decides}
 use Rattle.serde_json.specs.Data.{Data, string, object, Members, no_members, put}
 use Rattle.serde_json.specs.Find.{get_member}
 use Rattle.serde_json.proofs.Views.{get_member-put, get_member-put_other}
-use Rattle.net_base.specs.Members.{IsIn, IsDistinct}
+use Rattle.net_base.specs.Members.{IsDistinct}
 use Rattle.net_base.specs.declared.field.Field.{Field}
 use Rattle.net_base.specs.declared.ids.Port.{Port}
 use Rattle.net_base.specs.Fields.{field_name}
@@ -36,7 +35,6 @@ use Rattle.plan_format.specs.declared.changes.Spelling.TheVariants.{Numbers}
 use Rattle.plan_format.specs.Changes.{in_port_word, vlan_word, out_word, set_word, strip_word, is_port, port_choice, test_of, action_of, rule_of, rule_in, numbered_change, change_at, round_in, round_at, rounds_in, rule_at, rules_in}
 use Rattle.plan_text.specs.PlanText.{whole_tree, list_tree, put_some, name_of, in_port_tree, test_tree, out_tree, set_tree, strip_tree, rule_members, rule_tree, plan_rule_of, rule_number, numbered_change_tree, numbered_round_tree, numbered_rounds_tree}
 use Rattle.plan_text.proofs.InTurn.{turns_again}
-use Rattle.net_base.proofs.ItemLaws.{in_at}
 use Rattle.topology.proofs.NamedLaws.{named_at, same_bytes}
 
 -- ---- the members of a rule

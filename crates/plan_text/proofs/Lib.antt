@@ -1,9 +1,12 @@
 pub mod UsedRules
 pub mod SameRule
 pub mod Marked
+pub mod Adding
+pub mod Order
 pub mod Shallow
 pub mod InTurn
 pub mod EvidenceAgain
 pub mod ChangesAgain
+pub mod ReadBack
 pub mod UsedAgain
 pub mod PlanAgain

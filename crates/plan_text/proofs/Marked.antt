@@ -1,10 +1,13 @@
 -- The numbers of the marked places, one place after the other.
-use Rattle.std.proofs.Common.{◌≡◌, ℕ, zero, suc, ◌+◌, ◌<◌, Bool, true, false, List, [], ◌∷◌, ◌++◌, length, map, take, get_or, refl, sym, ap, ◌∙◌, arith, add-one, add-zero}
-use Rattle.std.proofs.lemmas.List.{map_push}
-use Rattle.serde_json.specs.View.{view}
-use Rattle.serde_json.specs.declared.value.Value.{Value}
+use Rattle.std.proofs.Common.{◌≡◌, ℕ, zero, suc, ◌+◌, ◌<◌, ◌≤◌, Bool, true, false, List, [], ◌∷◌, ◌++◌, length, take, get_or, refl, sym, ap, subst, ◌∙◌, arith, add-one, add-zero}
+use Rattle.std.proofs.lemmas.Grind.{flat_map-append}
+use Rattle.std.proofs.lemmas.List.{take_all}
+use Rattle.json.specs.Token.{begin_array, end_array}
+use Rattle.json.specs.Written.{Written}
 use Rattle.waypoint_evidence.specs.Befores.{marked_from}
-use Rattle.plan_text.specs.PlanText.{whole_tree}
+use Rattle.plan_text.specs.PlanText.{whole_tree, numbers_tree}
+use Rattle.plan_text.specs.Tokens.{tokens_of, all_tokens, Adds}
+use Rattle.plan_text.proofs.Adding.{and_more, list_added}
 
 one_more : (first i : ℕ) (marks : List Bool) → i < length marks → get_or marks i false ≡ true → marked_from first (take (suc i) marks) ≡ marked_from first (take i marks) ++ (first + i) ∷ []
 one_more first i [] lt on = absurd (omega arith)
@@ -20,13 +23,23 @@ none_more first zero (false ∷ marks) lt off = refl
 none_more first (suc i) (true ∷ marks) lt off = ap (λ l. first ∷ l) (none_more (first + 1) i marks (omega arith) off)
 none_more first (suc i) (false ∷ marks) lt off = none_more (first + 1) i marks (omega arith) off
 
-pub marked_value : (vs new : List Value) (v : Value) (i : ℕ) (marks : List Bool) → map view vs ≡ map whole_tree (marked_from 0 (take i marks)) → i < length marks → get_or marks i false ≡ true
-    → new ≡ vs ++ v ∷ [] → view v ≡ whole_tree i → map view new ≡ map whole_tree (marked_from 0 (take (i + 1) marks))
-marked_value vs new v i marks so_far lt on is value =
-    let number : i ≡ 0 + i = omega arith in
-    ap (map view) is ∙ map_push view vs v ∙ ap (λ d. map view vs ++ d ∷ []) (value ∙ ap whole_tree number) ∙ ap (λ ds. ds ++ whole_tree (0 + i) ∷ []) so_far
-    ∙ sym (map_push whole_tree (marked_from 0 (take i marks)) (0 + i)) ∙ ap (map whole_tree) (sym (one_more 0 i marks lt on)) ∙ rw add-one refl
+pub marked_added : (i : ℕ) (marks : List Bool) (a b c : Written) → i < length marks → get_or marks i false ≡ true → Adds a b (all_tokens whole_tree (marked_from 0 (take i marks)))
+    → Adds b c (tokens_of (whole_tree i)) → Adds a c (all_tokens whole_tree (marked_from 0 (take (i + 1) marks)))
+marked_added i marks a b c lt on before more =
+    let before_it : List ℕ = marked_from 0 (take i marks) in
+    let from_zero : 0 + i ≡ i = omega arith in
+    let number : marked_from 0 (take (i + 1) marks) ≡ before_it ++ i ∷ [] = rw add-one (one_more 0 i marks lt on ∙ ap (λ (n : ℕ). before_it ++ n ∷ []) from_zero) in
+    let whole : all_tokens whole_tree (before_it ++ i ∷ []) ≡ all_tokens whole_tree before_it ++ tokens_of (whole_tree i) = flat_map-append (λ n. tokens_of (whole_tree n)) before_it (i ∷ []) in
+    subst (Adds a c) (sym (ap (all_tokens whole_tree) number ∙ whole)) (and_more before more)
 
-pub unmarked_value : (vs : List Value) (i : ℕ) (marks : List Bool) → map view vs ≡ map whole_tree (marked_from 0 (take i marks)) → i < length marks → get_or marks i false ≡ false
-    → map view vs ≡ map whole_tree (marked_from 0 (take (i + 1) marks))
-unmarked_value vs i marks so_far lt off = so_far ∙ ap (map whole_tree) (sym (none_more 0 i marks lt off)) ∙ rw add-one refl
+pub unmarked_added : (i : ℕ) (marks : List Bool) (a b : Written) → i < length marks → get_or marks i false ≡ false → Adds a b (all_tokens whole_tree (marked_from 0 (take i marks)))
+    → Adds a b (all_tokens whole_tree (marked_from 0 (take (i + 1) marks)))
+unmarked_added i marks a b lt off before =
+    let same : marked_from 0 (take (i + 1) marks) ≡ marked_from 0 (take i marks) = rw add-one (none_more 0 i marks lt off) in
+    subst (Adds a b) (sym (ap (all_tokens whole_tree) same)) before
+
+-- at the end of the marks
+pub marks_added : (marks : List Bool) (i : ℕ) (a b c d : Written) → length marks ≤ i → Adds a b (begin_array ∷ []) → Adds b c (all_tokens whole_tree (marked_from 0 (take i marks))) → Adds c d (end_array ∷ [])
+    → Adds a d (tokens_of (numbers_tree (marked_from 0 marks)))
+marks_added marks i a b c d over first items last =
+    list_added whole_tree (marked_from 0 marks) a b c d first (subst (λ (ms : List Bool). Adds b c (all_tokens whole_tree (marked_from 0 ms))) (take_all i marks over) items) last

@@ -1,14 +1,22 @@
 -- Reading the text of a plan gives the plan.
-use Rattle.std.proofs.Common.{◌≡◌, ℕ, ◌+◌, ◌≤◌, List, ◌++◌, length, map, sum_by, codes, Some, Ok, refl, arith}
+use Rattle.std.proofs.Common.{◌≡◌, ℕ, ◌+◌, ◌^◌, ◌<◌, ◌≤◌, List, [], ◌∷◌, ◌++◌, length, map, sum_by, codes, Some, Ok, refl, ap, ◌∙◌, arith}
 use Rattle.std.specs.List.{AllByRecursion}
 use Rattle.std.proofs.lemmas.List.Sums.{sum_by-append}
-use Rattle.serde_json.specs.Data.{Data, string, object, Members}
+use Rattle.serde_json.specs.Data.{string, object, Members}
 use Rattle.serde_json.specs.Find.{get_member}
 use Rattle.net_base.specs.Members.{IsDistinct}
 use Rattle.net_base.specs.Tree.{tree_in}
 use Rattle.net_base.specs.declared.field.Field.TheVariants as field
 use Rattle.net_base.proofs.MemberLaws.{each_append, each_first, each_last}
-use Rattle.topology.specs.Networks.{Network, IsNetwork}
+use Rattle.json.specs.Lex.{tokens}
+use Rattle.json.specs.Print.{print}
+use Rattle.json.specs.Written.{Written}
+use Rattle.std.specs.Str.{IsUtf8}
+use Rattle.topology.specs.Networks.{Network, IsNetwork, switch_count}
+use Rattle.plan_text.specs.Tokens.{tokens_of, before_count, Adds}
+use Rattle.plan_text.proofs.Order.{ordered_is, two_phase_is}
+use Rattle.plan_text.proofs.Shallow.{plan_flat}
+use Rattle.plan_text.proofs.ReadBack.{IsRead, ordered_read, two_phase_read, tree_is}
 use Rattle.update_model.specs.declared.Change.{Change}
 use Rattle.update_model.specs.Ranges.{IsPlanChange}
 use Rattle.certificates.specs.declared.OrderedEvidence.{OrderedEvidence}
@@ -150,9 +158,10 @@ tried_in_range : (net : Network) (rounds changes : ℕ) (e : Evidence) → IsVal
 tried_in_range net rounds changes (Ordered e) h = tt
 tried_in_range net rounds changes (TwoPhase e) h = h.tried
 
-pub plan_again : (net : Network) (plan : Plan) → IsNetwork net → IsValidPlan net plan → plan_at net (plan_tree net plan) ≡ Ok plan
-unfolding used_rules
-plan_again net plan kept valid =
+-- the list of the rules in use, each with its number
+used_serves : (net : Network) (plan : Plan) → IsValidPlan net plan
+    → Serves net (once (rules_of (plan.rounds ++ tried_of plan.evidence))) plan.rounds × AllByRecursion (AllByRecursion (HasNumber (once (rules_of (plan.rounds ++ tried_of plan.evidence))))) (tried_of plan.evidence)
+used_serves net plan valid =
     let tried : List (List Change) = tried_of plan.evidence in
     let all : List (List Change) = plan.rounds ++ tried in
     let rules : List PlanRule = once (rules_of all) in
@@ -168,8 +177,36 @@ plan_again net plan kept valid =
       few_changes = valid.few_changes;
       few_rounds = valid.few_rounds;
     } in
-    evidence_again net rules plan.rounds kept.names serves plan.evidence valid.evidence (each_last (AllByRecursion (HasNumber rules)) plan.rounds tried numbered)
+    (serves, each_last (AllByRecursion (HasNumber rules)) plan.rounds tried numbered)
 
-pub text_again : (net : Network) (plan : Plan) (bytes : List ℕ) (d : Data) → IsNetwork net → IsValidPlan net plan → d ≡ plan_tree net plan → tree_in bytes ≡ Some d → plan_in net bytes ≡ Ok plan
+pub plan_again : (net : Network) (plan : Plan) → IsNetwork net → IsValidPlan net plan → plan_at net (plan_tree net plan) ≡ Ok plan
+unfolding used_rules
+plan_again net plan kept valid =
+    let both = used_serves net plan valid in
+    evidence_again net (once (rules_of (plan.rounds ++ tried_of plan.evidence))) plan.rounds kept.names both.0 plan.evidence valid.evidence both.1
+
+-- ---- as bytes
+
+evidence_read : (net : Network) (rules : List PlanRule) (rounds : List (List Change)) (e : Evidence) → switch_count net ≤ 128 → before_count e < 2 ^ 64 → Serves net rules rounds
+    → IsValidEvidence net (length rounds) (sum_by length rounds) e → let plan : Plan = record { rounds = rounds; evidence = e } in IsRead (object (plan_members net rules plan))
+evidence_read net rules rounds (Ordered e) switches few serves h =
+    rw (ordered_is net rules (record { rounds = rounds; evidence = Ordered e }) e refl) (ordered_read net rules rounds serves.few serves.in_range serves.few_rounds e switches few h)
+evidence_read net rules rounds (TwoPhase e) switches few serves h =
+    rw (two_phase_is net rules (record { rounds = rounds; evidence = TwoPhase e }) e refl) (two_phase_read net rules rounds serves.few serves.in_range serves.few_rounds e h)
+
+plan_read : (net : Network) (plan : Plan) → IsNetwork net → IsValidPlan net plan → before_count plan.evidence < 2 ^ 64 → IsRead (plan_tree net plan)
+unfolding used_rules
+plan_read net plan kept valid few =
+    let both = used_serves net plan valid in
+    evidence_read net (once (rules_of (plan.rounds ++ tried_of plan.evidence))) plan.rounds plan.evidence kept.few few both.0 valid.evidence
+
+-- the bytes of a writer that has written the plan, and a line end
+pub text_again : (net : Network) (plan : Plan) (bytes : List ℕ) (start w : Written) → IsNetwork net → IsValidPlan net plan → before_count plan.evidence < 2 ^ 64
+    → start.before ≡ [] → start.tokens ≡ [] → Adds start w (tokens_of (plan_tree net plan)) → tokens (print w.tokens) ≡ w.tokens → IsUtf8 (print w.tokens)
+    → bytes ≡ (w.before ++ print w.tokens) ++ 10 ∷ [] → plan_in net bytes ≡ Ok plan
 unfolding plan_in
-text_again net plan bytes d kept valid is reads = rw (reads, is) (plan_again net plan kept valid)
+text_again net plan bytes start w kept valid few before none adds same utf8 is =
+    let flat = plan_flat net plan in
+    let reads : tree_in bytes ≡ Some (plan_tree net plan) =
+    ap tree_in is ∙ tree_is start w (plan_tree net plan) before none adds same utf8 (plan_read net plan kept valid few) (omega (arith, flat.shallow)) in
+    rw reads (plan_again net plan kept valid)

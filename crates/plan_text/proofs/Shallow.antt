@@ -1,10 +1,9 @@
--- What is written has no float, and isn't deep.
-use Rattle.std.proofs.Common.{◌≡◌, ℕ, suc, ◌≤◌, false, List, [], ◌∷◌, map, codes, Option, Some, None, Ordering, Less, Equal, Greater, nat_cmp, refl, arith}
+-- What is written isn't deep.
+use Rattle.std.proofs.Common.{ℕ, suc, ◌≤◌, List, [], ◌∷◌, map, codes, Option, Some, None, Ordering, Less, Equal, Greater, nat_cmp, arith}
 use Rattle.std.specs.List.{AllByRecursion}
 use Rattle.std.specs.Cmp.Lexicographic.{slice_cmp}
 use Rattle.std.specs.Ordering.{match_ordering}
 use Rattle.serde_json.specs.Data.{Data, string, object, Members, no_members, member, put, depth, items_depth, members_depth}
-use Rattle.serde_json.specs.Written.{has_float, items_have_float, members_have_float}
 use Rattle.serde_json.specs.View.{items_of}
 use Rattle.net_base.specs.declared.ids.Port.{Port}
 use Rattle.net_base.specs.declared.ids.Vlan.{Vlan}
@@ -23,11 +22,10 @@ use Rattle.certificates.specs.declared.Evidence.{Evidence}
 use Rattle.certificates.specs.declared.Evidence.TheVariants.{Ordered, TwoPhase}
 use Rattle.certificates.specs.declared.Plan.{Plan}
 use Rattle.plan_format.specs.declared.rules.PlanRule.{PlanRule}
-use Rattle.plan_text.specs.PlanText.{whole_tree, list_tree, numbers_tree, put_some, name_of, word_of, plan_rule_of, rule_number, version_text, in_port_tree, test_tree, out_tree, set_tree, strip_tree, rule_members, rule_tree, change_tree, round_tree, rounds_tree, numbered_change_tree, numbered_round_tree, numbered_rounds_tree, use_tree, pick_tree, vlan_tree, label_tree, table_tree, label_pick_tree, with_evidence, used_rules, plan_members, plan_tree}
+use Rattle.plan_text.specs.PlanText.{whole_tree, list_tree, numbers_tree, put_some, name_of, word_of, plan_rule_of, rule_number, version_text, in_port_tree, test_tree, out_tree, set_tree, strip_tree, rule_members, rule_tree, numbered_change_tree, numbered_round_tree, numbered_rounds_tree, use_tree, pick_tree, vlan_tree, label_tree, table_tree, label_pick_tree, with_evidence, used_rules, plan_members, plan_tree}
 
--- it has no float, and no list or object stands deeper in it
+-- no list or object stands deeper in it
 pub record IsFlat (n : ℕ) (d : Data) : Type 0 where
-  pub no_float : has_float d ≡ false
   pub shallow : depth d ≤ n
 
 abbrev AreFlat : ℕ → Members → Type 0
@@ -51,25 +49,25 @@ put_some_flat : (n : ℕ) (k : List ℕ) (o : Option Data) (ms : Members) → Is
 put_some_flat n k None ms h hs = hs
 put_some_flat n k (Some d) ms h hs = put_flat n k d ms h hs
 
-members_flat : (n : ℕ) (ms : Members) → AreFlat n ms → (members_have_float ms ≡ false) × (members_depth ms ≤ n)
-members_flat n no_members hs = (refl, omega arith)
+members_flat : (n : ℕ) (ms : Members) → AreFlat n ms → members_depth ms ≤ n
+members_flat n no_members hs = omega arith
 members_flat n (member k d ms) hs =
     let first = hs.0 in
     let rest = members_flat n ms hs.1 in
-    (rw (first.no_float, rest.0) refl, omega (arith, first.shallow, rest.1))
+    omega (arith, first.shallow, rest)
 
 object_flat : (n : ℕ) (ms : Members) → AreFlat n ms → IsFlat (suc n) (object ms)
-object_flat n ms hs = let h = members_flat n ms hs in record { no_float = h.0; shallow = omega (arith, h.1) }
+object_flat n ms hs = let h = members_flat n ms hs in record { shallow = omega (arith, h) }
 
-items_flat : (n : ℕ) (ds : List Data) → AllByRecursion (IsFlat n) ds → (items_have_float (items_of ds) ≡ false) × (items_depth (items_of ds) ≤ n)
-items_flat n [] hs = (refl, omega arith)
+items_flat : (n : ℕ) (ds : List Data) → AllByRecursion (IsFlat n) ds → items_depth (items_of ds) ≤ n
+items_flat n [] hs = omega arith
 items_flat n (d ∷ ds) hs =
     let first = hs.0 in
     let rest = items_flat n ds hs.1 in
-    (rw (first.no_float, rest.0) refl, omega (arith, first.shallow, rest.1))
+    omega (arith, first.shallow, rest)
 
 list_flat : (n : ℕ) (ds : List Data) → AllByRecursion (IsFlat n) ds → IsFlat (suc n) (list_tree ds)
-list_flat n ds hs = let h = items_flat n ds hs in record { no_float = h.0; shallow = omega (arith, h.1) }
+list_flat n ds hs = let h = items_flat n ds hs in record { shallow = omega (arith, h) }
 
 each_flat : {X : Type 0} (n : ℕ) (tree : X → Data) (xs : List X) → ((x : X) → IsFlat n (tree x)) → AllByRecursion (IsFlat n) (map tree xs)
 each_flat n tree [] each = tt
@@ -79,13 +77,13 @@ map_flat : {X : Type 0} (n : ℕ) (tree : X → Data) (xs : List X) → ((x : X)
 map_flat n tree xs each = list_flat n (map tree xs) (each_flat n tree xs each)
 
 deeper : (m n : ℕ) (d : Data) → m ≤ n → IsFlat m d → IsFlat n d
-deeper m n d le h = record { no_float = h.no_float; shallow = omega (arith, h.shallow) }
+deeper m n d le h = record { shallow = omega (arith, h.shallow) }
 
 whole_flat : (n m : ℕ) → IsFlat n (whole_tree m)
-whole_flat n m = record { no_float = refl; shallow = omega arith }
+whole_flat n m = record { shallow = omega arith }
 
 text_flat : (n : ℕ) (s : List ℕ) → IsFlat n (string s)
-text_flat n s = record { no_float = refl; shallow = omega arith }
+text_flat n s = record { shallow = omega arith }
 
 numbers_flat : (ns : List ℕ) → IsFlat 1 (numbers_tree ns)
 numbers_flat ns = map_flat 0 whole_tree ns (whole_flat 0)
@@ -113,7 +111,7 @@ strip_flat : (a : Action) → IsFlatMember 0 (strip_tree a)
 strip_flat Discard = tt
 strip_flat (Out port Keep) = tt
 strip_flat (Out port (Set id)) = tt
-strip_flat (Out port Strip) = record { no_float = refl; shallow = omega arith }
+strip_flat (Out port Strip) = record { shallow = omega arith }
 
 abbrev out_members : PlanRule → Members
 out_members p = put (codes "out") (out_tree p.rule.action) (put (codes "dst") (string (prefix_text p.rule.key.pattern.dst)) no_members)
@@ -139,15 +137,6 @@ rule_members_flat net p =
 
 rule_flat : (net : Network) (p : PlanRule) → IsFlat 1 (rule_tree net p)
 rule_flat net p = object_flat 0 (rule_members net p) (rule_members_flat net p)
-
-change_flat : (net : Network) (c : Change) → IsFlat 1 (change_tree net c)
-change_flat net c = object_flat 0 _ (put_flat 0 _ _ _ (text_flat 0 _) (rule_members_flat net _))
-
-round_flat : (net : Network) (cs : List Change) → IsFlat 2 (round_tree net cs)
-round_flat net cs = map_flat 1 (change_tree net) cs (change_flat net)
-
-pub rounds_flat : (net : Network) (rounds : List (List Change)) → IsFlat 3 (rounds_tree net rounds)
-rounds_flat net rounds = map_flat 2 (round_tree net) rounds (round_flat net)
 
 step_flat : (rules : List PlanRule) (c : Change) → IsFlat 1 (numbered_change_tree rules c)
 step_flat rules c =

@@ -1,155 +1,176 @@
 //! The text of plans and of rounds.
-ghost use Rattle.std.specs.Prelude.{◌≡◌, ◌++◌, ◌∷◌, [], Ok, IfOk, OnOk, OnErr, map};
-ghost use Rattle.serde_json.specs.View.{view, members_view};
+ghost use Rattle.std.specs.Prelude.{◌≡◌, ◌<◌, ◌^◌, Ok, IfOk, OnOk, codes, map};
 ghost use Rattle.certificates.specs.Valid.{IsValidPlan};
-ghost use Rattle.plan_text.specs.PlanText.{numbered_change_tree, numbered_round_tree, numbered_rounds_tree, with_evidence, plan_members, plan_tree, plan_text, rounds_text};
+ghost use Rattle.plan_text.specs.PlanText.{list_tree, rule_tree, numbered_change_tree, numbered_round_tree, numbered_rounds_tree, plan_members, plan_tree, plan_text};
 ghost use Rattle.plan_text.specs.PlanText as texts;
+ghost use Rattle.plan_text.specs.Tokens.{tokens_of, closed_tokens, member_tokens, ordered_members, two_phase_members, before_count, Adds};
 ghost use Rattle.plan_format.specs.Plans.{plan_in};
 
-use crate::write_changes::{rounds_value, rules_value, word_of};
-use crate::write_lists::list_value;
+use crate::write_changes::{word_of, write_rounds, write_rules};
+use crate::write_lists::{write_list_at, write_number_at, write_text_at};
 use crate::write_used::{UsedRules, plan_rule_of};
 use certificates::{Evidence, OrderedEvidence, Plan, TwoPhaseEvidence};
-use net_base::{Memory, write_line};
-use serde_json::{Map, Value, put};
+use json::Writer;
+use net_base::Memory;
 use std::alloc::Global;
 use topology::Net;
 use update_model::{Change, Rounds};
 
-/// A change: its word and the number of its rule.
-fn numbered_change_value(alloc: Global, rules: &UsedRules, change: &Change) -> Result<Value, Memory>
-    ensures { IfOk result (λ v. view v ≡ numbered_change_tree rules.now change.now) }
+/// Writes a change: its word and the number of its rule.
+fn write_numbered_change(out: &mut Writer, rules: &UsedRules, change: &Change) -> Result<(), Memory>
+    ensures { OnOk result (Adds out.old out.new (tokens_of (numbered_change_tree rules.now change.now))) }
 {
-    let mut values = Vec::new(alloc);
-    values.push(Value::try_from_str(alloc, word_of(change))?)?;
-    values.push(Value::from(rules.number(plan_rule_of(change))))?;
-    Ok(Value::Array(values))
+    out.begin_array()?;
+    out.string(word_of(change))?;
+    out.u64(rules.number(plan_rule_of(change)) as u64)?;
+    Ok(out.end_array()?)
 }
 
-fn numbered_round_value(alloc: Global, rules: &UsedRules, round: &[Change]) -> Result<Value, Memory>
-    ensures { IfOk result (λ v. view v ≡ numbered_round_tree rules.now round.now) }
+/// Writes the list of a round's changes.
+fn write_numbered_round(out: &mut Writer, rules: &UsedRules, round: &[Change]) -> Result<(), Memory>
+    ensures { OnOk result (Adds out.old out.new (tokens_of (numbered_round_tree rules.now round.now))) }
 {
-    let mut values = Vec::new(alloc);
+    out.begin_array()?;
     for change in round {
-        values.push(numbered_change_value(alloc, rules, change)?)?;
+        write_numbered_change(out, rules, change)?;
     }
-    Ok(Value::Array(values))
+    Ok(out.end_array()?)
 }
 
-/// The list of rounds, each the list of its changes.
-fn numbered_rounds_value(alloc: Global, rules: &UsedRules, rounds: &Rounds) -> Result<Value, Memory>
-    ensures { IfOk result (λ v. view v ≡ numbered_rounds_tree rules.now rounds.now) }
+/// Writes the list of rounds, each the list of its changes.
+fn write_numbered_rounds(out: &mut Writer, rules: &UsedRules, rounds: &Rounds) -> Result<(), Memory>
+    ensures { OnOk result (Adds out.old out.new (tokens_of (numbered_rounds_tree rules.now rounds.now))) }
 {
-    let mut values = Vec::new(alloc);
+    out.begin_array()?;
     for k in 0..rounds.count() {
-        values.push(numbered_round_value(alloc, rules, rounds.round(k))?)?;
+        write_numbered_round(out, rules, rounds.round(k))?;
     }
-    Ok(Value::Array(values))
+    Ok(out.end_array()?)
 }
 
-/// Puts the members of ordered evidence.
-#[tactic(auto, unfolding(crate::specs::PlanText::with_evidence))]
-fn put_ordered(
-    members: &mut Map<String, Value>,
-    alloc: Global,
+/// Writes a member that is a list of rounds.
+fn write_rounds_at(
+    out: &mut Writer,
+    name: &str,
     rules: &UsedRules,
+    rounds: &Rounds,
+) -> Result<(), Memory>
+    ensures { OnOk result (Adds out.old out.new
+        (member_tokens name.now (numbered_rounds_tree rules.now rounds.now))) }
+{
+    out.key(name)?;
+    write_numbered_rounds(out, rules, rounds)
+}
+
+/// Writes the member of the rounds that were tried.
+fn write_tried(out: &mut Writer, rules: &UsedRules, tried: &Rounds) -> Result<(), Memory>
+    ensures { OnOk result (Adds out.old out.new
+        (member_tokens (codes "tried") (numbered_rounds_tree rules.now tried.now))) }
+{
+    write_rounds_at(out, "tried", rules, tried)
+}
+
+/// Writes the member of the rules in use, each an object.
+fn write_rules_at(
+    out: &mut Writer,
+    alloc: Global,
+    net: &Net,
+    rules: &UsedRules,
+) -> Result<(), Memory>
+    ensures { OnOk result (Adds out.old out.new
+        (member_tokens (codes "rules") (list_tree (map (rule_tree net.now) rules.now)))) }
+{
+    out.key("rules")?;
+    write_rules(out, alloc, net, rules.list())
+}
+
+/// Writes the members of an ordered plan, in the order of their names, and closes the object.
+fn write_ordered(
+    out: &mut Writer,
+    alloc: Global,
+    net: &Net,
+    rules: &UsedRules,
+    rounds: &Rounds,
     evidence: &OrderedEvidence,
 ) -> Result<(), Memory>
-    ensures { OnOk result (members_view members.new.entries
-        ≡ with_evidence rules.now (Evidence.Ordered evidence.now) (members_view members.old.entries)) }
+    ensures { OnOk result (Adds out.old out.new
+        (closed_tokens (ordered_members net.now rules.now rounds.now evidence.now))) }
 {
-    let picks = list_value(alloc, evidence.picks.list())?;
-    put(members, alloc, "picks", picks)?;
-    let uses = list_value(alloc, evidence.uses.list())?;
-    put(members, alloc, "uses", uses)?;
-    let befores = list_value(alloc, evidence.befores.list())?;
-    put(members, alloc, "befores", befores)?;
-    let numberings = list_value(alloc, evidence.numberings.list())?;
-    put(members, alloc, "numberings", numberings)?;
-    put(
-        members,
-        alloc,
-        "kind",
-        Value::try_from_str(alloc, "ordered")?,
-    )?;
-    Ok(())
+    write_list_at(out, "befores", &evidence.befores)?;
+    write_number_at(out, "format", 2)?;
+    write_text_at(out, "kind", "ordered")?;
+    write_list_at(out, "numberings", &evidence.numberings)?;
+    write_list_at(out, "picks", &evidence.picks)?;
+    write_rounds_at(out, "rounds", rules, rounds)?;
+    write_rules_at(out, alloc, net, rules)?;
+    write_list_at(out, "uses", &evidence.uses)?;
+    Ok(out.end_object()?)
 }
 
-/// Puts the members of two-phase evidence.
-#[tactic(auto, unfolding(crate::specs::PlanText::with_evidence))]
-fn put_two_phase(
-    members: &mut Map<String, Value>,
+/// Writes the members of a two-phase plan, in the order of their names, and closes the object.
+fn write_two_phase(
+    out: &mut Writer,
     alloc: Global,
+    net: &Net,
     rules: &UsedRules,
+    rounds: &Rounds,
     evidence: &TwoPhaseEvidence,
 ) -> Result<(), Memory>
-    ensures { OnOk result (members_view members.new.entries
-        ≡ with_evidence rules.now (Evidence.TwoPhase evidence.now) (members_view members.old.entries)) }
+    ensures { OnOk result (Adds out.old out.new
+        (closed_tokens (two_phase_members net.now rules.now rounds.now evidence.now))) }
 {
-    let tried = numbered_rounds_value(alloc, rules, &evidence.tried)?;
-    put(members, alloc, "tried", tried)?;
-    let picks = list_value(alloc, evidence.picks.list())?;
-    put(members, alloc, "picks", picks)?;
-    let labels = list_value(alloc, evidence.labels.list())?;
-    put(members, alloc, "labels", labels)?;
-    put(
-        members,
-        alloc,
-        "kind",
-        Value::try_from_str(alloc, "two-phase")?,
-    )?;
-    Ok(())
+    write_number_at(out, "format", 2)?;
+    write_text_at(out, "kind", "two-phase")?;
+    write_list_at(out, "labels", &evidence.labels)?;
+    write_list_at(out, "picks", &evidence.picks)?;
+    write_rounds_at(out, "rounds", rules, rounds)?;
+    write_rules_at(out, alloc, net, rules)?;
+    write_tried(out, rules, &evidence.tried)?;
+    Ok(out.end_object()?)
 }
 
-fn put_evidence(
-    members: &mut Map<String, Value>,
-    alloc: Global,
-    rules: &UsedRules,
-    evidence: &Evidence,
-) -> Result<(), Memory>
-    ensures { OnOk result (members_view members.new.entries
-        ≡ with_evidence rules.now evidence.now (members_view members.old.entries)) }
-{
-    match evidence {
-        Evidence::Ordered(evidence) => put_ordered(members, alloc, rules, evidence),
-        Evidence::TwoPhase(evidence) => put_two_phase(members, alloc, rules, evidence),
-    }
-}
-
-/// The members of a plan.
-#[tactic(auto, unfolding(crate::specs::PlanText::plan_members))]
-fn plan_members(
+/// Writes the members of a plan, and closes the object.
+fn write_members(
+    out: &mut Writer,
     alloc: Global,
     net: &Net,
     rules: &UsedRules,
     plan: &Plan,
-) -> Result<Map<String, Value>, Memory>
-    ensures { IfOk result (λ m. members_view m.entries ≡ plan_members net.now rules.now plan.now) }
+) -> Result<(), Memory>
+    ensures { OnOk result (Adds out.old out.new
+        (closed_tokens (plan_members net.now rules.now plan.now))) }
 {
-    let mut members = Map::new(alloc);
-    put(
-        &mut members,
-        alloc,
-        "rules",
-        rules_value(alloc, net, rules.list())?,
-    )?;
-    let rounds = numbered_rounds_value(alloc, rules, &plan.rounds)?;
-    put(&mut members, alloc, "rounds", rounds)?;
-    put(&mut members, alloc, "format", Value::from(2u32))?;
-    put_evidence(&mut members, alloc, rules, &plan.evidence)?;
-    Ok(members)
+    match &plan.evidence {
+        Evidence::Ordered(evidence) => {
+            write_ordered(out, alloc, net, rules, &plan.rounds, evidence)
+        }
+        Evidence::TwoPhase(evidence) => {
+            write_two_phase(out, alloc, net, rules, &plan.rounds, evidence)
+        }
+    }
 }
 
-/// The object of a plan.
-fn plan_value(alloc: Global, net: &Net, plan: &Plan) -> Result<Value, Memory>
-    ensures { IfOk result (λ v. view v ≡ plan_tree net.now plan.now) }
+/// Writes the object of a plan.
+fn write_object(out: &mut Writer, alloc: Global, net: &Net, plan: &Plan) -> Result<(), Memory>
+    ensures { OnOk result (Adds out.old out.new (tokens_of (plan_tree net.now plan.now))) }
 {
     let rules = UsedRules::of_plan(alloc, plan)?;
-    Ok(Value::Object(plan_members(alloc, net, &rules, plan)?))
+    out.begin_object()?;
+    write_members(out, alloc, net, &rules, plan)
+}
+
+/// The before sets lie in memory, so the number of each fits 64 bits and is read as a whole number.
+fn befores_fit(evidence: &Evidence)
+    ensures { before_count evidence.now < 2 ^ 64 }
+{
+    let _count = match evidence {
+        Evidence::Ordered(evidence) => evidence.befores.list().len(),
+        Evidence::TwoPhase(_) => 0,
+    };
 }
 
 /// The text of a plan, in format 2: compact JSON, members in ascending byte order, and a line end. Reading it gives the same
-/// plan. Takes a time that is proportional to the plan.
+/// plan. Takes a time that is proportional to the plan, and beside the text memory for its rules.
 pub fn write_plan(alloc: Global, net: &Net, plan: &Plan) -> Result<Vec<u8>, Memory>
     requires valid { IsValidPlan net.now plan.now }
     ensures text { IfOk result (λ b. b.items ≡ plan_text net.now plan.now) }
@@ -157,12 +178,19 @@ pub fn write_plan(alloc: Global, net: &Net, plan: &Plan) -> Result<Vec<u8>, Memo
     ensures again { IfOk result (λ b. plan_in net.now b.items ≡ Ok plan.now) }
 {
     net.keeps_rules();
-    write_line(alloc, &plan_value(alloc, net, plan)?)
+    befores_fit(&plan.evidence);
+    let mut out = Writer::new(Vec::new(alloc));
+    write_object(&mut out, alloc, net, plan)?;
+    let mut text = out.into_inner();
+    text.push(b'\n')?;
+    Ok(text)
 }
 
 /// The compact JSON list of the rounds, without a line end.
 pub fn rounds_text(alloc: Global, net: &Net, rounds: &Rounds) -> Result<Vec<u8>, Memory>
     ensures { IfOk result (λ b. b.items ≡ texts.rounds_text net.now rounds.now) }
 {
-    Ok(rounds_value(alloc, net, rounds)?.to_vec(alloc)?)
+    let mut out = Writer::new(Vec::new(alloc));
+    write_rounds(&mut out, alloc, net, rounds)?;
+    Ok(out.into_inner())
 }

@@ -1,33 +1,19 @@
-//! Rules and changes as JSON objects.
-ghost use Rattle.std.specs.Prelude.{◌≡◌, IfOk, OnOk, option_map, string_bytes, map};
-ghost use Rattle.serde_json.specs.View.{view, members_view};
+//! Rules and changes as JSON objects, token by token.
+ghost use Rattle.std.specs.Prelude.{◌≡◌, IfOk, OnOk, true, codes, string_bytes, map};
+ghost use Rattle.serde_json.specs.Data.{boolean, string, object, put};
 ghost use Rattle.net_base.specs.Text.{prefix_text};
-ghost use Rattle.plan_text.specs.PlanText.{list_tree, put_some, name_of, in_port_tree, test_tree, out_tree, set_tree, strip_tree, rule_members, rule_tree, word_of, plan_rule_of, change_tree, round_tree, rounds_tree};
+ghost use Rattle.plan_text.specs.PlanText.{whole_tree, list_tree, name_of, in_port_tree, test_tree, out_tree, set_tree, strip_tree, rule_members, rule_tree, word_of, plan_rule_of, change_tree, round_tree, rounds_tree};
+ghost use Rattle.plan_text.specs.Tokens.{tokens_of, closed_tokens, member_tokens, some_tokens, Adds};
 
+use crate::write_lists::{write_number_at, write_text_at};
 use crate::write_used::plan_rule_of;
 use flow_rules::{Action, Rewrite, VlanTest};
+use json::Writer;
 use net_base::{Memory, Port, Prefix, SwitchId};
 use plan_format::PlanRule;
-use serde_json::{Map, Value, put};
 use std::alloc::Global;
 use topology::Net;
 use update_model::{Change, Rounds};
-
-/// Puts a member where there is a value for it.
-fn put_some(
-    members: &mut Map<String, Value>,
-    alloc: Global,
-    name: &str,
-    value: Option<Value>,
-) -> Result<(), Memory>
-    ensures { OnOk result (members_view members.new.entries
-        ≡ put_some name.now (option_map view value) (members_view members.old.entries)) }
-{
-    match value {
-        Some(value) => Ok(put(members, alloc, name, value)?),
-        None => Ok(()),
-    }
-}
 
 fn prefix_string(alloc: Global, prefix: Prefix) -> Result<String, Memory>
     ensures { IfOk result (λ s. string_bytes s ≡ prefix_text prefix) }
@@ -38,6 +24,21 @@ fn prefix_string(alloc: Global, prefix: Prefix) -> Result<String, Memory>
     let z = prefix.base % 256;
     let len = prefix.len;
     Ok(format!(in alloc; "{w}.{x}.{y}.{z}/{len}")?)
+}
+
+/// Writes the destinations of the rule.
+fn write_dst(out: &mut Writer, alloc: Global, dst: Prefix) -> Result<(), Memory>
+    ensures { OnOk result (Adds out.old out.new (member_tokens (codes "dst") (string (prefix_text dst)))) }
+{
+    let text = prefix_string(alloc, dst)?;
+    write_text_at(out, "dst", &text)
+}
+
+/// Writes the priority of the rule.
+fn write_priority(out: &mut Writer, priority: u16) -> Result<(), Memory>
+    ensures { OnOk result (Adds out.old out.new (member_tokens (codes "priority") (whole_tree priority))) }
+{
+    write_number_at(out, "priority", u64::from(priority))
 }
 
 /// The name of a switch; empty where the network has no such switch.
@@ -51,104 +52,118 @@ fn name_of(net: &Net, s: SwitchId) -> &str
     }
 }
 
-fn in_port_value(port: Option<Port>) -> Option<Value>
-    ensures { option_map view result ≡ in_port_tree port }
+/// Writes the switch of the rule.
+fn write_switch(out: &mut Writer, net: &Net, s: SwitchId) -> Result<(), Memory>
+    ensures { OnOk result (Adds out.old out.new
+        (member_tokens (codes "switch") (string (name_of net.now s)))) }
+{
+    write_text_at(out, "switch", name_of(net, s))
+}
+
+/// Writes the ingress port, where the rule has one.
+fn write_in_port(out: &mut Writer, port: Option<Port>) -> Result<(), Memory>
+    ensures { OnOk result (Adds out.old out.new (some_tokens (codes "in_port") (in_port_tree port))) }
 {
     match port {
-        Some(port) => Some(Value::from(port.0)),
-        None => None,
+        Some(port) => write_number_at(out, "in_port", u64::from(port.0)),
+        None => Ok(()),
     }
 }
 
-fn test_value(alloc: Global, test: VlanTest) -> Result<Option<Value>, Memory>
-    ensures { IfOk result (λ v. option_map view v ≡ test_tree test) }
+/// Writes what the VLAN has to be, where the rule tests it.
+fn write_test(out: &mut Writer, test: VlanTest) -> Result<(), Memory>
+    ensures { OnOk result (Adds out.old out.new (some_tokens (codes "vlan") (test_tree test))) }
 {
     match test {
-        VlanTest::Any => Ok(None),
-        VlanTest::Untagged => Ok(Some(Value::try_from_str(alloc, "untagged")?)),
-        VlanTest::Id(id) => Ok(Some(Value::from(id))),
+        VlanTest::Any => Ok(()),
+        VlanTest::Untagged => write_text_at(out, "vlan", "untagged"),
+        VlanTest::Id(id) => write_number_at(out, "vlan", u64::from(id)),
     }
 }
 
-fn out_value(alloc: Global, action: Action) -> Result<Value, Memory>
-    ensures { IfOk result (λ v. view v ≡ out_tree action) }
+/// Writes the port of the output, or the word for none.
+fn write_out(out: &mut Writer, action: Action) -> Result<(), Memory>
+    ensures { OnOk result (Adds out.old out.new (member_tokens (codes "out") (out_tree action))) }
 {
     match action {
-        Action::Discard => Ok(Value::try_from_str(alloc, "drop")?),
-        Action::Out(port, _) => Ok(Value::from(port.0)),
+        Action::Discard => write_text_at(out, "out", "drop"),
+        Action::Out(port, _) => write_number_at(out, "out", u64::from(port.0)),
     }
 }
 
-fn set_value(action: Action) -> Option<Value>
-    ensures { option_map view result ≡ set_tree action }
+/// Writes the VLAN that the action sets, where it sets one.
+fn write_set(out: &mut Writer, action: Action) -> Result<(), Memory>
+    ensures { OnOk result (Adds out.old out.new (some_tokens (codes "set") (set_tree action))) }
 {
     match action {
-        Action::Out(_, Rewrite::Set(id)) => Some(Value::from(id)),
-        _ => None,
+        Action::Out(_, Rewrite::Set(id)) => write_number_at(out, "set", u64::from(id)),
+        _ => Ok(()),
     }
 }
 
-fn strip_value(action: Action) -> Option<Value>
-    ensures { option_map view result ≡ strip_tree action }
+/// Writes a member that is true.
+fn write_true_at(out: &mut Writer, name: &str) -> Result<(), Memory>
+    ensures { OnOk result (Adds out.old out.new (member_tokens name.now (boolean true))) }
+{
+    out.key(name)?;
+    Ok(out.boolean(true)?)
+}
+
+/// Writes that the action strips the tag, where it does.
+fn write_strip(out: &mut Writer, action: Action) -> Result<(), Memory>
+    ensures { OnOk result (Adds out.old out.new (some_tokens (codes "strip") (strip_tree action))) }
 {
     match action {
-        Action::Out(_, Rewrite::Strip) => Some(Value::Bool(true)),
-        _ => None,
+        Action::Out(_, Rewrite::Strip) => write_true_at(out, "strip"),
+        _ => Ok(()),
     }
 }
 
-/// The members of a rule at its switch.
-#[tactic(auto, unfolding(crate::specs::PlanText::rule_members))]
-fn rule_members(alloc: Global, net: &Net, placed: &PlanRule) -> Result<Map<String, Value>, Memory>
-    ensures { IfOk result (λ m. members_view m.entries ≡ rule_members net.now placed.now) }
+/// Writes the members of a rule at its switch, in the order of their names, and closes the object.
+fn write_rule_members(
+    out: &mut Writer,
+    alloc: Global,
+    net: &Net,
+    placed: &PlanRule,
+) -> Result<(), Memory>
+    ensures { OnOk result (Adds out.old out.new (closed_tokens (rule_members net.now placed.now))) }
 {
     let rule = &placed.rule;
     let pattern = &rule.key.pattern;
-    let mut members = Map::new(alloc);
-    let dst = prefix_string(alloc, pattern.dst)?;
-    put(&mut members, alloc, "dst", Value::String(dst))?;
-    put(&mut members, alloc, "out", out_value(alloc, rule.action)?)?;
-    put(
-        &mut members,
-        alloc,
-        "priority",
-        Value::from(rule.key.priority),
-    )?;
-    let name = Value::try_from_str(alloc, name_of(net, placed.switch))?;
-    put(&mut members, alloc, "switch", name)?;
-    put_some(
-        &mut members,
-        alloc,
-        "in_port",
-        in_port_value(pattern.in_port),
-    )?;
-    put_some(&mut members, alloc, "set", set_value(rule.action))?;
-    put_some(&mut members, alloc, "strip", strip_value(rule.action))?;
-    put_some(
-        &mut members,
-        alloc,
-        "vlan",
-        test_value(alloc, pattern.vlan)?,
-    )?;
-    Ok(members)
+    write_dst(out, alloc, pattern.dst)?;
+    write_in_port(out, pattern.in_port)?;
+    write_out(out, rule.action)?;
+    write_priority(out, rule.key.priority)?;
+    write_set(out, rule.action)?;
+    write_strip(out, rule.action)?;
+    write_switch(out, net, placed.switch)?;
+    write_test(out, pattern.vlan)?;
+    Ok(out.end_object()?)
 }
 
-/// The object of a rule at its switch.
-fn rule_value(alloc: Global, net: &Net, placed: &PlanRule) -> Result<Value, Memory>
-    ensures { IfOk result (λ v. view v ≡ rule_tree net.now placed.now) }
+/// Writes the object of a rule at its switch.
+fn write_rule(out: &mut Writer, alloc: Global, net: &Net, placed: &PlanRule) -> Result<(), Memory>
+    ensures { OnOk result (Adds out.old out.new (tokens_of (rule_tree net.now placed.now))) }
 {
-    Ok(Value::Object(rule_members(alloc, net, placed)?))
+    out.begin_object()?;
+    write_rule_members(out, alloc, net, placed)
 }
 
-/// The list of the objects of rules.
-pub fn rules_value(alloc: Global, net: &Net, rules: &[PlanRule]) -> Result<Value, Memory>
-    ensures { IfOk result (λ v. view v ≡ list_tree (map (rule_tree net.now) rules.now)) }
+/// Writes the list of the objects of rules.
+pub fn write_rules(
+    out: &mut Writer,
+    alloc: Global,
+    net: &Net,
+    rules: &[PlanRule],
+) -> Result<(), Memory>
+    ensures { OnOk result (Adds out.old out.new
+        (tokens_of (list_tree (map (rule_tree net.now) rules.now)))) }
 {
-    let mut values = Vec::new(alloc);
+    out.begin_array()?;
     for placed in rules {
-        values.push(rule_value(alloc, net, placed)?)?;
+        write_rule(out, alloc, net, placed)?;
     }
-    Ok(Value::Array(values))
+    Ok(out.end_array()?)
 }
 
 /// What a change does, in a word.
@@ -162,32 +177,52 @@ pub fn word_of(change: &Change) -> &'static str
     }
 }
 
-fn change_value(alloc: Global, net: &Net, change: &Change) -> Result<Value, Memory>
-    ensures { IfOk result (λ v. view v ≡ change_tree net.now change.now) }
+/// Writes the object of a change with this word and this rule.
+fn write_worded(
+    out: &mut Writer,
+    alloc: Global,
+    net: &Net,
+    word: &str,
+    placed: &PlanRule,
+) -> Result<(), Memory>
+    ensures { OnOk result (Adds out.old out.new
+        (tokens_of (object (put (codes "do") (string word.now) (rule_members net.now placed.now))))) }
 {
-    let mut members = rule_members(alloc, net, &plan_rule_of(change))?;
-    let word = Value::try_from_str(alloc, word_of(change))?;
-    put(&mut members, alloc, "do", word)?;
-    Ok(Value::Object(members))
+    out.begin_object()?;
+    write_text_at(out, "do", word)?;
+    write_rule_members(out, alloc, net, placed)
 }
 
-fn round_value(alloc: Global, net: &Net, round: &[Change]) -> Result<Value, Memory>
-    ensures { IfOk result (λ v. view v ≡ round_tree net.now round.now) }
+/// Writes the object of a change: what it does beside the members of its rule.
+fn write_change(out: &mut Writer, alloc: Global, net: &Net, change: &Change) -> Result<(), Memory>
+    ensures { OnOk result (Adds out.old out.new (tokens_of (change_tree net.now change.now))) }
 {
-    let mut values = Vec::new(alloc);
+    write_worded(out, alloc, net, word_of(change), &plan_rule_of(change))
+}
+
+/// Writes the list of the objects of a round's changes.
+fn write_round(out: &mut Writer, alloc: Global, net: &Net, round: &[Change]) -> Result<(), Memory>
+    ensures { OnOk result (Adds out.old out.new (tokens_of (round_tree net.now round.now))) }
+{
+    out.begin_array()?;
     for change in round {
-        values.push(change_value(alloc, net, change)?)?;
+        write_change(out, alloc, net, change)?;
     }
-    Ok(Value::Array(values))
+    Ok(out.end_array()?)
 }
 
-/// The list of rounds, each the list of the objects of its changes.
-pub fn rounds_value(alloc: Global, net: &Net, rounds: &Rounds) -> Result<Value, Memory>
-    ensures { IfOk result (λ v. view v ≡ rounds_tree net.now rounds.now) }
+/// Writes the list of rounds, each the list of the objects of its changes.
+pub fn write_rounds(
+    out: &mut Writer,
+    alloc: Global,
+    net: &Net,
+    rounds: &Rounds,
+) -> Result<(), Memory>
+    ensures { OnOk result (Adds out.old out.new (tokens_of (rounds_tree net.now rounds.now))) }
 {
-    let mut values = Vec::new(alloc);
+    out.begin_array()?;
     for k in 0..rounds.count() {
-        values.push(round_value(alloc, net, rounds.round(k))?)?;
+        write_round(out, alloc, net, rounds.round(k))?;
     }
-    Ok(Value::Array(values))
+    Ok(out.end_array()?)
 }

@@ -1,36 +1,36 @@
-//! The evidence of plans as JSON values.
-ghost use Rattle.std.specs.Prelude.{◌≡◌, ◌++◌, IfOk, map};
-ghost use Rattle.serde_json.specs.View.{view};
+//! The evidence of plans, as JSON tokens.
+ghost use Rattle.std.specs.Prelude.{◌≡◌, ◌++◌, OnOk, map};
 ghost use Rattle.waypoint_evidence.specs.Befores.{marked_from};
-ghost use Rattle.plan_text.specs.PlanText.{whole_tree, numbers_tree, use_tree, pick_tree, vlan_tree, version_text, label_tree, table_tree, label_pick_tree};
+ghost use Rattle.plan_text.specs.PlanText.{numbers_tree, use_tree, pick_tree, vlan_tree, version_text, label_tree, table_tree, label_pick_tree};
+ghost use Rattle.plan_text.specs.Tokens.{tokens_of, Adds};
 
-use crate::write_lists::{Written, list_value};
+use crate::write_lists::{Written, write_list};
 use acyclic_numbering::Numbering;
 use certificates::{IndexList, Label, LabelPick, Labels, OrderedPick, Shared};
+use json::Writer;
 use net_base::{Memory, Vlan};
-use serde_json::Value;
-use std::alloc::Global;
 use waypoint_evidence::Before;
 
-/// The numbers of the marked places.
-fn marked_values(alloc: Global, marks: &[bool]) -> Result<Vec<Value>, Memory>
-    ensures { IfOk result (λ v. map view v.items ≡ map whole_tree (marked_from 0 marks.now)) }
+/// Writes the list of the numbers of the marked places.
+fn write_marked(out: &mut Writer, marks: &[bool]) -> Result<(), Memory>
+    ensures { OnOk result (Adds out.old out.new (tokens_of (numbers_tree (marked_from 0 marks.now)))) }
 {
-    let mut values = Vec::new(alloc);
+    out.begin_array()?;
     for (number, marked) in marks.iter().enumerate() {
         if *marked {
-            values.push(Value::from(number))?;
+            out.u64(number as u64)?;
         }
     }
-    Ok(values)
+    Ok(out.end_array()?)
 }
 
-fn vlan_value(alloc: Global, vlan: Vlan) -> Result<Value, Memory>
-    ensures { IfOk result (λ v. view v ≡ vlan_tree vlan) }
+/// Writes a VLAN: its id, or the word for none.
+fn write_vlan(out: &mut Writer, vlan: Vlan) -> Result<(), Memory>
+    ensures { OnOk result (Adds out.old out.new (tokens_of (vlan_tree vlan))) }
 {
     match vlan {
-        Vlan::Untagged => Ok(Value::try_from_str(alloc, "untagged")?),
-        Vlan::Id(id) => Ok(Value::from(id)),
+        Vlan::Untagged => Ok(out.string("untagged")?),
+        Vlan::Id(id) => Ok(out.u64(u64::from(id))?),
     }
 }
 
@@ -43,70 +43,70 @@ fn version_text(new: bool) -> &'static str
 impl Written for Numbering {
     ghost tree = { numbers_tree };
 
-    fn value(&self, alloc: Global) -> Result<Value, Memory> {
-        list_value(alloc, self.list())
+    fn write(&self, out: &mut Writer) -> Result<(), Memory> {
+        write_list(out, self.list())
     }
 }
 
 impl Written for IndexList {
     ghost tree = { numbers_tree };
 
-    fn value(&self, alloc: Global) -> Result<Value, Memory> {
-        list_value(alloc, self.list())
+    fn write(&self, out: &mut Writer) -> Result<(), Memory> {
+        write_list(out, self.list())
     }
 }
 
 impl Written for Before {
     ghost tree = { numbers_tree };
 
-    fn value(&self, alloc: Global) -> Result<Value, Memory> {
-        Ok(Value::Array(marked_values(alloc, self.marks())?))
+    fn write(&self, out: &mut Writer) -> Result<(), Memory> {
+        write_marked(out, &self.marks())
     }
 }
 
 impl Written for Shared {
     ghost tree = { use_tree };
 
-    fn value(&self, alloc: Global) -> Result<Value, Memory> {
-        let mut values = Vec::new(alloc);
-        values.push(Value::from(self.numbering))?;
-        values.push(self.befores.value(alloc)?)?;
-        Ok(Value::Array(values))
+    fn write(&self, out: &mut Writer) -> Result<(), Memory> {
+        out.begin_array()?;
+        out.u64(u64::from(self.numbering))?;
+        self.befores.write(out)?;
+        Ok(out.end_array()?)
     }
 }
 
 impl Written for OrderedPick {
     ghost tree = { pick_tree };
 
-    fn value(&self, alloc: Global) -> Result<Value, Memory> {
-        list_value(alloc, &[self.round, self.class, self.shared])
+    fn write(&self, out: &mut Writer) -> Result<(), Memory> {
+        write_list(out, &[self.round, self.class, self.shared])
     }
 }
 
 impl Written for Label {
     ghost tree = { label_tree };
 
-    fn value(&self, alloc: Global) -> Result<Value, Memory> {
-        let mut values = Vec::new(alloc);
-        values.push(vlan_value(alloc, self.vlan)?)?;
-        values.push(Value::try_from_str(alloc, version_text(self.new))?)?;
-        values.push(vlan_value(alloc, self.user)?)?;
-        Ok(Value::Array(values))
+    fn write(&self, out: &mut Writer) -> Result<(), Memory> {
+        out.begin_array()?;
+        write_vlan(out, self.vlan)?;
+        out.string(version_text(self.new))?;
+        write_vlan(out, self.user)?;
+        Ok(out.end_array()?)
     }
 }
 
 impl Written for Labels {
     ghost tree = { table_tree };
 
-    fn value(&self, alloc: Global) -> Result<Value, Memory> {
-        list_value(alloc, self.list())
+    fn write(&self, out: &mut Writer) -> Result<(), Memory> {
+        write_list(out, self.list())
     }
 }
 
 impl Written for LabelPick {
     ghost tree = { label_pick_tree };
 
-    fn value(&self, alloc: Global) -> Result<Value, Memory> {
-        list_value(alloc, &[self.round, self.labels])
+    fn write(&self, out: &mut Writer) -> Result<(), Memory> {
+        write_list(out, &[self.round, self.labels])
     }
 }

@@ -1,8 +1,10 @@
-use Rattle.std.proofs.Common.{ap, ◌∙◌}
-use Rattle.serde_json.specs.Written.{has_float, compact_text}
-use Rattle.plan_text.proofs.Shallow.{rounds_flat}
+use Rattle.std.proofs.Common.{◌∙◌}
+use Rattle.plan_text.specs.PlanText.{rounds_tree}
+use Rattle.plan_text.proofs.ReadBack.{bytes_are}
 use Rattle.plan_text.proofs.write.rounds_text.Goals as goal
 
 pub returns : goal.returns
 returns c =
-    c.in_ok-to_vec.ensures.text (ap has_float c.in_ok-rounds_value.ensures ∙ (rounds_flat c.args.net.now c.args.rounds.now).no_float) ∙ ap compact_text c.in_ok-rounds_value.ensures
+    c.into_inner.ensures.items
+    ∙ bytes_are c.new-out.result c.write_rounds.new.out (rounds_tree c.args.net.now c.args.rounds.now) (c.new-out.ensures.before ∙ c.new.ensures.items) c.new-out.ensures.tokens
+    c.in_ok-write_rounds.ensures

@@ -1,18 +1,17 @@
-use Rattle.std.proofs.Common.{arith}
-use Rattle.std.proofs.lemmas.Result.{IfOk-weaker}
-use Rattle.serde_json.specs.View.{view}
-use Rattle.plan_text.proofs.Shallow.{plan_flat}
+use Rattle.std.proofs.Common.{List, [], ◌∷◌, ◌++◌, ℕ, ap, ◌∙◌}
+use Rattle.plan_text.specs.PlanText.{plan_tree}
+use Rattle.plan_text.proofs.ReadBack.{bytes_are}
 use Rattle.plan_text.proofs.PlanAgain.{text_again}
 use Rattle.plan_text.proofs.write.write_plan.Goals as goal
 
-pub write_line-requires-clause-no_float : goal.write_line-requires-clause-no_float
-write_line-requires-clause-no_float c = rw c.in_ok-plan_value.ensures (plan_flat c.args.net.now c.args.plan.now).no_float
-
-pub write_line-requires-clause-shallow : goal.write_line-requires-clause-shallow
-write_line-requires-clause-shallow c = let h = (plan_flat c.args.net.now c.args.plan.now).shallow in rw c.in_ok-plan_value.ensures (omega (arith, h))
+pub returns-clause-text : goal.returns-clause-text
+returns-clause-text c =
+    c.in_ok-push.ensures.items ∙ ap (λ (s : List ℕ). s ++ 10 ∷ []) (c.into_inner-text.ensures.items
+    ∙ bytes_are c.new-out.result c.write_object.new.out (plan_tree c.args.net.now c.args.plan.now) (c.new-out.ensures.before ∙ c.new.ensures.items) c.new-out.ensures.tokens
+    c.in_ok-write_object.ensures)
 
 pub returns-clause-again : goal.returns-clause-again
 returns-clause-again c =
-    IfOk-weaker c.write_line.result _ _
-    (λ b. text_again c.args.net.now c.args.plan.now b.items (view c.in_ok-plan_value.field-0) c.keeps_rules.ensures c.requires.valid c.in_ok-plan_value.ensures)
-    c.write_line.ensures.reads_back
+    text_again c.args.net.now c.args.plan.now c.push.new.self.items c.new-out.result c.write_object.new.out c.keeps_rules.ensures c.requires.valid c.befores_fit.ensures
+    (c.new-out.ensures.before ∙ c.new.ensures.items) c.new-out.ensures.tokens c.in_ok-write_object.ensures c.into_inner-text.ensures.reads_back c.into_inner-text.ensures.utf8
+    (c.in_ok-push.ensures.items ∙ ap (λ (s : List ℕ). s ++ 10 ∷ []) c.into_inner-text.ensures.items)

@@ -1,7 +1,0 @@
-use Rattle.std.proofs.Common.{◌≡◌, take, map}
-use Rattle.serde_json.specs.View.{view}
-use Rattle.plan_text.specs.PlanText.{round_tree}
-use Rattle.plan_text.proofs.write_changes.rounds_value.Given as goal
-
-abbrev pub invariant-loop-k : goal.invariant-loop-k
-invariant-loop-k l = map view l.values.items ≡ map (round_tree l.net) (take l.k l.rounds)
