@@ -26,12 +26,3 @@ marked_on marks i within is = marked_more marks i true within is
 
 pub marked_off : (marks : List Bool) (i : ℕ) → i < length marks → get_or marks i false ≡ false → marked_from 0 (take (i + 1) marks) ≡ marked_from 0 (take i marks)
 marked_off marks i within is = marked_more marks i false within is ∙ append-nil (marked_from 0 (take i marks))
-
-marked_below : (k : ℕ) (marks : List Bool) (n : ℕ) → k + length marks ≡ n → AllByRecursion (λ t. t < n) (marked_from k marks)
-marked_below k [] n e = tt
-marked_below k (true ∷ marks) n e = (omega arith, marked_below (k + 1) marks n (omega arith))
-marked_below k (false ∷ marks) n e = marked_below (k + 1) marks n (omega arith)
-
--- the members up to a mark are below it
-pub earlier_marked : (marks : List Bool) (i : ℕ) → i < length marks → AllByRecursion (λ t. t < i) (marked_from 0 (take i marks))
-earlier_marked marks i within = marked_below 0 (take i marks) i (omega (arith, length-take i marks))

@@ -3,6 +3,7 @@ use Rattle.std.specs.Prelude.{◌≡◌, ◌⊎◌, ℕ, ◌≤◌, List, [], �
 use Rattle.net_base.specs.Members.{IsIn}
 use Rattle.certificates.specs.declared.Shared.{Shared}
 use Rattle.certificates.specs.declared.OrderedEvidence.{OrderedEvidence}
+use Rattle.certificates.specs.declared.OrderedPick.{OrderedPick}
 
 -- the member stood at the number already
 abbrev pub IsFound : {A : Type 0} → List A → A → ℕ → List A → Type 0
@@ -31,3 +32,9 @@ pub record IsWithUse (old : OrderedEvidence) (numbers : List ℕ) (sets : List (
   pub picks : new.picks ≡ old.picks
   pub few_numberings : use_.numbering ≤ 4294967295
   pub few_uses : n ≤ 4294967295
+
+-- the evidence with the pick behind all others, and with the use that it names, of a numbering and before sets
+pub record IsPicked (old : OrderedEvidence) (numbers : List ℕ) (sets : List (List ℕ)) (pick : OrderedPick) (new : OrderedEvidence) : Type 0 where
+  pub used : OrderedEvidence
+  pub with_use : IsWithUse old numbers sets pick.shared used
+  pub is : new ≡ record { numberings = used.numberings; befores = used.befores; uses = used.uses; picks = used.picks ++ pick ∷ [] }

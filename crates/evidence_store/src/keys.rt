@@ -1,5 +1,6 @@
 //! The members of lists in which each stands once, as they are looked up.
-ghost use Rattle.std.specs.Prelude.{◌≡◌, [], IfOk, MatchBool};
+ghost use Rattle.std.specs.Prelude.{◌≡◌, [], length, IfOk, MatchBool};
+ghost use Rattle.waypoint_evidence.specs.Befores.{marked_from};
 ghost use Rattle.evidence_store.specs.Numbers.{IsFound, IsAdded};
 
 use acyclic_numbering::Numbering;
@@ -61,11 +62,11 @@ impl Model for BeforeKeys {
     ghost view = { λ s. map (λ key. key.items) s.keys.keys };
 }
 
-/// The members of a before set, ascending.
-fn members(alloc: Global, before: &Before) -> Result<Vec<u32>, Memory>
-    ensures { IfOk result (λ members. members.items ≡ before.now) }
+/// The numbers of the marked places.
+fn marked(alloc: Global, marks: &[bool]) -> Result<Vec<u32>, Memory>
+    requires { length marks.now ≡ 128 }
+    ensures { IfOk result (λ members. members.items ≡ marked_from 0 marks.now) }
 {
-    let marks = before.marks();
     let mut members = Vec::new(alloc);
     for (switch, is_member) in marks.iter().enumerate() {
         if *is_member {
@@ -73,6 +74,13 @@ fn members(alloc: Global, before: &Before) -> Result<Vec<u32>, Memory>
         }
     }
     Ok(members)
+}
+
+/// The members of a before set, ascending.
+fn members(alloc: Global, before: &Before) -> Result<Vec<u32>, Memory>
+    ensures { IfOk result (λ members. members.items ≡ before.now) }
+{
+    marked(alloc, &before.marks())
 }
 
 impl BeforeKeys {

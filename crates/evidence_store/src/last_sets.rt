@@ -9,7 +9,6 @@ ghost use Rattle.evidence_store.specs.Guards.{AreWithin, AreGuardsFound};
 ghost use Rattle.evidence_store.specs.Last.{HoldsLast};
 
 use crate::least::least_befores;
-use crate::uses::copied;
 use acyclic_numbering::Edge;
 use certificates::Befores;
 use demands::Duties;
@@ -59,7 +58,7 @@ fn all_copied(alloc: Global, sets: &[Before]) -> Result<Befores, Memory>
 {
     let mut copies = Befores::make(alloc)?;
     for set in sets {
-        copies.add(copied(set))?;
+        copies.add(set.copy())?;
     }
     Ok(copies)
 }

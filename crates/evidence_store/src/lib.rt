@@ -2,12 +2,14 @@
 //! numberings, before sets and uses stand once.
 #![tactic(auto)]
 
-ghost use Rattle.std.specs.Prelude.{◌≡◌, ◌≢◌, ℕ, ◌<◌, ◌≤◌, length, replicate, None, IfOk, IfSome, IfNone};
+ghost use Rattle.std.specs.Prelude.{◌≡◌, ◌≢◌, ℕ, ◌<◌, ◌≤◌, ◌^◌, length, replicate, None, IfOk, OnOk, IfSome, IfNone};
 ghost use Rattle.std.specs.List.{AllByRecursion};
 ghost use Rattle.net_base.specs.Members.{IsIn};
 ghost use Rattle.certificates.specs.Ordered.{IsPickInForce};
 ghost use Rattle.certificates.specs.Valid.{IsPickBefore};
 ghost use Rattle.certificates.specs.declared.OrderedPick.{OrderedPick};
+ghost use Rattle.evidence_store.specs.Keys.{AreKeysOf};
+ghost use Rattle.evidence_store.specs.Numbers.{IsPicked};
 ghost use Rattle.evidence_store.specs.Stored.{IsStored, IsWithPick, no_evidence};
 
 mod class_evidence;
@@ -70,6 +72,51 @@ fn no_uses(alloc: Global, classes: u32) -> Result<Vec<Option<u32>>, Memory>
     Ok(vec![in alloc; None; classes as usize]?)
 }
 
+/// Adds a pick of a numbering and before sets behind all others. The result is the number of its use. The keys are those of the
+/// evidence so far.
+fn add_pick_of(
+    alloc: Global,
+    keys: &mut Keys,
+    evidence: &mut OrderedEvidence,
+    round: u32,
+    class: u32,
+    numbering: Numbering,
+    befores: &Befores,
+) -> Result<u32, Memory>
+    requires keys { AreKeysOf keys.old evidence.old }
+    requires few_numberings { length evidence.old.numberings < 2 ^ 32 }
+    requires few_uses { length evidence.old.uses < 2 ^ 32 }
+    ensures pick { IfOk result (λ shared. IsPicked evidence.old numbering befores.now (record { round = round; class = class; shared = shared }) evidence.new) }
+    ensures keys { OnOk result (AreKeysOf keys.new evidence.new) }
+{
+    let shared = add_use(alloc, keys, evidence, numbering, befores)?;
+    evidence.picks.add(OrderedPick {
+        round,
+        class,
+        shared,
+    })?;
+    Ok(shared)
+}
+
+/// `add_pick_of`, which also takes the before sets.
+fn add_pick(
+    alloc: Global,
+    keys: &mut Keys,
+    evidence: &mut OrderedEvidence,
+    round: u32,
+    class: u32,
+    numbering: Numbering,
+    befores: Befores,
+) -> Result<u32, Memory>
+    requires keys { AreKeysOf keys.old evidence.old }
+    requires few_numberings { length evidence.old.numberings < 2 ^ 32 }
+    requires few_uses { length evidence.old.uses < 2 ^ 32 }
+    ensures pick { IfOk result (λ shared. IsPicked evidence.old numbering befores (record { round = round; class = class; shared = shared }) evidence.new) }
+    ensures keys { OnOk result (AreKeysOf keys.new evidence.new) }
+{
+    add_pick_of(alloc, keys, evidence, round, class, numbering, &befores)
+}
+
 impl EvidenceStore {
     /// Evidence of no picks, of so many classes, at most 8192.
     pub fn make(alloc: Global, classes: u32) -> Result<EvidenceStore, Memory>
@@ -124,18 +171,15 @@ impl EvidenceStore {
         ensures classes { IfOk result (λ s. s.classes ≡ self.classes) }
     {
         let mut store = self;
-        let shared = add_use(
+        let shared = add_pick(
             store.alloc,
             &mut store.keys,
             &mut store.evidence,
-            numbering,
-            &befores,
-        )?;
-        store.evidence.picks.add(OrderedPick {
             round,
             class,
-            shared,
-        })?;
+            numbering,
+            befores,
+        )?;
         store.in_force[class as usize] = Some(shared);
         Ok(store)
     }

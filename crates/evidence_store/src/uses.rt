@@ -6,7 +6,7 @@ ghost use Rattle.evidence_store.specs.Numbers.{IsNumbered, AreNumbered, IsWithUs
 use crate::keys::{BeforeKeys, Keys, NumberingKeys, UseKeys};
 use acyclic_numbering::Numbering;
 use certificates::{Befores, IndexList, Numberings, OrderedEvidence, Shared, Uses};
-use net_base::{Memory, SwitchId};
+use net_base::Memory;
 use std::alloc::Global;
 use waypoint_evidence::Before;
 
@@ -29,20 +29,6 @@ fn add_numbering(
     Ok(number as u32)
 }
 
-/// The same set once more.
-pub(crate) fn copied(before: &Before) -> Before
-    ensures { result ≡ before.now }
-{
-    let marks = before.marks();
-    let mut copy = Before::none();
-    for (switch, is_member) in marks.iter().enumerate() {
-        if *is_member {
-            copy.put(SwitchId(switch as u32));
-        }
-    }
-    copy
-}
-
 /// The number of a before set. The keys are those of the before sets so far.
 fn add_before(
     alloc: Global,
@@ -56,7 +42,7 @@ fn add_before(
 {
     let (number, is_new) = keys.number(alloc, before)?;
     if is_new {
-        befores.add(copied(before))?;
+        befores.add(before.copy())?;
     }
     Ok(number)
 }

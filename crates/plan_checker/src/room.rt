@@ -4,6 +4,8 @@ ghost use Rattle.topology.specs.Networks.{switch_count};
 ghost use Rattle.dest_classes.specs.Classes.{class_count};
 ghost use Rattle.certificates.specs.Certified.{classes_for};
 ghost use Rattle.certificates.specs.Laws.{task_of};
+ghost use Rattle.round_tables.specs.Present.{HasRoom};
+ghost use Rattle.ordered_check.specs.Kept.{HasClassRoom};
 ghost use Rattle.plan_checker.specs.Fits.{Fits, IsCauseFor};
 
 use crate::prefixes::prefixes_of;
@@ -11,6 +13,7 @@ use certificates::Plan;
 use demands::{Demands, Duties};
 use dest_classes::{ClassFault, ClassMap, class_map};
 use flow_rules::Config;
+use net_base::Memory;
 use ordered_check::OrderedRoom;
 use path_walk::PathRoom;
 use round_tables::Present;
@@ -47,13 +50,13 @@ pub enum RoomFault {
     Memory,
 }
 
-impl From<net_base::Memory> for RoomFault {
+impl From<Memory> for RoomFault {
     ghost use Rattle.std.specs.Prelude.{◌≡◌};
     ghost use Rattle.plan_checker.specs.declared.room.RoomFault.TheVariants.{Memory};
 
     ghost from_gives = { λ _ e. e ≡ Memory };
 
-    fn from(_: net_base::Memory) -> Self {
+    fn from(_: Memory) -> Self {
         RoomFault::Memory
     }
 }
@@ -70,6 +73,53 @@ impl From<ClassFault> for RoomFault {
             ClassFault::Memory => RoomFault::Memory,
         }
     }
+}
+
+/// The rooms of a check beside its classes and duties.
+#[derive(Drop)]
+struct Rooms {
+    present: Present,
+    ordered: OrderedRoom,
+    two_phase: TwoPhaseRoom,
+    path: PathRoom,
+}
+
+impl Rooms {
+    fn make(alloc: Global, net: &Net, plan: &Plan, classes: &ClassMap) -> Result<Rooms, Memory>
+        ensures present { IfOk result (λ r. HasRoom net.now plan.now.rounds r.present) }
+        ensures ordered { IfOk result (λ r. HasClassRoom classes.now r.ordered) }
+        ensures path { IfOk result (λ r. r.path.switches ≡ switch_count net.now) }
+    {
+        let path = PathRoom::make(alloc, net)?;
+        let present = Present::make(alloc, net, &plan.rounds)?;
+        let two_phase = TwoPhaseRoom::make(alloc)?;
+        let ordered = OrderedRoom::make(alloc, classes)?;
+        Ok(Rooms {
+            present,
+            ordered,
+            two_phase,
+            path,
+        })
+    }
+}
+
+/// The classes of the update that a plan carries out.
+fn classes_of_plan(
+    alloc: Global,
+    net: &Net,
+    old: &Config,
+    new: &Config,
+    demands: &Demands,
+    plan: &Plan,
+) -> Result<ClassMap, RoomFault>
+    requires old { length old.now ≡ switch_count net.now }
+    requires new { length new.now ≡ switch_count net.now }
+    ensures classes { IfOk result (λ classes. classes ≡ classes_for (task_of net.now old.now new.now demands.now plan.now)) }
+    ensures few { IfOk result (λ classes. class_count classes ≤ 8192) }
+    ensures too_many { IfErr result (IsCauseFor (classes_for (task_of net.now old.now new.now demands.now plan.now))) }
+{
+    let prefixes = prefixes_of(old, new, demands, &plan.rounds)?;
+    Ok(class_map(alloc, net, &prefixes)?)
 }
 
 impl CheckRoom {
@@ -90,13 +140,14 @@ impl CheckRoom {
         ensures few { IfOk result (λ _. class_count (classes_for (task_of net.now old.now new.now demands.now plan.now)) ≤ 8192) }
         ensures too_many { IfErr result (IsCauseFor (classes_for (task_of net.now old.now new.now demands.now plan.now))) }
     {
-        let prefixes = prefixes_of(old, new, demands, &plan.rounds)?;
-        let classes = class_map(alloc, net, &prefixes)?;
+        let classes = classes_of_plan(alloc, net, old, new, demands, plan)?;
         let duties = Duties::make(alloc, net, demands, &classes)?;
-        let path = PathRoom::make(alloc, net)?;
-        let present = Present::make(alloc, net, &plan.rounds)?;
-        let two_phase = TwoPhaseRoom::make(alloc)?;
-        let ordered = OrderedRoom::make(alloc, &classes)?;
+        let Rooms {
+            present,
+            ordered,
+            two_phase,
+            path,
+        } = Rooms::make(alloc, net, plan, &classes)?;
         Ok(CheckRoom {
             classes,
             duties,

@@ -1,12 +1,19 @@
 -- Where a search begins, goes on and ends.
-use Rattle.std.proofs.Common.{◌<◌, List, [], ◌∷◌, ◌++◌, length, ap, arith, length-append}
+use Rattle.std.proofs.Common.{◌≡◌, ◌<◌, List, [], ◌∷◌, ◌++◌, length, map, sym, ◌∙◌, subst, ap, arith, length-append}
+use Rattle.std.specs.Prelude.{Option, None, IfSome}
+use Rattle.std.specs.List.{AllByRecursion}
+use Rattle.net_base.proofs.MemberLaws.{each_weaker}
 use Rattle.topology.specs.Networks.{IsNetwork}
 use Rattle.flow_rules.specs.Tables.{rules_of_all}
 use Rattle.flow_rules.specs.declared.rules.Rule.{Rule}
 use Rattle.path_walk.specs.UserConfigs.{IsUserConfig}
+use Rattle.update_model.specs.Changes.{tables_after}
 use Rattle.update_model.specs.Remaining.{remaining}
 use Rattle.update_model.specs.declared.Change.{Change}
+use Rattle.round_planner.specs.declared.failing.Failure.{Failure}
+use Rattle.round_planner.specs.declared.left.Left.{Left}
 use Rattle.round_planner.specs.Search.{Aim}
+use Rattle.round_planner.specs.Failures.{IsFailure, HasStanding, AreLeft}
 use Rattle.round_planner.specs.Searching.{SearchState, IsAt}
 use Rattle.round_planner.proofs.EndLaws.{found_count}
 
@@ -21,3 +28,15 @@ one_less aim old net old_user new_user changes c s t at next =
     let here = ap (λ ts. length (remaining ts aim.new)) at.tables in
     let there = ap (λ ts. length (remaining ts aim.new)) next.tables in
     omega arith
+
+-- where none of the changes that remain was tried yet
+pub left_untried : (aim : Aim) (old : List (List Rule)) (changes : List Change) (s : SearchState) (left : List Left) → IsAt aim old changes s
+    → map (λ (l : Left). l.change) left ≡ remaining (rules_of_all s.trial.tables) aim.new → AllByRecursion (λ (l : Left). l.failure ≡ None) left
+    → AreLeft aim (tables_after changes old) left
+left_untried aim old changes s left at are untried = record {
+  changes = are ∙ ap (λ ts. remaining ts aim.new) at.tables;
+  standing = each_weaker (λ (l : Left). l.failure ≡ None) (HasStanding aim (tables_after changes old)) stands left untried;
+}
+  where
+    stands : (l : Left) → l.failure ≡ None → HasStanding aim (tables_after changes old) l
+    stands l none = subst (λ (f : Option Failure). IfSome f (λ g. IsFailure aim (tables_after changes old) l.change g)) (sym none) tt

@@ -1,5 +1,5 @@
 -- What a search is for, and where it is.
-use Rattle.std.specs.Prelude.{◌≡◌, ℕ, ◌<◌, Bool, true, false, List, [], ◌∷◌, ◌++◌, length, slice_index_or, Option, Some, None}
+use Rattle.std.specs.Prelude.{◌≡◌, ℕ, ◌<◌, ◌≤◌, Bool, true, false, List, [], ◌∷◌, ◌++◌, length, slice_index_or, Option, Some, None}
 use Rattle.std.specs.List.{AllByRecursion}
 use Rattle.topology.specs.Networks.{Network}
 use Rattle.flow_rules.specs.Tables.{TableState, rules_of_all}
@@ -14,6 +14,7 @@ use Rattle.update_model.specs.declared.Change.{Change}
 use Rattle.certificates.specs.declared.Evidence.TheVariants as evidence
 use Rattle.certificates.specs.declared.OrderedEvidence.{OrderedEvidence}
 use Rattle.evidence_store.specs.State.{StoreState}
+use Rattle.evidence_store.specs.Stored.{IsStored}
 use Rattle.round_tables.specs.Trials.{TrialState, IsSettled, IsTrying}
 use Rattle.round_planner.specs.declared.Ordered.{Ordered}
 use Rattle.round_planner.specs.declared.Ordered.TheVariants.{Rounds, Stuck}
@@ -113,3 +114,12 @@ answer_of rounds stored false = Stuck rounds
 -- the answer of a search that has ended: the plan where no change remains, the rounds where it is stuck
 abbrev pub answer_by : SearchState → Bool → Ordered
 answer_by s none_remains = answer_of s.rounds s.store.evidence none_remains
+
+-- a search that has ended has this answer, with evidence in which nothing stands twice
+pub record IsAnswered (aim : Aim) (old : List (List Rule)) (answer : Ordered) : Type 0 where
+  pub search : SearchState
+  pub none_remains : Bool
+  pub ended : IsEnded aim old search none_remains
+  pub stored : IsStored search.store.evidence
+  pub few : class_count aim.classes ≤ 8192
+  pub answer_is : answer ≡ answer_by search none_remains

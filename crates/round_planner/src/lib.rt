@@ -25,7 +25,7 @@ ghost use Rattle.table_difference.specs.Tried.{AreTried};
 ghost use Rattle.round_planner.specs.Ends.{aim_of, IsSearched, OfPlan, OfStuck, IsNotStuck};
 
 use crate::goal::{Goal, list_classes};
-use crate::searching::Search;
+use crate::searching::answer_to;
 use certificates::Plan;
 use demands::Duties;
 use dest_classes::ClassMap;
@@ -90,8 +90,5 @@ pub fn order(
     };
     net.keeps_rules();
     rounds_make_no_classes(net, old, new);
-    let mut search = Search::make(alloc, &goal, old)?;
-    let none_remains = search.run(alloc, &goal)?;
-    search.store.keeps_once();
-    Ok(search.into_answer(none_remains))
+    answer_to(alloc, &goal, old)
 }

@@ -1,21 +1,24 @@
 //! The search, change by change.
-ghost use Rattle.std.specs.Prelude.{◌≡◌, ◌≤◌, ◌++◌, ◌∷◌, [], List, suc, length, map, IfOk, OnOk};
+ghost use Rattle.std.specs.Prelude.{◌≡◌, ℕ, ◌<◌, ◌≤◌, ◌++◌, ◌∷◌, [], List, suc, length, map, IfOk, OnOk};
 ghost use Rattle.std.specs.List.{AllByRecursion};
 ghost use Rattle.net_base.specs.Members.{IsIn};
+ghost use Rattle.net_base.specs.declared.ids.SwitchId.{SwitchId as Switch};
 ghost use Rattle.flow_rules.specs.Tables.{rules_of_all};
 ghost use Rattle.flow_rules.specs.declared.rules.Rule.{Rule};
 ghost use Rattle.path_walk.specs.UserConfigs.{IsUserConfig};
 ghost use Rattle.dest_classes.specs.Classes.{class_count};
-ghost use Rattle.update_model.specs.Changes.{tables_after};
+ghost use Rattle.update_model.specs.Changes.{tables_after, tables_after_change, with_change};
 ghost use Rattle.update_model.specs.Remaining.{remaining};
 ghost use Rattle.update_model.specs.declared.Change.{Change as ChangeOf};
-ghost use Rattle.round_tables.specs.Trials.{IsTrying};
+ghost use Rattle.round_tables.specs.Trials.{IsSettled, IsTrying};
+ghost use Rattle.evidence_store.specs.Stored.{IsStored, no_evidence};
 ghost use Rattle.round_planner.specs.declared.judging.Found.{Found as FoundOf};
 ghost use Rattle.round_planner.specs.Search.{IsFirstQualifying, update_by};
 ghost use Rattle.round_planner.specs.Standing.{Stands, AreSafeBelow};
 ghost use Rattle.round_planner.specs.declared.left.Left.{Left as LeftOf};
-ghost use Rattle.round_planner.specs.Failures.{HasStanding, AreLeft};
-ghost use Rattle.round_planner.specs.Searching.{IsAt, IsTried, IsLeftTried, IsPlaced, IsMoved, IsTryingAt, IsEnded, answer_of, answer_by};
+ghost use Rattle.round_planner.specs.Failures.{HasStanding, IsVisited, AreLeft};
+ghost use Rattle.round_planner.specs.Searching.{IsAt, IsTried, IsLeftTried, IsPlaced, IsMoved, IsTryingAt, IsEnded, IsAnswered, answer_of};
+ghost use Rattle.round_planner.specs.Visits.{marks_at};
 
 use crate::Ordered;
 use crate::came::Came;
@@ -23,8 +26,8 @@ use crate::failing::Failure;
 use crate::goal::Goal;
 use crate::judging::{Found, Tried, Verdict, judge_all};
 use crate::left::{Left, take_out, untried};
-use crate::picking::add_picks;
-use certificates::{Evidence, Plan};
+use crate::picking::put_picks;
+use certificates::{Evidence, OrderedEvidence, Plan};
 use evidence_store::EvidenceStore;
 use flow_rules::Config;
 use mixed_walks::WalkRoom;
@@ -32,17 +35,17 @@ use net_base::Memory;
 use round_tables::TrialTables;
 use std::alloc::Global;
 use std::marker::Model;
-use std::mem::replace;
 use table_difference::remaining;
+use topology::Net;
 use update_model::{Change, Rounds};
 
 /// A search: the tables so far with what is prepared of them, the rounds that led to them, their evidence, and for each class
 /// the switches that its packets come to.
 #[derive(Drop)]
-pub(crate) struct Search {
-    pub(crate) trial: TrialTables,
-    pub(crate) rounds: Rounds,
-    pub(crate) store: EvidenceStore,
+struct Search {
+    trial: TrialTables,
+    rounds: Rounds,
+    store: EvidenceStore,
     walk: WalkRoom,
     came: Came,
 }
@@ -55,34 +58,90 @@ impl Model for Search {
     ghost view = { λ s. record { trial = s.trial; rounds = s.rounds; store = s.store; came = s.came } };
 }
 
-/// The plan of these rounds with the evidence that is stored where no change remains, otherwise the rounds.
-fn answer_of(rounds: Rounds, store: EvidenceStore, none_remains: bool) -> Ordered
-    ensures { result ≡ answer_of rounds store.evidence none_remains }
+/// Room for walks, and all switches for each of so many classes.
+fn rooms(alloc: Global, count: u32) -> Result<(WalkRoom, Came), Memory>
+    ensures count { IfOk result (λ r. length r.1 ≡ count) }
+    ensures each { IfOk result (λ r. (n : ℕ) (s : Switch) → n < count → s.0 < 128 → IsVisited (marks_at r.1 n) s) }
+{
+    let came = Came::all(alloc, count)?;
+    let walk = WalkRoom::make(alloc)?;
+    Ok((walk, came))
+}
+
+/// The tables of a configuration with what is prepared of them, no rounds, and a store of no picks, of so many classes.
+fn begun(
+    alloc: Global,
+    net: &Net,
+    old: &Config,
+    count: u32,
+) -> Result<(TrialTables, Rounds, EvidenceStore), Memory>
+    requires old { IsUserConfig net.now (rules_of_all old.now) }
+    requires few { count ≤ 8192 }
+    ensures rules { IfOk result (λ r. rules_of_all r.0.tables ≡ rules_of_all old.now) }
+    ensures settled { IfOk result (λ r. IsSettled net.now r.0) }
+    ensures rounds { IfOk result (λ r. r.1 ≡ []) }
+    ensures store { IfOk result (λ r. r.2 ≡ record { evidence = no_evidence; classes = count }) }
+{
+    let rounds = Rounds::make(alloc)?;
+    let trial = TrialTables::make(alloc, net, old)?;
+    let store = EvidenceStore::make(alloc, count)?;
+    Ok((trial, rounds, store))
+}
+
+/// Makes a change that was tried, as one round more. After a refusal the tables and the rounds may differ.
+fn keep_change(
+    trial: &mut TrialTables,
+    rounds: &mut Rounds,
+    net: &Net,
+    change: &Change,
+) -> Result<(), Memory>
+    requires { IsTrying net.now change.now trial.old }
+    ensures tables { OnOk result (rules_of_all trial.new.tables ≡ tables_after_change change.now (rules_of_all trial.old.tables)) }
+    ensures settled { OnOk result (IsSettled net.now trial.new) }
+    ensures rounds { OnOk result (rounds.new ≡ with_change change.now (rounds.old ++ [] ∷ [])) }
+{
+    trial.keep(net, change)?;
+    rounds.add_round()?;
+    rounds.add_change(*change)?;
+    Ok(())
+}
+
+/// The plan of these rounds with this evidence where no change remains, otherwise the rounds.
+fn answer_of(rounds: Rounds, evidence: OrderedEvidence, none_remains: bool) -> Ordered
+    ensures { result ≡ answer_of rounds evidence none_remains }
 {
     if none_remains {
         Ordered::Rounds(Plan {
             rounds,
-            evidence: Evidence::Ordered(store.into_evidence()),
+            evidence: Evidence::Ordered(evidence),
         })
     } else {
         Ordered::Stuck(rounds)
     }
 }
 
+/// The answer of a search that begins with the tables of a configuration.
+pub(crate) fn answer_to(alloc: Global, goal: &Goal, old: &Config) -> Result<Ordered, Memory>
+    requires { IsUserConfig goal.now.net (rules_of_all old.now) }
+    ensures { IfOk result (IsAnswered goal.now (rules_of_all old.now)) }
+{
+    let mut search = Search::make(alloc, goal, old)?;
+    let none_remains = search.run(alloc, goal);
+    let (rounds, evidence) = search.into_found();
+    Ok(answer_of(rounds, evidence, none_remains?))
+}
+
 impl Search {
     /// A search that has made no change.
-    pub(crate) fn make(alloc: Global, goal: &Goal, old: &Config) -> Result<Search, Memory>
+    fn make(alloc: Global, goal: &Goal, old: &Config) -> Result<Search, Memory>
         requires { IsUserConfig goal.now.net (rules_of_all old.now) }
         ensures at { IfOk result (IsAt goal.now (rules_of_all old.now) []) }
         ensures few { IfOk result (λ s. s.store.classes ≤ 8192) }
     {
         goal.net.keeps_rules();
         let count = goal.classes.count();
-        let rounds = Rounds::make(alloc)?;
-        let came = Came::all(alloc, count)?;
-        let walk = WalkRoom::make(alloc)?;
-        let trial = TrialTables::make(alloc, goal.net, old)?;
-        let store = EvidenceStore::make(alloc, count)?;
+        let (walk, came) = rooms(alloc, count)?;
+        let (trial, rounds, store) = begun(alloc, goal.net, old, count)?;
         Ok(Search {
             trial,
             rounds,
@@ -107,15 +166,9 @@ impl Search {
             → IsFirstQualifying goal.now (tables_after changes old) (remaining (tables_after changes old) goal.now.new) change.now
             → IsAt goal.now old (changes ++ change.now ∷ []) self.new) }
     {
-        self.trial.keep(goal.net, change)?;
-        self.rounds.add_round()?;
-        self.rounds.add_change(*change)?;
+        keep_change(&mut self.trial, &mut self.rounds, goal.net, change)?;
         let round = self.rounds.count() as u32;
-        let store = replace(&mut self.store, EvidenceStore::make(alloc, 0)?);
-        store.keeps_once();
-        let store = add_picks(store, round, found)?;
-        store.keeps_once();
-        self.store = store;
+        put_picks(alloc, &mut self.store, round, found)?;
         Ok(())
     }
 
@@ -213,8 +266,30 @@ impl Search {
         }
     }
 
+    /// Goes on with the changes that remain until none is left, or until none of them qualifies. The result says whether none
+    /// is left.
+    fn run_through(
+        &mut self,
+        alloc: Global,
+        goal: &Goal,
+        left: &mut Vec<Left>,
+    ) -> Result<bool, Memory>
+        requires { (old : List (List Rule)) × (changes : List ChangeOf) × IsUserConfig goal.now.net old × IsAt goal.now old changes self.old
+            × AreLeft goal.now (tables_after changes old) left.old.items }
+        ensures { IfOk result (λ none_remains. (old : List (List Rule)) (changes : List ChangeOf) → IsUserConfig goal.now.net old → IsAt goal.now old changes self.old
+            → AreLeft goal.now (tables_after changes old) left.old.items → IsEnded goal.now old self.new none_remains) }
+    {
+        goal.net.keeps_rules();
+        'searching: while !left.is_empty() {
+            if !self.go_on(alloc, goal, left)? {
+                return Ok(false);
+            }
+        }
+        Ok(true)
+    }
+
     /// Goes on until no change remains, or until none of those that remain qualifies. The result says whether none remains.
-    pub(crate) fn run(&mut self, alloc: Global, goal: &Goal) -> Result<bool, Memory>
+    fn run(&mut self, alloc: Global, goal: &Goal) -> Result<bool, Memory>
         requires { (old : List (List Rule)) × (changes : List ChangeOf) × IsUserConfig goal.now.net old × IsAt goal.now old changes self.old }
         ensures { IfOk result (λ none_remains. (old : List (List Rule)) (changes : List ChangeOf) → IsUserConfig goal.now.net old → IsAt goal.now old changes self.old
             → IsEnded goal.now old self.new none_remains) }
@@ -222,18 +297,16 @@ impl Search {
         goal.net.keeps_rules();
         let changes = remaining(alloc, self.trial.tables(), goal.new)?;
         let mut left = untried(alloc, &changes)?;
-        'searching: while !left.is_empty() {
-            if !self.go_on(alloc, goal, &mut left)? {
-                return Ok(false);
-            }
-        }
-        Ok(true)
+        self.run_through(alloc, goal, &mut left)
     }
 
-    /// The answer: the plan where no change remains, otherwise the rounds.
-    pub(crate) fn into_answer(self, none_remains: bool) -> Ordered
-        ensures { result ≡ answer_by self none_remains }
+    /// The rounds and their evidence, in which nothing stands twice.
+    fn into_found(self) -> (Rounds, OrderedEvidence)
+        ensures rounds { result.0 ≡ self.rounds }
+        ensures evidence { result.1 ≡ self.store.evidence }
+        ensures stored { IsStored self.store.evidence }
     {
-        answer_of(self.rounds, self.store, none_remains)
+        self.store.keeps_once();
+        (self.rounds, self.store.into_evidence())
     }
 }

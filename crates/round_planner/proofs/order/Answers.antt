@@ -1,15 +1,15 @@
-use Rattle.std.proofs.Common.{◌≡◌, ◌≤◌, [], length, sym, subst, ap}
+use Rattle.std.proofs.Common.{◌≡◌, length, sym, subst, ap}
+use Rattle.std.proofs.lemmas.Result.{IfOk-weaker}
 use Rattle.flow_rules.specs.Tables.{rules_of_all}
 use Rattle.dest_classes.specs.Classes.{ClassList}
 use Rattle.update_model.specs.Remaining.{remaining}
-use Rattle.evidence_store.specs.Stored.{IsStored}
 use Rattle.certificates.specs.Certified.{IsCertified, classes_for}
 use Rattle.certificates.specs.Laws.{task_of}
 use Rattle.certificates.specs.Valid.{IsValidPlan}
 use Rattle.table_difference.specs.SameClasses.{HasSameClasses}
 use Rattle.round_planner.specs.declared.Ordered.{Ordered}
 use Rattle.round_planner.specs.Search.{Aim}
-use Rattle.round_planner.specs.Searching.{SearchState}
+use Rattle.round_planner.specs.Searching.{IsAnswered}
 use Rattle.table_difference.specs.Tried.{AreTried}
 use Rattle.round_planner.specs.Ends.{aim_of, IsSearched, OfPlan, OfStuck, IsNotStuck}
 use Rattle.round_planner.proofs.AnswerLaws.{answer_searched, answer_tried, answer_tree, answer_valid, answer_certified, answer_classes, answer_count}
@@ -24,69 +24,54 @@ invariant_of-goal c = record {
   listed = c.in_ok-list.ensures;
 }
 
-pub make-requires : goal.make-requires
-make-requires c = c.requires.old
-
-pub run-requires : goal.run-requires
-run-requires c = (rules_of_all c.args.old.now, [], c.requires.old, c.in_ok-search.ensures.at)
+pub answer_to-requires : goal.answer_to-requires
+answer_to-requires c = c.requires.old
 
 pub returns-clause-searched : goal.returns-clause-searched
 returns-clause-searched c =
     let aim : Aim = record { net = c.args.net.now; new = rules_of_all c.args.new.now; demands = c.args.duties.now.demands; classes = c.args.classes.now } in
     let old = rules_of_all c.args.old.now in
-    let none = c.in_ok-none_remains.none_remains in
-    let ended = c.in_ok-none_remains.ensures old [] c.requires.old c.in_ok-search.ensures.at in
-    subst (IsSearched (aim_of c.args.net.now old aim.new aim.demands) old) (sym c.into_answer.ensures) (answer_searched aim old c.requires.classes c.keeps_rules.ensures c.requires.old c.requires.new c.run.new.self none ended)
+    let P : Ordered → Type 0 = IsSearched (aim_of c.args.net.now old aim.new aim.demands) old in
+    IfOk-weaker c.answer_to.result (IsAnswered aim old) P (λ o a. subst P (sym a.answer_is) (answer_searched aim old c.requires.classes c.keeps_rules.ensures c.requires.old c.requires.new a.search a.none_remains a.ended)) c.answer_to.ensures
 
 pub returns-clause-valid : goal.returns-clause-valid
 returns-clause-valid c =
     let aim : Aim = record { net = c.args.net.now; new = rules_of_all c.args.new.now; demands = c.args.duties.now.demands; classes = c.args.classes.now } in
     let old = rules_of_all c.args.old.now in
-    let none = c.in_ok-none_remains.none_remains in
-    let stored = subst (λ (s : SearchState). IsStored s.store.evidence) c.search.view_is c.keeps_once.ensures in
-    let ended = c.in_ok-none_remains.ensures old [] c.requires.old c.in_ok-search.ensures.at in
-    let few = subst (λ n. n ≤ 8192) c.in_ok-search.ensures.at.classes c.in_ok-search.ensures.few in
-    subst (OfPlan (IsValidPlan c.args.net.now)) (sym c.into_answer.ensures) (answer_valid aim old c.requires.classes c.keeps_rules.ensures c.requires.old c.requires.new c.run.new.self stored few none ended)
+    let P : Ordered → Type 0 = OfPlan (IsValidPlan c.args.net.now) in
+    IfOk-weaker c.answer_to.result (IsAnswered aim old) P (λ o a. subst P (sym a.answer_is) (answer_valid aim old c.requires.classes c.keeps_rules.ensures c.requires.old c.requires.new a.search a.stored a.few a.none_remains a.ended)) c.answer_to.ensures
 
 pub returns-clause-certified : goal.returns-clause-certified
 returns-clause-certified c =
     let aim : Aim = record { net = c.args.net.now; new = rules_of_all c.args.new.now; demands = c.args.duties.now.demands; classes = c.args.classes.now } in
     let old = rules_of_all c.args.old.now in
-    let none = c.in_ok-none_remains.none_remains in
-    let stored = subst (λ (s : SearchState). IsStored s.store.evidence) c.search.view_is c.keeps_once.ensures in
-    let ended = c.in_ok-none_remains.ensures old [] c.requires.old c.in_ok-search.ensures.at in
-    subst (OfPlan (λ p. IsCertified (task_of c.args.net.now c.args.old.now c.args.new.now c.args.duties.now.demands p) p.evidence)) (sym c.into_answer.ensures) (answer_certified aim old c.requires.classes c.keeps_rules.ensures c.requires.old c.requires.new c.run.new.self stored c.rounds_make_no_classes.ensures c.requires.old_good c.requires.new_good none ended)
+    let P : Ordered → Type 0 = OfPlan (λ p. IsCertified (task_of c.args.net.now c.args.old.now c.args.new.now c.args.duties.now.demands p) p.evidence) in
+    IfOk-weaker c.answer_to.result (IsAnswered aim old) P (λ o a. subst P (sym a.answer_is) (answer_certified aim old c.requires.classes c.keeps_rules.ensures c.requires.old c.requires.new a.search a.stored c.rounds_make_no_classes.ensures c.requires.old_good c.requires.new_good a.none_remains a.ended)) c.answer_to.ensures
 
 pub returns-clause-classes : goal.returns-clause-classes
 returns-clause-classes c =
     let aim : Aim = record { net = c.args.net.now; new = rules_of_all c.args.new.now; demands = c.args.duties.now.demands; classes = c.args.classes.now } in
     let old = rules_of_all c.args.old.now in
-    let none = c.in_ok-none_remains.none_remains in
-    let stored = subst (λ (s : SearchState). IsStored s.store.evidence) c.search.view_is c.keeps_once.ensures in
-    let ended = c.in_ok-none_remains.ensures old [] c.requires.old c.in_ok-search.ensures.at in
-    subst (OfPlan (λ p. HasSameClasses (classes_for (task_of c.args.net.now c.args.old.now c.args.new.now c.args.duties.now.demands p)) c.args.classes.now)) (sym c.into_answer.ensures) (answer_classes aim old c.requires.classes c.keeps_rules.ensures c.requires.old c.requires.new c.run.new.self stored c.rounds_make_no_classes.ensures c.requires.old_good c.requires.new_good none ended)
+    let P : Ordered → Type 0 = OfPlan (λ p. HasSameClasses (classes_for (task_of c.args.net.now c.args.old.now c.args.new.now c.args.duties.now.demands p)) c.args.classes.now) in
+    IfOk-weaker c.answer_to.result (IsAnswered aim old) P (λ o a. subst P (sym a.answer_is) (answer_classes aim old c.requires.classes c.keeps_rules.ensures c.requires.old c.requires.new a.search a.stored c.rounds_make_no_classes.ensures c.requires.old_good c.requires.new_good a.none_remains a.ended)) c.answer_to.ensures
 
 pub returns-clause-count : goal.returns-clause-count
 returns-clause-count c =
     let aim : Aim = record { net = c.args.net.now; new = rules_of_all c.args.new.now; demands = c.args.duties.now.demands; classes = c.args.classes.now } in
     let old = rules_of_all c.args.old.now in
-    let none = c.in_ok-none_remains.none_remains in
-    let stored = subst (λ (s : SearchState). IsStored s.store.evidence) c.search.view_is c.keeps_once.ensures in
-    let ended = c.in_ok-none_remains.ensures old [] c.requires.old c.in_ok-search.ensures.at in
-    subst (OfPlan (λ p. length p.rounds ≡ length (remaining old aim.new))) (sym c.into_answer.ensures) (answer_count aim old c.requires.classes c.keeps_rules.ensures c.requires.old c.requires.new c.run.new.self stored c.rounds_make_no_classes.ensures c.requires.old_good c.requires.new_good none ended)
+    let P : Ordered → Type 0 = OfPlan (λ p. length p.rounds ≡ length (remaining old aim.new)) in
+    IfOk-weaker c.answer_to.result (IsAnswered aim old) P (λ o a. subst P (sym a.answer_is) (answer_count aim old c.requires.classes c.keeps_rules.ensures c.requires.old c.requires.new a.search a.stored c.rounds_make_no_classes.ensures c.requires.old_good c.requires.new_good a.none_remains a.ended)) c.answer_to.ensures
 
 pub returns-clause-tried : goal.returns-clause-tried
 returns-clause-tried c =
     let aim : Aim = record { net = c.args.net.now; new = rules_of_all c.args.new.now; demands = c.args.duties.now.demands; classes = c.args.classes.now } in
     let old = rules_of_all c.args.old.now in
-    let none = c.in_ok-none_remains.none_remains in
-    let ended = c.in_ok-none_remains.ensures old [] c.requires.old c.in_ok-search.ensures.at in
-    subst (OfStuck (AreTried c.args.net.now)) (sym c.into_answer.ensures) (answer_tried aim old c.requires.classes c.keeps_rules.ensures c.requires.old c.requires.new c.run.new.self none ended)
+    let P : Ordered → Type 0 = OfStuck (AreTried c.args.net.now) in
+    IfOk-weaker c.answer_to.result (IsAnswered aim old) P (λ o a. subst P (sym a.answer_is) (answer_tried aim old c.requires.classes c.keeps_rules.ensures c.requires.old c.requires.new a.search a.none_remains a.ended)) c.answer_to.ensures
 
 pub returns-clause-tree : goal.returns-clause-tree
 returns-clause-tree c tree =
     let aim : Aim = record { net = c.args.net.now; new = rules_of_all c.args.new.now; demands = c.args.duties.now.demands; classes = c.args.classes.now } in
     let old = rules_of_all c.args.old.now in
-    let none = c.in_ok-none_remains.none_remains in
-    let ended = c.in_ok-none_remains.ensures old [] c.requires.old c.in_ok-search.ensures.at in
-    subst (λ (o : Ordered). IsNotStuck o) (sym c.into_answer.ensures) (answer_tree aim old c.requires.classes c.keeps_rules.ensures c.requires.old c.requires.new c.run.new.self none ended tree)
+    let P : Ordered → Type 0 = λ o. IsNotStuck o in
+    IfOk-weaker c.answer_to.result (IsAnswered aim old) P (λ o a. subst P (sym a.answer_is) (answer_tree aim old c.requires.classes c.keeps_rules.ensures c.requires.old c.requires.new a.search a.none_remains a.ended tree)) c.answer_to.ensures

@@ -4,6 +4,7 @@ use Rattle.certificates.specs.Valid.{IsPickBefore}
 use Rattle.certificates.specs.declared.OrderedPick.{OrderedPick}
 use Rattle.certificates.specs.declared.OrderedEvidence.{OrderedEvidence}
 use Rattle.evidence_store.specs.State.{StoreState}
+use Rattle.evidence_store.specs.Stored.{IsStored, IsWithPick}
 use Rattle.evidence_store.proofs.StoredLaws.{stored_more, with_pick}
 use Rattle.std.proofs.Math.ListN.{length-set}
 use Rattle.net_base.proofs.MemberLaws.{each_append}
@@ -11,16 +12,16 @@ use Rattle.evidence_store.proofs.PickLaws.{in_force_more}
 use Rattle.evidence_store.proofs.CountLaws.{few_numberings, few_uses}
 use Rattle.evidence_store.proofs.EvidenceStore.add.Goals as goal
 
-pub add_use-requires-clause-few_numberings : goal.add_use-requires-clause-few_numberings
-add_use-requires-clause-few_numberings c =
+pub add_pick-requires-clause-few_numberings : goal.add_pick-requires-clause-few_numberings
+add_pick-requires-clause-few_numberings c =
     let pick : OrderedPick = record { round = c.args.round; class = c.args.class; shared = 0 } in
     let state = c.store.view_is in
     let behind = subst (λ (s : StoreState). AllByRecursion (λ p. IsPickBefore p pick) s.evidence.picks) (sym state) c.requires.behind in
     let within = subst (λ (s : StoreState). c.args.class < s.classes) (sym state) c.requires.class in
     few_numberings c.store.inside.evidence c.store.invariant.stored (length c.store.inside.in_force.items) pick c.store.invariant.few_classes c.store.invariant.classes behind within c.requires.few_rounds
 
-pub add_use-requires-clause-few_uses : goal.add_use-requires-clause-few_uses
-add_use-requires-clause-few_uses c =
+pub add_pick-requires-clause-few_uses : goal.add_pick-requires-clause-few_uses
+add_pick-requires-clause-few_uses c =
     let pick : OrderedPick = record { round = c.args.round; class = c.args.class; shared = 0 } in
     let state = c.store.view_is in
     let behind = subst (λ (s : StoreState). AllByRecursion (λ p. IsPickBefore p pick) s.evidence.picks) (sym state) c.requires.behind in
@@ -30,28 +31,28 @@ add_use-requires-clause-few_uses c =
 pub invariant_of-store : goal.invariant_of-store
 invariant_of-store c =
     let pick : OrderedPick = record { round = c.args.round; class = c.args.class; shared = c.in_ok-shared.shared } in
-    let used = c.in_ok-shared.ensures.number in
+    let picked = c.in_ok-shared.ensures.pick in
+    let used = picked.with_use in
     let same : c.args.self.evidence ≡ c.store.inside.evidence = sym (ap (λ (s : StoreState). s.evidence) c.store.view_is) in
     let behind = subst (λ (e : OrderedEvidence). AllByRecursion (λ p. IsPickBefore p pick) e.picks) same c.requires.behind in
     let count : length c.store.inside.in_force.items ≡ c.args.self.classes = ap (λ (s : StoreState). s.classes) c.store.view_is in
     let within : pick.class < length c.store.inside.in_force.items = let class = c.requires.class in omega arith in
-    let more = c.in_ok-add.ensures.ok ∙ ap (λ (l : List OrderedPick). l ++ pick ∷ []) used.picks in
+    let picks = picked.used.picks ++ pick ∷ [] in
+    let more : picks ≡ c.store.inside.evidence.picks ++ pick ∷ [] = ap (λ (l : List OrderedPick). l ++ pick ∷ []) used.picks in
+    let new_picks : c.add_pick.new.evidence.picks ≡ picks = ap (λ (e : OrderedEvidence). e.picks) picked.is in
     record {
-      stored = stored_more c.store.inside.evidence c.add_use.new.evidence c.args.numbering c.args.befores c.in_ok-shared.shared c.store.invariant.stored used pick c.add.new.self refl c.in_ok-add.ensures.ok behind;
-      keys = record {
-        numberings = c.in_ok-shared.ensures.keys.numberings;
-        befores = c.in_ok-shared.ensures.keys.befores;
-        uses = c.in_ok-shared.ensures.keys.uses;
-      };
+      stored = subst IsStored (sym picked.is) (stored_more c.store.inside.evidence picked.used c.args.numbering c.args.befores c.in_ok-shared.shared c.store.invariant.stored used pick picks refl refl behind);
+      keys = c.in_ok-shared.ensures.keys;
       few_classes = rw length-set c.store.invariant.few_classes;
-      classes = rw (more, length-set) (each_append (λ p. p.class < length c.store.inside.in_force.items) c.store.inside.evidence.picks (pick ∷ []) c.store.invariant.classes (within, tt));
-      in_force = in_force_more c.store.inside.evidence.picks c.add.new.self pick c.store.inside.in_force.items more behind c.store.invariant.in_force;
+      classes = rw (new_picks, more, length-set) (each_append (λ p. p.class < length c.store.inside.in_force.items) c.store.inside.evidence.picks (pick ∷ []) c.store.invariant.classes (within, tt));
+      in_force = rw new_picks (in_force_more c.store.inside.evidence.picks picks pick c.store.inside.in_force.items more behind c.store.invariant.in_force);
     }
 
 pub returns-clause-pick : goal.returns-clause-pick
 returns-clause-pick c =
     let pick : OrderedPick = record { round = c.args.round; class = c.args.class; shared = c.in_ok-shared.shared } in
+    let picked = c.in_ok-shared.ensures.pick in
     let same : c.store.inside.evidence ≡ c.args.self.evidence = ap (λ (s : StoreState). s.evidence) c.store.view_is in
     rw (← same)
-    (with_pick c.store.inside.evidence c.add_use.new.evidence c.args.numbering c.args.befores c.in_ok-shared.shared c.store.invariant.stored c.in_ok-shared.ensures.number pick c.add.new.self refl
-    c.in_ok-add.ensures.ok)
+    (subst (λ (e : OrderedEvidence). IsWithPick c.store.inside.evidence c.args.round c.args.class c.args.numbering c.args.befores e) (sym picked.is)
+    (with_pick c.store.inside.evidence picked.used c.args.numbering c.args.befores c.in_ok-shared.shared c.store.invariant.stored picked.with_use pick (picked.used.picks ++ pick ∷ []) refl refl))

@@ -11,12 +11,14 @@ use Rattle.round_planner.proofs.searching.Search.make.Goals as goal
 pub returns-clause-at : goal.returns-clause-at
 returns-clause-at c =
     let aim = c.args.goal.now in
-    let settled = subst (λ (n : Network). IsSettled n c.in_ok-trial.trial) (ap (λ (a : Aim). a.net) c.goal.view_is) c.in_ok-trial.ensures.settled in
+    let first = c.in_ok-trial.ensures in
+    let rooms = c.in_ok-walk.ensures in
+    let settled = subst (λ (n : Network). IsSettled n c.in_ok-trial.trial) (ap (λ (a : Aim). a.net) c.goal.view_is) first.settled in
     let count = c.count-count.ensures.count ∙ ap (λ (a : Aim). class_count a.classes) c.goal.view_is in
     let net = subst (λ (n : Network). IsNetwork n) (ap (λ (a : Aim). a.net) c.goal.view_is) c.keeps_rules.ensures in
     let hosts = subst (λ (a : Aim). a.classes.hosts ≡ a.net.hosts) c.goal.view_is c.goal.invariant.hosts in
-    begins_at aim (rules_of_all c.args.old.now) _ c.in_ok-rounds.ensures c.in_ok-trial.ensures.rules settled c.count-count.result count c.in_ok-store.ensures
-    (all_come aim (rules_of_all c.args.old.now) net c.requires hosts c.count-count.result count c.in_ok-came.came c.in_ok-came.ensures.count c.in_ok-came.ensures.each)
+    begins_at aim (rules_of_all c.args.old.now) _ first.rounds first.rules settled c.count-count.result count first.store
+    (all_come aim (rules_of_all c.args.old.now) net c.requires hosts c.count-count.result count _ rooms.count rooms.each)
 
 pub returns-clause-few : goal.returns-clause-few
-returns-clause-few c = subst (λ (s : StoreState). s.classes ≤ 8192) (sym c.in_ok-store.ensures) c.count-count.ensures.few
+returns-clause-few c = subst (λ (s : StoreState). s.classes ≤ 8192) (sym c.in_ok-trial.ensures.store) c.count-count.ensures.few

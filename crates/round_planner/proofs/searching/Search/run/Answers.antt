@@ -1,17 +1,37 @@
-use Rattle.std.proofs.Common.{subst, ap}
-use Rattle.topology.specs.Networks.{Network, IsNetwork}
+use Rattle.std.proofs.Common.{Bool, List, sym, ◌∙◌, subst, ap}
+use Rattle.std.proofs.lemmas.Result.{IfOk-weaker}
+use Rattle.flow_rules.specs.Tables.{TableState, rules_of_all}
+use Rattle.flow_rules.specs.declared.rules.Rule.{Rule}
 use Rattle.path_walk.specs.UserConfigs.{IsUserConfig}
+use Rattle.update_model.specs.Changes.{tables_after}
+use Rattle.update_model.specs.Remaining.{remaining}
+use Rattle.update_model.specs.declared.Change.{Change}
 use Rattle.round_planner.specs.Search.{Aim}
-use Rattle.round_planner.specs.Searching.{IsMoved}
-use Rattle.round_planner.proofs.RunLaws.{one_less}
+use Rattle.round_planner.specs.Failures.{AreLeft}
+use Rattle.round_planner.specs.Searching.{IsAt, IsEnded}
+use Rattle.round_planner.proofs.RunLaws.{left_untried}
 use Rattle.round_planner.proofs.searching.Search.run.Goals as goal
 
-pub searching-smaller : goal.searching-smaller
-searching-smaller c =
-    let aim = c.args.goal.now in
+pub run_through-requires : goal.run_through-requires
+run_through-requires c =
     let (old, changes, user, at) = c.requires in
-    let new_user = subst (λ (a : Aim). IsUserConfig a.net a.new) c.goal.view_is c.goal.invariant.user in
-    let net = subst (λ (n : Network). IsNetwork n) (ap (λ (a : Aim). a.net) c.goal.view_is) c.keeps_rules.ensures in
-    let (now, here, are) = c.searching.invariant old changes user at in
-    let (x, next, left) = subst (IsMoved aim old now c.go_on.new.self c.go_on.new.left.items) c.if-not-branch.false (c.in_ok-go_on.ensures old now user here are) in
-    one_less aim old net user new_user now x c.searching.self c.go_on.new.self here next
+    let here = subst (IsAt c.args.goal.now old changes) (sym c.self.view_is) at in
+    let are = c.in_ok-left.ensures.changes ∙ c.deref.ensures.value ∙ c.in_ok-changes.ensures
+    ∙ ap (λ (ts : List TableState). remaining (rules_of_all ts) (rules_of_all c.goal.inside.new.now)) c.tables.ensures
+    ∙ ap (λ (a : Aim). remaining (rules_of_all c.self.inside.trial.tables) a.new) c.goal.view_is in
+    (old, changes, user, at, left_untried c.args.goal.now old changes _ c.in_ok-left.left.items here are c.in_ok-left.ensures.untried)
+
+pub returns : goal.returns
+returns c =
+    let aim = c.args.goal.now in
+    let are = c.in_ok-left.ensures.changes ∙ c.deref.ensures.value ∙ c.in_ok-changes.ensures
+    ∙ ap (λ (ts : List TableState). remaining (rules_of_all ts) (rules_of_all c.goal.inside.new.now)) c.tables.ensures
+    ∙ ap (λ (a : Aim). remaining (rules_of_all c.self.inside.trial.tables) a.new) c.goal.view_is in
+    IfOk-weaker c.run_through.result
+    (λ (none : Bool). (old : List (List Rule)) (changes : List Change) → IsUserConfig aim.net old → IsAt aim old changes c.args.self.now
+    → AreLeft aim (tables_after changes old) c.in_ok-left.left.items → IsEnded aim old c.run_through.new.self none)
+    (λ (none : Bool). (old : List (List Rule)) (changes : List Change) → IsUserConfig aim.net old → IsAt aim old changes c.args.self.now → IsEnded aim old c.run_through.new.self none)
+    (λ none ended old changes user at.
+    let here = subst (IsAt aim old changes) (sym c.self.view_is) at in
+    ended old changes user at (left_untried aim old changes _ c.in_ok-left.left.items here are c.in_ok-left.ensures.untried))
+    c.run_through.ensures

@@ -7,11 +7,11 @@ use Rattle.update_model.specs.Remaining.{remaining}
 use Rattle.update_model.specs.declared.Change.{Change}
 use Rattle.round_planner.specs.Failures.{AreLeft}
 use Rattle.round_planner.specs.Searching.{IsAt}
-use Rattle.round_planner.proofs.searching.Search.run.Given as goal
+use Rattle.round_planner.proofs.searching.Search.run_through.Given as goal
 
 abbrev pub invariant-searching : goal.invariant-searching
 invariant-searching l =
-    (old : List (List Rule)) (changes : List Change) → IsUserConfig l.goal.net old → IsAt l.goal old changes l.fn.self
+    (old : List (List Rule)) (changes : List Change) → IsUserConfig l.goal.net old → IsAt l.goal old changes l.fn.self → AreLeft l.goal (tables_after changes old) l.fn.left.items
     → (now : List Change) × IsAt l.goal old now l.self × AreLeft l.goal (tables_after now old) l.left.items
 
 abbrev pub decreases-searching : goal.decreases-searching

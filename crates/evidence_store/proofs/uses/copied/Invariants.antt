@@ -1,6 +1,0 @@
-use Rattle.std.proofs.Common.{◌≡◌, take}
-use Rattle.waypoint_evidence.specs.Befores.{marked_from}
-use Rattle.evidence_store.proofs.uses.copied.Given as goal
-
-abbrev pub invariant-loop-switch : goal.invariant-loop-switch
-invariant-loop-switch l = l.copy ≡ marked_from 0 (take l.switch l.marks)
