@@ -31,9 +31,13 @@ pub record CheckMeaning : Type 0 where
 abbrev pub task_in : CheckMeaning → Task
 task_in m = task_for m.update m.plan
 
+-- reads a plan of the update
+abbrev pub reading_plan_of : Update → List ℕ → Dialogue CheckMeaning
+reading_plan_of u name = and_then (reading_plan u.net name) (λ p. Ends (record { update = u; plan = p }))
+
 -- reads an update and its plan
 unfoldable pub check_dialogue : CheckNames → Dialogue CheckMeaning
-check_dialogue names = and_then (reading_update names.update) (λ u. and_then (reading_plan u.net names.plan) (λ p. Ends (record { update = u; plan = p })))
+check_dialogue names = and_then (reading_update names.update) (λ u. reading_plan_of u names.plan)
 
 -- the class of the number that is named, if one is
 abbrev pub IsNamed : ClassList → Option ℕ → Option Class → Type 0

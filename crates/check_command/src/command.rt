@@ -1,14 +1,53 @@
 //! The command that checks a plan.
-ghost use Rattle.std.specs.Prelude.{◌≡◌, ◌≤◌};
-ghost use Rattle.command_base.specs.Replies.{Meets};
+ghost use Rattle.std.specs.Prelude.{◌≡◌, ◌≤◌, IfOk, IfErr, Option};
+ghost use Rattle.flow_rules.specs.Tables.{rules_of_all};
+ghost use Rattle.path_walk.specs.UserConfigs.{IsUserConfig};
+ghost use Rattle.certificates.specs.Valid.{IsValidPlan};
+ghost use Rattle.command_base.specs.Dialogues.{FileRead, LeadsTo};
+ghost use Rattle.command_base.specs.Replies.{answer_of, EndsEarly, Meets};
+ghost use Rattle.command_base.specs.Updates.{meaning_of};
 ghost use Rattle.check_command.specs.Names.{names_seen};
-ghost use Rattle.check_command.specs.Checks.{check_dialogue, IsCheckAnswer};
+ghost use Rattle.check_command.specs.Checks.{check_dialogue, reading_plan_of, IsCheckAnswer};
 
 use crate::names::CheckNames;
 use crate::verdict::plan_verdict;
-use command_base::{Exit, Reply, read_plan_file, read_update};
+use certificates::Plan;
+use command_base::{Exit, Reply, UpdateFiles, read_plan_file, read_update};
 use net_base::Source;
 use std::alloc::Global;
+
+/// The verdict on a plan as the end of the command.
+fn say_verdict(alloc: Global, files: &UpdateFiles, plan: &Plan) -> Result<Reply, Exit>
+    requires old { IsUserConfig files.now.net (rules_of_all files.now.old) }
+    requires new { IsUserConfig files.now.net (rules_of_all files.now.new) }
+    requires valid { IsValidPlan files.now.net plan.now }
+    ensures said { IfOk result (λ r. IsCheckAnswer (record { update = meaning_of files.now; plan = plan.now }) (answer_of r)) }
+    ensures stops { IfErr result (λ e. e ≡ Exit.Memory) }
+{
+    Ok(plan_verdict(alloc, files, plan)?)
+}
+
+/// Fetches the plan of the update, and says whether it is certified.
+fn check_plan<S: Source>(
+    alloc: Global,
+    source: &mut S,
+    files: &UpdateFiles,
+    name: &str,
+) -> Result<Reply, Exit>
+    requires old { IsUserConfig files.now.net (rules_of_all files.now.old) }
+    requires new { IsUserConfig files.now.net (rules_of_all files.now.new) }
+    ensures leads { IfOk result (λ r. (last : Option FileRead)
+        → LeadsTo IsCheckAnswer (S.held source.old) last (reading_plan_of (meaning_of files.now) name.now) (answer_of r) (S.selected source.new) (S.taken source.new)) }
+    ensures stops { IfErr result (λ e. (last : Option FileRead)
+        → EndsEarly (S.held source.old) last (reading_plan_of (meaning_of files.now) name.now) (S.faults source.old) (S.faults source.new) e (S.selected source.new) (S.taken source.new)) }
+    ensures held { S.held source.new ≡ S.held source.old }
+    ensures later { S.faults source.old ≤ S.faults source.new }
+{
+    let plan = read_plan_file(alloc, source, &files.net, name)?;
+    let reply = say_verdict(alloc, files, &plan);
+    drop(plan);
+    reply
+}
 
 /// Says whether the plan of an update is certified.
 pub fn check<S: Source>(
@@ -22,6 +61,7 @@ pub fn check<S: Source>(
     ensures later { S.faults source.old ≤ S.faults source.new }
 {
     let files = read_update(alloc, source, &names.update)?;
-    let plan = read_plan_file(alloc, source, &files.net, names.plan)?;
-    Ok(plan_verdict(alloc, &files, &plan)?)
+    let reply = check_plan(alloc, source, &files, names.plan);
+    drop(files);
+    reply
 }

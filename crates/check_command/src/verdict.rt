@@ -102,7 +102,11 @@ pub fn plan_verdict(alloc: Global, files: &UpdateFiles, plan: &Plan) -> Result<R
         &files.demands,
         plan,
     ) {
-        Ok(mut room) => judge_plan(alloc, files, plan, &mut room),
+        Ok(mut room) => {
+            let reply = judge_plan(alloc, files, plan, &mut room);
+            drop(room);
+            reply
+        }
         Err(RoomFault::TooManyClasses(classes)) => too_many_reply(alloc, classes),
         Err(RoomFault::Memory) => Err(Memory),
     }

@@ -2,6 +2,7 @@
 use Rattle.std.proofs.Common.{◌≡◌, ℕ, ◌+◌, ◌<◌, ◌≤◌, List, length, None, Some, Ok, Err, inl, inr, refl, sym, ap, subst, arith}
 use Rattle.std.specs.declared.option.Option.{Option}
 use Rattle.std.specs.declared.result.Result.{Result}
+use Rattle.std.specs.Result.{IfOk, IfErr}
 use Rattle.net_base.specs.Causes.{Rose}
 use Rattle.net_base.specs.Outside.{Files, IsMissing, IsFile}
 use Rattle.command_base.specs.declared.kinds.FileKind.{FileKind}
@@ -174,3 +175,25 @@ leads_end says held first last (Reads kind name next) v answer selected taken (b
 pub leads_whole : {E : Type 0} {says : E → Answer → Type 0} {held : Option Files} {first last : Option FileRead} {d : Dialogue E} {v : E} {answer : Answer} {selected : List ℕ} {taken : ℕ}
     → Gives held first d v last → says v answer → IsWhole last selected taken → LeadsTo says held first d answer selected taken
 leads_whole {E} {says} {held} {first} {last} {d} {v} {answer} {selected} {taken} gives said whole = record { led = leads_end says held first last d v answer selected taken gives.given said whole }
+
+-- where memory is wanting, any dialogue ends early
+pub ends_for_memory : {E : Type 0} {held : Option Files} {last : Option FileRead} {d : Dialogue E} {before now : ℕ} {e : Exit} {selected : List ℕ} {taken : ℕ} → e ≡ exit.Memory → EndsEarly held last d before now e selected taken
+ends_for_memory {E} {held} {last} {d} {before} {now} {e} {selected} {taken} is =
+    subst (λ (x : Exit). EndsEarly held last d before now x selected taken) (sym is) (record { ended = tt {0} })
+
+is_met_behind : {A B : Type 0} (says : B → Answer → Type 0) (held new : Option Files) (mid : Option FileRead) (d : Dialogue A) (next : A → Dialogue B) (v : A) (first before now : ℕ) (r : Result Reply Exit) (selected : List ℕ) (taken : ℕ)
+    → new ≡ held → first ≤ before → Gives held None d v mid
+    → IfOk r (λ reply. (last : Option FileRead) → LeadsTo says new last (next v) (answer_of reply) selected taken)
+    → IfErr r (λ e. (last : Option FileRead) → EndsEarly new last (next v) before now e selected taken)
+    → IsMet says held (and_then d next) first now r selected taken
+is_met_behind says held new mid d next v first before now (Ok reply) selected taken same le gives leads stops = leads_then next same gives (leads mid)
+is_met_behind says held new mid d next v first before now (Err e) selected taken same le gives leads stops = ends_then next same le gives (stops mid)
+
+-- a result that is where the second part leads, whatever was read before it, meets the whole
+pub meets_behind : {A B : Type 0} {says : B → Answer → Type 0} {held new : Option Files} {mid : Option FileRead} {d : Dialogue A} {v : A} {first before now : ℕ} {r : Result Reply Exit} {selected : List ℕ} {taken : ℕ} (next : A → Dialogue B)
+    → new ≡ held → first ≤ before → Gives held None d v mid
+    → IfOk r (λ reply. (last : Option FileRead) → LeadsTo says new last (next v) (answer_of reply) selected taken)
+    → IfErr r (λ e. (last : Option FileRead) → EndsEarly new last (next v) before now e selected taken)
+    → Meets says held (and_then d next) first now r selected taken
+meets_behind {A} {B} {says} {held} {new} {mid} {d} {v} {first} {before} {now} {r} {selected} {taken} next same le gives leads stops =
+    record { met = is_met_behind says held new mid d next v first before now r selected taken same le gives leads stops }

@@ -4,7 +4,7 @@ use Rattle.std.specs.declared.option.Option.{Option}
 use Rattle.std.specs.declared.result.Result.{Result}
 use Rattle.net_base.specs.Outside.{Files}
 use Rattle.topology.specs.Networks.{Network}
-use Rattle.topology.specs.Topology.{network_in}
+use Rattle.topology_files.specs.Topology.{network_in}
 use Rattle.config_files.specs.Configuration.{configuration_in}
 use Rattle.demands.specs.Duties.{DemandView}
 use Rattle.demands.specs.Policy.{demands_in}

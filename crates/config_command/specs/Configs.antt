@@ -4,7 +4,7 @@ use Rattle.std.specs.List.{AllByRecursion}
 use Rattle.std.specs.Io.KnownBytes.{Appends}
 use Rattle.net_base.specs.Outside.{Files}
 use Rattle.topology.specs.Networks.{Network}
-use Rattle.topology.specs.Topology.{network_in}
+use Rattle.topology_files.specs.Topology.{network_in}
 use Rattle.flow_rules.specs.declared.rules.Rule.{Rule}
 use Rattle.config_files.specs.Configuration.{configuration_in}
 use Rattle.dest_classes.specs.declared.Class.{Class}
@@ -34,11 +34,17 @@ pub record ConfigMeaning : Type 0 where
   pub tables : List (List Rule)
   pub demands : List DemandView
 
+-- reads the policy, behind the network and the configuration
+abbrev pub behind_tables : ConfigNames → Network → List (List Rule) → Dialogue ConfigMeaning
+behind_tables names net tables = and_then (reading_policy net names.policy) (λ demands. Ends (record { net = net; tables = tables; demands = demands }))
+
+-- reads the configuration and the policy, behind the network
+abbrev pub behind_topology : ConfigNames → Network → Dialogue ConfigMeaning
+behind_topology names net = and_then (reading_config kind.Config net names.config) (λ tables. behind_tables names net tables)
+
 -- reads the network, the configuration and the policy
 unfoldable pub config_dialogue : ConfigNames → Dialogue ConfigMeaning
-config_dialogue names =
-    and_then (reading_topology names.topology) (λ net. and_then (reading_config kind.Config net names.config) (λ tables.
-    and_then (reading_policy net names.policy) (λ demands. Ends (record { net = net; tables = tables; demands = demands }))))
+config_dialogue names = and_then (reading_topology names.topology) (λ net. behind_topology names net)
 
 -- the answer is the verdict on the configuration
 abbrev pub IsConfigAnswer : ConfigMeaning → Answer → Type 0

@@ -51,10 +51,13 @@ input_words f = record { number = input_fault.fault_number f; name = input_fault
 abbrev pub reading_input : Network → List ℕ → Dialogue (List InputLine)
 reading_input net name = reading kind.Input input_words (inputs_in net) name
 
+-- reads the inputs for a plan of an update
+abbrev pub reading_inputs_for : CheckMeaning → List ℕ → Dialogue DriveMeaning
+reading_inputs_for m name = and_then (reading_input m.update.net name) (λ inputs. Ends (record { check = m; inputs = inputs }))
+
 -- reads an update, its plan and the inputs
 unfoldable pub drive_dialogue : DriveNames → Dialogue DriveMeaning
-drive_dialogue names =
-    and_then (check_dialogue names.check) (λ m. and_then (reading_input m.update.net names.input) (λ inputs. Ends (record { check = m; inputs = inputs })))
+drive_dialogue names = and_then (check_dialogue names.check) (λ m. reading_inputs_for m names.input)
 
 -- The driver carries the update out as far as it is. Its log is a run of the update, without packets. To a switch it sent HELLO, and
 -- then replies to echo requests and the messages of the rounds that were begun, all of them, in their order and with their xids.

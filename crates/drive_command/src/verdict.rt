@@ -128,7 +128,11 @@ pub fn drive_verdict(
         &files.demands,
         plan,
     ) {
-        Ok(mut room) => judge_plan(alloc, files, plan, inputs, &mut room),
+        Ok(mut room) => {
+            let reply = judge_plan(alloc, files, plan, inputs, &mut room);
+            drop(room);
+            reply
+        }
         Err(RoomFault::TooManyClasses(classes)) => too_many_reply(alloc, classes),
         Err(RoomFault::Memory) => Err(Memory),
     }

@@ -3,7 +3,7 @@ use Rattle.std.proofs.Common.{◌≡◌, ◌↔◌, ℕ, List, refl, sym, ◌∙
 use Rattle.std.specs.declared.option.Option.{Option}
 use Rattle.std.specs.Io.KnownBytes.{Appends}
 use Rattle.net_base.specs.Outside.{Files}
-use Rattle.topology.specs.Topology.{network_in}
+use Rattle.topology_files.specs.Topology.{network_in}
 use Rattle.flow_stats.specs.Replies.{replies_in}
 use Rattle.flow_stats.proofs.UserTables.{replies_shown}
 use Rattle.command_base.specs.declared.status.Status.{Status}

@@ -3,7 +3,7 @@ use Rattle.std.specs.Prelude.{◌≡◌, ℕ, List, Option, None, Ok}
 use Rattle.std.specs.Io.KnownBytes.{Appends}
 use Rattle.net_base.specs.Outside.{Files}
 use Rattle.topology.specs.Networks.{Network}
-use Rattle.topology.specs.Topology.{network_in}
+use Rattle.topology_files.specs.Topology.{network_in}
 use Rattle.flow_rules.specs.declared.rules.Rule.{Rule}
 use Rattle.config_files.specs.Configuration.{configuration_in}
 use Rattle.flow_stats.specs.Faults as stats_fault
@@ -32,10 +32,13 @@ replies_words f = record { number = stats_fault.fault_number f; name = stats_fau
 abbrev pub reading_replies : Network → List ℕ → Dialogue (List (List Rule))
 reading_replies net name = reading kind.Replies replies_words (replies_in net) name
 
+-- reads the flow statistics, behind the network
+abbrev pub behind_topology : ImportNames → Network → Dialogue ImportMeaning
+behind_topology names net = and_then (reading_replies net names.replies) (λ tables. Ends (record { net = net; tables = tables }))
+
 -- reads the network and the flow statistics
 unfoldable pub import_dialogue : ImportNames → Dialogue ImportMeaning
-import_dialogue names =
-    and_then (reading_topology names.topology) (λ net. and_then (reading_replies net names.replies) (λ tables. Ends (record { net = net; tables = tables })))
+import_dialogue names = and_then (reading_topology names.topology) (λ net. behind_topology names net)
 
 -- the answer is the text of the tables, which means just them
 pub record SaysConfig (net : Network) (tables : List (List Rule)) (answer : Answer) : Type 0 where

@@ -1,14 +1,27 @@
 //! The command that plans an update.
-ghost use Rattle.std.specs.Prelude.{◌≡◌, ◌≤◌};
+ghost use Rattle.std.specs.Prelude.{◌≡◌, ◌≤◌, IfOk, IfErr};
+ghost use Rattle.flow_rules.specs.Tables.{rules_of_all};
+ghost use Rattle.path_walk.specs.UserConfigs.{IsUserConfig};
 ghost use Rattle.command_base.specs.Names.{names_seen};
 ghost use Rattle.command_base.specs.Readings.{reading_update};
-ghost use Rattle.command_base.specs.Replies.{Meets};
+ghost use Rattle.command_base.specs.Replies.{answer_of, Meets};
+ghost use Rattle.command_base.specs.Updates.{meaning_of};
 ghost use Rattle.plan_command.specs.Planned.{IsPlanned};
 
 use crate::planning::new_plan;
-use command_base::{Exit, Reply, UpdateNames, read_update};
+use command_base::{Exit, Reply, UpdateFiles, UpdateNames, read_update};
 use net_base::Source;
 use std::alloc::Global;
+
+/// What is said of an update as the end of the command.
+fn say_plan(alloc: Global, files: &UpdateFiles) -> Result<Reply, Exit>
+    requires old { IsUserConfig files.now.net (rules_of_all files.now.old) }
+    requires new { IsUserConfig files.now.net (rules_of_all files.now.new) }
+    ensures said { IfOk result (λ r. IsPlanned (meaning_of files.now) (answer_of r)) }
+    ensures stops { IfErr result (λ e. e ≡ Exit.Memory) }
+{
+    Ok(new_plan(alloc, files)?)
+}
 
 /// Plans an update.
 pub fn plan<S: Source>(
@@ -22,5 +35,7 @@ pub fn plan<S: Source>(
     ensures later { S.faults source.old ≤ S.faults source.new }
 {
     let files = read_update(alloc, source, names)?;
-    Ok(new_plan(alloc, &files)?)
+    let reply = say_plan(alloc, &files);
+    drop(files);
+    reply
 }

@@ -1,5 +1,6 @@
 //! What is said of an update that is to be planned.
 ghost use Rattle.std.specs.Prelude.{◌≡◌, ◌≤◌, Bool, IfOk};
+ghost use Rattle.topology.specs.Networks.{switch_count};
 ghost use Rattle.flow_rules.specs.Tables.{rules_of_all};
 ghost use Rattle.path_walk.specs.UserConfigs.{IsUserConfig};
 ghost use Rattle.certificates.specs.Certified.{IsCertified, classes_for};
@@ -162,6 +163,31 @@ fn search_reply(
     }
 }
 
+/// The reply over few enough classes, with their duties, by way of a room for paths.
+fn judged_reply(
+    alloc: Global,
+    files: &UpdateFiles,
+    duties: &Duties,
+    classes: &ClassMap,
+    room: &mut PathRoom,
+) -> Result<Reply, Memory>
+    requires old { IsUserConfig files.now.net (rules_of_all files.now.old) }
+    requires new { IsUserConfig files.now.net (rules_of_all files.now.new) }
+    requires classes { classes.now ≡ update_classes (meaning_of files.now) }
+    requires duties { duties.now ≡ record { demands = files.now.demands; classes = classes.now } }
+    requires few { update_count (meaning_of files.now) ≤ most_classes }
+    requires room { room.old.switches ≡ switch_count files.now.net }
+    ensures { IfOk result (λ r. IsPlanned (meaning_of files.now) (answer_of r)) }
+{
+    if let Err(breaks) = check_config(&files.net, &files.old, duties, classes, room) {
+        return end_reply(alloc, files, classes, false, breaks);
+    }
+    if let Err(breaks) = check_config(&files.net, &files.new, duties, classes, room) {
+        return end_reply(alloc, files, classes, true, breaks);
+    }
+    search_reply(alloc, files, duties, classes)
+}
+
 /// The reply over few enough classes.
 fn classed_reply(alloc: Global, files: &UpdateFiles, classes: &ClassMap) -> Result<Reply, Memory>
     requires old { IsUserConfig files.now.net (rules_of_all files.now.old) }
@@ -172,13 +198,10 @@ fn classed_reply(alloc: Global, files: &UpdateFiles, classes: &ClassMap) -> Resu
 {
     let duties = Duties::make(alloc, &files.net, &files.demands, classes)?;
     let mut room = PathRoom::make(alloc, &files.net)?;
-    if let Err(breaks) = check_config(&files.net, &files.old, &duties, classes, &mut room) {
-        return end_reply(alloc, files, classes, false, breaks);
-    }
-    if let Err(breaks) = check_config(&files.net, &files.new, &duties, classes, &mut room) {
-        return end_reply(alloc, files, classes, true, breaks);
-    }
-    search_reply(alloc, files, &duties, classes)
+    let reply = judged_reply(alloc, files, &duties, classes, &mut room);
+    drop(room);
+    drop(duties);
+    reply
 }
 
 /// What is said of an update: too many classes, an end that isn't good, a new plan, or why there is none.

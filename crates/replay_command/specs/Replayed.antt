@@ -3,7 +3,7 @@ use Rattle.std.specs.Prelude.{◌≡◌, ◌⊎◌, ℕ, List, ◌++◌, codes, 
 use Rattle.std.specs.Io.KnownBytes.{Appends}
 use Rattle.net_base.specs.Outside.{Files}
 use Rattle.topology.specs.Networks.{Network}
-use Rattle.topology.specs.Topology.{network_in}
+use Rattle.topology_files.specs.Topology.{network_in}
 use Rattle.flow_rules.specs.declared.rules.Rule.{Rule}
 use Rattle.config_files.specs.Configuration.{configuration_in}
 use Rattle.update_model.specs.Mixtures.{Rollout}
@@ -42,11 +42,21 @@ schedule_words f = record { number = schedule_fault.fault_number f; name = sched
 abbrev pub reading_schedule : Network → List ℕ → Dialogue (List ScheduleLine)
 reading_schedule net name = reading kind.Schedule schedule_words (schedule_in net) name
 
+-- reads the schedule, behind the network, the old configuration and the plan
+abbrev pub behind_plan : ReplayNames → Network → List (List Rule) → Plan → Dialogue ReplayMeaning
+behind_plan names net old plan = and_then (reading_schedule net names.schedule) (λ schedule. Ends (record { net = net; old = old; plan = plan; schedule = schedule }))
+
+-- reads the plan and the schedule, behind the network and the old configuration
+abbrev pub behind_old : ReplayNames → Network → List (List Rule) → Dialogue ReplayMeaning
+behind_old names net old = and_then (reading_plan net names.plan) (λ plan. behind_plan names net old plan)
+
+-- reads the old configuration, the plan and the schedule, behind the network
+abbrev pub behind_topology : ReplayNames → Network → Dialogue ReplayMeaning
+behind_topology names net = and_then (reading_config kind.Old net names.old) (λ old. behind_old names net old)
+
 -- reads the network, the old configuration, the plan and the schedule
 unfoldable pub replay_dialogue : ReplayNames → Dialogue ReplayMeaning
-replay_dialogue names =
-    and_then (reading_topology names.topology) (λ net. and_then (reading_config kind.Old net names.old) (λ old. and_then (reading_plan net names.plan) (λ plan.
-    and_then (reading_schedule net names.schedule) (λ schedule. Ends (record { net = net; old = old; plan = plan; schedule = schedule })))))
+replay_dialogue names = and_then (reading_topology names.topology) (λ net. behind_topology names net)
 
 -- the old tables and the rounds of the plan
 abbrev pub update_in : ReplayMeaning → Rollout

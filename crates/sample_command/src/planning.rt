@@ -40,6 +40,30 @@ fn few_classes(alloc: Global, files: &UpdateFiles) -> Result<ClassMap, Memory>
     }
 }
 
+/// The ordered plan of an update of destination trees, whose search is never stuck, over its classes.
+fn searched_plan(
+    alloc: Global,
+    files: &UpdateFiles,
+    duties: &Duties,
+    classes: &ClassMap,
+) -> Result<Plan, Memory>
+    requires old { IsUserConfig files.now.net (rules_of_all files.now.old) }
+    requires new { IsUserConfig files.now.net (rules_of_all files.now.new) }
+    requires tree { IsTreeUpdate (bare_task (meaning_of files.now)) }
+    requires classes { classes.now ≡ update_classes (meaning_of files.now) }
+    requires duties { duties.now ≡ record { demands = files.now.demands; classes = classes.now } }
+    ensures searched { IfOk result (IsPlanOf (update_aim (meaning_of files.now)) (rules_of_all files.now.old)) }
+    ensures valid { IfOk result (IsValidPlan files.now.net) }
+    ensures certified { IfOk result (λ p. IsCertified (task_for (meaning_of files.now) p) p.evidence) }
+    ensures classes { IfOk result (λ p. HasSameClasses (classes_for (task_for (meaning_of files.now) p)) (update_classes (meaning_of files.now))) }
+    ensures count { IfOk result (λ p. length p.rounds ≡ length (remaining (rules_of_all files.now.old) (rules_of_all files.now.new))) }
+{
+    match order(alloc, &files.net, &files.old, &files.new, duties, classes)? {
+        Ordered::Rounds(plan) => Ok(plan),
+        Ordered::Stuck(_) => unreachable!(),
+    }
+}
+
 /// The ordered plan of an update of destination trees, of which a search is never stuck.
 pub fn tree_plan(alloc: Global, files: &UpdateFiles) -> Result<Plan, Memory>
     requires old { IsUserConfig files.now.net (rules_of_all files.now.old) }
@@ -54,10 +78,10 @@ pub fn tree_plan(alloc: Global, files: &UpdateFiles) -> Result<Plan, Memory>
 {
     let classes = few_classes(alloc, files)?;
     let duties = Duties::make(alloc, &files.net, &files.demands, &classes)?;
-    match order(alloc, &files.net, &files.old, &files.new, &duties, &classes)? {
-        Ordered::Rounds(plan) => Ok(plan),
-        Ordered::Stuck(_) => unreachable!(),
-    }
+    let plan = searched_plan(alloc, files, &duties, &classes);
+    drop(duties);
+    drop(classes);
+    plan
 }
 
 /// The room for a check over few enough classes.
@@ -81,6 +105,28 @@ fn check_room(alloc: Global, files: &UpdateFiles, plan: &Plan) -> Result<CheckRo
     }
 }
 
+/// Checks a certified plan in a room for it, and counts the classes over which it was checked.
+fn classes_in_room(files: &UpdateFiles, plan: &Plan, room: &mut CheckRoom) -> u32
+    requires old { IsUserConfig files.now.net (rules_of_all files.now.old) }
+    requires new { IsUserConfig files.now.net (rules_of_all files.now.new) }
+    requires valid { IsValidPlan files.now.net plan.now }
+    requires fits { Fits (task_for (meaning_of files.now) plan.now) room.old }
+    requires certified { IsCertified (task_for (meaning_of files.now) plan.now) plan.now.evidence }
+    ensures { result ≡ class_count (classes_for (task_for (meaning_of files.now) plan.now)) }
+{
+    match check(
+        &files.net,
+        &files.old,
+        &files.new,
+        &files.demands,
+        plan,
+        room,
+    ) {
+        Verdict::Accepted => room.classes().count(),
+        Verdict::Refused(_) => unreachable!(),
+    }
+}
+
 /// Checks a certified plan, and counts the classes over which it was checked.
 pub fn checked_classes(alloc: Global, files: &UpdateFiles, plan: &Plan) -> Result<u32, Memory>
     requires old { IsUserConfig files.now.net (rules_of_all files.now.old) }
@@ -91,15 +137,7 @@ pub fn checked_classes(alloc: Global, files: &UpdateFiles, plan: &Plan) -> Resul
     ensures { IfOk result (λ n. n ≡ class_count (classes_for (task_for (meaning_of files.now) plan.now))) }
 {
     let mut room = check_room(alloc, files, plan)?;
-    match check(
-        &files.net,
-        &files.old,
-        &files.new,
-        &files.demands,
-        plan,
-        &mut room,
-    ) {
-        Verdict::Accepted => Ok(room.classes().count()),
-        Verdict::Refused(_) => unreachable!(),
-    }
+    let classes = classes_in_room(files, plan, &mut room);
+    drop(room);
+    Ok(classes)
 }

@@ -1,21 +1,20 @@
 -- A driven run of a plan is short, so that each of its events has a line, and a chooser is asked in its range.
-use Rattle.std.proofs.Common.{◌≡◌, ℕ, zero, suc, ◌+◌, ◌*◌, ◌^◌, ◌<◌, ◌≤◌, true, false, List, [], ◌∷◌, ◌++◌, map, length, set, refl, sym, ◌∙◌, subst, ap, inl, inr, arith, length-append}
+use Rattle.std.proofs.Common.{◌≡◌, ℕ, zero, suc, ◌+◌, ◌^◌, ◌<◌, ◌≤◌, true, false, List, [], ◌∷◌, ◌++◌, map, length, set, refl, sym, subst, ap, inl, inr, arith, length-append}
 use Rattle.std.specs.Prelude.{slice_get, Some, None, sum_by, Ok, Err}
 use Rattle.std.specs.declared.result.Result.{Result}
 use Rattle.std.specs.Option.{option_map_or}
 use Rattle.std.specs.Result.{IfOk}
 use Rattle.std.specs.List.{AllByRecursion}
-use Rattle.std.proofs.Math.Nat.{mul-le-mul}
 use Rattle.std.proofs.lemmas.List.{length-set, length-replicate}
 use Rattle.std.proofs.lemmas.List.Sums.{sum_by-cons}
 use Rattle.std.proofs.lemmas.Option.{slice_get_within}
 use Rattle.net_base.specs.Places.{stop_of}
 use Rattle.net_base.proofs.MemberLaws.{each_at, in_append_left}
-use Rattle.topology.specs.Networks.{Network, IsNetwork, IsPortNumber, IsVlan, switch_count, used_ports}
+use Rattle.topology.specs.Networks.{IsNetwork, IsPortNumber, IsVlan, used_ports}
 use Rattle.path_walk.specs.Paths.{outcome_in}
 use Rattle.update_model.specs.Changes.{round_after}
 use Rattle.update_model.specs.Mixtures.{Rollout}
-use Rattle.update_model.specs.Runs.{AreEnabled, state_after}
+use Rattle.update_model.specs.Runs.{AreEnabled}
 use Rattle.update_model.specs.States.{State, first_state, IsEnabled, settled_count, entered, hopped, lost, with_packet, state_after_event}
 use Rattle.update_model.specs.Worlds.{WorldState}
 use Rattle.update_model.specs.declared.Change.{Change}
@@ -23,7 +22,7 @@ use Rattle.update_model.specs.declared.Packet.{Packet}
 use Rattle.update_model.specs.declared.Event.{Event}
 use Rattle.update_model.specs.declared.Event.TheVariants as event
 use Rattle.schedule_pilot.specs.Driving.{IsRunFrom, update_of}
-use Rattle.schedule_pilot.specs.Offered.{counted, next_entry, candidates, AreThose, AreOffered, entries_after, IsDriven}
+use Rattle.schedule_pilot.specs.Offered.{counted, next_entry, candidates, AreThose, entries_after, IsDriven}
 use Rattle.schedule_pilot.specs.declared.Entry.{Entry}
 use Rattle.schedule_replay.specs.EventTexts.{HasLine}
 

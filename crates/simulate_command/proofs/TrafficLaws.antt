@@ -1,16 +1,10 @@
 -- Packets of the classes in turn may all enter.
-use Rattle.std.proofs.Common.{◌≡◌, ◌⊎◌, ℕ, zero, suc, ◌+◌, ◌%◌, ◌^◌, ◌<◌, ◌≤◌, Bool, true, false, List, [], ◌∷◌, ◌++◌, length, refl, sym, ◌∙◌, subst, ap, inl, inr, arith}
-use Rattle.std.specs.Prelude.{◌==◌, nat_lt, filter, flat_map, slice_get, Some, None, if◌then◌else◌}
+use Rattle.std.proofs.Common.{◌≡◌, ℕ, suc, ◌%◌, ◌^◌, ◌<◌, ◌≤◌, Bool, true, false, List, [], ◌∷◌, length, refl, sym, subst, arith}
+use Rattle.std.specs.Prelude.{◌==◌, slice_get, Some, if◌then◌else◌}
 use Rattle.std.specs.List.{AllByRecursion}
-use Rattle.std.proofs.lemmas.Bool.{ltb-true, ne_eqb}
 use Rattle.net_base.specs.Blocks.{Block}
-use Rattle.net_base.specs.Places.{stop_of}
-use Rattle.net_base.proofs.MemberLaws.{in_from_filter}
 use Rattle.topology.specs.Networks.{Network, IsEntry}
-use Rattle.dest_classes.specs.Classes.{ClassList, IsClass, class_count, classes_of, block_ends, boundaries}
-use Rattle.dest_classes.specs.declared.Class.{Class}
-use Rattle.dest_classes.proofs.RisingLaws.{in_from_ascending}
-use Rattle.net_base.proofs.ItemLaws.{in_from_get}
+use Rattle.dest_classes.specs.Classes.{ClassList, class_count, classes_of}
 use Rattle.dest_classes.proofs.EntryLaws.{class_entry, class_small}
 use Rattle.schedule_pilot.specs.Ends.{AreEntries}
 use Rattle.schedule_pilot.specs.declared.Entry.{Entry}

@@ -77,7 +77,11 @@ pub fn simulation_verdict(
         &files.demands,
         plan,
     ) {
-        Ok(mut room) => judge_plan(alloc, files, plan, names, &mut room),
+        Ok(mut room) => {
+            let reply = judge_plan(alloc, files, plan, names, &mut room);
+            drop(room);
+            reply
+        }
         Err(RoomFault::TooManyClasses(classes)) => too_many_reply(alloc, classes),
         Err(RoomFault::Memory) => Err(Memory),
     }

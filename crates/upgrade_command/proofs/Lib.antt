@@ -1,1 +1,2 @@
 pub mod UpgradeLaws
+pub mod WholeLaws

@@ -1,13 +1,14 @@
 //! The command that writes a plan in format 2.
-ghost use Rattle.std.specs.Prelude.{◌≡◌, ◌≤◌, IfOk};
+ghost use Rattle.std.specs.Prelude.{◌≡◌, ◌≤◌, IfOk, IfErr};
 ghost use Rattle.certificates.specs.Valid.{IsValidPlan};
 ghost use Rattle.command_base.specs.Names.{plan_names_seen};
 ghost use Rattle.command_base.specs.Readings.{reading_plan_files};
 ghost use Rattle.command_base.specs.Replies.{answer_of, Meets};
+ghost use Rattle.command_base.specs.Updates.{plan_meaning_of};
 ghost use Rattle.upgrade_command.specs.Texts.{SaysPlan, IsUpgradeAnswer};
 
 use certificates::Plan;
-use command_base::{Exit, PlanNames, Reply, Status, read_plan_files};
+use command_base::{Exit, PlanFiles, PlanNames, Reply, Status, read_plan_files};
 use net_base::{Memory, Source};
 use plan_text::write_plan;
 use std::alloc::Global;
@@ -24,6 +25,15 @@ pub fn plan_reply(alloc: Global, net: &Net, plan: &Plan) -> Result<Reply, Memory
     })
 }
 
+/// The text of the plan as the end of the command.
+fn say_plan(alloc: Global, files: &PlanFiles) -> Result<Reply, Exit>
+    requires { IsValidPlan files.now.net files.now.plan }
+    ensures said { IfOk result (λ r. IsUpgradeAnswer (plan_meaning_of files.now) (answer_of r)) }
+    ensures stops { IfErr result (λ e. e ≡ Exit.Memory) }
+{
+    Ok(plan_reply(alloc, &files.net, &files.plan)?)
+}
+
 /// Writes the text of the plan in format 2, whichever format the file has.
 pub fn upgrade<S: Source>(
     alloc: Global,
@@ -36,5 +46,7 @@ pub fn upgrade<S: Source>(
     ensures later { S.faults source.old ≤ S.faults source.new }
 {
     let files = read_plan_files(alloc, source, names)?;
-    Ok(plan_reply(alloc, &files.net, &files.plan)?)
+    let reply = say_plan(alloc, &files);
+    drop(files);
+    reply
 }

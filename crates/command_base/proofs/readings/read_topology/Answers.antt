@@ -1,6 +1,6 @@
 use Rattle.std.proofs.Common.{sym, ap, ◌∙◌}
 use Rattle.std.proofs.lemmas.Result.{err_from_is_err_and, IfOk-weaker, IfErr-weaker}
-use Rattle.topology.specs.Topology.{network_in}
+use Rattle.topology_files.specs.Topology.{network_in}
 use Rattle.command_base.specs.declared.kinds.FileKind.TheVariants as kind
 use Rattle.command_base.specs.Lines.{net_words}
 use Rattle.command_base.proofs.DialogueLaws.{gives_meaning, ends_bad, ends_unfetched}

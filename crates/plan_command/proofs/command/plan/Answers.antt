@@ -1,22 +1,11 @@
 use Rattle.std.proofs.lemmas.Result.{err_from_is_err_and}
-use Rattle.command_base.proofs.DialogueLaws.{leads_whole}
+use Rattle.upgrade_command.proofs.WholeLaws.{meets_whole}
 use Rattle.plan_command.proofs.command.plan.Goals as goal
 
 pub returns-in_err-files-clause-meets : goal.returns-in_err-files-clause-meets
 returns-in_err-files-clause-meets g c =
     let p = err_from_is_err_and c.from_residual.result c.from_residual.ensures.1 in
-    rw (p.1, p.2) (record {
-      met =
-          (c.in_err-files.ensures.stops _);
-    })
-
-pub returns-in_err-new_plan-clause-meets : goal.returns-in_err-new_plan-clause-meets
-returns-in_err-new_plan-clause-meets g c =
-    let p = err_from_is_err_and c.from_residual-in_err-new_plan.result c.from_residual-in_err-new_plan.ensures.1 in
-    rw (p.1, p.2) (record { met = record { ended = tt {0} } })
+    rw (p.1, p.2) (record { met = c.in_err-files.ensures.stops _ })
 
 pub returns-clause-meets : goal.returns-clause-meets
-returns-clause-meets g c = record {
-  met =
-      leads_whole (c.in_ok-files.ensures.gives _) c.in_ok-new_plan.ensures c.in_ok-files.ensures.whole;
-}
+returns-clause-meets g c = meets_whole (c.in_ok-files.ensures.gives _) c.in_ok-files.ensures.whole c.say_plan-reply.ensures.said c.say_plan-reply.ensures.stops

@@ -1,5 +1,5 @@
 use Rattle.std.proofs.lemmas.Result.{err_from_is_err_and}
-use Rattle.command_base.proofs.DialogueLaws.{leads_then, ends_first, ends_then}
+use Rattle.command_base.proofs.DialogueLaws.{ends_first, meets_behind}
 use Rattle.check_command.specs.Checks.{check_dialogue}
 use Rattle.simulate_command.proofs.command.simulate.Goals as goal
 
@@ -7,31 +7,9 @@ pub returns-in_err-files-clause-meets : goal.returns-in_err-files-clause-meets
 unfolding check_dialogue
 returns-in_err-files-clause-meets g c =
     let p = err_from_is_err_and c.from_residual.result c.from_residual.ensures.1 in
-    rw (p.1, p.2) (record {
-      met =
-          (ends_first _ (c.in_err-files.ensures.stops _));
-    })
-
-pub returns-in_err-plan-clause-meets : goal.returns-in_err-plan-clause-meets
-unfolding check_dialogue
-returns-in_err-plan-clause-meets g c =
-    let p = err_from_is_err_and c.from_residual-in_err-plan.result c.from_residual-in_err-plan.ensures.1 in
-    rw (p.1, p.2) (record {
-      met =
-          (ends_then _ c.read_update.ensures.held c.read_update.ensures.later (c.in_ok-files.ensures.gives _)
-          (ends_first _ (c.in_err-plan.ensures.stops _)));
-    })
-
-pub returns-in_err-simulation_verdict-clause-meets : goal.returns-in_err-simulation_verdict-clause-meets
-returns-in_err-simulation_verdict-clause-meets g c =
-    let p = err_from_is_err_and c.from_residual-in_err-simulation_verdict.result c.from_residual-in_err-simulation_verdict.ensures.1 in
-    rw (p.1, p.2) (record { met = record { ended = tt {0} } })
+    rw (p.1, p.2) (record { met = ends_first _ (c.in_err-files.ensures.stops _) })
 
 pub returns-clause-meets : goal.returns-clause-meets
 unfolding check_dialogue
-returns-clause-meets g c = record {
-  met =
-      leads_then _ c.read_update.ensures.held (c.in_ok-files.ensures.gives _)
-      (leads_then _ c.read_plan_file.ensures.held (c.in_ok-plan.ensures.gives _)
-      (record { led = (c.in_ok-simulation_verdict.ensures, c.in_ok-plan.ensures.whole) }));
-}
+returns-clause-meets g c =
+    meets_behind _ c.read_update.ensures.held c.read_update.ensures.later (c.in_ok-files.ensures.gives _) c.simulate_plan-reply.ensures.leads c.simulate_plan-reply.ensures.stops

@@ -1,4 +1,4 @@
-use Rattle.sample_command.proofs.planning.checked_classes.Goals as goal
+use Rattle.sample_command.proofs.planning.classes_in_room.Goals as goal
 
 pub unreachable-requires : goal.unreachable-requires
 unreachable-requires c = let never = c.in-Refused.ensures.accepted.1 c.requires.certified in cc
