@@ -22,12 +22,10 @@ import sys
 import tempfile
 import time
 
-# Processor minutes for 1,000 lines of code, definitions and proofs, by which the time of a build is foretold: 98,000 lines took 138.
-MINUTES_FOR_1000_LINES = 1.4
-# How many processors a crate that is proved alone keeps busy, on average.
-BUSY_FOR_ONE_CRATE = 1.5
-# How much of each further processor is busy, on average: some wait for the longest chain of crates. Four took 51 minutes for 138.
-BUSY_FOR_FURTHER = 0.6
+# The file, beside this script, that says how many processor seconds each crate took when it was last measured.
+MEASURED = "crate_seconds.txt"
+# Processor seconds for a line of code, definitions and proofs, of crates that the file doesn't name.
+SECONDS_FOR_A_LINE = 0.08
 # Memory that a crate may take while it is proved, in bytes.
 MEMORY_FOR_ONE_CRATE = 3_000_000_000
 # The parts of a crate from which it is made.
@@ -66,12 +64,23 @@ def needed(crates, program):
     return order
 
 
-def chains(crates, order, lines):
-    """Returns for each crate the lines of the longest chain of crates that begins with it and goes up."""
+def read_seconds(text):
+    """Returns the processor seconds of each crate that a text like that of MEASURED names."""
+    listed = [line.partition("#")[0].split() for line in text.splitlines()]
+    return {words[0]: int(words[1]) for words in listed if words}
+
+
+def expected(measured, lines):
+    """Returns the processor seconds that each crate is expected to take: what was measured, otherwise by its lines."""
+    return {name: measured.get(name, count * SECONDS_FOR_A_LINE) for name, count in lines.items()}
+
+
+def chains(crates, order, seconds):
+    """Returns for each crate the seconds of the longest chain of crates that begins with it and goes up."""
     above = {it: [other for other in order if it in crates[other]] for it in order}
     found = {}
     for name in reversed(order):
-        found[name] = lines[name] + max((found[it] for it in above[name]), default=0)
+        found[name] = seconds[name] + max((found[it] for it in above[name]), default=0)
     return found
 
 
@@ -92,14 +101,16 @@ def copies_for(processors, memory):
     return max(1, min(processors, memory // MEMORY_FOR_ONE_CRATE))
 
 
-def foretold(crates, left, lines, processors, copies):
-    """Returns how many minutes the crates that are left take: no less than their work shared by all processors, and than the longest chain of them."""
-    minutes = {it: lines[it] * MINUTES_FOR_1000_LINES / 1000 for it in left}
-    among = {it: [dep for dep in crates[it] if dep in minutes] for it in left}
-    longest = max(chains(among, left, minutes).values(), default=0)
-    used = min(processors, copies * BUSY_FOR_ONE_CRATE)
-    shared = sum(minutes.values()) / (1 + BUSY_FOR_FURTHER * (used - 1))
-    return max(shared, longest / min(processors, BUSY_FOR_ONE_CRATE))
+def foretold(crates, left, seconds, chain, copies):
+    """Returns how many seconds the crates that are left take where so many are proved side by side, each by one processor, in the order of this script."""
+    left, ends, now = [*left], {}, 0
+    while left or ends:
+        for name in ready(crates, left, ends, chain)[:copies - len(ends)]:
+            ends[name] = now + seconds[name]
+            left.remove(name)
+        name = min(ends, key=ends.get)
+        now = ends.pop(name)
+    return now
 
 
 # ---- what is said
@@ -258,8 +269,9 @@ class Build:
         self.begun, self.running = time.monotonic(), {}
         self.crates = read_crates(read(f"{root}/crates.txt").decode())
         self.order = needed(self.crates, program)
-        self.lines = {it: lines_of(f"{root}/crates/{it}") for it in self.order}
-        self.chain = chains(self.crates, self.order, self.lines)
+        measured = read_seconds(read(f"{os.path.dirname(os.path.realpath(__file__))}/{MEASURED}").decode())
+        self.seconds_of = expected(measured, {it: lines_of(f"{root}/crates/{it}") for it in self.order})
+        self.chain = chains(self.crates, self.order, self.seconds_of)
         kit = subprocess.run(["rt", "version"], stdout=subprocess.PIPE, check=True).stdout.decode()
         self.sums = sums(root, self.crates, self.order, kit)
         self.processors = len(os.sched_getaffinity(0))
@@ -278,8 +290,8 @@ class Build:
         return time.monotonic() - self.begun
 
     def run(self):
-        minutes = foretold(self.crates, self.lacking, self.lines, self.processors, self.copies)
-        self.voice.say(first_line(len(self.order), len(self.lacking), minutes, self.processors))
+        seconds = foretold(self.crates, self.lacking, self.seconds_of, self.chain, self.copies)
+        self.voice.say(first_line(len(self.order), len(self.lacking), seconds / 60, self.processors))
         if len(self.left) > 1:
             for tree in self.trees[1:]:
                 tree.take_sources(self.root, self.crates)

@@ -3,6 +3,7 @@
 
     tools/gate_minutes.py run LOG [WORD..]    runs `rt ci WORD..` at the top of the repository, writes LOG, and prints the table
     tools/gate_minutes.py LOG                 prints the table of a log
+    tools/gate_minutes.py seconds LOG..       prints what tools/crate_seconds.txt holds: of each crate the processor seconds of its proof
 
 What `rt ci` says has no times, and of edits it speaks only at its end. So `run` stamps each line with the seconds since the start, and besides looks
 once a second at the processes that rt started: each is the work on one crate, and which work it is stands in its words. For each that ended, the log
@@ -154,15 +155,32 @@ def table(spent, long, whole, last):
     return [*lines, f"{whole / 60:.1f} minutes by the clock; {last}"]
 
 
+def seconds_by_crate(logs):
+    """Returns the lines of crate_seconds.txt, from the lines of logs: of each crate the greatest proof that one of them has."""
+    found = {}
+    for lines in logs:
+        spent, _, _, _ = read_log(lines)
+        for crate, by_kind in spent.items():
+            found[crate] = max(found.get(crate, 0), by_kind["proof"])
+    return [f"{crate} {seconds}" for crate, seconds in sorted(found.items(), key=lambda it: -it[1]) if seconds]
+
+
+def read_lines(log):
+    with open(log) as it:
+        return it.readlines()
+
+
 def main(words):
     status = 0
+    if words[:1] == ["seconds"] and len(words) > 1:
+        print(*seconds_by_crate(map(read_lines, words[1:])), sep="\n")
+        return 0
     if words[:1] == ["run"] and len(words) > 1:
         status, words = run(words[1], words[2:]), words[1:2]
     if len(words) != 1 or words[0] in ("run", "--help"):
         print(__doc__, file=sys.stderr)
         return 2
-    with open(words[0]) as it:
-        print(*table(*read_log(it)), sep="\n")
+    print(*table(*read_log(read_lines(words[0]))), sep="\n")
     return status
 
 

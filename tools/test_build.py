@@ -18,7 +18,7 @@ top: left right base
 top_tests: top
 """
 CRATES = {"base": [], "left": ["base"], "right": ["base"], "top": ["left", "right", "base"], "top_tests": ["top"]}
-LINES = {"base": 100, "left": 10, "right": 40, "top": 50}
+SECONDS = {"base": 100, "left": 10, "right": 40, "top": 50}
 
 
 class Order(unittest.TestCase):
@@ -32,8 +32,18 @@ class Order(unittest.TestCase):
         with self.assertRaises(ValueError):
             build.needed({"one": ["other"], "other": ["one"]}, "one")
 
-    def test_chains_count_the_lines_above(self):
-        self.assertEqual(build.chains(CRATES, ["base", "left", "right", "top"], LINES), {"top": 50, "left": 60, "right": 90, "base": 190})
+    def test_seconds_are_those_measured_or_go_by_lines(self):
+        measured = build.read_seconds("# of each crate\nbase 100\n\nleft 7   # a side\n")
+        self.assertEqual(measured, {"base": 100, "left": 7})
+        self.assertEqual(build.expected(measured, {"base": 5, "right": 500}), {"base": 100, "right": 500 * build.SECONDS_FOR_A_LINE})
+
+    def test_each_crate_of_the_program_was_measured(self):
+        root = os.path.dirname(os.path.dirname(os.path.realpath(__file__)))
+        with open(f"{root}/crates.txt") as listed, open(f"{root}/tools/{build.MEASURED}") as measured:
+            self.assertLessEqual({*build.needed(build.read_crates(listed.read()), "planner_cli")}, {*build.read_seconds(measured.read())})
+
+    def test_chains_count_the_seconds_above(self):
+        self.assertEqual(build.chains(CRATES, ["base", "left", "right", "top"], SECONDS), {"top": 50, "left": 60, "right": 90, "base": 190})
 
     def test_ready_are_those_with_all_libraries_done_the_longest_chain_first(self):
         chain = {"base": 190, "left": 60, "right": 90, "top": 50}
@@ -53,13 +63,13 @@ class Order(unittest.TestCase):
     def test_copies_have_memory(self):
         self.assertEqual([build.copies_for(4, it) for it in (0, 2_999_999_999, 6_000_000_000, 99_000_000_000)], [1, 1, 2, 4])
 
-    def test_time_is_that_of_the_chain_or_of_all_work(self):
-        lines = {it: 1000 * number for it, number in LINES.items()}
-        of = lambda left, processors, copies: round(build.foretold(CRATES, left, lines, processors, copies) / build.MINUTES_FOR_1000_LINES)
-        self.assertEqual(of(["base", "left", "right", "top"], 1, 1), 200)
-        self.assertEqual(of(["base", "left", "right", "top"], 4, 4), 127)
-        self.assertEqual(of(["left"], 4, 1), 8)
-        self.assertEqual(of([], 4, 4), 0)
+    def test_time_is_that_of_the_order_in_which_crates_are_proved(self):
+        chain = {"base": 190, "left": 60, "right": 90, "top": 50}
+        of = lambda left, copies: build.foretold(CRATES, left, SECONDS, chain, copies)
+        self.assertEqual(of(["base", "left", "right", "top"], 1), 200)
+        self.assertEqual(of(["base", "left", "right", "top"], 4), 190)
+        self.assertEqual(of(["left"], 4), 10)
+        self.assertEqual(of([], 4), 0)
 
 
 class Words(unittest.TestCase):
@@ -116,6 +126,8 @@ class Builds(unittest.TestCase):
         os.chmod(f"{self.room.name}/kit/rattle/bin/rt", 0o755)
         with open(build.__file__) as one, open(f"{self.root}/tools/build.py", "w") as other:
             other.write(one.read())
+        with open(f"{self.root}/tools/{build.MEASURED}", "w") as it:
+            it.write("base 1\n")
         for crate in CRATES:
             os.makedirs(f"{self.root}/crates/{crate}/src")
             self.write(crate, "one line\n")

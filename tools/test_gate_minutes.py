@@ -48,6 +48,10 @@ class Minutes(unittest.TestCase):
             ],
         )
 
+    def test_seconds_of_the_longest_proof(self):
+        logs = [LOG.splitlines(), ["## 9 one proof 75 80", "## 10 third tests 5 5"]]
+        self.assertEqual(gate_minutes.seconds_by_crate(logs), ["other 120", "one 75"])
+
 
 if __name__ == "__main__":
     unittest.main()
