@@ -1,3 +1,5 @@
+pub mod JsonTree
+pub mod LineEnd
 pub mod Meanings
 pub mod Growth
 pub mod Lookups

@@ -8,8 +8,8 @@ use Rattle.std.proofs.lemmas.Slice.Eq.{bytes_eq-Decides}
 use Rattle.serde_json.specs.Data.{Data, Members, no_members, put}
 use Rattle.serde_json.specs.Find.{get, get_member}
 use Rattle.serde_json.proofs.Views.{get_member-put, get_member-put_other}
-use Rattle.net_base.specs.Tree.{list_in}
-use Rattle.net_base.proofs.Trees.{list_of-items_of}
+use Rattle.flat_json.specs.JsonTree.{list_in}
+use Rattle.flat_json.proofs.JsonTree.{list_of-items_of}
 use Rattle.flat_json.specs.Nodes.{part, with_members, meanings}
 use Rattle.flat_json.specs.Stores.{texts_of, data_in, is_ordered}
 use Rattle.flat_json.specs.declared.node.Node.TheVariants as node

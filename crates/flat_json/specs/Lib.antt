@@ -1,3 +1,4 @@
+pub mod JsonTree
 pub mod Nodes
 pub mod Numbers
 pub mod Stores

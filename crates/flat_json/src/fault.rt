@@ -1,38 +1,39 @@
-//! Why a text is not read.
+//! Why bytes give no JSON tree.
 ghost use Rattle.std.specs.Prelude.{◌≡◌};
-ghost use Rattle.flat_json.specs.declared.fault.Fault.TheVariants.{NotJson, Memory};
+ghost use Rattle.flat_json.specs.declared.fault.JsonFault.TheVariants.{NotJson, Memory};
 
 use std::alloc::{AllocError, AllocFailed};
 
-/// Why a text is not read.
+/// Why bytes give no JSON tree.
 #[derive(Clone, Copy, Debug, Drop, PartialEq, Eq)]
-pub(crate) enum Fault {
-    /// It is no JSON text, or nests too deep, or has a number that is no finite float.
+pub enum JsonFault {
+    /// They are no JSON text in UTF-8 with nothing but white space round it (RFC 8259), or its nesting is more than 127 levels
+    /// deep, or it has a number that is no finite float.
     NotJson,
-    /// Memory was wanting.
+    /// Memory was wanting for the tree.
     Memory,
 }
 
-impl From<json::Invalid> for Fault {
+impl From<json::Invalid> for JsonFault {
     ghost from_gives = { λ _ e. e ≡ NotJson };
 
-    fn from(_: json::Invalid) -> Fault {
-        Fault::NotJson
+    fn from(_: json::Invalid) -> JsonFault {
+        JsonFault::NotJson
     }
 }
 
-impl From<AllocError> for Fault {
+impl From<AllocError> for JsonFault {
     ghost from_gives = { λ _ e. e ≡ Memory };
 
-    fn from(_: AllocError) -> Fault {
-        Fault::Memory
+    fn from(_: AllocError) -> JsonFault {
+        JsonFault::Memory
     }
 }
 
-impl<T: Drop> From<AllocFailed<T>> for Fault {
+impl<T: Drop> From<AllocFailed<T>> for JsonFault {
     ghost from_gives = { λ _ e. e ≡ Memory };
 
-    fn from(_: AllocFailed<T>) -> Fault {
-        Fault::Memory
+    fn from(_: AllocFailed<T>) -> JsonFault {
+        JsonFault::Memory
     }
 }

@@ -1,7 +1,7 @@
 //! Looking into a tree.
 ghost use Rattle.std.specs.Prelude.{◌≡◌, option_map, map};
 ghost use Rattle.serde_json.specs.Find.{get, as_str, as_bool};
-ghost use Rattle.net_base.specs.Tree as json;
+ghost use Rattle.flat_json.specs.JsonTree as json;
 ghost use Rattle.flat_json.specs.Trees.{data_of, top_of};
 
 use crate::node::Node;

@@ -3,6 +3,7 @@
 
 mod fault;
 mod find;
+mod line;
 mod node;
 mod number;
 mod parse;
@@ -11,6 +12,8 @@ mod read;
 mod store;
 mod tree;
 
+pub use fault::JsonFault;
+pub use line::write_line;
 pub use node::Node;
 pub use parse::parse_tree;
 pub use tree::Tree;

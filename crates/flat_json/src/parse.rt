@@ -2,31 +2,33 @@
 ghost use Rattle.std.specs.Prelude.{◌≡◌, IfOk, None, Some, Err};
 ghost use Rattle.serde_json.specs.Read.{read as read_json};
 ghost use Rattle.net_base.specs.Reading.{Gives, need};
-ghost use Rattle.net_base.specs.Tree.{tree_in};
-ghost use Rattle.net_base.specs.declared.tree.JsonFault.TheVariants.{NotJson, Memory};
+ghost use Rattle.flat_json.specs.JsonTree.{tree_in};
+ghost use Rattle.flat_json.specs.declared.fault.JsonFault.TheVariants.{NotJson, Memory};
 ghost use Rattle.flat_json.specs.Trees.{top_of};
-ghost use Rattle.flat_json.specs.declared.fault.Fault.TheVariants as fault;
 
-use crate::fault::Fault;
+use crate::fault::JsonFault;
 use crate::read::read;
 use crate::store::no_nodes;
 use crate::tree::Tree;
 use json::{Reader, Scratch};
-use net_base::JsonFault;
 use std::alloc::Global;
 
 const MAX_DEPTH: usize = 127;
 
 /// Reads a text that holds one value.
-fn read_whole<'a>(alloc: Global, text: &'a str, scratch: &'a mut Scratch) -> Result<Tree<'a>, Fault>
+fn read_whole<'a>(
+    alloc: Global,
+    text: &'a str,
+    scratch: &'a mut Scratch,
+) -> Result<Tree<'a>, JsonFault>
     ensures ok { IfOk result (λ t. read_json text.now ≡ Some (top_of t)) }
-    ensures err { result ≡ Err fault.NotJson → read_json text.now ≡ None }
+    ensures err { result ≡ Err NotJson → read_json text.now ≡ None }
 {
     let mut reader = Reader::new(text, scratch)?;
     let mut store = no_nodes(alloc);
     let top = read(alloc, &mut reader, &mut store, MAX_DEPTH)?;
     if reader.next().is_some() {
-        return Err(Fault::NotJson);
+        return Err(JsonFault::NotJson);
     }
     Ok(Tree { store, top })
 }
@@ -44,9 +46,5 @@ pub fn parse_tree<'a>(
     let Ok(text) = simdutf8::compat::from_utf8(bytes) else {
         return Err(JsonFault::NotJson);
     };
-    match read_whole(alloc, text, scratch) {
-        Ok(tree) => Ok(tree),
-        Err(Fault::NotJson) => Err(JsonFault::NotJson),
-        Err(Fault::Memory) => Err(JsonFault::Memory),
-    }
+    read_whole(alloc, text, scratch)
 }

@@ -6,9 +6,9 @@ ghost use Rattle.serde_json.specs.Read.{of_json, of_items, of_members, converted
 ghost use Rattle.serde_json.specs.View.{items_of};
 ghost use Rattle.flat_json.specs.Nodes.{with_members};
 ghost use Rattle.flat_json.specs.Stores.{data_in, is_ordered, Keeps};
-ghost use Rattle.flat_json.specs.declared.fault.Fault.TheVariants.{NotJson};
+ghost use Rattle.flat_json.specs.declared.fault.JsonFault.TheVariants.{NotJson};
 
-use crate::fault::Fault;
+use crate::fault::JsonFault;
 use crate::node::Node;
 use crate::number::{node_of, read_number};
 use crate::store::{Members, Store, add_list, add_object, add_text};
@@ -22,33 +22,33 @@ pub(crate) fn read<'a>(
     reader: &mut Reader<'a>,
     store: &mut Store<'a>,
     depth: usize,
-) -> Result<Node, Fault>
+) -> Result<Node, JsonFault>
     requires { is_ordered store.old ≡ true }
     ensures kept { IfOk result (λ n. Keeps store.old store.new (n ∷ [])) }
     ensures ok { IfOk result (λ n. converted of_json (value depth reader.old) ≡ Some (data_in store.new n, reader.new)) }
     ensures shorter { OnOk result (length reader.new < length reader.old) }
     ensures err { result ≡ Err NotJson → converted of_json (value depth reader.old) ≡ None }
 {
-    let token = reader.next().ok_or(Fault::NotJson)?;
+    let token = reader.next().ok_or(JsonFault::NotJson)?;
     match token {
         Token::String(text) => Ok(add_text(store, text)?),
         Token::Number(text) => match read_number(text) {
             Some(number) => Ok(node_of(number)),
-            None => Err(Fault::NotJson),
+            None => Err(JsonFault::NotJson),
         },
         Token::Bool(b) => Ok(Node::Bool(b)),
         Token::Null => Ok(Node::Null),
-        Token::EndObject | Token::EndArray | Token::Key(_) | Token::Bad => Err(Fault::NotJson),
+        Token::EndObject | Token::EndArray | Token::Key(_) | Token::Bad => Err(JsonFault::NotJson),
         Token::BeginArray => {
             if depth == 0 {
-                return Err(Fault::NotJson);
+                return Err(JsonFault::NotJson);
             }
             let items = read_items(alloc, reader, store, depth - 1)?;
             Ok(add_list(store, &items)?)
         }
         Token::BeginObject => {
             if depth == 0 {
-                return Err(Fault::NotJson);
+                return Err(JsonFault::NotJson);
             }
             let members = read_members(alloc, reader, store, depth - 1)?;
             Ok(add_object(store, &members)?)
@@ -63,7 +63,7 @@ fn read_items<'a>(
     reader: &mut Reader<'a>,
     store: &mut Store<'a>,
     depth: usize,
-) -> Result<Vec<Node>, Fault>
+) -> Result<Vec<Node>, JsonFault>
     requires { is_ordered store.old ≡ true }
     ensures kept { IfOk result (λ v. Keeps store.old store.new v.items) }
     ensures ok { IfOk result (λ v. converted of_items (items (value depth) (length reader.old) reader.old)
@@ -86,7 +86,7 @@ fn read_members<'a>(
     reader: &mut Reader<'a>,
     store: &mut Store<'a>,
     depth: usize,
-) -> Result<Members<'a>, Fault>
+) -> Result<Members<'a>, JsonFault>
     requires { is_ordered store.old ≡ true }
     ensures kept { IfOk result (λ m. Keeps store.old store.new m.values.items) }
     ensures paired { IfOk result (λ m. vec_len m.keys ≡ vec_len m.values) }

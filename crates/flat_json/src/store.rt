@@ -4,9 +4,9 @@ ghost use Rattle.serde_json.specs.Data.{string, array, object, no_members};
 ghost use Rattle.serde_json.specs.View.{items_of};
 ghost use Rattle.flat_json.specs.Nodes.{with_members};
 ghost use Rattle.flat_json.specs.Stores.{data_in, is_ordered, are_known, Keeps};
-ghost use Rattle.flat_json.specs.declared.fault.Fault.TheVariants.{Memory};
+ghost use Rattle.flat_json.specs.declared.fault.JsonFault.TheVariants.{Memory};
 
-use crate::fault::Fault;
+use crate::fault::JsonFault;
 use crate::node::Node;
 use std::alloc::Global;
 
@@ -28,18 +28,18 @@ pub(crate) fn no_nodes<'a>(alloc: Global) -> Store<'a>
 }
 
 /// A place or a count as a node has it. More than 32 bits are taken for want of memory.
-fn place(n: usize) -> Result<u32, Fault>
+fn place(n: usize) -> Result<u32, JsonFault>
     ensures ok { IfOk result (λ p. p ≡ n) }
     ensures err { IfErr result (λ e. e ≡ Memory) }
 {
     if n > u32::MAX as usize {
-        return Err(Fault::Memory);
+        return Err(JsonFault::Memory);
     }
     Ok(n as u32)
 }
 
 /// Adds a text.
-pub(crate) fn add_text<'a>(store: &mut Store<'a>, text: &'a str) -> Result<Node, Fault>
+pub(crate) fn add_text<'a>(store: &mut Store<'a>, text: &'a str) -> Result<Node, JsonFault>
     requires { is_ordered store.old ≡ true }
     ensures kept { IfOk result (λ n. Keeps store.old store.new (n ∷ [])) }
     ensures means { IfOk result (λ n. data_in store.new n ≡ string text.now) }
@@ -51,7 +51,7 @@ pub(crate) fn add_text<'a>(store: &mut Store<'a>, text: &'a str) -> Result<Node,
 }
 
 /// Adds a list of these items.
-pub(crate) fn add_list(store: &mut Store<'_>, items: &[Node]) -> Result<Node, Fault>
+pub(crate) fn add_list(store: &mut Store<'_>, items: &[Node]) -> Result<Node, JsonFault>
     requires ordered { is_ordered store.old ≡ true }
     requires known { are_known store.old items.now ≡ true }
     ensures kept { IfOk result (λ n. Keeps store.old store.new (n ∷ [])) }
@@ -72,7 +72,10 @@ pub(crate) struct Members<'a> {
 }
 
 /// Adds an object of these members.
-pub(crate) fn add_object<'a>(store: &mut Store<'a>, members: &Members<'a>) -> Result<Node, Fault>
+pub(crate) fn add_object<'a>(
+    store: &mut Store<'a>,
+    members: &Members<'a>,
+) -> Result<Node, JsonFault>
     requires ordered { is_ordered store.old ≡ true }
     requires known { are_known store.old members.now.values.items ≡ true }
     requires paired { vec_len members.now.keys ≡ vec_len members.now.values }

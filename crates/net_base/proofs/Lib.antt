@@ -5,11 +5,7 @@ pub mod ListLaws
 pub mod NameLaws
 pub mod Decimals
 pub mod Cuts
-pub mod Trees
 pub mod Turns
 pub mod ItemTurns
 pub mod TextLines
 pub mod Prefixes
-pub mod LineEnd
-pub mod Pieces
-pub mod Shelves

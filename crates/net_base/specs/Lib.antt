@@ -4,12 +4,5 @@ pub mod Members
 pub mod Places
 pub mod Text
 pub mod Lines
-pub mod Tree
 pub mod Reading
-pub mod Causes
-pub mod Outside
-pub mod Shelf
-pub mod Stored
-pub mod Drawer
-pub mod Filled
 pub mod Fields

@@ -4,7 +4,6 @@
 #[cfg(test)]
 mod class_limits;
 #[cfg(test)]
-mod level_limits;
 #[cfg(test)]
 mod network_limits;
 #[cfg(test)]

@@ -1,14 +1,14 @@
 //! A text as flat lists, beside the tree that `serde_json` makes of it.
 use flat_json::parse_tree;
 use json::Scratch;
-use net_base::{parse_json, text_at, whole_at};
+use serde_json::Value;
 use std::alloc::Global;
 use std::process::Abort;
 
 /// Both readers find a tree, or neither, as is wanted.
 fn is_read(rt: &impl Abort, alloc: Global, text: &[u8], want: bool) {
     let mut scratch = Scratch::new(alloc);
-    assert!(rt; parse_json(alloc, text).is_ok() == want);
+    assert!(rt; Value::from_slice(alloc, text).is_ok() == want);
     assert!(rt; parse_tree(alloc, text, &mut scratch).is_ok() == want);
 }
 
@@ -54,11 +54,11 @@ fn at_most_127_levels_are_open(rt: HostRuntime) {
 /// The member `a` is found as in the tree of `serde_json`, and is this number or this text.
 fn has_member(rt: &impl Abort, alloc: Global, text: &str, number: Option<u64>, word: Option<&str>) {
     let mut scratch = Scratch::new(alloc);
-    let value = parse_json(alloc, text.as_bytes()).expect(rt, "a tree");
+    let value = Value::from_slice(alloc, text.as_bytes()).expect(rt, "a tree");
     let tree = parse_tree(alloc, text.as_bytes(), &mut scratch).expect(rt, "a tree");
-    assert!(rt; whole_at(&value, "a") == number);
+    assert!(rt; value.get("a").and_then(Value::as_u64) == number);
     assert!(rt; tree.whole_at(tree.top(), "a") == number);
-    assert!(rt; text_at(&value, "a") == word);
+    assert!(rt; value.get("a").and_then(Value::as_str) == word);
     assert!(rt; tree.text_at(tree.top(), "a") == word);
 }
 

@@ -1,5 +1,5 @@
 use Rattle.std.proofs.Common.{map, Some, sym, ap, ◌∙◌}
-use Rattle.net_base.specs.Tree.{list_in}
+use Rattle.flat_json.specs.JsonTree.{list_in}
 use Rattle.flat_json.specs.Nodes.{part}
 use Rattle.flat_json.specs.Trees.{data_of}
 use Rattle.flat_json.specs.Stores.{data_in}
