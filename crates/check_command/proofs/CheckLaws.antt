@@ -1,43 +1,24 @@
 -- What a run of `check` says of the files of a source that tells.
-use Rattle.std.proofs.Common.{◌≡◌, ◌⊎◌, ◌↔◌, ℕ, List, length, Some, refl, subst, inl, inr}
+use Rattle.std.proofs.Common.{◌≡◌, ◌⊎◌, ◌↔◌, ℕ, List, length, Some, inl, inr}
 use Rattle.std.specs.declared.option.Option.{Option}
 use Rattle.std.specs.Io.KnownBytes.{Appends}
-use Rattle.net_base.specs.Outside.{Files}
+use Rattle.file_access.specs.Outside.{Files}
 use Rattle.certificates.specs.Certified.{IsCertified, is_two_phase}
 use Rattle.certificates.specs.Consistent.{IsConsistent}
-use Rattle.plan_format.specs.Plans.{plan_in}
 use Rattle.command_base.specs.declared.status.Status.{Status}
 use Rattle.command_base.specs.declared.status.Status.TheVariants as status
-use Rattle.command_base.specs.declared.kinds.FileKind.TheVariants as kind
-use Rattle.command_base.specs.Lines.{plan_words, classes_line}
-use Rattle.command_base.specs.Meanings.{Means}
+use Rattle.command_base.specs.Lines.{classes_line}
 use Rattle.command_base.specs.Runs.{IsSettled, Answered}
-use Rattle.command_base.proofs.MeaningLaws.{IsBadLine, said_over, over_splits, means_then, means_parts, means_read, read_means, means_update, update_means}
+use Rattle.command_base.proofs.MeaningLaws.{IsBadLine, said_over, over_splits}
 use Rattle.command_base.proofs.JudgementLaws as law
 use Rattle.command_base.proofs.JudgementLaws.{IsJudged}
 use Rattle.command_base.proofs.RunLaws.{settled_done, settled_refused, settled_bad}
-use Rattle.check_command.specs.Names.{CheckNames}
-use Rattle.check_command.specs.ReasonLines.{accepted_line}
-use Rattle.check_command.specs.Checks.{CheckMeaning, check_dialogue, IsCheckAnswer, IsRefusedLine, FilesMeanPlan, FilesAreCertified, FilesAreRefused, PlanMakesTooMany, NamesFirstReason, check_count, task_in}
+use Rattle.check_base.specs.Names.{CheckNames}
+use Rattle.check_base.specs.Checks.{CheckMeaning, check_dialogue, IsRefusedLine, FilesMeanPlan, FilesAreCertified, FilesAreRefused, PlanMakesTooMany, NamesFirstReason, check_count, task_in}
+use Rattle.check_base.proofs.FileLaws.{means_check, check_means}
+use Rattle.check_command.specs.AcceptedLine.{accepted_line}
+use Rattle.check_command.specs.Checks.{IsCheckAnswer}
 use Rattle.check_command.specs.Promise.{CheckPromise}
-
--- the dialogue means what the files mean, and nothing else
-pub means_check : (files : Files) (names : CheckNames) (m : CheckMeaning) → FilesMeanPlan files names m → Means files (check_dialogue names) m
-unfolding check_dialogue
-means_check files names m is =
-    means_then files _ _ m.update m (means_update files names.update m.update is.update_is)
-    (means_then files _ _ m.plan m (means_read files kind.Plan plan_words (plan_in m.update.net) names.plan m.plan is.plan_is) refl)
-
-pub check_means : (files : Files) (names : CheckNames) (m : CheckMeaning) → Means files (check_dialogue names) m → FilesMeanPlan files names m
-unfolding check_dialogue
-check_means files names m means =
-    let (u, update_is, second) = means_parts files _ _ m means in
-    let (p, plan_is, same) = means_parts files _ _ m second in
-    let read : FilesMeanPlan files names (record { update = u; plan = p }) = record {
-      update_is = update_means files names.update u update_is;
-      plan_is = read_means files kind.Plan plan_words (plan_in u.net) names.plan p plan_is;
-    } in
-    subst (λ v. FilesMeanPlan files names v) same read
 
 -- of a settled run of `check` over a source that tells
 module _ (files : Files) (names : CheckNames) (old new : Option (List ℕ)) (result : Status) (a : Answered IsCheckAnswer files (check_dialogue names) old new result) where

@@ -1,4 +1,3 @@
-pub mod Names
-pub mod ReasonLines
+pub mod AcceptedLine
 pub mod Checks
 pub mod Promise

@@ -1,15 +1,15 @@
 -- What a run of `check` promises over the files of a source that tells.
 use Rattle.std.specs.Prelude.{◌≡◌, ◌↔◌, ℕ, List, Option, Some}
 use Rattle.std.specs.Io.KnownBytes.{Appends}
-use Rattle.net_base.specs.Outside.{Files}
+use Rattle.file_access.specs.Outside.{Files}
 use Rattle.certificates.specs.Certified.{is_two_phase}
 use Rattle.certificates.specs.Consistent.{IsConsistent}
 use Rattle.command_base.specs.declared.status.Status.{Status}
 use Rattle.command_base.specs.declared.status.Status.TheVariants as status
 use Rattle.command_base.specs.Lines.{classes_line}
 use Rattle.command_base.specs.Runs.{IsSettled}
-use Rattle.check_command.specs.Names.{CheckNames}
-use Rattle.check_command.specs.Checks.{CheckMeaning, FilesMeanPlan, FilesAreCertified, FilesAreRefused, PlanMakesTooMany, NamesFirstReason, check_count, task_in}
+use Rattle.check_base.specs.Names.{CheckNames}
+use Rattle.check_base.specs.Checks.{CheckMeaning, FilesMeanPlan, FilesAreCertified, FilesAreRefused, PlanMakesTooMany, NamesFirstReason, check_count}
 
 -- the files and their names, what was written before and after the run, and how it ended
 pub record CheckPromise (files : Files) (names : CheckNames) (old new : Option (List ℕ)) (result : Status) : Type 0 where

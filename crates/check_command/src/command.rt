@@ -6,14 +6,15 @@ ghost use Rattle.certificates.specs.Valid.{IsValidPlan};
 ghost use Rattle.command_base.specs.Dialogues.{FileRead, LeadsTo};
 ghost use Rattle.command_base.specs.Replies.{answer_of, EndsEarly, Meets};
 ghost use Rattle.command_base.specs.Updates.{meaning_of};
-ghost use Rattle.check_command.specs.Names.{names_seen};
-ghost use Rattle.check_command.specs.Checks.{check_dialogue, reading_plan_of, IsCheckAnswer};
+ghost use Rattle.check_base.specs.Names.{names_seen};
+ghost use Rattle.check_base.specs.Checks.{check_dialogue, reading_plan_of};
+ghost use Rattle.check_command.specs.Checks.{IsCheckAnswer};
 
-use crate::names::CheckNames;
 use crate::verdict::plan_verdict;
 use certificates::Plan;
+use check_base::CheckNames;
 use command_base::{Exit, Reply, UpdateFiles, read_plan_file, read_update};
-use net_base::Source;
+use file_access::Source;
 use std::alloc::Global;
 
 /// The verdict on a plan as the end of the command.

@@ -1,10 +1,11 @@
 //! The law of `check`.
 ghost use Rattle.std.specs.Prelude.{ℕ, List, Option};
-ghost use Rattle.net_base.specs.Outside.{Files};
+ghost use Rattle.file_access.specs.Outside.{Files};
 ghost use Rattle.command_base.specs.declared.status.Status.{Status};
 ghost use Rattle.command_base.specs.Runs.{IsSettled, Answered};
-ghost use Rattle.check_command.specs.Names.{CheckNames};
-ghost use Rattle.check_command.specs.Checks.{check_dialogue, IsCheckAnswer};
+ghost use Rattle.check_base.specs.Names.{CheckNames};
+ghost use Rattle.check_base.specs.Checks.{check_dialogue};
+ghost use Rattle.check_command.specs.Checks.{IsCheckAnswer};
 ghost use Rattle.check_command.specs.Promise.{CheckPromise};
 
 /// A run whose answer, where it is settled, is that of the command's dialogue over the files keeps the promise of `check`.

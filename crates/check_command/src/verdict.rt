@@ -1,5 +1,5 @@
 //! The verdict on a plan: too many classes, certified, or the first reason why it isn't.
-ghost use Rattle.std.specs.Prelude.{◌≡◌, ◌≤◌, ◌<◌, IfOk, IfSome, length};
+ghost use Rattle.std.specs.Prelude.{◌≡◌, ◌≤◌, IfOk, length};
 ghost use Rattle.flow_rules.specs.Tables.{rules_of_all};
 ghost use Rattle.path_walk.specs.UserConfigs.{IsUserConfig};
 ghost use Rattle.dest_classes.specs.Classes.{class_count};
@@ -9,17 +9,16 @@ ghost use Rattle.plan_checker.specs.Fits.{Fits};
 ghost use Rattle.certificates.specs.Updates.{task_for};
 ghost use Rattle.command_base.specs.Updates.{meaning_of};
 ghost use Rattle.command_base.specs.Replies.{answer_of};
-ghost use Rattle.check_command.specs.Checks.{IsNamed, IsPlanVerdict};
-ghost use Rattle.check_command.specs.ReasonLines as lines;
+ghost use Rattle.check_command.specs.AcceptedLine as lines;
+ghost use Rattle.check_command.specs.Checks.{IsPlanVerdict};
 
-use crate::reason_lines::{accepted_line, class_named, refused_line};
+use crate::accepted_line::accepted_line;
 use certificates::Plan;
+use check_base::{class_of, refused_reply};
 use command_base::{Reply, Status, UpdateFiles, too_many_reply};
-use dest_classes::{Class, ClassMap};
 use net_base::Memory;
-use plan_checker::{CheckRoom, Reason, RoomFault, Verdict};
+use plan_checker::{CheckRoom, RoomFault, Verdict};
 use std::alloc::Global;
-use topology::Net;
 
 fn accepted_reply(alloc: Global, plan: &Plan, classes: u32) -> Result<Reply, Memory>
     ensures { IfOk result (λ r. answer_of r ≡ record { status = Status.Done; text = lines.accepted_line plan.now.evidence (length plan.now.rounds) classes }) }
@@ -28,32 +27,6 @@ fn accepted_reply(alloc: Global, plan: &Plan, classes: u32) -> Result<Reply, Mem
         status: Status::Done,
         text: accepted_line(alloc, &plan.evidence, plan.rounds.count(), classes)?,
     })
-}
-
-/// The reply on a plan that is refused for this reason; it names this class, if it names one.
-pub fn refused_reply(
-    alloc: Global,
-    net: &Net,
-    class: Option<Class>,
-    reason: Reason,
-) -> Result<Reply, Memory>
-    ensures { IfOk result (λ r. answer_of r ≡ record { status = Status.Refused; text = lines.refused_line net.now class reason }) }
-{
-    Ok(Reply {
-        status: Status::Refused,
-        text: refused_line(alloc, net, class, reason)?,
-    })
-}
-
-/// The class that a reason names, if it names one.
-pub fn class_of(classes: &ClassMap, reason: Reason) -> Option<Class>
-    requires { IfSome (lines.class_named reason) (λ n. n < class_count classes.now) }
-    ensures { IsNamed classes.now (lines.class_named reason) result }
-{
-    match class_named(reason) {
-        Some(number) => Some(classes.class(number)),
-        None => None,
-    }
 }
 
 /// What is said of the plan, in a room for its check.
@@ -88,7 +61,7 @@ fn judge_plan(
 }
 
 /// What is said of the plan of an update: too many classes, certified, or the first reason why it isn't.
-pub fn plan_verdict(alloc: Global, files: &UpdateFiles, plan: &Plan) -> Result<Reply, Memory>
+pub(crate) fn plan_verdict(alloc: Global, files: &UpdateFiles, plan: &Plan) -> Result<Reply, Memory>
     requires old { IsUserConfig files.now.net (rules_of_all files.now.old) }
     requires new { IsUserConfig files.now.net (rules_of_all files.now.new) }
     requires valid { IsValidPlan files.now.net plan.now }

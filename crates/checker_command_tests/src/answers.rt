@@ -1,7 +1,8 @@
 //! What the commands answer over the files of an update and a plan, which are held in memory.
-use check_command::{CheckNames, check};
+use check_base::CheckNames;
+use check_command::check;
 use example_files::{Answer, UpdateTexts, answer_of, update_names, update_source};
-use net_base::MemorySource;
+use file_access::MemorySource;
 use replay_command::{ReplayNames, replay};
 use std::alloc::Global;
 use std::process::Abort;

@@ -3,7 +3,7 @@ use crate::answers::{check_names, checked, held};
 use command_base::Status;
 use emit_command::emit;
 use example_files::{Answer, answer_of, plan_names, square};
-use net_base::MemorySource;
+use file_access::MemorySource;
 use simulate_command::{SimulateNames, simulate};
 use std::alloc::Global;
 use std::process::Abort;

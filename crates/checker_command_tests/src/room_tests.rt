@@ -51,6 +51,6 @@ fn verdicts(rt: &impl Abort, alloc: Global) -> (Verdict, Verdict) {
 #[test]
 fn a_room_serves_twice(rt: HostRuntime) {
     let (first, second) = verdicts(&rt, rt.alloc());
-    assert!(rt; first == Verdict::Accepted);
-    assert!(rt; second == Verdict::Accepted);
+    assert!(rt; matches!(first, Verdict::Accepted));
+    assert!(rt; matches!(second, Verdict::Accepted));
 }

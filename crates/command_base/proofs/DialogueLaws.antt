@@ -3,8 +3,8 @@ use Rattle.std.proofs.Common.{◌≡◌, ℕ, ◌+◌, ◌<◌, ◌≤◌, List,
 use Rattle.std.specs.declared.option.Option.{Option}
 use Rattle.std.specs.declared.result.Result.{Result}
 use Rattle.std.specs.Result.{IfOk, IfErr}
-use Rattle.net_base.specs.Causes.{Rose}
-use Rattle.net_base.specs.Outside.{Files, IsMissing, IsFile}
+use Rattle.file_access.specs.Causes.{Rose}
+use Rattle.file_access.specs.Outside.{Files, IsMissing, IsFile}
 use Rattle.command_base.specs.declared.kinds.FileKind.{FileKind}
 use Rattle.command_base.specs.declared.exit.Exit.{Exit}
 use Rattle.command_base.specs.declared.exit.Exit.TheVariants as exit

@@ -1,7 +1,7 @@
 -- A command as a dialogue with its files. It reads them in turn, each behind the meaning of those before; it ends where a
 -- file is bad, or with a value of which the command says its answer.
 use Rattle.std.specs.Prelude.{◌≡◌, ◌⊎◌, ℕ, ◌+◌, ◌<◌, ◌≤◌, List, Option, None, Some, length}
-use Rattle.net_base.specs.Outside.{Files, IsFile}
+use Rattle.file_access.specs.Outside.{Files, IsFile}
 use Rattle.command_base.specs.declared.kinds.FileKind.{FileKind}
 use Rattle.command_base.specs.Kinds.{limit_of}
 use Rattle.command_base.specs.Lines.{FaultWords}

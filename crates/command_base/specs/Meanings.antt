@@ -1,6 +1,6 @@
 -- What files mean, where a source tells what it holds.
 use Rattle.std.specs.Prelude.{◌≡◌, ◌⊎◌, ℕ, ◌<◌, ◌≤◌, List, Option, Some, Result, Ok, length}
-use Rattle.net_base.specs.Outside.{Files}
+use Rattle.file_access.specs.Outside.{Files}
 use Rattle.command_base.specs.declared.kinds.FileKind.{FileKind}
 use Rattle.command_base.specs.Kinds.{limit_of}
 use Rattle.command_base.specs.Answers.{Answer, bad_answer, too_long}

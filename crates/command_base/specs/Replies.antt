@@ -1,7 +1,7 @@
 -- What a command's result says: a reply, early or late, is where its dialogue leads.
 use Rattle.std.specs.Prelude.{◌≡◌, ◌⊎◌, ℕ, Option, None, Result, Ok, Err, List}
-use Rattle.net_base.specs.Causes.{Rose}
-use Rattle.net_base.specs.Outside.{Files}
+use Rattle.file_access.specs.Causes.{Rose}
+use Rattle.file_access.specs.Outside.{Files}
 use Rattle.command_base.specs.declared.kinds.FileKind.{FileKind}
 use Rattle.command_base.specs.declared.faults.Fault.{Fault}
 use Rattle.command_base.specs.declared.reply.Reply.{Reply}

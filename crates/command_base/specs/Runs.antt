@@ -1,7 +1,7 @@
 -- How a run ends, by the answer that its dialogue leads to.
 use Rattle.std.specs.Prelude.{◌≡◌, ◌≢◌, ℕ, List, Option, None, Some}
 use Rattle.std.specs.Io.KnownBytes.{Appends, Keeps}
-use Rattle.net_base.specs.Outside.{Files, AppendsFront}
+use Rattle.file_access.specs.Outside.{Files, AppendsFront}
 use Rattle.command_base.specs.declared.status.Status.{Status}
 use Rattle.command_base.specs.declared.status.Status.TheVariants as status
 use Rattle.command_base.specs.Answers.{Answer}

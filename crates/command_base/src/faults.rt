@@ -11,7 +11,7 @@ use topology_files::NetFault;
 
 /// Why a file isn't read, as it is printed: a number and a name, the member that it names if it names one, and the
 /// number of the item or line where it stands.
-#[derive(Clone, Copy, Debug)]
+#[derive(Clone, Copy)]
 pub struct Fault {
     pub number: u32,
     pub name: &'static str,

@@ -1,6 +1,6 @@
 //! Files of each kind, fetched whole.
 ghost use Rattle.std.specs.Prelude.{◌≡◌, ◌≤◌, length, IfOk, IfErr, OnOk, Some, Option};
-ghost use Rattle.net_base.specs.Outside.{IsFile};
+ghost use Rattle.file_access.specs.Outside.{IsFile};
 ghost use Rattle.command_base.specs.Kinds.{limit_of};
 ghost use Rattle.command_base.specs.Answers.{too_long};
 ghost use Rattle.command_base.specs.Dialogues.{Ends, Reads, FileRead, file_read, IsWhole};
@@ -11,7 +11,8 @@ use crate::kinds::FileKind;
 use crate::lines::too_long_line;
 use crate::reply::Reply;
 use crate::status::Status;
-use net_base::{FetchFault, Memory, Source, fetch};
+use file_access::{FetchFault, Source, fetch};
+use net_base::Memory;
 use std::alloc::Global;
 
 fn too_long_reply(alloc: Global, kind: FileKind) -> Result<Reply, Memory>

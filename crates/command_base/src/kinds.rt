@@ -5,7 +5,7 @@ ghost use Rattle.command_base.specs.Kinds.{limit_of, kind_name};
 const MEBIBYTE: u64 = 1048576;
 
 /// What a file is.
-#[derive(Clone, Copy, Debug, PartialEq, Eq)]
+#[derive(Clone, Copy)]
 pub enum FileKind {
     Topology,
     Config,

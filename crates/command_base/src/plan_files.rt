@@ -13,7 +13,7 @@ use crate::kinds::FileKind;
 use crate::names::PlanNames;
 use crate::readings::{read_plan_file, read_topology};
 use certificates::Plan;
-use net_base::Source;
+use file_access::Source;
 use std::alloc::Global;
 use topology::Net;
 
@@ -44,6 +44,11 @@ pub fn read_plan_files<S: Source>(
     ensures later { S.faults source.old ≤ S.faults source.new }
 {
     let net = read_topology(alloc, source, names.topology)?;
-    let plan = read_plan_file(alloc, source, &net, names.plan)?;
-    Ok(PlanFiles { net, plan })
+    match read_plan_file(alloc, source, &net, names.plan) {
+        Ok(plan) => Ok(PlanFiles { net, plan }),
+        Err(exit) => {
+            drop(net);
+            Err(exit)
+        }
+    }
 }

@@ -14,8 +14,8 @@ use crate::kinds::FileKind;
 use crate::names::UpdateNames;
 use crate::readings::{read_configuration, read_policy, read_topology};
 use demands::Demands;
+use file_access::Source;
 use flow_rules::Config;
-use net_base::Source;
 use std::alloc::Global;
 use topology::Net;
 
@@ -45,9 +45,31 @@ pub fn read_update<S: Source>(
     ensures later { S.faults source.old ≤ S.faults source.new }
 {
     let net = read_topology(alloc, source, names.topology)?;
-    let old = read_configuration(alloc, source, FileKind::Old, &net, names.old)?;
-    let new = read_configuration(alloc, source, FileKind::New, &net, names.new)?;
-    let demands = read_policy(alloc, source, &net, Some(names.policy))?;
+    // Each way out says `drop`: what a scope lets go by itself is proved part by part.
+    let old = match read_configuration(alloc, source, FileKind::Old, &net, names.old) {
+        Ok(old) => old,
+        Err(exit) => {
+            drop(net);
+            return Err(exit);
+        }
+    };
+    let new = match read_configuration(alloc, source, FileKind::New, &net, names.new) {
+        Ok(new) => new,
+        Err(exit) => {
+            drop(old);
+            drop(net);
+            return Err(exit);
+        }
+    };
+    let demands = match read_policy(alloc, source, &net, Some(names.policy)) {
+        Ok(demands) => demands,
+        Err(exit) => {
+            drop(new);
+            drop(old);
+            drop(net);
+            return Err(exit);
+        }
+    };
     Ok(UpdateFiles {
         net,
         old,

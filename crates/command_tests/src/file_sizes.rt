@@ -1,7 +1,7 @@
 //! How many bytes a file of each kind may have.
 use command_base::{FileKind, Status, fetch_file};
 use example_files::{Answer, answer_of};
-use net_base::MemorySource;
+use file_access::MemorySource;
 use std::alloc::Global;
 use std::process::Abort;
 

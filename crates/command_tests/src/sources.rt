@@ -1,6 +1,6 @@
 //! Sources in memory that hold the files of an update.
 use example_files::{UpdateTexts, update_source};
-use net_base::MemorySource;
+use file_access::MemorySource;
 use std::alloc::Global;
 use std::process::Abort;
 

@@ -11,8 +11,8 @@ use crate::names::ConfigNames;
 use crate::verdict::verdict;
 use command_base::{Exit, FileKind, Reply, read_configuration, read_policy, read_topology};
 use demands::Demands;
+use file_access::Source;
 use flow_rules::Config;
-use net_base::Source;
 use std::alloc::Global;
 use topology::Net;
 

@@ -3,7 +3,7 @@ use Rattle.certificates.specs.Updates.{rollout}
 use Rattle.std.proofs.Common.{◌≡◌, ◌≢◌, ◌⊎◌, ◌↔◌, ℕ, ◌<◌, ◌≤◌, List, ◌∷◌, Some, Ok, Err, refl, sym, ap, ◌∙◌, subst, inl, inr, arith}
 use Rattle.std.specs.declared.option.Option.{Option}
 use Rattle.std.specs.Io.KnownBytes.{Appends}
-use Rattle.net_base.specs.Outside.{Files}
+use Rattle.file_access.specs.Outside.{Files}
 use Rattle.certificates.specs.Certified.{IsCertified}
 use Rattle.driver_input.specs.Inputs.{inputs_in}
 use Rattle.command_base.specs.declared.status.Status.{Status}
@@ -17,8 +17,8 @@ use Rattle.command_base.specs.Runs.{IsSettled, Answered}
 use Rattle.command_base.proofs.MeaningLaws.{IsBadLine, said_over, over_splits, means_then, means_parts, means_read, read_means}
 use Rattle.command_base.proofs.JudgementLaws.{status_of, text_of, texts_same, first_byte}
 use Rattle.command_base.proofs.RunLaws.{settled_done, settled_refused, settled_bad, settled_not_a_run}
-use Rattle.check_command.specs.Checks.{CheckMeaning, IsRefusedLine, NamesFirstReason, check_count, check_dialogue, task_in}
-use Rattle.check_command.proofs.CheckLaws.{means_check, check_means}
+use Rattle.check_base.specs.Checks.{CheckMeaning, IsRefusedLine, NamesFirstReason, check_count, check_dialogue, task_in}
+use Rattle.check_base.proofs.FileLaws.{means_check, check_means}
 use Rattle.drive_command.specs.Driving.{driven_by}
 use Rattle.drive_command.specs.Names.{DriveNames}
 use Rattle.drive_command.specs.Driven.{DriveMeaning, drive_dialogue, input_words, IsReport, SaysReport, SaysRefusedStart, IsDriven, SaysDriven, IsDriveAnswer, FilesMeanDrive, FilesAreDriven, FilesAreNoRun, FilesAreNotCertified, FilesMakeTooMany, WritesReport, NamesRefusedStart}

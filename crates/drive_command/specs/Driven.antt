@@ -3,7 +3,7 @@ use Rattle.certificates.specs.Updates.{rollout}
 use Rattle.std.specs.Prelude.{◌≡◌, ◌⊎◌, ℕ, ◌<◌, ◌≤◌, List, Option, None, Ok, Err}
 use Rattle.std.specs.Io.KnownBytes.{Appends}
 use Rattle.std.specs.List.{AllByRecursion}
-use Rattle.net_base.specs.Outside.{Files}
+use Rattle.file_access.specs.Outside.{Files}
 use Rattle.net_base.specs.declared.ids.SwitchId.{SwitchId}
 use Rattle.topology.specs.Networks.{Network, switch_count}
 use Rattle.update_model.specs.Mixtures.{Rollout}
@@ -25,7 +25,7 @@ use Rattle.command_base.specs.Lines.{FaultWords}
 use Rattle.command_base.specs.Meanings.{IsReadAs}
 use Rattle.command_base.specs.Readings.{reading}
 use Rattle.command_base.specs.Updates.{meaning_of}
-use Rattle.check_command.specs.Checks.{CheckMeaning, FilesMeanPlan, IsRefusedLine, check_count, check_dialogue, task_in}
+use Rattle.check_base.specs.Checks.{CheckMeaning, FilesMeanPlan, IsRefusedLine, check_count, check_dialogue, task_in}
 use Rattle.replay_command.specs.Replayed.{not_a_run_line}
 use Rattle.drive_command.specs.declared.readings.CheckFiles.{CheckFiles}
 use Rattle.drive_command.specs.declared.driving.DriveFault.{DriveFault}

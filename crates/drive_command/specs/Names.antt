@@ -1,7 +1,7 @@
 -- The words of `drive`.
 use Rattle.std.specs.Prelude.{List, [], ◌∷◌, ℕ, Option, None, Some}
-use Rattle.check_command.specs.Names as files
-use Rattle.check_command.specs.Names.{CheckNames}
+use Rattle.check_base.specs.Names as files
+use Rattle.check_base.specs.Names.{CheckNames}
 use Rattle.drive_command.specs.declared.names.DriveNames as code
 
 -- the names of the files of an update, of its plan, and of the inputs

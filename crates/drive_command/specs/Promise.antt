@@ -1,12 +1,12 @@
 -- What a run of `drive` promises over the files of a source that tells.
 use Rattle.std.specs.Prelude.{◌≡◌, ◌↔◌, ℕ, List, Option, Some}
 use Rattle.std.specs.Io.KnownBytes.{Appends}
-use Rattle.net_base.specs.Outside.{Files}
+use Rattle.file_access.specs.Outside.{Files}
 use Rattle.command_base.specs.declared.status.Status.{Status}
 use Rattle.command_base.specs.declared.status.Status.TheVariants as status
 use Rattle.command_base.specs.Lines.{classes_line}
 use Rattle.command_base.specs.Runs.{IsSettled}
-use Rattle.check_command.specs.Checks.{NamesFirstReason, check_count}
+use Rattle.check_base.specs.Checks.{NamesFirstReason, check_count}
 use Rattle.drive_command.specs.Names.{DriveNames}
 use Rattle.drive_command.specs.Driven.{DriveMeaning, FilesMeanDrive, FilesAreDriven, FilesAreNoRun, FilesAreNotCertified, FilesMakeTooMany, NamesRefusedStart, WritesReport}
 

@@ -14,7 +14,7 @@ use crate::readings::{CheckFiles, read_check_files, read_input_file};
 use crate::verdict::drive_verdict;
 use command_base::{Exit, Reply};
 use driver_input::Inputs;
-use net_base::Source;
+use file_access::Source;
 use std::alloc::Global;
 
 /// What is said of a plan and its inputs, as the end of the command.

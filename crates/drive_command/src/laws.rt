@@ -1,6 +1,6 @@
 //! The law of `drive`.
 ghost use Rattle.std.specs.Prelude.{ℕ, List, Option};
-ghost use Rattle.net_base.specs.Outside.{Files};
+ghost use Rattle.file_access.specs.Outside.{Files};
 ghost use Rattle.command_base.specs.declared.status.Status.{Status};
 ghost use Rattle.command_base.specs.Runs.{IsSettled, Answered};
 ghost use Rattle.drive_command.specs.Names.{DriveNames};

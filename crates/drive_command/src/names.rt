@@ -2,7 +2,7 @@
 ghost use Rattle.std.specs.Prelude.{◌≡◌, map, string_bytes, option_map};
 ghost use Rattle.drive_command.specs.Names.{names_in, names_seen};
 
-use check_command::CheckNames;
+use check_base::CheckNames;
 use command_base::UpdateNames;
 
 /// The names of the files of `drive`: those of `check`, and the inputs.

@@ -7,17 +7,17 @@ ghost use Rattle.driver_input.specs.Inputs.{inputs_in, AreInputs};
 ghost use Rattle.command_base.specs.declared.kinds.FileKind.TheVariants as «kind»;
 ghost use Rattle.command_base.specs.Dialogues.{FileRead, file_read, Gives, IsWhole};
 ghost use Rattle.command_base.specs.Replies.{words_of, IsBad, EndsEarly};
-ghost use Rattle.check_command.specs.Checks.{check_dialogue};
-ghost use Rattle.check_command.specs.Names as check;
+ghost use Rattle.check_base.specs.Checks.{check_dialogue};
+ghost use Rattle.check_base.specs.Names as check;
 ghost use Rattle.drive_command.specs.Driven.{reading_input, input_words, check_meaning_of};
 
 use certificates::Plan;
-use check_command::CheckNames;
+use check_base::CheckNames;
 use command_base::{
     Exit, Fault, FileKind, UpdateFiles, bad_reply, fetch_file, read_plan_file, read_update,
 };
 use driver_input::{InputFault, Inputs, read_input};
-use net_base::Source;
+use file_access::Source;
 use std::alloc::Global;
 use topology::Net;
 

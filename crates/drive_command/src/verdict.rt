@@ -17,7 +17,7 @@ ghost use Rattle.drive_command.specs.Driven.{IsDriven, IsDriveAnswer, SaysReport
 use crate::driving::{DriveFault, give_all};
 use crate::report::report_text;
 use certificates::Plan;
-use check_command::{class_of, refused_reply};
+use check_base::{class_of, refused_reply};
 use command_base::{Reply, Status, UpdateFiles, too_many_reply};
 use driver_input::Inputs;
 use net_base::Memory;

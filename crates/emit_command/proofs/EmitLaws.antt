@@ -4,7 +4,7 @@ use Rattle.std.specs.Prelude.{sum_by}
 use Rattle.std.specs.List.{AllByRecursion}
 use Rattle.std.specs.declared.option.Option.{Option}
 use Rattle.std.specs.Io.KnownBytes.{Appends}
-use Rattle.net_base.specs.Outside.{Files}
+use Rattle.file_access.specs.Outside.{Files}
 use Rattle.topology.specs.Networks.{Network, IsNetwork}
 use Rattle.update_model.specs.Ranges.{IsPlanChange}
 use Rattle.update_model.specs.declared.Change.{Change}

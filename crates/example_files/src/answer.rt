@@ -3,7 +3,7 @@ use command_base::{Exit, Reply, Status};
 use std::alloc::Global;
 
 /// How a command ends, and its text.
-#[derive(Debug, Drop)]
+#[derive(Drop)]
 pub struct Answer {
     pub status: Status,
     pub text: Vec<u8>,

@@ -2,7 +2,8 @@
 ghost use Rattle.std.specs.Prelude.{◌≤◌};
 
 use command_base::{PlanNames, UpdateNames};
-use net_base::{Memory, MemorySource};
+use file_access::MemorySource;
+use net_base::Memory;
 use std::alloc::Global;
 
 /// The texts of a topology, a configuration, and a policy if there is one.

@@ -11,8 +11,8 @@ use Rattle.plan_checker.specs.Checking.{EndsAreGood}
 use Rattle.command_base.specs.Answers.{Answer}
 use Rattle.command_base.specs.Judgements.{most_classes}
 use Rattle.command_base.specs.declared.status.Status.TheVariants as status
-use Rattle.check_command.specs.Checks.{CheckMeaning, IsNamed, check_count, task_in}
-use Rattle.check_command.specs.ReasonLines.{refused_line, class_named}
+use Rattle.check_base.specs.Checks.{CheckMeaning, IsNamed, check_count, task_in}
+use Rattle.check_base.specs.ReasonLines.{refused_line, class_named}
 use Rattle.explain_command.specs.Explained.{IsExplainAnswer}
 use Rattle.explain_command.proofs.SoundLaws.{reason_unsound}
 

@@ -2,7 +2,7 @@
 use Rattle.std.proofs.Common.{◌≡◌, ◌⊎◌, ◌↔◌, ℕ, List, Some, ap, ◌∙◌, subst, inl, inr, arith}
 use Rattle.std.specs.declared.option.Option.{Option}
 use Rattle.std.specs.Io.KnownBytes.{Appends}
-use Rattle.net_base.specs.Outside.{Files}
+use Rattle.file_access.specs.Outside.{Files}
 use Rattle.command_base.specs.declared.status.Status.{Status}
 use Rattle.command_base.specs.declared.status.Status.TheVariants as status
 use Rattle.command_base.specs.Lines.{classes_line}
@@ -11,9 +11,9 @@ use Rattle.command_base.proofs.MeaningLaws.{IsBadLine, said_over, over_splits}
 use Rattle.command_base.proofs.JudgementLaws as law
 use Rattle.command_base.proofs.JudgementLaws.{IsJudged, texts_same, first_byte}
 use Rattle.command_base.proofs.RunLaws.{settled_done, settled_refused, settled_bad}
-use Rattle.check_command.specs.Names.{CheckNames}
-use Rattle.check_command.specs.Checks.{CheckMeaning, check_dialogue, FilesMeanPlan, PlanMakesTooMany, check_count, task_in}
-use Rattle.check_command.proofs.CheckLaws.{means_check, check_means}
+use Rattle.check_base.specs.Names.{CheckNames}
+use Rattle.check_base.specs.Checks.{CheckMeaning, check_dialogue, FilesMeanPlan, PlanMakesTooMany, check_count, task_in}
+use Rattle.check_base.proofs.FileLaws.{means_check, check_means}
 use Rattle.explain_command.specs.Explained.{IsExplainAnswer, IsExplainable, IsExplanation, IsWhyNot, IsBreakingSchedule, NothingBreaks, SomethingBreaks, nothing_line}
 use Rattle.explain_command.specs.Explained.{FilesAreExplainable, FilesAreNotExplainable, WritesBreakingRun, WritesNothingBreaks, NamesFirstCause}
 use Rattle.explain_command.specs.Promise.{ExplainPromise}

@@ -1,7 +1,7 @@
 -- What is said of the mixed walks of a plan.
 use Rattle.std.specs.Prelude.{◌≡◌, ◌⊎◌, ℕ, ◌<◌, ◌≤◌, true, false, List, [], ◌∷◌, length, Option, None, Ok, codes}
 use Rattle.std.specs.Io.KnownBytes.{Appends}
-use Rattle.net_base.specs.Outside.{Files}
+use Rattle.file_access.specs.Outside.{Files}
 use Rattle.dest_classes.specs.Classes.{IsClass}
 use Rattle.dest_classes.specs.declared.Class.{Class}
 use Rattle.update_model.specs.Mixtures.{AreGoodRounds, AreClearRounds}
@@ -20,9 +20,9 @@ use Rattle.counter_run.specs.Explaining.{ClassBreaks, NoneBreaks, IsFirstBreakin
 use Rattle.counter_run.specs.Showing.{HasGoodTrace}
 use Rattle.command_base.specs.Answers.{Answer}
 use Rattle.command_base.specs.Judgements.{IsJudgement, most_classes}
-use Rattle.check_command.specs.Checks.{CheckMeaning, FilesMeanPlan, IsRefusedLine, check_count, task_in}
-use Rattle.check_command.specs.Names.{CheckNames}
-use Rattle.check_command.specs.ReasonLines.{refused_line}
+use Rattle.check_base.specs.Checks.{CheckMeaning, FilesMeanPlan, IsRefusedLine, check_count, task_in}
+use Rattle.check_base.specs.Names.{CheckNames}
+use Rattle.check_base.specs.ReasonLines.{refused_line}
 
 -- on a two-phase plan
 abbrev pub two_phase_line : List ℕ

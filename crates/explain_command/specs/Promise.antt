@@ -1,13 +1,13 @@
 -- What a run of `explain` promises over the files of a source that tells.
 use Rattle.std.specs.Prelude.{◌≡◌, ◌⊎◌, ◌↔◌, ℕ, List, Option, Some}
 use Rattle.std.specs.Io.KnownBytes.{Appends}
-use Rattle.net_base.specs.Outside.{Files}
+use Rattle.file_access.specs.Outside.{Files}
 use Rattle.command_base.specs.declared.status.Status.{Status}
 use Rattle.command_base.specs.declared.status.Status.TheVariants as status
 use Rattle.command_base.specs.Lines.{classes_line}
 use Rattle.command_base.specs.Runs.{IsSettled}
-use Rattle.check_command.specs.Names.{CheckNames}
-use Rattle.check_command.specs.Checks.{CheckMeaning, FilesMeanPlan, PlanMakesTooMany, check_count, task_in}
+use Rattle.check_base.specs.Names.{CheckNames}
+use Rattle.check_base.specs.Checks.{CheckMeaning, FilesMeanPlan, PlanMakesTooMany, check_count, task_in}
 use Rattle.explain_command.specs.Explained.{FilesAreExplainable, FilesAreNotExplainable, SomethingBreaks, NothingBreaks, WritesBreakingRun, WritesNothingBreaks, NamesFirstCause, nothing_line}
 
 -- the files and their names, what was written before and after the run, and how it ended

@@ -17,7 +17,7 @@ ghost use Rattle.explain_command.specs.Explained.{IsExplainAnswer};
 use crate::explaining::explanation;
 use crate::reasons::round_reason;
 use certificates::{Evidence, Plan};
-use check_command::{class_of, refused_reply};
+use check_base::{class_of, refused_reply};
 use check_reasons::Case;
 use command_base::{Reply, Status, UpdateFiles, too_many_reply};
 use net_base::Memory;

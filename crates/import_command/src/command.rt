@@ -10,9 +10,10 @@ ghost use Rattle.import_command.specs.Imported.{behind_topology, import_dialogue
 use crate::names::ImportNames;
 use crate::readings::read_replies_file;
 use command_base::{Exit, Reply, Status, read_topology};
+use file_access::Source;
 use flow_rules::Config;
 use flow_stats::config_text;
-use net_base::{Memory, Source};
+use net_base::Memory;
 use std::alloc::Global;
 use topology::Net;
 

@@ -9,9 +9,9 @@ ghost use Rattle.command_base.specs.Replies.{words_of, IsBad, EndsEarly};
 ghost use Rattle.import_command.specs.Imported.{reading_replies, replies_words};
 
 use command_base::{Exit, Fault, FileKind, bad_reply, fetch_file};
+use file_access::Source;
 use flow_rules::Config;
 use flow_stats::{StatsFault, read_replies};
-use net_base::Source;
 use std::alloc::Global;
 use topology::Net;
 

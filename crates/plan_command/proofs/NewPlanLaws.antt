@@ -1,13 +1,8 @@
 -- What the answer on an update stands on.
-use Rattle.std.proofs.Common.{◌≡◌, ◌<◌, ◌≤◌, Bool, true, List, [], ◌++◌, length, map, Some, Result, Ok, Err, IfOk, refl, sym, subst}
-use Rattle.flow_rules.specs.Tables.{table_blocks}
+use Rattle.std.proofs.Common.{◌≡◌, ◌<◌, ◌≤◌, Bool, true, List, Some, Result, Ok, Err, IfOk, refl, sym, subst}
 use Rattle.flow_rules.specs.declared.rules.Rule.{Rule}
 use Rattle.dest_classes.specs.Classes.{ClassList, IsClass, class_count}
 use Rattle.dest_classes.proofs.MapLaws.{number_fits}
-use Rattle.net_base.proofs.MemberLaws.{in_append_left, in_append_right}
-use Rattle.update_model.specs.Changes.{round_blocks}
-use Rattle.demands.specs.OfClass.{AreCovered}
-use Rattle.demands.proofs.RowLaws.{each_there}
 use Rattle.dest_classes.specs.declared.Class.{Class}
 use Rattle.demands.specs.Duties.{ClassDuties}
 use Rattle.demands.specs.Good.{HasGoodPaths}
@@ -15,20 +10,18 @@ use Rattle.config_check.specs.declared.Breaks.{Breaks}
 use Rattle.config_check.specs.Broken.{IsFirstBreak}
 use Rattle.update_model.specs.declared.Change.{Change}
 use Rattle.certificates.specs.Certified.{IsCertified}
-use Rattle.certificates.specs.Trees.{IsTreeUpdate}
 use Rattle.certificates.specs.declared.Plan.{Plan}
-use Rattle.round_planner.specs.Ends.{aim_of, IsPlanOf}
-use Rattle.update_model.specs.Remaining.{remaining}
-use Rattle.upgrade_command.specs.Texts.{SaysPlan}
 use Rattle.check_reasons.specs.declared.reason.Reason.TheVariants.{EndBreaks}
 use Rattle.two_phase.specs.Laws.{two_phase_task}
 use Rattle.two_phase.specs.Plans.{two_phase_plan, IsCertifiedTwoPhase}
 use Rattle.command_base.specs.declared.status.Status.TheVariants as status
-use Rattle.check_command.specs.ReasonLines.{refused_line}
+use Rattle.check_base.specs.ReasonLines.{refused_line}
 use Rattle.command_base.specs.Answers.{Answer}
 use Rattle.command_base.specs.Judgements.{SaysWhyNot, most_classes}
 use Rattle.certificates.specs.Updates.{Update, task_for}
-use Rattle.plan_command.specs.Planned.{update_classes, update_count, bare_task, SaysOrdered, EndsAreGood, IsFirstEndBreak, IsEndLine}
+use Rattle.round_planner.specs.Updates.{update_classes, update_count}
+use Rattle.round_planner.proofs.UpdateLaws.{good_back}
+use Rattle.plan_command.specs.Planned.{EndsAreGood, IsFirstEndBreak, IsEndLine}
 
 -- two facts of a value, the second under a premise
 pub both_ok : {A E : Type 0} (r : Result A E) (P Q R : A → Type 0) (T : Type 0) → ((x : A) → P x → (T → Q x) → R x) → IfOk r P → (T → IfOk r Q) → IfOk r R
@@ -46,12 +39,6 @@ module _ (u : Update) where
     answer_is = is;
   }
 
-  -- a tree update, for the duties that were made
-  pub tree_for : (duties : ClassDuties) (classes : ClassList) → duties ≡ record { demands = u.demands; classes = classes } → IsTreeUpdate (bare_task u)
-      → IsTreeUpdate (record { update = record { net = u.net; old = u.old; new = u.new; demands = duties.demands }; rounds = [] })
-  tree_for duties classes made tree =
-      subst (λ (d : ClassDuties). IsTreeUpdate (record { update = record { net = u.net; old = u.old; new = u.new; demands = d.demands }; rounds = [] })) (sym made) tree
-
   -- the plan of two phases after a search that was stuck
   module _ (p : Plan) (rounds : List (List Change)) (plan_is : p ≡ two_phase_plan u.net u.old u.new rounds) where
     pub two_certified : IsCertifiedTwoPhase u.net u.old u.new p → EndsAreGood u → IsCertified (task_for u p) p.evidence
@@ -61,11 +48,6 @@ module _ (u : Update) where
         (subst (λ (q : Plan). IsCertified (two_phase_task u.net u.old u.new u.demands) q.evidence) plan_is there)
 
   module _ (classes : ClassList) (are : classes ≡ update_classes u) where
-    pub covered : AreCovered u.demands classes
-    covered = subst (λ c. AreCovered u.demands c) (sym are) (each_there u.demands (update_classes u).prefixes
-        (λ b i. in_append_left b (table_blocks u.old ++ table_blocks u.new ++ map (λ d. d.dst) u.demands) (round_blocks [])
-        (in_append_right b (table_blocks u.old ++ table_blocks u.new) (map (λ d. d.dst) u.demands) i)))
-
     pub break_fits : (tables : List (List Rule)) (b : Breaks) → IsFirstBreak u.net tables u.demands (update_classes u) b → b.class < class_count classes
     break_fits tables b first = subst (λ c. b.class < class_count c) (sym are) (number_fits (update_classes u) b.class first.class first.is_class)
 
@@ -74,9 +56,6 @@ module _ (u : Update) where
     good_as : (tables : List (List Rule)) → HasGoodPaths u.net tables duties.demands classes → HasGoodPaths u.net tables u.demands (update_classes u)
     good_as tables good = subst (λ c. HasGoodPaths u.net tables u.demands c) are (subst (λ d. HasGoodPaths u.net tables d.demands classes) made good)
 
-    pub good_back : (tables : List (List Rule)) → HasGoodPaths u.net tables u.demands (update_classes u) → HasGoodPaths u.net tables duties.demands classes
-    good_back tables good = subst (λ d. HasGoodPaths u.net tables d.demands classes) (sym made) (subst (λ c. HasGoodPaths u.net tables u.demands c) (sym are) good)
-
     pub new_break : (b : Breaks) → HasGoodPaths u.net u.old duties.demands classes → IsFirstBreak u.net u.new duties.demands classes b → IsFirstEndBreak u true b
     new_break b old_good first = record {
       first = subst (λ c. IsFirstBreak u.net u.new u.demands c b) are (subst (λ d. IsFirstBreak u.net u.new d.demands classes b) made first);
@@ -84,10 +63,10 @@ module _ (u : Update) where
     }
 
     pub old_not_good : ¬ HasGoodPaths u.net u.old duties.demands classes → ¬ EndsAreGood u
-    old_not_good broken = λ ends. broken (good_back u.old ends.old_good)
+    old_not_good broken = λ ends. broken (good_back u classes are duties made u.old ends.old_good)
 
     pub new_not_good : ¬ HasGoodPaths u.net u.new duties.demands classes → ¬ EndsAreGood u
-    new_not_good broken = λ ends. broken (good_back u.new ends.new_good)
+    new_not_good broken = λ ends. broken (good_back u classes are duties made u.new ends.new_good)
 
     pub both_good : HasGoodPaths u.net u.old duties.demands classes → HasGoodPaths u.net u.new duties.demands classes → EndsAreGood u
     both_good old_good new_good = record { old_good = good_as u.old old_good; new_good = good_as u.new new_good }

@@ -1,9 +1,9 @@
 -- What a run of `plan` says of the files of a source that tells.
-use Rattle.std.proofs.Common.{◌≡◌, ◌≢◌, ◌⊎◌, ◌↔◌, ℕ, ◌*◌, ◌<◌, ◌≤◌, List, ◌∷◌, length, Some, Ok, sym, ap, ◌∙◌, subst, inl, inr, arith}
+use Rattle.std.proofs.Common.{◌≡◌, ◌≢◌, ◌↔◌, ℕ, ◌*◌, ◌<◌, ◌≤◌, List, ◌∷◌, length, Some, Ok, sym, ap, ◌∙◌, subst, inl, inr, arith}
 use Rattle.std.specs.declared.option.Option.{Option}
 use Rattle.std.specs.declared.result.Result.{Result}
 use Rattle.std.specs.Io.KnownBytes.{Appends}
-use Rattle.net_base.specs.Outside.{Files}
+use Rattle.file_access.specs.Outside.{Files}
 use Rattle.net_base.specs.declared.ids.SwitchId.{SwitchId}
 use Rattle.topology.specs.Networks.{Network, capacity_of}
 use Rattle.flow_rules.specs.declared.rules.Rule.{Rule}
@@ -30,13 +30,14 @@ use Rattle.command_base.specs.Names.{UpdateNames}
 use Rattle.command_base.specs.Answers.{Answer}
 use Rattle.command_base.specs.Judgements.{SaysTooMany, SaysWhyNot, most_classes}
 use Rattle.certificates.specs.Updates.{Update, task_for}
-use Rattle.plan_command.specs.Planned.{update_classes, update_count, update_aim, bare_task, EndsAreGood, IsEndLine, SaysNewPlan, SaysTooFew, SaysTooSmall, SaysSearched, SaysPlanned, IsPlanned}
+use Rattle.round_planner.specs.Updates.{update_classes, update_count, update_aim, bare_task, KeepsConsistent}
+use Rattle.plan_command.specs.Planned.{EndsAreGood, IsEndLine, SaysNewPlan, SaysTooFew, SaysTooSmall, SaysSearched, SaysPlanned, IsPlanned}
 use Rattle.command_base.specs.Readings.{reading_update}
 use Rattle.command_base.specs.Runs.{IsSettled, Answered}
 use Rattle.command_base.specs.Meanings.{IsReadAs}
 use Rattle.command_base.specs.Updates.{FilesMeanUpdate, WritesPlan}
-use Rattle.check_command.specs.Checks.{FilesAreCertified}
-use Rattle.plan_command.specs.NewPlans.{FilesMeanTrees, WritesOrderedPlan, FilesMeanGoodEnds, IsStuck, HasPlan, FilesHavePlan, FilesBreakAnEnd, FilesLackTags, FilesLackRoom, UpdateMakesTooMany, WritesNewPlan, KeepsConsistent, NamesFirstEndBreak, HoldBeside}
+use Rattle.check_base.specs.Checks.{FilesAreCertified}
+use Rattle.plan_command.specs.NewPlans.{FilesMeanTrees, WritesOrderedPlan, FilesMeanGoodEnds, IsStuck, HasPlan, FilesHavePlan, FilesBreakAnEnd, FilesLackTags, FilesLackRoom, UpdateMakesTooMany, WritesNewPlan, NamesFirstEndBreak, HoldBeside}
 use Rattle.command_base.proofs.MeaningLaws.{said_over, over_splits, means_update, update_means}
 use Rattle.command_base.proofs.JudgementLaws.{status_of, text_of, texts_same, first_byte}
 use Rattle.command_base.proofs.RunLaws.{settled_done, settled_refused, settled_bad}

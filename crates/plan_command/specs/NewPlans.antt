@@ -1,26 +1,25 @@
 -- What the files of `plan` mean, and what follows from it.
 use Rattle.std.specs.Prelude.{◌≡◌, ◌⊎◌, ℕ, ◌<◌, ◌≤◌, List, length, Ok, Option, Some}
 use Rattle.std.specs.Io.KnownBytes.{Appends}
-use Rattle.net_base.specs.Outside.{Files}
+use Rattle.file_access.specs.Outside.{Files}
 use Rattle.net_base.specs.declared.ids.SwitchId.{SwitchId}
 use Rattle.update_model.specs.declared.Change.{Change}
 use Rattle.update_model.specs.Remaining.{remaining}
-use Rattle.certificates.specs.Certified.{IsCertified, is_two_phase}
-use Rattle.certificates.specs.Consistent.{IsConsistent}
 use Rattle.certificates.specs.Trees.{IsTreeUpdate}
 use Rattle.certificates.specs.declared.Plan.{Plan}
 use Rattle.plan_format.specs.Plans.{plan_in}
 use Rattle.plan_text.specs.PlanText.{plan_text}
 use Rattle.round_planner.specs.Search.{EndsOrdered, EndsStuck}
 use Rattle.round_planner.specs.Ends.{IsPlanOf}
+use Rattle.round_planner.specs.Updates.{update_count, update_aim, bare_task}
 use Rattle.tag_allocator.specs.Tags.{available_tags}
 use Rattle.two_phase.specs.Laws.{FitsTwoPhase}
 use Rattle.two_phase.specs.Plans.{IsFirstTooSmall}
 use Rattle.command_base.specs.Names.{UpdateNames}
 use Rattle.command_base.specs.Judgements.{most_classes}
-use Rattle.certificates.specs.Updates.{Update, task_for}
+use Rattle.certificates.specs.Updates.{Update}
 use Rattle.command_base.specs.Updates.{FilesMeanUpdate}
-use Rattle.plan_command.specs.Planned.{update_count, update_aim, bare_task, EndsAreGood, IsEndLine, IsNewPlan}
+use Rattle.plan_command.specs.Planned.{EndsAreGood, IsEndLine, IsNewPlan}
 
 -- the files mean this update, there are few enough classes, and both ends are good
 pub record FilesMeanGoodEnds (files : Files) (names : UpdateNames) (u : Update) : Type 0 where
@@ -98,11 +97,6 @@ pub record WritesOrderedPlan (u : Update) (old new : Option (List ℕ)) : Type 0
   pub count : length plan.rounds ≡ length (remaining u.old u.new)
   pub means : plan_in u.net (plan_text u.net plan) ≡ Ok plan
   pub written : Appends old new (plan_text u.net plan)
-
--- the plan is certified, and keeps every packet of every run consistent
-pub record KeepsConsistent (u : Update) (p : Plan) : Type 0 where
-  pub certified : IsCertified (task_for u p) p.evidence
-  pub consistent : IsConsistent u p.rounds (is_two_phase p.evidence)
 
 -- the line that was written names the first break of an end
 pub record NamesFirstEndBreak (u : Update) (old new : Option (List ℕ)) : Type 0 where

@@ -1,46 +1,30 @@
 -- What is said of an update that is to be planned.
-use Rattle.std.specs.Prelude.{◌≡◌, ◌⊎◌, ℕ, ◌≤◌, Bool, IsTrue, List, [], length, Some, if◌then◌else◌}
+use Rattle.std.specs.Prelude.{◌≡◌, ◌⊎◌, ℕ, ◌≤◌, Bool, IsTrue, List, length, Some, if◌then◌else◌}
 use Rattle.net_base.specs.declared.ids.SwitchId.{SwitchId}
-use Rattle.dest_classes.specs.Classes.{ClassList, IsClass, class_count}
+use Rattle.dest_classes.specs.Classes.{IsClass}
 use Rattle.dest_classes.specs.declared.Class.{Class}
 use Rattle.demands.specs.Good.{HasGoodPaths}
 use Rattle.config_check.specs.declared.Breaks.{Breaks}
 use Rattle.config_check.specs.Broken.{IsFirstBreak}
 use Rattle.update_model.specs.declared.Change.{Change}
 use Rattle.update_model.specs.Remaining.{remaining}
-use Rattle.certificates.specs.Updates.{Task, Update, task_for}
+use Rattle.certificates.specs.Updates.{Update, task_for}
 use Rattle.certificates.specs.Certified.{IsCertified, classes_for, is_two_phase}
 use Rattle.certificates.specs.Consistent.{IsConsistent}
 use Rattle.certificates.specs.Trees.{IsTreeUpdate}
 use Rattle.certificates.specs.declared.Plan.{Plan}
 use Rattle.check_reasons.specs.declared.reason.Reason.TheVariants.{EndBreaks}
-use Rattle.table_difference.specs.SameClasses.{HasSameClasses, classes_before}
-use Rattle.round_planner.specs.Search.{Aim}
-use Rattle.round_planner.specs.Ends.{aim_of, IsPlanOf, AreStuck}
+use Rattle.table_difference.specs.SameClasses.{HasSameClasses}
+use Rattle.round_planner.specs.Ends.{IsPlanOf, AreStuck}
+use Rattle.round_planner.specs.Updates.{update_classes, update_count, update_aim, bare_task}
 use Rattle.two_phase.specs.Laws.{FitsTwoPhase}
 use Rattle.two_phase.specs.Plans.{two_phase_plan, AreTooFew, IsFirstTooSmall}
 use Rattle.command_base.specs.declared.status.Status.TheVariants as status
 use Rattle.plan_command.specs.NoPlanLines.{too_few_lines, too_small_lines}
-use Rattle.check_command.specs.ReasonLines.{refused_line}
+use Rattle.check_base.specs.ReasonLines.{refused_line}
 use Rattle.command_base.specs.Answers.{Answer}
 use Rattle.command_base.specs.Judgements.{SaysTooMany, SaysWhyNot, most_classes}
 use Rattle.upgrade_command.specs.Texts.{SaysPlan}
-
--- the classes of an update: those of the prefixes of both configurations and of the demands
-abbrev pub update_classes : Update → ClassList
-update_classes u = classes_before u.net u.old u.new u.demands
-
--- how many they are
-abbrev pub update_count : Update → ℕ
-update_count u = class_count (update_classes u)
-
--- what the search of an update is for
-abbrev pub update_aim : Update → Aim
-update_aim u = aim_of u.net u.old u.new u.demands
-
--- the update without rounds
-abbrev pub bare_task : Update → Task
-bare_task u = record { update = u; rounds = [] }
 
 -- both configurations have good paths for all classes of the update
 pub record EndsAreGood (u : Update) : Type 0 where

@@ -1,9 +1,10 @@
 -- What a run of `plan` promises over the files of a source that tells.
 use Rattle.std.specs.Prelude.{◌≡◌, ◌↔◌, ◌≤◌, ℕ, List, length, Option, Some}
 use Rattle.std.specs.Io.KnownBytes.{Appends}
-use Rattle.net_base.specs.Outside.{Files}
+use Rattle.file_access.specs.Outside.{Files}
 use Rattle.certificates.specs.declared.Plan.{Plan}
 use Rattle.round_planner.specs.Search.{single_rounds}
+use Rattle.round_planner.specs.Updates.{update_count, KeepsConsistent}
 use Rattle.tag_allocator.specs.Tags.{available_tags}
 use Rattle.command_base.specs.declared.status.Status.{Status}
 use Rattle.command_base.specs.declared.status.Status.TheVariants as status
@@ -14,10 +15,9 @@ use Rattle.command_base.specs.Names.{UpdateNames}
 use Rattle.certificates.specs.Updates.{Update}
 use Rattle.command_base.specs.Updates.{FilesMeanUpdate, WritesPlan}
 use Rattle.command_base.specs.Runs.{IsSettled}
-use Rattle.check_command.specs.Checks.{FilesAreCertified}
+use Rattle.check_base.specs.Checks.{FilesAreCertified}
 use Rattle.plan_command.specs.NoPlanLines as lines
-use Rattle.plan_command.specs.Planned.{update_count}
-use Rattle.plan_command.specs.NewPlans.{FilesHavePlan, FilesBreakAnEnd, FilesLackTags, FilesLackRoom, UpdateMakesTooMany, FilesMeanTrees, WritesNewPlan, WritesOrderedPlan, KeepsConsistent, NamesFirstEndBreak, HoldBeside}
+use Rattle.plan_command.specs.NewPlans.{FilesHavePlan, FilesBreakAnEnd, FilesLackTags, FilesLackRoom, UpdateMakesTooMany, FilesMeanTrees, WritesNewPlan, WritesOrderedPlan, NamesFirstEndBreak, HoldBeside}
 
 -- the files and their names, what was written before and after the run, and how it ended
 pub record PlanPromise (files : Files) (names : UpdateNames) (old new : Option (List ℕ)) (result : Status) : Type 0 where

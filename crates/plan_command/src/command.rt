@@ -10,7 +10,7 @@ ghost use Rattle.plan_command.specs.Planned.{IsPlanned};
 
 use crate::planning::new_plan;
 use command_base::{Exit, Reply, UpdateFiles, UpdateNames, read_update};
-use net_base::Source;
+use file_access::Source;
 use std::alloc::Global;
 
 /// What is said of an update as the end of the command.

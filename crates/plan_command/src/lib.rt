@@ -7,4 +7,3 @@ mod no_plan_lines;
 mod planning;
 
 pub use crate::command::plan;
-pub use crate::planning::{new_plan, update_prefixes};

@@ -9,40 +9,31 @@ ghost use Rattle.certificates.specs.Valid.{IsValidPlan};
 ghost use Rattle.table_difference.specs.SameClasses.{HasSameClasses};
 ghost use Rattle.table_difference.specs.Tried.{AreTried};
 ghost use Rattle.round_planner.specs.Ends.{AreStuck};
+ghost use Rattle.round_planner.specs.Updates.{update_classes, update_count, update_aim, bare_task};
 ghost use Rattle.two_phase.specs.Plans.{AreTooFew, IsFirstTooSmall};
 ghost use Rattle.command_base.specs.Judgements.{SaysWhyNot, most_classes};
 ghost use Rattle.certificates.specs.Updates.{task_for};
 ghost use Rattle.command_base.specs.Updates.{meaning_of};
 ghost use Rattle.command_base.specs.Replies.{answer_of};
 ghost use Rattle.upgrade_command.specs.Texts.{SaysPlan};
-ghost use Rattle.plan_command.specs.Planned.{update_classes, update_count, update_aim, EndsAreGood, IsFirstEndBreak, IsEndLine, IsNewPlan, SaysNewPlan, SaysOrdered, bare_task, SaysTooFew, SaysTooSmall, SaysSearched, IsPlanned};
+ghost use Rattle.plan_command.specs.Planned.{EndsAreGood, IsFirstEndBreak, IsEndLine, IsNewPlan, SaysNewPlan, SaysOrdered, SaysTooFew, SaysTooSmall, SaysSearched, IsPlanned};
 
 use crate::no_plan_lines::{too_few_lines, too_small_lines};
 use certificates::Plan;
 use certificates::laws::certified_consistent;
-use check_command::refused_reply;
+use check_base::refused_reply;
+use check_reasons::Reason;
 use command_base::{Reply, Status, UpdateFiles, too_many_reply};
 use config_check::{Breaks, check_config};
 use demands::Duties;
 use dest_classes::{ClassFault, ClassMap, class_map};
-use net_base::{Memory, Prefix, SwitchId};
+use net_base::{Memory, SwitchId};
 use path_walk::PathRoom;
-use plan_checker::Reason;
-use round_planner::{Ordered, order};
+use round_planner::{Ordered, order, update_prefixes};
 use std::alloc::Global;
 use two_phase::{TwoFault, two_phase};
 use update_model::Rounds;
 use upgrade_command::plan_reply;
-
-/// The prefixes of both configurations, and then of the demands.
-pub fn update_prefixes(files: &UpdateFiles) -> Result<Vec<Prefix>, Memory>
-    ensures { IfOk result (λ v. v.items ≡ (update_classes (meaning_of files.now)).prefixes) }
-{
-    let mut prefixes = files.old.prefixes()?;
-    prefixes.extend_from_slice(&files.new.prefixes()?)?;
-    prefixes.extend_from_slice(&files.demands.prefixes()?)?;
-    Ok(prefixes)
-}
 
 /// The reply on an end that isn't good.
 fn end_reply(
@@ -205,12 +196,12 @@ fn classed_reply(alloc: Global, files: &UpdateFiles, classes: &ClassMap) -> Resu
 }
 
 /// What is said of an update: too many classes, an end that isn't good, a new plan, or why there is none.
-pub fn new_plan(alloc: Global, files: &UpdateFiles) -> Result<Reply, Memory>
+pub(crate) fn new_plan(alloc: Global, files: &UpdateFiles) -> Result<Reply, Memory>
     requires old { IsUserConfig files.now.net (rules_of_all files.now.old) }
     requires new { IsUserConfig files.now.net (rules_of_all files.now.new) }
     ensures { IfOk result (λ r. IsPlanned (meaning_of files.now) (answer_of r)) }
 {
-    let prefixes = update_prefixes(files)?;
+    let prefixes = update_prefixes(&files.old, &files.new, &files.demands)?;
     match class_map(alloc, &files.net, &prefixes) {
         Ok(classes) => classed_reply(alloc, files, &classes),
         Err(ClassFault::TooManyClasses(classes)) => too_many_reply(alloc, classes),

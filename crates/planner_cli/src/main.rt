@@ -2,7 +2,7 @@
 #![tactic(auto)]
 
 use command_base::Status;
-use net_base::{FileSource, StdoutSink};
+use file_access::{FileSource, StdoutSink};
 use planner_run::run::run;
 use std::process::ExitCode;
 use std::rt::Env;

@@ -1,6 +1,7 @@
 //! `plan` over files in memory, and `check` of what it planned.
 use crate::{neighbours, retried};
-use check_command::{CheckNames, check};
+use check_base::CheckNames;
+use check_command::check;
 use command_base::Status;
 use example_files::{
     Answer, UpdateTexts, answer_of, detour, detour_plans, halves, leaves, none, single, square,

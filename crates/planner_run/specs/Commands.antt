@@ -11,8 +11,9 @@ use Rattle.certificates.specs.Updates.{Update}
 use Rattle.command_base.specs.Updates.{PlanMeaning}
 use Rattle.config_command.specs.Names as config
 use Rattle.config_command.specs.Configs.{ConfigMeaning, config_dialogue, IsConfigAnswer}
-use Rattle.check_command.specs.Names as check
-use Rattle.check_command.specs.Checks.{CheckMeaning, check_dialogue, IsCheckAnswer}
+use Rattle.check_base.specs.Names as check
+use Rattle.check_base.specs.Checks.{CheckMeaning, check_dialogue}
+use Rattle.check_command.specs.Checks.{IsCheckAnswer}
 use Rattle.plan_command.specs.Planned.{IsPlanned}
 use Rattle.replay_command.specs.Names as replay
 use Rattle.replay_command.specs.Replayed.{ReplayMeaning, replay_dialogue, IsReplayAnswer}

@@ -2,7 +2,7 @@
 ghost use Rattle.std.specs.Prelude.{◌≡◌, map, string_bytes, option_map};
 ghost use Rattle.planner_run.specs.Commands.{asked, seen};
 
-use check_command::{CheckNames, check_names};
+use check_base::{CheckNames, check_names};
 use command_base::{PlanNames, UpdateNames, plan_names, update_names};
 use config_command::{ConfigNames, config_names};
 use drive_command::{DriveNames, drive_names};

@@ -5,7 +5,7 @@ use command_base::Status;
 use example_files::{
     Answer, ConfigTexts, UpdateTexts, config_source, driven_source, square, update_source, words,
 };
-use net_base::{MemorySink, MemorySource};
+use file_access::{MemorySink, MemorySource};
 use planner_run::run::run;
 use std::alloc::Global;
 use std::process::Abort;

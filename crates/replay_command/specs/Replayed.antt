@@ -1,7 +1,7 @@
 -- What the files of `replay` mean, and what is said of the schedule.
 use Rattle.std.specs.Prelude.{◌≡◌, ◌⊎◌, ℕ, List, ◌++◌, codes, decimal, Option}
 use Rattle.std.specs.Io.KnownBytes.{Appends}
-use Rattle.net_base.specs.Outside.{Files}
+use Rattle.file_access.specs.Outside.{Files}
 use Rattle.topology.specs.Networks.{Network}
 use Rattle.topology_files.specs.Topology.{network_in}
 use Rattle.flow_rules.specs.declared.rules.Rule.{Rule}

@@ -7,7 +7,7 @@ ghost use Rattle.command_base.specs.Replies.{words_of, IsBad, EndsEarly};
 ghost use Rattle.replay_command.specs.Replayed.{reading_schedule, schedule_words};
 
 use command_base::{Exit, Fault, FileKind, bad_reply, fetch_file};
-use net_base::Source;
+use file_access::Source;
 use schedule_replay::{Schedule, ScheduleFault, read_schedule};
 use std::alloc::Global;
 use topology::Net;

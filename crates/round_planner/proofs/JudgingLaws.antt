@@ -1,6 +1,6 @@
 -- What is found for the classes, class by class, and what the pick in force says of a class.
-use Rattle.std.proofs.Common.{◌≡◌, ◌≢◌, ◌⊎◌, ◌↔◌, ℕ, zero, suc, ◌+◌, ◌<◌, ◌≤◌, List, [], ◌∷◌, ◌++◌, length, get_or, Some, refl, sym, ◌∙◌, subst, ap, inl, inr, arith}
-use Rattle.std.specs.Prelude.{slice_get, IsTrue}
+use Rattle.std.proofs.Common.{◌≡◌, ◌≢◌, ◌⊎◌, ◌↔◌, ℕ, zero, suc, ◌+◌, ◌<◌, ◌≤◌, List, [], ◌∷◌, ◌++◌, length, get_or, Option, Some, None, Result, Ok, Err, Vec, Global, refl, sym, ◌∙◌, subst, ap, inl, inr, arith}
+use Rattle.std.specs.Prelude.{slice_get, IsTrue, IfOk, IsOkAnd}
 use Rattle.std.specs.List.{AllByRecursion, AllZip}
 use Rattle.std.proofs.lemmas.Option.{same_Some, slice_get-get_or}
 use Rattle.std.proofs.lemmas.Bool.{cases_lt}
@@ -41,7 +41,8 @@ use Rattle.check_reasons.specs.Touched.{may_cover}
 use Rattle.round_planner.specs.Failures.{IsVisited}
 use Rattle.round_planner.specs.Visits.{HoldsTables}
 use Rattle.round_planner.proofs.VisitLaws.{safe_still, safe_after}
-use Rattle.round_planner.specs.Standing.{IsCertifiedClass, IsNextRound, IsJudged, IsJudgedIfMet, HasFound, HasNotFound, AreSafeBelow, IsNewlySafe, IsUnsafe, HasUnsafe}
+use Rattle.round_planner.specs.Standing.{IsCertifiedClass, IsNextRound, IsJudged, IsJudgedIfMet, HasFound, HasNotFound, AreSafeBelow, IsNewlySafe, IsUnsafe, HasUnsafe, IsNoted, verdict_of}
+use Rattle.round_planner.specs.declared.judging.Verdict.{Verdict}
 
 -- ---- the pick in force
 
@@ -144,6 +145,10 @@ means_use e pick numbers sets meant number use_ numbering is use_is numbering_is
 -- each number that isn't above the last is that or below it
 below_or_last : (n m : ℕ) → n < m + 1 → (n < m) ⊎ (n ≡ m)
 below_or_last n m less = elim (cases_lt n m) [ inl below ↦ inl below | inr above ↦ inr (omega arith) ]
+
+-- no class is some class
+none_some : (f : UnsafeClass) → ¬ (None ≡ Some f)
+none_some f same = cc
 
 module _ (aim : Aim) (u : Rollout) (e : OrderedEvidence) (k : ℕ) where
   pub safe_none : AreSafeBelow aim u e k 0 []
@@ -250,6 +255,31 @@ module _ (aim : Aim) (u : Rollout) (e : OrderedEvidence) (k : ℕ) where
       let (same, unsafe_) = judged class is in
       record { number = m; is_class = subst (IsClass aim.classes m) (sym same) is; unsafe_ = unsafe_ }
 
+  -- ---- what is noted of the class with a number
+
+  -- what holds of all that is found holds with what is noted, where the class is safe
+  pub safe_noted : (m : ℕ) (found new : List Found) (judged : Judged) (failing : Option UnsafeClass) → IsNoted m judged found new failing → failing ≡ None → AreSafeBelow aim u e k m found
+      → ((class : Class) → IsClass aim.classes m class → IsJudged aim u e k m class judged) → AreSafeBelow aim u e k (m + 1) new
+  safe_noted m found new Kept failing noted none h judged = subst (AreSafeBelow aim u e k (m + 1)) (sym noted.0) (safe_kept m found h judged)
+  safe_noted m found new (New evidence) failing noted none h judged =
+      subst (AreSafeBelow aim u e k (m + 1)) (sym noted.0) (safe_new m found (record { class = m; evidence = evidence }) refl h judged)
+  safe_noted m found new (Unsafe f) failing noted none h judged = absurd (none_some f (sym none ∙ noted))
+
+  pub met_noted : (m : ℕ) → m < class_count aim.classes → (found new : List Found) (judged : Judged) (failing : Option UnsafeClass) → IsNoted m judged found new failing → failing ≡ None
+      → AreMetBelow m found → ((class : Class) → IsClass aim.classes m class → IsJudgedIfMet aim u e k m class judged) → AreMetBelow (m + 1) new
+  met_noted m less found new Kept failing noted none h judged = subst (AreMetBelow (m + 1)) (sym noted.0) (met_kept m found h judged)
+  met_noted m less found new (New evidence) failing noted none h judged =
+      subst (AreMetBelow (m + 1)) (sym noted.0) (met_new m less found (record { class = m; evidence = evidence }) refl h judged)
+  met_noted m less found new (Unsafe f) failing noted none h judged = absurd (none_some f (sym none ∙ noted))
+
+  -- the class that is noted as failing is not safe by any evidence
+  pub failed_noted : (m : ℕ) → m < class_count aim.classes → (found new : List Found) (judged : Judged) (failing : Option UnsafeClass) (f : UnsafeClass) → IsNoted m judged found new failing
+      → failing ≡ Some f → ((class : Class) → IsClass aim.classes m class → IsJudgedIfMet aim u e k m class judged) → HasUnsafe aim u k f
+  failed_noted m less found new Kept failing f noted some judged = absurd (none_some f (sym noted.1 ∙ some))
+  failed_noted m less found new (New evidence) failing f noted some judged = absurd (none_some f (sym noted.1 ∙ some))
+  failed_noted m less found new (Unsafe g) failing f noted some judged =
+      subst (HasUnsafe aim u k) (same_Some g f (sym noted ∙ some)) (unsafe_at m less g judged)
+
 -- ---- the switches that mixed walks come to
 
 module _ (u : Rollout) (k dst : ℕ) (entry : Place) (noted : WalkState) (walked : IsWalked u k dst entry noted) where
@@ -300,3 +330,10 @@ module _ (aim : Aim) (u : Rollout) (e : OrderedEvidence) (k : ℕ) where
   judged_met n class Kept h = λ later. h
   judged_met n class (New evidence) h = h
   judged_met n class (Unsafe f) h = h
+
+-- what holds of the verdict by what is found holds of the one that is given
+pub verdict_there : {E : Type 0} (P : Verdict → Type 0) (found : Vec Found Global) (failing : Result (Option UnsafeClass) E) (result : Result Verdict E)
+    → IfOk result (λ v. IsOkAnd failing (λ f. v ≡ verdict_of found f)) → IfOk failing (λ f. P (verdict_of found f)) → IfOk result P
+verdict_there P found failing (Err e) is held = tt
+verdict_there P found (Ok f) (Ok v) is held = subst P (sym is) held
+verdict_there P found (Err e) (Ok v) is held = absurd is

@@ -22,3 +22,4 @@ pub mod LeftLaws
 pub mod RowLaws
 pub mod MetLaws
 pub mod CoveredLaws
+pub mod UpdateLaws

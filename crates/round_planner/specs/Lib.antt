@@ -1,5 +1,6 @@
 pub mod Search
 pub mod Ends
+pub mod Updates
 pub mod Standing
 pub mod Failures
 pub mod Visits

@@ -1,5 +1,6 @@
 -- Where a search stands, and what is found while a change is tried.
-use Rattle.std.specs.Prelude.{◌≡◌, ◌⊎◌, ℕ, ◌<◌, ◌≤◌, List, [], ◌∷◌, length, Option}
+use Rattle.std.specs.Prelude.{◌≡◌, ◌⊎◌, ℕ, ◌<◌, ◌≤◌, List, [], ◌∷◌, ◌++◌, length, Option, Some, None, Vec}
+use Rattle.std.specs.declared.alloc.Global.{Global}
 use Rattle.std.specs.List.{AllByRecursion}
 use Rattle.net_base.specs.Members.{IsIn}
 use Rattle.net_base.specs.declared.ids.SwitchId.{SwitchId}
@@ -71,6 +72,12 @@ IsJudgedIfMet aim u e k n class Kept = 0 < k → IsJudged aim u e k n class Kept
 IsJudgedIfMet aim u e k n class (New evidence) = IsJudged aim u e k n class (New evidence)
 IsJudgedIfMet aim u e k n class (Unsafe f) = IsJudged aim u e k n class (Unsafe f)
 
+-- what is noted for class n behind what was found: its new evidence, if there is some, or that it is not safe by any evidence
+abbrev pub IsNoted : ℕ → Judged → List Found → List Found → Option UnsafeClass → Type 0
+IsNoted n Kept old new failing = (new ≡ old) × (failing ≡ None)
+IsNoted n (New evidence) old new failing = (new ≡ old ++ record { class = n; evidence = evidence } ∷ []) × (failing ≡ None)
+IsNoted n (Unsafe f) old new failing = failing ≡ Some f
+
 -- new evidence was found for class n
 pub record HasFound (aim : Aim) (u : Rollout) (k n : ℕ) (class : Class) (found : List Found) : Type 0 where
   pub new : Found
@@ -100,6 +107,11 @@ pub record HasUnsafe (aim : Aim) (u : Rollout) (k : ℕ) (f : UnsafeClass) : Typ
 abbrev pub AreJudged : Aim → Rollout → OrderedEvidence → ℕ → Verdict → Type 0
 AreJudged aim u e k (verdict.Safe found) = AreSafeBelow aim u e k (class_count aim.classes) found.items
 AreJudged aim u e k (verdict.Unsafe f) = HasUnsafe aim u k f
+
+-- the verdict by what is found, and by the class that is not safe by any evidence, if there is one
+abbrev pub verdict_of : Vec Found Global → Option UnsafeClass → Verdict
+verdict_of found None = verdict.Safe found
+verdict_of found (Some f) = verdict.Unsafe f
 
 -- the pick in force fails to keep a class safe in round k, and new evidence does
 pub record IsNewlySafe (aim : Aim) (u : Rollout) (e : OrderedEvidence) (k : ℕ) (f : Found) : Type 0 where

@@ -1,5 +1,5 @@
 //! What is found for the classes while a change is tried.
-ghost use Rattle.std.specs.Prelude.{◌≡◌, ◌≢◌, ◌↔◌, ℕ, ◌<◌, ◌≤◌, suc, List, [], length, IsTrue, IfOk, IfSome, OnOk, slice_get, Some};
+ghost use Rattle.std.specs.Prelude.{◌≡◌, ◌≢◌, ◌↔◌, ℕ, ◌<◌, ◌≤◌, suc, List, [], length, IsTrue, IfOk, IfSome, IsOkAnd, OnOk, slice_get, Some};
 ghost use Rattle.net_base.specs.Members.{IsIn};
 ghost use Rattle.std.specs.List.{AllByRecursion};
 ghost use Rattle.topology.specs.Networks.{switch_count};
@@ -13,7 +13,9 @@ ghost use Rattle.dest_classes.specs.Numbered.{IsNumbered};
 ghost use Rattle.mixed_walks.specs.Walks.{IsRoundOf, IsWalked};
 ghost use Rattle.round_planner.specs.Search.{duties_in};
 ghost use Rattle.round_planner.specs.declared.judging.Found.{Found as FoundOf};
-ghost use Rattle.round_planner.specs.Standing.{IsNextRound, IsCertifiedClass, IsJudged, IsJudgedIfMet, IsNewlySafe, AreJudged, AreMetJudged, HoldsLastOf};
+ghost use Rattle.certificates.specs.Valid.{IsChain};
+ghost use Rattle.check_reasons.specs.Touched.{may_cover};
+ghost use Rattle.round_planner.specs.Standing.{IsNextRound, IsCertifiedClass, IsJudged, IsJudgedIfMet, IsNewlySafe, IsNoted, AreJudged, AreMetJudged, HoldsLastOf, verdict_of};
 ghost use Rattle.round_planner.specs.Visits.{marks_at, HoldsWalks, HoldsTables, HoldTables, HoldRound, HoldAfter};
 
 use crate::came::Came;
@@ -218,6 +220,75 @@ fn judge_if_met(
     judge_class(alloc, goal, walk, tried, came, last, numbered)
 }
 
+/// Notes what is found for a class behind what is found for others. The result is the class where it is not safe by any evidence.
+fn note(class: u32, judged: Judged, found: &mut Vec<Found>) -> Result<Option<UnsafeClass>, Memory>
+    ensures { IfOk result (IsNoted class judged found.old.items found.new.items) }
+{
+    match judged {
+        Judged::Kept => Ok(None),
+        Judged::New(evidence) => {
+            found.push(Found { class, evidence })?;
+            Ok(None)
+        }
+        Judged::Unsafe(failing) => Ok(Some(failing)),
+    }
+}
+
+/// The verdict on all classes by what is found for them, and by the first that is not safe by any evidence, if there is one.
+fn verdict_of(
+    found: Vec<Found>,
+    failing: Result<Option<UnsafeClass>, Memory>,
+) -> Result<Verdict, Memory>
+    ensures { IfOk result (λ verdict. IsOkAnd failing (λ f. verdict ≡ verdict_of found f)) }
+{
+    match failing {
+        Ok(None) => Ok(Verdict::Safe(found)),
+        Ok(Some(failing)) => {
+            drop(found);
+            Ok(Verdict::Unsafe(failing))
+        }
+        Err(memory) => {
+            drop(found);
+            Err(memory)
+        }
+    }
+}
+
+/// Finds evidence for the classes with these numbers, class by class, where the change meets them. The result is the first
+/// that is not safe by any evidence.
+fn judge_covered(
+    goal: &Goal,
+    walk: &mut WalkRoom,
+    tried: &Tried,
+    came: &mut Came,
+    last: &mut LastSets,
+    numbers: &[u32],
+    found: &mut Vec<Found>,
+) -> Result<Option<UnsafeClass>, Memory>
+    requires round { (u : Rollout) × (k : ℕ) × IsRoundOf goal.now.net tried.now.mixes.now u k }
+    requires numberings { AllByRecursion (IsValidNumbering goal.now.net) tried.now.store.now.evidence.numberings }
+    requires classes { tried.now.store.now.classes ≡ class_count goal.now.classes }
+    requires came { length came.old ≡ class_count goal.now.classes }
+    requires last { HoldsLastOf goal.now last.old }
+    requires within { AllByRecursion (λ n. n < class_count goal.now.classes) numbers.now }
+    requires ascending { IsChain (λ m n. m < n) numbers.now }
+    requires all { (n : ℕ) (class : Class) → IsClass goal.now.classes n class → IsTrue (may_cover tried.now.change.now class) → IsIn n numbers.now }
+    requires none { found.old.items ≡ [] }
+    ensures judged { IfOk result (λ failing. (u : Rollout) (k : ℕ) → IsRoundOf goal.now.net tried.now.mixes.now u k
+        → IsNextRound goal.now u tried.now.store.now.evidence k tried.now.change.now → HoldTables goal.now (tables_before u k) came.old
+        → AreMetJudged goal.now u tried.now.store.now.evidence k (verdict_of found.new failing) came.new) }
+    ensures count { length came.new ≡ length came.old }
+{
+    let alloc = *found.allocator();
+    for number in numbers {
+        let judged = judge_if_met(alloc, goal, walk, tried, came, last, *number)?;
+        if let Some(failing) = note(*number, judged, found)? {
+            return Ok(Some(failing));
+        }
+    }
+    Ok(None)
+}
+
 /// What is found for the classes whose packets the change covers at a switch that they come to, class by class, up to the
 /// first that is not safe by any evidence. Where there is a round before, that is all there is to find.
 fn judge_met(
@@ -239,17 +310,10 @@ fn judge_met(
     let numbers = goal.covered(alloc, tried.change)?;
     let mut last = LastSets::none();
     let mut found = Vec::new(alloc);
-    for number in &numbers {
-        match judge_if_met(alloc, goal, walk, tried, came, &mut last, *number)? {
-            Judged::Kept => {}
-            Judged::New(evidence) => found.push(Found {
-                class: *number,
-                evidence,
-            })?,
-            Judged::Unsafe(failing) => return Ok(Verdict::Unsafe(failing)),
-        }
-    }
-    Ok(Verdict::Safe(found))
+    let failing = judge_covered(goal, walk, tried, came, &mut last, &numbers, &mut found);
+    drop(numbers);
+    drop(last);
+    verdict_of(found, failing)
 }
 
 /// Takes out the last of what was found, if that is for the class of a number.
@@ -297,6 +361,37 @@ fn judge_next(
     judge_class(alloc, goal, walk, tried, came, last, goal.numbered(number))
 }
 
+/// Finds evidence for all classes, class by class, where something was found before for some of them, in descending order of
+/// classes. The result is the first that is not safe by any evidence.
+fn judge_each(
+    goal: &Goal,
+    walk: &mut WalkRoom,
+    tried: &Tried,
+    came: &mut Came,
+    last: &mut LastSets,
+    before: &mut Vec<Found>,
+    found: &mut Vec<Found>,
+) -> Result<Option<UnsafeClass>, Memory>
+    requires round { (u : Rollout) × (k : ℕ) × IsRoundOf goal.now.net tried.now.mixes.now u k }
+    requires numberings { AllByRecursion (IsValidNumbering goal.now.net) tried.now.store.now.evidence.numberings }
+    requires classes { tried.now.store.now.classes ≡ class_count goal.now.classes }
+    requires came { length came.old ≡ class_count goal.now.classes }
+    requires last { HoldsLastOf goal.now last.old }
+    requires none { found.old.items ≡ [] }
+    ensures { IfOk result (λ failing. (u : Rollout) (k : ℕ) → IsRoundOf goal.now.net tried.now.mixes.now u k
+        → IsNextRound goal.now u tried.now.store.now.evidence k tried.now.change.now
+        → AllByRecursion (IsNewlySafe goal.now u tried.now.store.now.evidence k) before.old.items → HoldRound goal.now u k came.old
+        → AreJudged goal.now u tried.now.store.now.evidence k (verdict_of found.new failing) × HoldAfter goal.now u k (verdict_of found.new failing) came.new) }
+{
+    for number in 0..goal.classes.count() {
+        let judged = judge_next(goal, walk, tried, came, last, before, number)?;
+        if let Some(failing) = note(number, judged, found)? {
+            return Ok(Some(failing));
+        }
+    }
+    Ok(None)
+}
+
 /// What is found for all classes, class by class, where something was found before for some of them. It is looked for in the
 /// first round, where each class needs a pick.
 fn judge_rest(
@@ -320,17 +415,10 @@ fn judge_rest(
     before.reverse();
     let mut last = LastSets::none();
     let mut found = Vec::new(alloc);
-    for number in 0..goal.classes.count() {
-        match judge_next(goal, walk, tried, came, &mut last, &mut before, number)? {
-            Judged::Kept => {}
-            Judged::New(evidence) => found.push(Found {
-                class: number,
-                evidence,
-            })?,
-            Judged::Unsafe(failing) => return Ok(Verdict::Unsafe(failing)),
-        }
-    }
-    Ok(Verdict::Safe(found))
+    let failing = judge_each(goal, walk, tried, came, &mut last, &mut before, &mut found);
+    drop(before);
+    drop(last);
+    verdict_of(found, failing)
 }
 
 /// Whether there is a pick.

@@ -8,6 +8,7 @@ mod judging;
 pub mod laws;
 mod left;
 mod picking;
+mod prefixes;
 mod rows;
 mod searching;
 
@@ -31,6 +32,7 @@ use demands::Duties;
 use dest_classes::ClassMap;
 use flow_rules::Config;
 use net_base::Memory;
+pub use prefixes::update_prefixes;
 use std::alloc::Global;
 use table_difference::classes::rounds_make_no_classes;
 use topology::Net;

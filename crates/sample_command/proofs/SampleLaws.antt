@@ -2,7 +2,7 @@
 use Rattle.std.proofs.Common.{◌≡◌, ◌≢◌, ◌⊎◌, ℕ, ◌*◌, ◌-◌, List, length, refl, sym, subst, ap, ◌∙◌, inl, inr}
 use Rattle.std.specs.declared.option.Option.{Option}
 use Rattle.std.specs.Io.KnownBytes.{Appends}
-use Rattle.net_base.specs.Outside.{Files, AppendsFront}
+use Rattle.file_access.specs.Outside.{Files, AppendsFront}
 use Rattle.command_base.specs.declared.status.Status.{Status}
 use Rattle.command_base.specs.declared.status.Status.TheVariants as status
 use Rattle.command_base.specs.Answers.{Answer}
@@ -15,8 +15,7 @@ use Rattle.certificates.specs.declared.Evidence.TheVariants.{Ordered}
 use Rattle.certificates.specs.declared.Plan.{Plan}
 use Rattle.table_difference.specs.SameClasses.{HasSameClasses}
 use Rattle.round_planner.specs.Ends.{IsPlanOf}
-use Rattle.plan_command.specs.Planned.{update_aim}
-use Rattle.plan_command.specs.NewPlans.{KeepsConsistent}
+use Rattle.round_planner.specs.Updates.{update_aim, KeepsConsistent}
 use Rattle.ring_sample.specs.Ring.{ring_tables, ring_update}
 use Rattle.sample_command.specs.Summaries.{sample_line, IsSummary, SaysSummary}
 use Rattle.sample_command.specs.Promise.{WritesSummary, WritesFront, SamplePromise}

@@ -1,7 +1,7 @@
 -- What a run of `sample` promises. It reads no file, so over every source.
 use Rattle.std.specs.Prelude.{◌≡◌, ◌⊎◌, ℕ, List, Option}
 use Rattle.std.specs.Io.KnownBytes.{Appends}
-use Rattle.net_base.specs.Outside.{AppendsFront}
+use Rattle.file_access.specs.Outside.{AppendsFront}
 use Rattle.command_base.specs.declared.status.Status.{Status}
 use Rattle.command_base.specs.declared.status.Status.TheVariants as status
 use Rattle.sample_command.specs.Summaries.{IsSummary}

@@ -4,8 +4,7 @@ use Rattle.certificates.specs.declared.Plan.{Plan}
 use Rattle.round_planner.specs.Ends.{IsPlanOf}
 use Rattle.command_base.specs.declared.status.Status.TheVariants as status
 use Rattle.command_base.specs.Answers.{Answer}
-use Rattle.plan_command.specs.Planned.{update_aim}
-use Rattle.plan_command.specs.NewPlans.{KeepsConsistent}
+use Rattle.round_planner.specs.Updates.{update_aim, KeepsConsistent}
 use Rattle.ring_sample.specs.Ring.{ring_tables, ring_update}
 
 -- the ring of n switches, and the rounds and classes of its update

@@ -11,8 +11,7 @@ ghost use Rattle.certificates.specs.Valid.{IsValidPlan};
 ghost use Rattle.round_planner.specs.Ends.{IsPlanOf};
 ghost use Rattle.command_base.specs.Replies.{answer_of};
 ghost use Rattle.command_base.specs.Updates.{meaning_of};
-ghost use Rattle.plan_command.specs.Planned.{update_aim, update_count, bare_task};
-ghost use Rattle.plan_command.specs.NewPlans.{KeepsConsistent};
+ghost use Rattle.round_planner.specs.Updates.{update_aim, update_count, bare_task, KeepsConsistent};
 ghost use Rattle.ring_sample.specs.Ring.{ring_tables, ring_update as the_ring};
 ghost use Rattle.sample_command.specs.Summaries.{IsSummary, SaysSummary};
 

@@ -13,7 +13,7 @@ ghost use Rattle.plan_checker.specs.Fits.{Fits};
 ghost use Rattle.command_base.specs.Judgements.{most_classes};
 ghost use Rattle.certificates.specs.Updates.{task_for};
 ghost use Rattle.command_base.specs.Updates.{meaning_of};
-ghost use Rattle.plan_command.specs.Planned.{update_classes, update_count, update_aim, bare_task};
+ghost use Rattle.round_planner.specs.Updates.{update_classes, update_count, update_aim, bare_task};
 
 use certificates::Plan;
 use command_base::UpdateFiles;
@@ -21,8 +21,7 @@ use demands::Duties;
 use dest_classes::{ClassFault, ClassMap, class_map};
 use net_base::Memory;
 use plan_checker::{CheckRoom, RoomFault, Verdict, check};
-use plan_command::update_prefixes;
-use round_planner::{Ordered, order};
+use round_planner::{Ordered, order, update_prefixes};
 use std::alloc::Global;
 
 /// The classes of an update that hasn't too many.
@@ -32,7 +31,7 @@ fn few_classes(alloc: Global, files: &UpdateFiles) -> Result<ClassMap, Memory>
     requires few { update_count (meaning_of files.now) ≤ most_classes }
     ensures { IfOk result (λ m. m ≡ update_classes (meaning_of files.now)) }
 {
-    let prefixes = update_prefixes(files)?;
+    let prefixes = update_prefixes(&files.old, &files.new, &files.demands)?;
     match class_map(alloc, &files.net, &prefixes) {
         Ok(classes) => Ok(classes),
         Err(ClassFault::Memory) => Err(Memory),

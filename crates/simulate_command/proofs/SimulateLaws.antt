@@ -2,7 +2,7 @@
 use Rattle.std.proofs.Common.{◌≡◌, ◌⊎◌, ◌↔◌, ℕ, List, Some, inl, inr}
 use Rattle.std.specs.declared.option.Option.{Option}
 use Rattle.std.specs.Io.KnownBytes.{Appends}
-use Rattle.net_base.specs.Outside.{Files}
+use Rattle.file_access.specs.Outside.{Files}
 use Rattle.certificates.specs.Certified.{IsCertified}
 use Rattle.command_base.specs.declared.status.Status.{Status}
 use Rattle.command_base.specs.declared.status.Status.TheVariants as status
@@ -12,8 +12,8 @@ use Rattle.command_base.proofs.MeaningLaws.{IsBadLine, said_over, over_splits}
 use Rattle.command_base.proofs.JudgementLaws as law
 use Rattle.command_base.proofs.JudgementLaws.{IsJudged}
 use Rattle.command_base.proofs.RunLaws.{settled_done, settled_refused, settled_bad}
-use Rattle.check_command.specs.Checks.{CheckMeaning, check_dialogue, IsRefusedLine, FilesMeanPlan, FilesAreCertified, FilesAreRefused, PlanMakesTooMany, NamesFirstReason, check_count, task_in}
-use Rattle.check_command.proofs.CheckLaws.{means_check, check_means}
+use Rattle.check_base.specs.Checks.{CheckMeaning, check_dialogue, IsRefusedLine, FilesMeanPlan, FilesAreCertified, FilesAreRefused, PlanMakesTooMany, NamesFirstReason, check_count, task_in}
+use Rattle.check_base.proofs.FileLaws.{means_check, check_means}
 use Rattle.simulate_command.specs.Names.{SimulateNames}
 use Rattle.simulate_command.specs.Simulations.{IsRecord}
 use Rattle.simulate_command.specs.Simulated.{IsSimulateAnswer, WritesRecord}

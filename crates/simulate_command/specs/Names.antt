@@ -1,8 +1,8 @@
 -- The words of `simulate`.
 use Rattle.std.specs.Prelude.{List, [], ◌∷◌, ℕ, Option, None, Some}
 use Rattle.net_base.specs.Text.{decimal_in}
-use Rattle.check_command.specs.Names as files
-use Rattle.check_command.specs.Names.{CheckNames}
+use Rattle.check_base.specs.Names as files
+use Rattle.check_base.specs.Names.{CheckNames}
 use Rattle.simulate_command.specs.declared.names.SimulateNames as code
 
 -- the names of the files of an update and of its plan, the number that names the events, and how many packets enter

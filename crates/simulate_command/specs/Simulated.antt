@@ -4,7 +4,7 @@ use Rattle.std.specs.Io.KnownBytes.{Appends}
 use Rattle.certificates.specs.Certified.{IsCertified}
 use Rattle.command_base.specs.Answers.{Answer}
 use Rattle.command_base.specs.Judgements.{IsJudgement}
-use Rattle.check_command.specs.Checks.{CheckMeaning, IsRefusedLine, check_count, task_in}
+use Rattle.check_base.specs.Checks.{CheckMeaning, IsRefusedLine, check_count, task_in}
 use Rattle.simulate_command.specs.Simulations.{IsRecord}
 
 -- the answer of `simulate`: too many classes; over a certified plan, the record of a simulation; or why the plan isn't certified

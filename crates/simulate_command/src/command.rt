@@ -6,15 +6,15 @@ ghost use Rattle.certificates.specs.Valid.{IsValidPlan};
 ghost use Rattle.command_base.specs.Dialogues.{FileRead, LeadsTo};
 ghost use Rattle.command_base.specs.Replies.{answer_of, EndsEarly, Meets};
 ghost use Rattle.command_base.specs.Updates.{meaning_of};
-ghost use Rattle.check_command.specs.Names as files;
-ghost use Rattle.check_command.specs.Checks.{check_dialogue, reading_plan_of};
+ghost use Rattle.check_base.specs.Names as files;
+ghost use Rattle.check_base.specs.Checks.{check_dialogue, reading_plan_of};
 ghost use Rattle.simulate_command.specs.Simulated.{IsSimulateAnswer};
 
 use crate::names::SimulateNames;
 use crate::verdict::simulation_verdict;
 use certificates::Plan;
 use command_base::{Exit, Reply, UpdateFiles, read_plan_file, read_update};
-use net_base::Source;
+use file_access::Source;
 use std::alloc::Global;
 
 /// What is said of a plan that is simulated, as the end of the command.

@@ -1,9 +1,9 @@
 //! The law of `simulate`.
 ghost use Rattle.std.specs.Prelude.{ℕ, List, Option};
-ghost use Rattle.net_base.specs.Outside.{Files};
+ghost use Rattle.file_access.specs.Outside.{Files};
 ghost use Rattle.command_base.specs.declared.status.Status.{Status};
 ghost use Rattle.command_base.specs.Runs.{IsSettled, Answered};
-ghost use Rattle.check_command.specs.Checks.{check_dialogue};
+ghost use Rattle.check_base.specs.Checks.{check_dialogue};
 ghost use Rattle.simulate_command.specs.Names.{SimulateNames};
 ghost use Rattle.simulate_command.specs.Simulated.{IsSimulateAnswer};
 ghost use Rattle.simulate_command.specs.Promise.{SimulatePromise};

@@ -1,7 +1,7 @@
 //! The names that `simulate` takes.
 ghost use Rattle.std.specs.Prelude.{◌≤◌};
 
-use check_command::CheckNames;
+use check_base::CheckNames;
 
 /// The names of the files of `simulate`, which are those of `check`, with the number that names the events of the run, and
 /// how many packets enter, at most 1000.

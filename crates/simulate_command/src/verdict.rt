@@ -14,7 +14,7 @@ ghost use Rattle.simulate_command.specs.Simulated.{IsSimulateAnswer};
 use crate::names::SimulateNames;
 use crate::simulation::simulation_text;
 use certificates::Plan;
-use check_command::{class_of, refused_reply};
+use check_base::{class_of, refused_reply};
 use command_base::{Reply, Status, UpdateFiles, too_many_reply};
 use net_base::Memory;
 use plan_checker::{CheckRoom, RoomFault, Verdict};

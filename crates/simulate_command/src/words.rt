@@ -1,11 +1,11 @@
 //! The words of `simulate`.
 ghost use Rattle.std.specs.Prelude.{◌≡◌, map, string_bytes, option_map};
 ghost use Rattle.net_base.specs.Text.{decimal_in};
-ghost use Rattle.check_command.specs.Names as files;
+ghost use Rattle.check_base.specs.Names as files;
 ghost use Rattle.simulate_command.specs.Names as spelled;
 
 use crate::names::SimulateNames;
-use check_command::CheckNames;
+use check_base::CheckNames;
 use command_base::UpdateNames;
 use net_base::read_decimal;
 

@@ -3,7 +3,7 @@ use Rattle.std.proofs.Common.{◌≡◌, ℕ, List, None, Ok, Err}
 use Rattle.std.specs.declared.option.Option.{Option}
 use Rattle.std.specs.declared.result.Result.{Result}
 use Rattle.std.specs.Result.{IfOk, IfErr}
-use Rattle.net_base.specs.Outside.{Files}
+use Rattle.file_access.specs.Outside.{Files}
 use Rattle.command_base.specs.declared.exit.Exit.{Exit}
 use Rattle.command_base.specs.declared.exit.Exit.TheVariants as exit
 use Rattle.command_base.specs.declared.reply.Reply.{Reply}

@@ -1,6 +1,6 @@
 -- What `upgrade` says.
 use Rattle.std.specs.Prelude.{◌≡◌, Ok}
-use Rattle.net_base.specs.Outside.{Files}
+use Rattle.file_access.specs.Outside.{Files}
 use Rattle.topology.specs.Networks.{Network}
 use Rattle.certificates.specs.declared.Plan.{Plan}
 use Rattle.plan_format.specs.Plans.{plan_in}

@@ -9,7 +9,8 @@ ghost use Rattle.upgrade_command.specs.Texts.{SaysPlan, IsUpgradeAnswer};
 
 use certificates::Plan;
 use command_base::{Exit, PlanFiles, PlanNames, Reply, Status, read_plan_files};
-use net_base::{Memory, Source};
+use file_access::Source;
+use net_base::Memory;
 use plan_text::write_plan;
 use std::alloc::Global;
 use topology::Net;

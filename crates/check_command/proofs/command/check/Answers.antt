@@ -1,6 +1,6 @@
 use Rattle.std.proofs.lemmas.Result.{err_from_is_err_and}
 use Rattle.command_base.proofs.DialogueLaws.{ends_first, meets_behind}
-use Rattle.check_command.specs.Checks.{check_dialogue}
+use Rattle.check_base.specs.Checks.{check_dialogue}
 use Rattle.check_command.proofs.command.check.Goals as goal
 
 pub returns-in_err-files-clause-meets : goal.returns-in_err-files-clause-meets

@@ -9,17 +9,15 @@ returns-in_err-net-clause-stops g c =
     let p = err_from_is_err_and c.from_residual.result c.from_residual.ensures.1 in
     rw (p.1, p.2) (λ last. ends_first _ (c.in_err-net.ensures.stops last))
 
-pub returns-in_err-plan-clause-stops : goal.returns-in_err-plan-clause-stops
+pub returns-in-Err-clause-stops : goal.returns-in-Err-clause-stops
 unfolding reading_plan_files
-returns-in_err-plan-clause-stops g c =
-    let p = err_from_is_err_and c.from_residual-in_err-plan.result c.from_residual-in_err-plan.ensures.1 in
-    rw (p.1, p.2) (λ last.
+returns-in-Err-clause-stops g c = λ last.
     ends_then _ c.read_topology.ensures.held c.read_topology.ensures.later (c.in_ok-net.ensures.gives last)
-    (ends_first _ (c.in_err-plan.ensures.stops _)))
+    (ends_first _ (c.in-Err.ensures.stops _))
 
-pub returns-clause-gives : goal.returns-clause-gives
+pub returns-in-Ok-clause-gives : goal.returns-in-Ok-clause-gives
 unfolding reading_plan_files
-returns-clause-gives g c = λ last.
+returns-in-Ok-clause-gives g c = λ last.
     gives_then _ c.read_topology.ensures.held (c.in_ok-net.ensures.gives last)
-    (gives_then _ c.read_plan_file.ensures.held (c.in_ok-plan.ensures.gives _)
+    (gives_then _ c.read_plan_file.ensures.held (c.in-Ok.ensures.gives _)
     (gives_end _ _ _))

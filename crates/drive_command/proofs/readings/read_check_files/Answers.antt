@@ -1,6 +1,6 @@
 use Rattle.std.proofs.lemmas.Result.{err_from_is_err_and}
 use Rattle.command_base.proofs.DialogueLaws.{gives_then, gives_end, ends_first, ends_then}
-use Rattle.check_command.specs.Checks.{check_dialogue}
+use Rattle.check_base.specs.Checks.{check_dialogue}
 use Rattle.drive_command.proofs.readings.read_check_files.Goals as goal
 
 pub returns-in_err-update-clause-stops : goal.returns-in_err-update-clause-stops

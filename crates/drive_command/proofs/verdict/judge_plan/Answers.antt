@@ -1,9 +1,9 @@
 use Rattle.std.proofs.Common.{◌∙◌, sym, subst, IfSome, ◌<◌}
 use Rattle.dest_classes.specs.Classes.{class_count}
-use Rattle.check_command.specs.ReasonLines as lines
+use Rattle.check_base.specs.ReasonLines as lines
 use Rattle.certificates.specs.Updates.{task_for}
 use Rattle.command_base.specs.Updates.{meaning_of}
-use Rattle.check_command.proofs.ReasonLaws.{named_fits}
+use Rattle.check_base.proofs.ReasonLaws.{named_fits}
 use Rattle.drive_command.proofs.verdict.judge_plan.Goals as goal
 
 pub class_of-class-requires : goal.class_of-class-requires

@@ -1,12 +1,12 @@
 use Rattle.std.proofs.Common.{◌∙◌, sym, subst, IfSome, ◌<◌}
 use Rattle.std.proofs.lemmas.Result.{IfOk-weaker}
 use Rattle.dest_classes.specs.Classes.{ClassList, class_count}
-use Rattle.check_command.specs.ReasonLines as lines
-use Rattle.check_command.specs.Checks.{IsNamed}
+use Rattle.check_base.specs.ReasonLines as lines
+use Rattle.check_base.specs.Checks.{IsNamed}
 use Rattle.certificates.specs.Updates.{task_for}
 use Rattle.command_base.specs.Updates.{meaning_of}
 use Rattle.command_base.specs.Replies.{answer_of}
-use Rattle.check_command.proofs.ReasonLaws.{named_fits}
+use Rattle.check_base.proofs.ReasonLaws.{named_fits}
 use Rattle.explain_command.proofs.AnswerLaws.{end_answer}
 use Rattle.explain_command.proofs.verdict.judge_plan.Goals as goal
 

@@ -1,6 +1,6 @@
 use Rattle.flow_rules.specs.Tables.{rules_of_all}
 use Rattle.command_base.specs.Updates.{meaning_of}
-use Rattle.plan_command.proofs.NewPlanLaws.{good_back}
+use Rattle.round_planner.proofs.UpdateLaws.{good_back}
 use Rattle.plan_command.proofs.planning.search_reply.Goals as goal
 
 pub order-requires-clause-old_good : goal.order-requires-clause-old_good

@@ -2,7 +2,8 @@ use Rattle.std.proofs.Common.{map, string_bytes}
 use Rattle.command_base.specs.Readings.{reading_update, reading_plan_files}
 use Rattle.command_base.proofs.RunLaws.{answered_as}
 use Rattle.config_command.specs.Configs.{config_dialogue, IsConfigAnswer}
-use Rattle.check_command.specs.Checks.{check_dialogue, IsCheckAnswer}
+use Rattle.check_base.specs.Checks.{check_dialogue}
+use Rattle.check_command.specs.Checks.{IsCheckAnswer}
 use Rattle.plan_command.specs.Planned.{IsPlanned}
 use Rattle.replay_command.specs.Replayed.{replay_dialogue, IsReplayAnswer}
 use Rattle.simulate_command.specs.Simulated.{IsSimulateAnswer}

@@ -1,126 +1,24 @@
-use Rattle.std.proofs.Common.{◌≡◌, ℕ, zero, suc, ◌+◌, ◌-◌, ◌<◌, ◌≤◌, List, [], ◌∷◌, length, drop, get_or, Vec, Global, refl, sym, ◌∙◌, subst, arith}
-use Rattle.std.specs.List.{AllByRecursion}
-use Rattle.std.proofs.lemmas.List.{drop_more}
+use Rattle.std.proofs.Common.{ℕ, sym, subst}
 use Rattle.net_base.specs.Members.{IsIn}
-use Rattle.net_base.proofs.MemberLaws.{each_weaker, each_at}
-use Rattle.net_base.proofs.ItemLaws.{in_at}
-use Rattle.dest_classes.specs.Classes.{class_count}
-use Rattle.round_planner.specs.Standing.{IsJudgedIfMet}
-use Rattle.round_planner.specs.declared.judging.Found.{Found}
-use Rattle.round_planner.proofs.JudgingLaws.{AreMetBelow, met_none, met_kept, met_new, unsafe_at}
-use Rattle.round_planner.proofs.VisitLaws.{held_none, held_more, held_all, held_back}
-use Rattle.round_planner.proofs.RowLaws.{Rises, IsPast, past_gap, past_next}
-use Rattle.round_planner.proofs.MetLaws.{IsCovered, AreMetUpTo, past_uncovered}
-use Rattle.round_planner.proofs.judging.judge_met.Goals.{in-Kept, in-New+in_ok-push-in-New}
+use Rattle.update_model.specs.Mixtures.{Rollout, tables_before}
+use Rattle.mixed_walks.specs.Walks.{IsRoundOf}
+use Rattle.round_planner.specs.declared.judging.Verdict.{Verdict}
+use Rattle.round_planner.specs.Standing.{IsNextRound, AreMetJudged}
+use Rattle.round_planner.specs.Visits.{HoldTables}
+use Rattle.round_planner.proofs.JudgingLaws.{verdict_there}
 use Rattle.round_planner.proofs.judging.judge_met.Goals as goal
 
-pub loop-number-init : goal.loop-number-init
-loop-number-init c = (
-  (refl, c.none-last.ensures c.args.goal.now.net (record { demands = c.args.goal.now.demands; classes = c.args.goal.now.classes })),
-  (
-    0,
-    omega arith,
-    record {
-      up = subst Rises (sym c.deref-number-items.ensures.value) c.in_ok-numbers.ensures.ascending;
-      above = each_weaker (λ n. n < class_count c.args.goal.now.classes) (λ n. 0 ≤ n) (λ n less. omega arith) c.deref-number-items.result.now
-          (subst (AllByRecursion (λ n. n < class_count c.args.goal.now.classes)) (sym c.deref-number-items.ensures.value) c.in_ok-numbers.ensures.within);
-      all = λ n from (class, is, covers). subst (IsIn n) (sym c.deref-number-items.ensures.value) (c.in_ok-numbers.ensures.all n class is covers);
-    },
-    λ u k round next held. (
-      subst (AreMetBelow c.args.goal.now u c.args.tried.now.store.now.evidence k 0) (sym c.new-found.ensures.items) (met_none c.args.goal.now u c.args.tried.now.store.now.evidence k),
-      held_none c.args.goal.now u k round.net_is c.args.came.now held,
-    ),
-  ),
-)
+pub judge_covered-failing-requires-clause-last : goal.judge_covered-failing-requires-clause-last
+judge_covered-failing-requires-clause-last c = c.none-last.ensures c.args.goal.now.net (record { demands = c.args.goal.now.demands; classes = c.args.goal.now.classes })
 
-pub judge_if_met-requires-clause-number : goal.judge_if_met-requires-clause-number
-judge_if_met-requires-clause-number c =
-    let numbers = c.deref-number-items.result.now in
-    let within = subst (AllByRecursion (λ n. n < class_count c.args.goal.now.classes)) (sym c.deref-number-items.ensures.value) c.in_ok-numbers.ensures.within in
-    each_at (λ n. n < class_count c.args.goal.now.classes) numbers (get_or numbers c.loop-number.number-index 0) within (in_at numbers c.loop-number.number-index 0 c.loop-number-test.true)
-
-pub judge_if_met-requires-clause-came : goal.judge_if_met-requires-clause-came
-judge_if_met-requires-clause-came c = c.loop-number.invariant.0.0 ∙ c.requires.came
-
-pub returns-in-Unsafe-clause-judged : goal.returns-in-Unsafe-clause-judged
-returns-in-Unsafe-clause-judged c u k round next held =
-    let aim = c.args.goal.now in
-    let e = c.args.tried.now.store.now.evidence in
-    let change = c.args.tried.now.change.now in
-    let numbers = c.deref-number-items.result.now in
-    let within = subst (AllByRecursion (λ n. n < class_count c.args.goal.now.classes)) (sym c.deref-number-items.ensures.value) c.in_ok-numbers.ensures.within in
-    let i = c.loop-number.number-index in
-    let number = get_or numbers i 0 in
-    let rest = drop (i + 1) numbers in
-    let less = each_at (λ n. n < class_count aim.classes) numbers number within (in_at numbers i 0 c.loop-number-test.true) in
-    let (below, fits, past, so_far) = c.loop-number.invariant.1 in
-    let left = subst (IsPast (IsCovered aim change) below) (drop_more numbers i 0 c.loop-number-test.true) past in
-    let from = left.above.0 in
-    let (met, marked) = subst (AreMetUpTo aim u e k change next round.keeps_old round.keeps c.loop-number.found.items c.loop-number.came) (let same : below + (number - below) ≡ number = omega arith in same)
-    (past_uncovered aim u e k change next round.keeps_old round.keeps c.loop-number.found.items c.loop-number.came (number - below) below (λ n low high. past_gap (IsCovered aim change) below number rest left n low (omega arith)) (so_far u k round next held)) in
-    let judged = c.in_ok-judge_if_met.ensures in (
-      unsafe_at aim u e k number less c.in-Unsafe.failing (λ class is. subst (IsJudgedIfMet aim u e k number class) c.in-Unsafe.is (judged.judged u k class round is next (marked.before number class is))),
-      held_back aim u k round.net_is (number + 1) c.judge_if_met.new.came
-          (held_more aim u k number c.loop-number.came c.judge_if_met.new.came
-          (record { count = judged.count; others = judged.others; walks = λ class is before. judged.walks u k class round is next before }) marked),
-    )
-
-pub loop-number-preserved : goal.loop-number-preserved
-loop-number-preserved c =
-    let judged = c.in_ok-judge_if_met.ensures in
-    let aim = c.args.goal.now in
-    let e = c.args.tried.now.store.now.evidence in
-    let change = c.args.tried.now.change.now in
-    let numbers = c.deref-number-items.result.now in
-    let within = subst (AllByRecursion (λ n. n < class_count c.args.goal.now.classes)) (sym c.deref-number-items.ensures.value) c.in_ok-numbers.ensures.within in
-    let i = c.loop-number.number-index in
-    let number = get_or numbers i 0 in
-    let rest = drop (i + 1) numbers in
-    let less = each_at (λ n. n < class_count aim.classes) numbers number within (in_at numbers i 0 c.loop-number-test.true) in
-    let (below, fits, past, so_far) = c.loop-number.invariant.1 in
-    let left = subst (IsPast (IsCovered aim change) below) (drop_more numbers i 0 c.loop-number-test.true) past in
-    let from = left.above.0 in (
-      (judged.count ∙ c.loop-number.invariant.0.0, judged.last),
-      (
-        number + 1,
-        omega arith,
-        past_next (IsCovered aim change) below number rest left,
-        λ u k round next held.
-            let found = c.loop-number.found.items in
-            let (met, marked) = subst (AreMetUpTo aim u e k change next round.keeps_old round.keeps found c.loop-number.came) (let same : below + (number - below) ≡ number = omega arith in same)
-            (past_uncovered aim u e k change next round.keeps_old round.keeps found c.loop-number.came (number - below) below (λ n low high. past_gap (IsCovered aim change) below number rest left n low (omega arith)) (so_far u k round next held)) in (
-              elim c.match-branch-3.branch [
-                | in-Kept w ↦
-                    subst (λ (v : Vec Found Global). AreMetBelow aim u e k (number + 1) v.items) (sym w.found-is)
-                    (met_kept aim u e k number found met (λ class is. subst (IsJudgedIfMet aim u e k number class) w.in-Kept.is (judged.judged u k class round is next (marked.before number class is))))
-                | in-New+in_ok-push-in-New w ↦
-                    let new : Found = record { class = number; evidence = w.in-New.evidence } in
-                    subst (λ (v : Vec Found Global). AreMetBelow aim u e k (number + 1) v.items) (sym w.found-is)
-                    (subst (AreMetBelow aim u e k (number + 1)) (sym w.in_ok-push-in-New.ensures.items)
-                    (met_new aim u e k number less found new refl met (λ class is. subst (IsJudgedIfMet aim u e k number class) w.in-New.is (judged.judged u k class round is next (marked.before number class is)))))
-              ],
-              held_more aim u k number c.loop-number.came c.judge_if_met.new.came
-                  (record { count = judged.count; others = judged.others; walks = λ class is before. judged.walks u k class round is next before }) marked,
-            ),
-      ),
-    )
-
--- nothing is left past the end of a list
-none_left : (numbers : List ℕ) (i : ℕ) → length numbers ≤ i → drop i numbers ≡ []
-none_left [] zero end = refl
-none_left [] (suc i) end = refl
-none_left (n ∷ numbers) zero end = absurd (omega arith)
-none_left (n ∷ numbers) (suc i) end = none_left numbers i (omega arith)
+pub judge_covered-failing-requires-clause-all : goal.judge_covered-failing-requires-clause-all
+judge_covered-failing-requires-clause-all c n class is covers = subst (IsIn n) (sym c.deref.ensures.value) (c.in_ok-numbers.ensures.all n class is covers)
 
 pub returns-clause-judged : goal.returns-clause-judged
-returns-clause-judged c u k round next held =
+returns-clause-judged c =
     let aim = c.args.goal.now in
-    let e = c.args.tried.now.store.now.evidence in
-    let change = c.args.tried.now.change.now in
-    let numbers = c.deref-number-items.result.now in
-    let i = c.loop-number.number-index in
-    let (below, fits, past, so_far) = c.loop-number.invariant.1 in
-    let left = subst (IsPast (IsCovered aim change) below) (none_left numbers i c.loop-number-test.false) past in
-    let ((later, new), marked) = subst (AreMetUpTo aim u e k change next round.keeps_old round.keeps c.loop-number.found.items c.loop-number.came) (let same : below + (class_count aim.classes - below) ≡ class_count aim.classes = omega arith in same)
-    (past_uncovered aim u e k change next round.keeps_old round.keeps c.loop-number.found.items c.loop-number.came (class_count aim.classes - below) below (λ n low high covered. left.all n low covered) (so_far u k round next held)) in
-    record { later = later; new = new; marked = held_all aim u k c.loop-number.came marked }
+    let tried = c.args.tried.now in
+    verdict_there
+    (λ (v : Verdict). (u : Rollout) (k : ℕ) → IsRoundOf aim.net tried.mixes.now u k → IsNextRound aim u tried.store.now.evidence k tried.change.now → HoldTables aim (tables_before u k) c.args.came.now
+    → AreMetJudged aim u tried.store.now.evidence k v c.judge_covered-failing.new.came)
+    c.judge_covered-failing.new.found c.judge_covered-failing.result c.verdict_of.result c.verdict_of.ensures c.judge_covered-failing.ensures.judged

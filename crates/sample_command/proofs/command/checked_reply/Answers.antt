@@ -1,6 +1,6 @@
 use Rattle.std.proofs.Common.{subst, ◌∙◌}
 use Rattle.certificates.specs.Updates.{Update}
-use Rattle.plan_command.specs.NewPlans.{KeepsConsistent}
+use Rattle.round_planner.specs.Updates.{KeepsConsistent}
 use Rattle.sample_command.proofs.command.checked_reply.Goals as goal
 
 pub summary-requires-clause-keeps : goal.summary-requires-clause-keeps

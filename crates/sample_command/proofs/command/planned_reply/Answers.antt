@@ -3,7 +3,7 @@ use Rattle.certificates.specs.Certified.{classes_for}
 use Rattle.certificates.specs.Updates.{Update, task_for}
 use Rattle.round_planner.specs.Ends.{IsPlanOf}
 use Rattle.command_base.specs.Updates.{meaning_of}
-use Rattle.plan_command.specs.Planned.{update_classes, update_aim}
+use Rattle.round_planner.specs.Updates.{update_classes, update_aim}
 use Rattle.sample_command.proofs.SampleLaws.{as_many}
 use Rattle.sample_command.proofs.command.planned_reply.Goals as goal
 

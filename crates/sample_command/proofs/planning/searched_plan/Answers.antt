@@ -3,7 +3,7 @@ use Rattle.flow_rules.specs.Tables.{rules_of_all}
 use Rattle.round_planner.specs.Ends.{IsNotStuck}
 use Rattle.round_planner.specs.declared.Ordered.{Ordered}
 use Rattle.command_base.specs.Updates.{meaning_of}
-use Rattle.plan_command.proofs.NewPlanLaws.{good_back, tree_for}
+use Rattle.round_planner.proofs.UpdateLaws.{good_back, tree_for}
 use Rattle.sample_command.proofs.planning.searched_plan.Goals as goal
 
 pub order-requires-clause-old_good : goal.order-requires-clause-old_good

@@ -1,5 +1,5 @@
 use Rattle.command_base.specs.Updates.{meaning_of}
-use Rattle.plan_command.proofs.NewPlanLaws.{covered}
+use Rattle.round_planner.proofs.UpdateLaws.{covered}
 use Rattle.sample_command.proofs.planning.tree_plan.Goals as goal
 
 pub make-requires : goal.make-requires

@@ -1,23 +1,12 @@
--- The lines on plans.
+-- The line on a plan that is refused.
 use Rattle.std.specs.Prelude.{ℕ, List, [], ◌++◌, Option, None, Some, codes, decimal, if◌then◌else◌}
 use Rattle.net_base.specs.declared.ids.SwitchId.{SwitchId}
 use Rattle.topology.specs.Networks.{Network}
 use Rattle.dest_classes.specs.declared.Class.{Class}
-use Rattle.certificates.specs.declared.Evidence.{Evidence}
-use Rattle.certificates.specs.declared.Evidence.TheVariants.{Ordered, TwoPhase}
 use Rattle.check_reasons.specs.Ranks.{number_of}
 use Rattle.check_reasons.specs.declared.reason.Reason.{Reason}
 use Rattle.check_reasons.specs.declared.reason.Reason.TheVariants.{EndBreaks, BadChange, Ambiguous, OverCapacity, Rewrites, NoNumbering, NotLower, MayDrop, NoBefore, Bypass, BadLabels, MixedPath, WrongEnd}
 use Rattle.command_base.specs.Lines.{switch_name, class_text, how_text}
-
--- the word for the kind of a plan
-abbrev pub kind_word : Evidence → List ℕ
-kind_word (Ordered e) = codes "ordered"
-kind_word (TwoPhase e) = codes "two-phase"
-
--- on a plan that is certified
-abbrev pub accepted_line : Evidence → ℕ → ℕ → List ℕ
-accepted_line evidence rounds classes = codes "accepted: " ++ kind_word evidence ++ codes ", " ++ decimal rounds ++ codes " rounds, " ++ decimal classes ++ codes " classes\n"
 
 -- the number of the class that a reason names, if it names one
 abbrev pub class_named : Reason → Option ℕ
@@ -30,25 +19,46 @@ class_named (Bypass round n w s) = Some n
 class_named (MixedPath round n s) = Some n
 class_named other = None
 
--- the name of a reason, with its round or its configuration
-abbrev pub reason_name : Reason → List ℕ
-reason_name (EndBreaks new breaks) = codes "EndBreaks " ++ (if new then codes "new" else codes "old")
-reason_name (BadChange round s i) = codes "BadChange round " ++ decimal round
-reason_name (Ambiguous round s) = codes "Ambiguous round " ++ decimal round
-reason_name (OverCapacity round s need) = codes "OverCapacity round " ++ decimal round
-reason_name (Rewrites round s) = codes "Rewrites round " ++ decimal round
-reason_name (NoNumbering round n) = codes "NoNumbering round " ++ decimal round
-reason_name (NotLower round n s) = codes "NotLower round " ++ decimal round
-reason_name (MayDrop round n s) = codes "MayDrop round " ++ decimal round
-reason_name (NoBefore round n) = codes "NoBefore round " ++ decimal round
-reason_name (Bypass round n w s) = codes "Bypass round " ++ decimal round
-reason_name (BadLabels round) = codes "BadLabels round " ++ decimal round
-reason_name (MixedPath round n s) = codes "MixedPath round " ++ decimal round
-reason_name (WrongEnd s) = codes "WrongEnd"
+-- the name of a reason, with its configuration if it names one
+abbrev pub reason_word : Reason → List ℕ
+reason_word (EndBreaks new breaks) = if new then codes "EndBreaks new" else codes "EndBreaks old"
+reason_word (BadChange round s i) = codes "BadChange"
+reason_word (Ambiguous round s) = codes "Ambiguous"
+reason_word (OverCapacity round s need) = codes "OverCapacity"
+reason_word (Rewrites round s) = codes "Rewrites"
+reason_word (NoNumbering round n) = codes "NoNumbering"
+reason_word (NotLower round n s) = codes "NotLower"
+reason_word (MayDrop round n s) = codes "MayDrop"
+reason_word (NoBefore round n) = codes "NoBefore"
+reason_word (Bypass round n w s) = codes "Bypass"
+reason_word (BadLabels round) = codes "BadLabels"
+reason_word (MixedPath round n s) = codes "MixedPath"
+reason_word (WrongEnd s) = codes "WrongEnd"
 
--- the number of a reason and its name
+-- the round that a reason names, if it names one
+abbrev pub round_named : Reason → Option ℕ
+round_named (EndBreaks new breaks) = None
+round_named (BadChange round s i) = Some round
+round_named (Ambiguous round s) = Some round
+round_named (OverCapacity round s need) = Some round
+round_named (Rewrites round s) = Some round
+round_named (NoNumbering round n) = Some round
+round_named (NotLower round n s) = Some round
+round_named (MayDrop round n s) = Some round
+round_named (NoBefore round n) = Some round
+round_named (Bypass round n w s) = Some round
+round_named (BadLabels round) = Some round
+round_named (MixedPath round n s) = Some round
+round_named (WrongEnd s) = None
+
+-- the round, if one is named
+abbrev pub at_round : Option ℕ → List ℕ
+at_round None = []
+at_round (Some round) = codes " round " ++ decimal round
+
+-- the number of a reason and its name, with its round
 abbrev pub reason_head : Reason → List ℕ
-reason_head reason = decimal (number_of reason) ++ codes " " ++ reason_name reason
+reason_head reason = decimal (number_of reason) ++ codes " " ++ reason_word reason ++ at_round (round_named reason)
 
 -- a switch, behind its word
 abbrev pub at_switch : Network → SwitchId → List ℕ

@@ -2,7 +2,7 @@
 use Rattle.std.specs.Prelude.{List, [], ◌∷◌, ℕ, Option, None, Some}
 use Rattle.command_base.specs.Names as base
 use Rattle.command_base.specs.Names.{UpdateNames}
-use Rattle.check_command.specs.declared.names.CheckNames as code
+use Rattle.check_base.specs.declared.names.CheckNames as code
 
 -- the names of the files of an update, and of its plan
 pub record CheckNames : Type 0 where

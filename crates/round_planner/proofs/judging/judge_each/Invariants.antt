@@ -4,11 +4,11 @@ use Rattle.update_model.specs.Mixtures.{Rollout}
 use Rattle.mixed_walks.specs.Walks.{IsRoundOf}
 use Rattle.round_planner.specs.Standing.{IsNextRound, IsNewlySafe, AreSafeBelow, HoldsLastOf}
 use Rattle.round_planner.specs.Visits.{HoldRound}
-use Rattle.round_planner.proofs.judging.judge_rest.Given as goal
+use Rattle.round_planner.proofs.judging.judge_each.Given as goal
 
 abbrev pub invariant-loop-number : goal.invariant-loop-number
 invariant-loop-number l =
     ((length l.came ≡ length l.fn.came) × HoldsLastOf l.goal l.last)
     × ((u : Rollout) (k : ℕ) → IsRoundOf l.goal.net l.tried.mixes.now u k → IsNextRound l.goal u l.tried.store.now.evidence k l.tried.change.now
-    → AllByRecursion (IsNewlySafe l.goal u l.tried.store.now.evidence k) l.fn.met.items → HoldRound l.goal u k l.fn.came
+    → AllByRecursion (IsNewlySafe l.goal u l.tried.store.now.evidence k) l.fn.before.items → HoldRound l.goal u k l.fn.came
     → AreSafeBelow l.goal u l.tried.store.now.evidence k l.number l.found.items × AllByRecursion (IsNewlySafe l.goal u l.tried.store.now.evidence k) l.before.items × HoldRound l.goal u k l.came)

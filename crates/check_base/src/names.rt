@@ -1,6 +1,6 @@
-//! The words of `check`.
+//! The words of `check`, and of the commands that check a plan first.
 ghost use Rattle.std.specs.Prelude.{◌≡◌, map, string_bytes, option_map};
-ghost use Rattle.check_command.specs.Names.{names_in, names_seen};
+ghost use Rattle.check_base.specs.Names.{names_in, names_seen};
 
 use command_base::UpdateNames;
 

@@ -11,7 +11,7 @@ use Rattle.certificates.specs.declared.Evidence.TheVariants.{Ordered, TwoPhase}
 use Rattle.check_reasons.specs.Reasons.{IsFirstReason, IsOwnReason, IsCommonReason, old_breaks, new_breaks, bad_change, ambiguous, over_capacity, wrong_end}
 use Rattle.check_reasons.specs.Reasons.{IsOrderedReason, rewrites, no_numbering, not_lower, may_drop, no_before, bypass, IsTwoPhaseReason, bad_labels, mixed_path}
 use Rattle.check_reasons.specs.declared.reason.Reason.{Reason}
-use Rattle.check_command.specs.ReasonLines.{class_named}
+use Rattle.check_base.specs.ReasonLines.{class_named}
 
 abbrev NamedFits : Task → Reason → Type 0
 NamedFits t r = IfSome (class_named r) (λ n. n < class_count (classes_for t))
