@@ -6,7 +6,7 @@ use config_check::Breaks;
 use net_base::SwitchId;
 
 /// Why a plan is refused. Rounds count from 1, the changes of a round from 0.
-#[derive(Clone, Copy, Debug, PartialEq, Eq)]
+#[derive(Clone, Copy)]
 pub enum Reason {
     /// A class has no good path in the old or the new configuration.
     EndBreaks {
@@ -104,7 +104,7 @@ impl Reason {
 }
 
 /// What the checker says.
-#[derive(Clone, Copy, Debug, PartialEq, Eq)]
+#[derive(Clone, Copy)]
 pub enum Verdict {
     /// The plan is certified.
     Accepted,

@@ -11,7 +11,7 @@ pub use checking::check_config;
 use net_base::SwitchId;
 
 /// How a path breaks its duties: it visits a switch again, is dropped there and must arrive, or misses a waypoint.
-#[derive(Clone, Copy, Debug, PartialEq, Eq)]
+#[derive(Clone, Copy)]
 pub enum How {
     Loop(SwitchId),
     Dropped(SwitchId),
@@ -19,7 +19,7 @@ pub enum How {
 }
 
 /// A class whose path isn't good, and how.
-#[derive(Clone, Copy, Debug, PartialEq, Eq)]
+#[derive(Clone, Copy)]
 pub struct Breaks {
     pub class: u32,
     pub how: How,

@@ -1,5 +1,5 @@
 -- The best of the positions of rules is that of the rule that matches.
-use Rattle.std.proofs.Common.{◌≡◌, ℕ, zero, suc, ◌+◌, ◌-◌, ◌<◌, ◌≤◌, true, false, List, [], ◌∷◌, ◌++◌, take, drop, map, length, get_or, refl, sym, ◌∙◌, subst, ap, inl, inr, arith}
+use Rattle.std.proofs.Common.{◌≡◌, ◌⊎◌, ℕ, zero, suc, ◌+◌, ◌-◌, ◌<◌, ◌≤◌, true, false, List, [], ◌∷◌, ◌++◌, take, drop, map, length, get_or, refl, sym, ◌∙◌, subst, ap, inl, inr, arith}
 use Rattle.std.specs.Prelude.{Option, Some, None, slice_get, find}
 use Rattle.std.proofs.lemmas.Bool.{cases_lt, cases_eq, cond-true, false≢true, false_from_ne_true}
 use Rattle.std.proofs.lemmas.List.Elements.{filter-append}
@@ -13,6 +13,7 @@ use Rattle.flow_rules.specs.Tuples.{around, slot_of, link_number, IsLink}
 use Rattle.flow_rules.specs.declared.rules.Pattern.{Pattern}
 use Rattle.flow_rules.specs.declared.rules.Rule.{Rule}
 use Rattle.flow_rules.proofs.LookupLaws.{is_top, top_tested, top_told, matched_none}
+use Rattle.flow_rules.proofs.ClashLaws.{rule_at}
 use Rattle.flow_rules.proofs.ScanLaws.{find_none}
 
 pub over_self : (rules : List Rule) (i : ℕ) → IsOver rules i i
@@ -49,10 +50,27 @@ covers_of h [] i r e = absurd (let f : None ≡ Some r = e in cc)
 covers_of h (q ∷ rules) zero r e = let f : q ≡ r = (let g : Some q ≡ Some r = e in cc) in ap (λ (x : Rule). covers x.key.pattern h) f
 covers_of h (q ∷ rules) (suc i) r e = covers_of h rules i r e
 
+-- a rule that doesn't cover is beaten by any
+pub missed_beaten : (h : Header) (rules : List Rule) (best : Option ℕ) (j : ℕ) (r : Rule) → slice_get rules j ≡ Some r → false ≡ covers r.key.pattern h → IsBeaten h rules best j
+missed_beaten h rules best j r at missed e = absurd (false≢true (missed ∙ sym (covers_of h rules j r at) ∙ e))
+
+-- of two hits each is one
+pub hit_either : (h : Header) (rules : List Rule) (i j k : ℕ) → (k ≡ i) ⊎ (k ≡ j) → covers_at h rules i ≡ true → covers_at h rules j ≡ true → covers_at h rules k ≡ true
+hit_either h rules i j k (inl e) a b = ap (λ (n : ℕ). covers_at h rules n) e ∙ a
+hit_either h rules i j k (inr e) a b = ap (λ (n : ℕ). covers_at h rules n) e ∙ b
+
 pub priority_of : (rules : List Rule) (i : ℕ) (r : Rule) → slice_get rules i ≡ Some r → priority_at rules i ≡ r.key.priority
 priority_of [] i r e = absurd (let f : None ≡ Some r = e in cc)
 priority_of (q ∷ rules) zero r e = let f : q ≡ r = (let g : Some q ≡ Some r = e in cc) in ap (λ (x : Rule). x.key.priority) f
 priority_of (q ∷ rules) (suc i) r e = priority_of rules i r e
+
+-- one position counts before another by the priorities of their rules
+pub over_by : (rules : List Rule) (i j : ℕ) (a b : Rule) → i < length rules → j < length rules → a ≡ get_or rules i a → b ≡ get_or rules j b → b.key.priority ≤ a.key.priority
+    → (b.key.priority ≡ a.key.priority → i ≤ j) → IsOver rules i j
+over_by rules i j a b i_in j_in a_is b_is above first =
+    let p = priority_of rules i a (rule_at rules i a i_in a_is) in
+    let q = priority_of rules j b (rule_at rules j b j_in b_is) in
+    record { above = omega arith; first = λ e. first (sym q ∙ e ∙ p) }
 
 -- a member of the first rules stands before their end
 place_before : (n : ℕ) (rules : List Rule) (r : Rule) → IsIn r (take n rules) → (j : ℕ) × (j < n) × (slice_get rules j ≡ Some r)
@@ -144,6 +162,25 @@ all_beaten h rules best kinds patterns count is complete seen j e =
     let slot : get_or (map (slot_of count) patterns) j 0 ≡ slot_of count (around k h) =
     ap (λ ps. get_or (map (slot_of count) ps) j 0) is ∙ slot_at (slot_of count) rules j r at ∙ ap (slot_of count) (sym own) in
     seen k i j slot e
+
+pub less_link : (next now i : ℕ) → next ≤ i → now ≡ i + 1 → next < now
+less_link next now i le is = omega arith
+
+-- no link is at most any number
+pub none_below : (link : Option ℕ) (j : ℕ) → link ≡ None → link_number link ≤ j
+none_below link j is = subst (λ (o : Option ℕ). link_number o ≤ j) (sym is) (let z : 0 ≤ j = omega arith in z)
+
+module _ (slots : List ℕ) (slot limit : ℕ) (first : Option ℕ) (link : IsLink slots slot limit (link_number first)) where
+  -- the first of a slot is in it
+  pub first_same : (x : ℕ) → first ≡ Some x → get_or slots x 0 ≡ slot
+  first_same x e =
+      let more : link_number first ≡ x + 1 = ap link_number e in
+      let less : x ≡ link_number first - 1 = omega arith in
+      ap (λ (n : ℕ). get_or slots n 0) less ∙ link.same (omega arith)
+
+  -- and none of the rules behind it is
+  pub first_seen : (h : Header) (rules : List Rule) (best : Option ℕ) → limit ≡ length rules → (j : ℕ) → link_number first ≤ j → get_or slots j 0 ≡ slot → IsBeaten h rules best j
+  first_seen h rules best count j le e hit = absurd (link.last j le (let k = hit_within h rules j hit in omega arith) e)
 
 module _ (slots : List ℕ) (slot i : ℕ) (same : get_or slots i 0 ≡ slot) (next : Option ℕ) (link : IsLink slots (get_or slots i 0) i (link_number next)) where
   -- a step along a slot stays in it

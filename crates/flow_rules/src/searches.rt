@@ -10,7 +10,7 @@ use net_base::{Memory, Port, Vlan};
 use std::alloc::Global;
 
 /// What a look-up sees of a packet: its ingress port, its VLAN and its destination.
-#[derive(Clone, Copy, Debug, PartialEq, Eq)]
+#[derive(Clone, Copy)]
 pub(crate) struct Packet {
     pub(crate) port: Port,
     pub(crate) vlan: Vlan,

@@ -21,7 +21,7 @@ const MOST_KINDS: usize = 16;
 const MOST_APART: usize = 1 << 20;
 
 /// A pattern, and the number behind the position of the one before it with the same slot, 0 where there is none.
-#[derive(Clone, Copy, Debug, PartialEq, Eq)]
+#[derive(Clone, Copy)]
 struct Entry {
     pattern: Pattern,
     next: u32,

@@ -16,7 +16,7 @@ use std::alloc::Global;
 use std::marker::Model;
 
 /// A class by its number, with the switch where its packets enter and the number of the use that it was judged by.
-#[derive(Clone, Copy, Debug, PartialEq, Eq)]
+#[derive(Clone, Copy)]
 pub(crate) struct GuardedClass {
     pub(crate) number: u32,
     pub(crate) start: SwitchId,

@@ -211,23 +211,77 @@ fn judge_class(
     first_of_class(of, walk, guarded, round.number, numbered, pick)
 }
 
+/// The lists of a room that are as long as there are classes.
+#[derive(Drop)]
+struct ClassLists {
+    classes: Vec<Class>,
+    atoms: Vec<u32>,
+    came: Vec<[bool; 128]>,
+    settled: Vec<bool>,
+    members: Vec<NumberedClass>,
+}
+
+impl ClassLists {
+    fn make(alloc: Global, classes: &ClassMap) -> Result<ClassLists, Memory>
+        ensures classes { IfOk result (λ l. AreClasses classes.now l.classes.items) }
+        ensures atoms { IfOk result (λ l. AreAtoms classes.now l.atoms.items) }
+        ensures came { IfOk result (λ l. length l.came.items ≡ class_count classes.now) }
+        ensures settled { IfOk result (λ l. length l.settled.items ≡ class_count classes.now) }
+    {
+        Ok(ClassLists {
+            classes: all_classes(alloc, classes)?,
+            atoms: all_atoms(alloc, classes)?,
+            came: no_marks(alloc, classes.count() as usize)?,
+            settled: vec![in alloc; false; classes.count() as usize]?,
+            members: Vec::with_capacity(alloc, classes.count() as usize)?,
+        })
+    }
+}
+
+/// The room for walks, and the class whose positions were found guarded last.
+#[derive(Drop)]
+struct Walks {
+    guarded: Guarded,
+    walk: WalkRoom,
+}
+
+impl Walks {
+    fn make(alloc: Global) -> Result<Walks, Memory> {
+        Ok(Walks {
+            guarded: Guarded::make(alloc)?,
+            walk: WalkRoom::make(alloc)?,
+        })
+    }
+}
+
 impl OrderedRoom {
     /// Room for the classes of a map: less than 200 bytes for each, 8192 for the atoms and 5 for each of them; beside that room
     /// for the walks of any class twice, which is the same for each map.
     pub fn make(alloc: Global, classes: &ClassMap) -> Result<OrderedRoom, Memory>
         ensures { IfOk result (HasClassRoom classes.now) }
     {
+        let touched = TouchedAtoms::make(alloc)?;
+        let looked = LookedAtoms::make(alloc, classes)?;
+        let picks = PicksInForce::make(alloc, classes.count())?;
+        let ClassLists {
+            classes,
+            atoms,
+            came,
+            settled,
+            members,
+        } = ClassLists::make(alloc, classes)?;
+        let Walks { guarded, walk } = Walks::make(alloc)?;
         Ok(OrderedRoom {
-            classes: all_classes(alloc, classes)?,
-            atoms: all_atoms(alloc, classes)?,
-            came: no_marks(alloc, classes.count() as usize)?,
-            settled: vec![in alloc; false; classes.count() as usize]?,
-            members: Vec::with_capacity(alloc, classes.count() as usize)?,
-            touched: TouchedAtoms::make(alloc)?,
-            looked: LookedAtoms::make(alloc, classes)?,
-            picks: PicksInForce::make(alloc, classes.count())?,
-            guarded: Guarded::make(alloc)?,
-            walk: WalkRoom::make(alloc)?,
+            walk,
+            guarded,
+            picks,
+            classes,
+            atoms,
+            came,
+            touched,
+            looked,
+            settled,
+            members,
         })
     }
 

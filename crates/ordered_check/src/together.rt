@@ -22,7 +22,7 @@ use net_base::Vlan;
 
 /// What classes that are walked together have in common: the first address of their atom, the VLAN of their entries, the
 /// index of the use of their picks in force, and whether their packets must arrive.
-#[derive(Clone, Copy, Debug, PartialEq, Eq)]
+#[derive(Clone, Copy, PartialEq, Eq)]
 pub(crate) struct Group {
     pub(crate) address: u32,
     pub(crate) vlan: Vlan,

@@ -18,7 +18,7 @@ use net_base::SwitchId;
 use waypoint_evidence::Before;
 
 /// A waypoint that isn't guarded, and the least switch at which it isn't.
-#[derive(Clone, Copy, Debug, PartialEq, Eq)]
+#[derive(Clone, Copy)]
 pub(crate) struct WayRound {
     pub(crate) waypoint: SwitchId,
     pub(crate) switch: SwitchId,

@@ -10,7 +10,7 @@ pub use room::PathRoom;
 pub use walking::walk;
 
 /// What becomes of a packet at a place, by the lookup in the table of the place's switch and what is at the output port.
-#[derive(Clone, Copy, Debug, PartialEq, Eq)]
+#[derive(Clone, Copy, PartialEq, Eq)]
 pub enum Outcome {
     /// It is discarded: no rule covers it, the action discards, nothing is at the output port, or that is the ingress port
     /// (OpenFlow 1.0.0, section 5.2.1: only the virtual port IN_PORT, which no rule uses, sends a packet back out of it).
@@ -23,7 +23,7 @@ pub enum Outcome {
 
 /// How the walk along a path of a configuration ended. It ends at the latest at the first stop whose switch was visited
 /// before.
-#[derive(Clone, Copy, Debug, PartialEq, Eq)]
+#[derive(Clone, Copy, PartialEq, Eq)]
 pub enum PathEnd {
     /// The packet left the network from this switch, at this host port.
     Left(SwitchId, Port),
@@ -34,7 +34,7 @@ pub enum PathEnd {
 }
 
 /// How a packet's trace ends, or that it goes on.
-#[derive(Clone, Copy, Debug, PartialEq, Eq)]
+#[derive(Clone, Copy, PartialEq, Eq)]
 pub enum Ended {
     /// It has no end yet: the packet is at its present place.
     UnderWay,

@@ -138,7 +138,7 @@ fn found(rt: &(impl Abort + AllocGlobal)) -> Vec<Change> {
 
 #[test]
 fn the_changes_come_by_switch_and_then_in_key_order(rt: HostRuntime) {
-    assert_eq!(rt; found(&rt).as_slice(), wanted(&rt).as_slice());
+    assert!(rt; found(&rt).as_slice() == wanted(&rt).as_slice());
 }
 
 #[test]

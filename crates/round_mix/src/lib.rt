@@ -44,7 +44,7 @@ use tried::{make, take_back, try_change};
 use update_model::Change;
 
 /// In which mixtures a rule stands: in all, in some, or in all with its action or another.
-#[derive(Clone, Copy, Debug, PartialEq, Eq)]
+#[derive(Clone, Copy)]
 pub enum Mark {
     Sure,
     Possible,
@@ -52,14 +52,14 @@ pub enum Mark {
 }
 
 /// A rule that stands in the table before the round or is inserted, with its mark.
-#[derive(Clone, Copy, Debug, PartialEq, Eq)]
+#[derive(Clone, Copy)]
 pub struct MarkedRule {
     pub rule: Rule,
     pub mark: Mark,
 }
 
 /// Why a switch and a round are not prepared.
-#[derive(Clone, Copy, Debug, PartialEq, Eq)]
+#[derive(Clone, Copy, PartialEq, Eq)]
 pub enum MixFault {
     /// The first change that doesn't apply or names a key that was named before.
     BadChange(usize),

@@ -9,7 +9,7 @@ use flow_rules::{Pattern, TupleSpace};
 use net_base::Place;
 
 /// A packet at a place, to an address.
-#[derive(Clone, Copy, Debug, PartialEq, Eq)]
+#[derive(Clone, Copy)]
 pub struct Packet {
     pub place: Place,
     pub dst: u32,

@@ -84,7 +84,7 @@ fn a_change_applies_by_its_key_and_a_delete_by_its_action_too(rt: HostRuntime) {
         (Change::Replace(at, rule(100, 3)), true),
         (Change::Replace(at, rule(101, 2)), false),
     ] {
-        assert!(rt; applies(&config, &case) == want, "{case:?}");
+        assert!(rt; applies(&config, &case) == want);
     }
 }
 
@@ -100,7 +100,7 @@ fn a_table_holds_what_its_changes_leave(rt: HostRuntime) {
         (Change::Insert(at, rule(50, 1)), true),
         (Change::Delete(at, rule(200, 3)), true),
     ] {
-        assert!(rt; change(&rt, &mut table, &case) == want, "{case:?}");
+        assert!(rt; change(&rt, &mut table, &case) == want);
     }
     assert!(rt; table.rules() == [rule(100, 4), rule(50, 1)].as_slice());
 }

@@ -25,7 +25,7 @@ pub use world::{StepFault, World};
 
 /// One rule change at one switch: what a flow-mod does that adds an entry, or that deletes or modifies strictly
 /// (OpenFlow 1.0.0, section 4.6).
-#[derive(Clone, Copy, Debug, PartialEq, Eq)]
+#[derive(Clone, Copy, PartialEq, Eq)]
 pub enum Change {
     /// Adds a rule, whose key is absent before.
     Insert(SwitchId, Rule),
@@ -51,7 +51,7 @@ impl Model for Rounds {
 }
 
 /// An atomic step of a network while an update runs.
-#[derive(Clone, Copy, Debug, PartialEq, Eq)]
+#[derive(Clone, Copy, PartialEq, Eq)]
 pub enum Event {
     /// The controller begins to send the next round.
     Start,
@@ -68,7 +68,7 @@ pub enum Event {
 }
 
 /// How far an update is: so many rounds are settled, or the round of this number, from 1, is running.
-#[derive(Clone, Copy, Debug, PartialEq, Eq)]
+#[derive(Clone, Copy, PartialEq, Eq)]
 pub enum Phase {
     Settled(u32),
     Running(u32),

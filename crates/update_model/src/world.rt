@@ -52,7 +52,7 @@ impl<'a> Model for World<'a> {
 }
 
 /// Why an event was refused.
-#[derive(Clone, Copy, Debug, PartialEq, Eq)]
+#[derive(Clone, Copy, PartialEq, Eq)]
 pub enum StepFault {
     /// The event can't happen now.
     NotEnabled,

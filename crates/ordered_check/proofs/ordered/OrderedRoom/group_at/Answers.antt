@@ -12,6 +12,34 @@ use Rattle.ordered_check.specs.Kept.{OrderedState}
 use Rattle.ordered_check.proofs.KeptLaws.{read_at, class_at, is_at}
 use Rattle.ordered_check.proofs.ordered.OrderedRoom.group_at.Goals as goal
 
+pub index-class-requires : goal.index-class-requires
+index-class-requires c =
+    let number = c.requires.number in
+    let same = ap (λ (s : OrderedState). length s.classes) c.self.view_is in
+    let count = c.requires.room.classes_are.count in
+    omega arith
+
+pub index-atom-requires : goal.index-atom-requires
+index-atom-requires c =
+    let number = c.requires.number in
+    let same = ap (λ (s : OrderedState). length s.atoms) c.self.view_is in
+    let count = c.requires.room.atoms_are.count in
+    omega arith
+
+pub index-requires : goal.index-requires
+index-requires c =
+    let number = c.requires.number in
+    let same = ap (λ (s : OrderedState). length s.came) c.self.view_is in
+    let count = c.requires.room.came in
+    omega arith
+
+pub of-in_force-requires : goal.of-in_force-requires
+of-in_force-requires c =
+    let number = c.requires.number in
+    let same = ap (λ (s : OrderedState). length s.picks.of_class) c.self.view_is in
+    let count = c.requires.room.picks in
+    omega arith
+
 pub is_unchanged-requires : goal.is_unchanged-requires
 is_unchanged-requires c =
     let t = c.args.of.now.task in
@@ -27,6 +55,14 @@ is_unchanged-requires c =
     let at : slice_get state.atoms n ≡ Some atom = sym (ap (λ (s : OrderedState). slice_get s.atoms n) c.self.view_is) ∙ read_at c.self.inside.atoms.items n atom known c.index-atom.ensures in
     c.has-touched.ensures ∙ ap (λ (s : OrderedState). is_marked s.touched atom) c.self.view_is ∙ ap (is_marked state.touched) (room.atoms_are.each n atom at)
     ∙ c.requires.touched n class (is_at t n state c.self.inside.classes.items classes_are class within c.index-class.ensures room)
+
+pub group_of-requires-clause-class : goal.group_of-requires-clause-class
+group_of-requires-clause-class c =
+    let t = c.args.of.now.task in
+    let classes_are = ap (λ (s : OrderedState). s.classes) c.self.view_is in
+    let number = c.requires.number in
+    let within : c.args.number < length c.self.inside.classes.items = (let same = ap (λ (cs : List Class). length cs) classes_are in let count = c.requires.room.classes_are.count in omega arith) in
+    is_at t c.args.number c.args.self.now c.self.inside.classes.items classes_are c.index-class.result.now within c.index-class.ensures c.requires.room
 
 pub group_of-requires-clause-pick : goal.group_of-requires-clause-pick
 group_of-requires-clause-pick c =

@@ -32,6 +32,41 @@ stands_there t e k n changes mixes state class marks in_force user valid round r
     class_stands t e k n class in_force marks user valid round.within round.before round.pass (room.classes_are.each n class is) (picks.each n in_force kept) begun (walks class marks is came)
     (subst (λ (cs : List Change). touches_walk cs class marks ≡ false) round.changes_are off)
 
+pub index-settled-requires : goal.index-settled-requires
+index-settled-requires c =
+    let number = c.requires.number in
+    let same = ap (λ (s : OrderedState). length s.settled) c.self.view_is in
+    let count = c.requires.room.settled in
+    omega arith
+
+pub index-class-requires : goal.index-class-requires
+index-class-requires c =
+    let number = c.requires.number in
+    let same = ap (λ (s : OrderedState). length s.classes) c.self.view_is in
+    let count = c.requires.room.classes_are.count in
+    omega arith
+
+pub index-atom-requires : goal.index-atom-requires
+index-atom-requires c =
+    let number = c.requires.number in
+    let same = ap (λ (s : OrderedState). length s.atoms) c.self.view_is in
+    let count = c.requires.room.atoms_are.count in
+    omega arith
+
+pub index-requires : goal.index-requires
+index-requires c =
+    let number = c.requires.number in
+    let same = ap (λ (s : OrderedState). length s.came) c.self.view_is in
+    let count = c.requires.room.came in
+    omega arith
+
+pub of-in_force-requires : goal.of-in_force-requires
+of-in_force-requires c =
+    let number = c.requires.number in
+    let same = ap (λ (s : OrderedState). length s.picks.of_class) c.self.view_is in
+    let count = c.requires.room.picks in
+    omega arith
+
 -- a class that is settled
 pub returns-then-settled-clause-none : goal.returns-then-settled-clause-none
 returns-then-settled-clause-none c class is =
