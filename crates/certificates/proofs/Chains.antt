@@ -26,6 +26,18 @@ module _ {A : Type 0} (P : A → Type 0) where
   all_at (x ∷ xs) zero d lt h = h.0
   all_at (x ∷ xs) (suc k) d lt h = all_at xs k d (omega arith) h.1
 
+  pub all_more : (xs : List A) (i : ℕ) (x : A) → i < length xs → x ≡ get_or xs i x → P x → AreUpTo xs i → AreUpTo xs (i + 1)
+  all_more xs i x lt at here h k d below_ =
+      elim (cases_lt k i) [
+        | inl before ↦ h k d before
+        | inr ge ↦
+            let last : i ≡ k = omega arith in
+            subst (λ (n : ℕ). P (get_or xs n d)) last (subst P (at ∙ get_or_default xs i x d lt) here)
+      ]
+
+  pub all_refused : (xs : List A) (i : ℕ) (x : A) (r : Bool) → i < length xs → x ≡ get_or xs i x → r ≡ false → (IsTrue r ↔ P x) → IsTrue false ↔ AllByRecursion P xs
+  all_refused xs i x r lt at e told = refused r e told (λ h. subst P (sym at) (all_at xs i x lt h))
+
 module _ {A : Type 0} (below : A → A → Type 0) where
   -- the members below a place are a chain
   abbrev pub IsChainUpTo : List A → ℕ → Type 0

@@ -27,7 +27,7 @@ pub struct Shared {
 
 /// The evidence that a class has from a round on, until its next pick. In force for a round and a class is the pick of the
 /// class with the greatest round number that isn't above the round.
-#[derive(Clone, Copy, Debug, PartialEq, Eq)]
+#[derive(Clone, Copy)]
 pub struct OrderedPick {
     /// The first round for which it is in force. Rounds count from 1.
     pub round: u32,
@@ -39,7 +39,7 @@ pub struct OrderedPick {
 
 /// The label table that is used from a round on, for all classes, until the next pick. In force for a round is the pick
 /// with the greatest round number that isn't above the round.
-#[derive(Clone, Copy, Debug, PartialEq, Eq)]
+#[derive(Clone, Copy)]
 pub struct LabelPick {
     /// The first round for which it is in force. Rounds count from 1.
     pub round: u32,
@@ -48,7 +48,7 @@ pub struct LabelPick {
 }
 
 /// What a VLAN says of a packet: its version, and the VLAN that its user gave it.
-#[derive(Clone, Copy, Debug, PartialEq, Eq)]
+#[derive(Clone, Copy, PartialEq, Eq)]
 pub struct Label {
     pub vlan: Vlan,
     pub new: bool,

@@ -181,7 +181,12 @@ fn is_valid_before(net: &Net, before: &Before) -> bool
 fn are_below(numbers: &[u64], count: usize) -> bool
     ensures { IsTrue result ↔ AllByRecursion (λ i. i < count) numbers.now }
 {
-    numbers.iter().all(|number| *number < count as u64)
+    for number in numbers {
+        if *number >= count as u64 {
+            return false;
+        }
+    }
+    true
 }
 
 fn is_valid_use(shared: &Shared, numberings: usize, befores: usize) -> bool
@@ -220,22 +225,34 @@ fn are_ascending(picks: &[OrderedPick]) -> bool
 fn are_valid_numberings(net: &Net, numberings: &[Numbering]) -> bool
     ensures { IsTrue result ↔ AllByRecursion (IsValidNumbering net.now) numberings.now }
 {
-    numberings
-        .iter()
-        .all(|numbering| is_valid_numbering(net, numbering))
+    for numbering in numberings {
+        if !is_valid_numbering(net, numbering) {
+            return false;
+        }
+    }
+    true
 }
 
 fn are_valid_befores(net: &Net, befores: &[Before]) -> bool
     ensures { IsTrue result ↔ AllByRecursion (IsValidBefore net.now) befores.now }
 {
-    befores.iter().all(|before| is_valid_before(net, before))
+    for before in befores {
+        if !is_valid_before(net, before) {
+            return false;
+        }
+    }
+    true
 }
 
 fn are_valid_uses(uses: &[Shared], numberings: usize, befores: usize) -> bool
     ensures { IsTrue result ↔ AllByRecursion (IsValidUse numberings befores) uses.now }
 {
-    uses.iter()
-        .all(|shared| is_valid_use(shared, numberings, befores))
+    for shared in uses {
+        if !is_valid_use(shared, numberings, befores) {
+            return false;
+        }
+    }
+    true
 }
 
 fn are_valid_picks(picks: &[OrderedPick], rounds: usize, uses: usize) -> bool
@@ -294,7 +311,12 @@ fn is_label(label: Label) -> bool
 fn are_labels(labels: &[Label]) -> bool
     ensures { IsTrue result ↔ AllByRecursion (λ l. IsVlan l.vlan × IsVlan l.user) labels.now }
 {
-    labels.iter().all(|label| is_label(*label))
+    for label in labels {
+        if !is_label(*label) {
+            return false;
+        }
+    }
+    true
 }
 
 fn is_valid_table(table: &Labels) -> bool
@@ -306,7 +328,12 @@ fn is_valid_table(table: &Labels) -> bool
 fn are_valid_tables(tables: &[Labels]) -> bool
     ensures { IsTrue result ↔ AllByRecursion IsValidTable tables.now }
 {
-    tables.iter().all(is_valid_table)
+    for table in tables {
+        if !is_valid_table(table) {
+            return false;
+        }
+    }
+    true
 }
 
 fn is_valid_label_pick(pick: LabelPick, rounds: usize, tables: usize) -> bool
@@ -318,9 +345,12 @@ fn is_valid_label_pick(pick: LabelPick, rounds: usize, tables: usize) -> bool
 fn are_valid_label_picks(picks: &[LabelPick], rounds: usize, tables: usize) -> bool
     ensures { IsTrue result ↔ AllByRecursion (IsValidLabelPick rounds tables) picks.now }
 {
-    picks
-        .iter()
-        .all(|pick| is_valid_label_pick(*pick, rounds, tables))
+    for pick in picks {
+        if !is_valid_label_pick(*pick, rounds, tables) {
+            return false;
+        }
+    }
+    true
 }
 
 fn are_rounds_ascending(picks: &[LabelPick]) -> bool

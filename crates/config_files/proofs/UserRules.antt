@@ -10,7 +10,7 @@ use Rattle.net_base.specs.Blocks.{Block, IsBlock}
 use Rattle.net_base.specs.Members.{IsIn}
 use Rattle.net_base.specs.Reading.{◌>>=◌, check, need}
 use Rattle.net_base.specs.Text.{prefix_in, is_based}
-use Rattle.net_base.specs.Tree.{whole_in, whole_at, text_at}
+use Rattle.flat_json.specs.JsonTree.{whole_in, whole_at, text_at}
 use Rattle.net_base.specs.declared.ids.SwitchId.{SwitchId}
 use Rattle.net_base.specs.declared.ids.Port.{Port}
 use Rattle.net_base.specs.declared.ids.Vlan.{Vlan}

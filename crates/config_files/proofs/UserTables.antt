@@ -11,7 +11,7 @@ use Rattle.std.proofs.lemmas.List.Sums.{sum_by-set}
 use Rattle.serde_json.specs.Data.{Data}
 use Rattle.net_base.specs.Members.{IsIn}
 use Rattle.net_base.specs.Reading.{◌>>=◌, check, in_turn, place_of}
-use Rattle.net_base.specs.Tree.{is_object, text_at, tree_in}
+use Rattle.flat_json.specs.JsonTree.{is_object, text_at, tree_in}
 use Rattle.net_base.specs.declared.ids.SwitchId.{SwitchId}
 use Rattle.net_base.specs.declared.field.Field.TheVariants as field
 use Rattle.net_base.proofs.Turns.{bind_ok, ok_is}

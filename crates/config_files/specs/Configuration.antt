@@ -12,7 +12,7 @@ use Rattle.net_base.specs.declared.field.Field.TheVariants as field
 use Rattle.net_base.specs.Reading.{◌>>=◌, check, need, in_turn}
 use Rattle.net_base.specs.Blocks.{Block}
 use Rattle.net_base.specs.Text.{prefix_in}
-use Rattle.net_base.specs.Tree.{is_object, text_at, whole_at, whole_in, list_at, tree_in}
+use Rattle.flat_json.specs.JsonTree.{is_object, text_at, whole_at, whole_in, list_at, tree_in}
 use Rattle.topology.specs.Networks.{Network, switch_count, switch_named, capacity_of, is_used, is_tag, is_vlan_id}
 use Rattle.flow_rules.specs.Patterns.{key_eq}
 use Rattle.flow_rules.specs.Overlaps.{keys_clash}

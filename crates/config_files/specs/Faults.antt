@@ -1,8 +1,8 @@
 -- The faults of a configuration: number, name, member and place.
 use Rattle.std.specs.Prelude.{ℕ, List, Option, None, Some, codes}
 use Rattle.net_base.specs.declared.field.Field.{Field}
-use Rattle.net_base.specs.declared.tree.JsonFault.{JsonFault}
-use Rattle.net_base.specs.declared.tree.JsonFault.TheVariants as json
+use Rattle.flat_json.specs.declared.fault.JsonFault.{JsonFault}
+use Rattle.flat_json.specs.declared.fault.JsonFault.TheVariants as json
 use Rattle.config_files.specs.declared.fault.ConfigFault.{ConfigFault}
 use Rattle.config_files.specs.declared.fault.ConfigFault.TheVariants.{NotJson, Shape, UnknownSwitch, BadPriority, BadPort, BadVlan, ReservedVlan, BadPrefix, KeyTwice, Overlap, OverCapacity, TooMany, Memory}
 

@@ -3,14 +3,15 @@ ghost use Rattle.std.specs.Prelude.{◌≡◌};
 ghost use Rattle.config_files.specs.declared.fault.ConfigFault.TheVariants.{Memory};
 ghost use Rattle.config_files.specs.Faults.{of_json, fault_number, fault_name, fault_field, fault_place};
 
-use net_base::{Field, JsonFault, SwitchId};
+use flat_json::JsonFault;
+use net_base::{Field, SwitchId};
 use std::alloc::{AllocError, AllocFailed};
 use std::fmt;
 use thiserror::Error;
 
 /// Why bytes are no configuration of a network. The number is the place: that of the rule in its list, from 0. A fault of
 /// the whole file has none.
-#[derive(Clone, Copy, Debug, PartialEq, Eq, Error)]
+#[derive(Clone, Copy, PartialEq, Eq, Error)]
 pub enum ConfigFault {
     /// `serde_json` finds no value.
     NotJson,
@@ -117,6 +118,13 @@ impl ConfigFault {
 impl fmt::Display for ConfigFault {
     fn fmt<W: fmt::Write>(&self, f: &mut fmt::Formatter<W>) -> fmt::Result {
         f.write_str(self.name())
+    }
+}
+
+/// As it is printed, with the place: a derived one would have a path for each variant.
+impl fmt::Debug for ConfigFault {
+    fn fmt<W: fmt::Write>(&self, f: &mut fmt::Formatter<W>) -> fmt::Result {
+        write!(f, "{self} at {}", self.place())
     }
 }
 

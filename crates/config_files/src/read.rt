@@ -198,18 +198,39 @@ fn read_tables(alloc: Global, net: &Net, tree: &Tree<'_>, top: &Node) -> Result<
 {
     let items = items_of(tree, top)?;
     let mut config = Config::make(alloc, net.switches())?;
-    fill(net, &mut config, tree, items)?;
-    Ok(config)
+    match fill(net, &mut config, tree, items) {
+        Ok(()) => Ok(config),
+        Err(fault) => {
+            drop(config);
+            Err(fault)
+        }
+    }
+}
+
+/// Reads the tables that the bytes describe, with room for their texts.
+#[tactic(auto, unfolding(crate::specs::Configuration::configuration_in))]
+fn read_with(
+    alloc: Global,
+    net: &Net,
+    bytes: &[u8],
+    scratch: &mut Scratch,
+) -> Result<Config, ConfigFault>
+    ensures { Gives Memory rules_of_all result (configuration.configuration_in net.now bytes.now) }
+{
+    let tree = parse_tree(alloc, bytes, scratch)?;
+    let read = read_tables(alloc, net, &tree, tree.top());
+    drop(tree);
+    read
 }
 
 /// The tables that the bytes describe.
-#[tactic(auto, unfolding(crate::specs::Configuration::configuration_in))]
 fn read_bytes(alloc: Global, net: &Net, bytes: &[u8]) -> Result<Config, ConfigFault>
     ensures { Gives Memory rules_of_all result (configuration.configuration_in net.now bytes.now) }
 {
     let mut scratch = Scratch::new(alloc);
-    let tree = parse_tree(alloc, bytes, &mut scratch)?;
-    read_tables(alloc, net, &tree, tree.top())
+    let read = read_with(alloc, net, bytes, &mut scratch);
+    drop(scratch);
+    read
 }
 
 /// The configuration of a network that the bytes describe: for each switch its rules in the order of the file. The first

@@ -15,7 +15,7 @@ use Rattle.net_base.specs.Blocks.{Block, IsBlock}
 use Rattle.net_base.specs.Members.{IsIn}
 use Rattle.net_base.specs.Reading.{◌>>=◌, check, need, in_turn, Gives}
 use Rattle.net_base.specs.Text.{prefix_in, is_based}
-use Rattle.net_base.specs.Tree.{is_object, text_at, list_in, list_at, tree_in}
+use Rattle.flat_json.specs.JsonTree.{is_object, text_at, list_in, list_at, tree_in}
 use Rattle.net_base.proofs.MemberLaws.{each_append}
 use Rattle.net_base.proofs.Prefixes.{address_in-some}
 use Rattle.net_base.proofs.Decimals.{decimal_in-some}

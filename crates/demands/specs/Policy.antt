@@ -10,7 +10,7 @@ use Rattle.net_base.specs.declared.ids.Stop.{Stop}
 use Rattle.net_base.specs.declared.field.Field.TheVariants.{Top, Demands, From, Vlan, Dst, Through, Deliver}
 use Rattle.net_base.specs.Reading.{◌>>=◌, check, need, in_turn}
 use Rattle.net_base.specs.Text.{prefix_in}
-use Rattle.net_base.specs.Tree.{is_object, text_at, whole_in, list_in, list_at, tree_in}
+use Rattle.flat_json.specs.JsonTree.{is_object, text_at, whole_in, list_in, list_at, tree_in}
 use Rattle.topology.specs.Networks.{Network, switch_named, is_host, is_vlan_id}
 use Rattle.topology.specs.References.{reference_parts}
 use Rattle.flow_rules.specs.declared.rules.VlanTest.{VlanTest}

@@ -3,13 +3,14 @@ ghost use Rattle.std.specs.Prelude.{◌≡◌};
 ghost use Rattle.demands.specs.declared.fault.DemandFault.TheVariants.{Memory};
 ghost use Rattle.demands.specs.Faults.{of_json, fault_number, fault_name, fault_field, fault_place};
 
-use net_base::{Field, JsonFault};
+use flat_json::JsonFault;
+use net_base::Field;
 use std::alloc::{AllocError, AllocFailed};
 use std::fmt;
 use thiserror::Error;
 
 /// Why bytes are no policy. The number is the place: that of the demand, from 0. A fault of the whole file has none.
-#[derive(Clone, Copy, Debug, PartialEq, Eq, Error)]
+#[derive(Clone, Copy, PartialEq, Eq, Error)]
 pub enum DemandFault {
     /// `serde_json` finds no value.
     NotJson,
@@ -85,6 +86,13 @@ impl DemandFault {
             | DemandFault::BadPrefix(place)
             | DemandFault::TooMany(_, place) => place,
         }
+    }
+}
+
+/// The name, as `Display`: a derived `Debug` has a path for each variant and takes long to prove.
+impl fmt::Debug for DemandFault {
+    fn fmt<W: fmt::Write>(&self, f: &mut fmt::Formatter<W>) -> fmt::Result {
+        f.write_str(self.name())
     }
 }
 

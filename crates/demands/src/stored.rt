@@ -1,5 +1,5 @@
 //! The duties of the classes of a map.
-ghost use Rattle.std.specs.Prelude.{◌≡◌, ◌<◌, ◌&&◌, ℕ, cond, true, length, map, slice_get, Some, IfOk, OnOk};
+ghost use Rattle.std.specs.Prelude.{◌≡◌, ◌<◌, ◌&&◌, ℕ, [], cond, true, length, map, slice_get, Some, IfOk, OnOk};
 ghost use Rattle.std.specs.List.{list_any};
 ghost use Rattle.dest_classes.specs.Classes.{class_count};
 ghost use Rattle.demands.specs.Duties.{PacketDuties, demand_covers, duties_of, with_chain, first_of_each};
@@ -95,6 +95,27 @@ fn put_row(
     Ok(number)
 }
 
+/// Puts the row of each class, and its number, in the order of the classes.
+fn put_rows(
+    alloc: Global,
+    demands: &Demands,
+    classes: &ClassMap,
+    sets: &mut DemandSets,
+    rows: &mut Vec<Duty>,
+    numbers: &mut Vec<usize>,
+) -> Result<(), Memory>
+    requires sets { sets.old ≡ [] }
+    requires rows { rows.old.items ≡ [] }
+    requires numbers { numbers.old.items ≡ [] }
+    ensures { OnOk result ((length numbers.new.items ≡ class_count classes.now) × AreInOrder demands.now classes.now rows.new.items numbers.new.items) }
+{
+    for n in 0..classes.count() {
+        let number = put_row(alloc, demands, classes.class(n), sets, rows)?;
+        numbers.push(number)?;
+    }
+    Ok(())
+}
+
 /// Rows of duties, and the number of the row of each class in the order of the classes.
 fn all_duties(
     alloc: Global,
@@ -106,11 +127,17 @@ fn all_duties(
     let mut sets = DemandSets::make(alloc);
     let mut rows = Vec::new(alloc);
     let mut numbers = Vec::new(alloc);
-    for n in 0..classes.count() {
-        let number = put_row(alloc, demands, classes.class(n), &mut sets, &mut rows)?;
-        numbers.push(number)?;
-    }
+    let put = put_rows(alloc, demands, classes, &mut sets, &mut rows, &mut numbers);
+    drop(sets);
+    put?;
     Ok((rows, numbers))
+}
+
+/// Equal demands and an equal class map.
+fn copy_both(demands: &Demands, classes: &ClassMap) -> Result<(Demands, ClassMap), Memory>
+    ensures { IfOk result (λ c. (c.0 ≡ demands.now) × (c.1 ≡ classes.now)) }
+{
+    Ok((demands.copy()?, classes.copy()?))
 }
 
 impl Duties {
@@ -128,9 +155,10 @@ impl Duties {
     {
         let _ = net;
         let (rows, row_numbers) = all_duties(alloc, demands, classes)?;
+        let (demands, classes) = copy_both(demands, classes)?;
         Ok(Duties {
-            demands: demands.copy()?,
-            classes: classes.copy()?,
+            demands,
+            classes,
             rows,
             row_numbers,
         })

@@ -8,11 +8,11 @@ use Rattle.std.proofs.lemmas.List.Sums.{sum_by-cons}
 use Rattle.serde_json.specs.Data.{Data}
 use Rattle.net_base.specs.Members.{IsIn, IsDistinct}
 use Rattle.net_base.specs.Reading.{in_turn, place_of}
-use Rattle.net_base.specs.Tree.{tree_in}
+use Rattle.flat_json.specs.JsonTree.{tree_in}
 use Rattle.net_base.specs.declared.ids.SwitchId.{SwitchId}
 use Rattle.net_base.proofs.ListLaws.{in_from_any}
 use Rattle.net_base.proofs.MemberLaws.{in_append_left, in_append_right, in_map}
-use Rattle.net_base.proofs.Trees.{list_of-items_of}
+use Rattle.flat_json.proofs.JsonTree.{list_of-items_of}
 use Rattle.topology.specs.Networks.{Network, IsNetwork, switch_count, capacity_of}
 use Rattle.flow_rules.specs.Patterns.{key_eq}
 use Rattle.flow_rules.specs.Overlaps.{keys_clash, patterns_meet}

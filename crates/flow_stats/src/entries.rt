@@ -14,7 +14,7 @@ const OUTPUT: u16 = 0;
 const OUTPUT_LENGTH: u16 = 8;
 
 /// The actions of an entry, as far as they have a form of the profile.
-#[derive(Clone, Copy, Debug, PartialEq, Eq)]
+#[derive(Clone, Copy)]
 pub enum EntryActions {
     /// No action.
     Empty,
@@ -25,7 +25,7 @@ pub enum EntryActions {
 }
 
 /// An entry of a table as a switch told it.
-#[derive(Clone, Copy, Debug, PartialEq, Eq)]
+#[derive(Clone, Copy)]
 pub struct Entry {
     pub fields: FlowStatsFields,
     pub actions: EntryActions,

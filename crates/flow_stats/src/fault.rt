@@ -7,7 +7,7 @@ use net_base::SwitchId;
 use std::alloc::{AllocError, AllocFailed};
 
 /// A field of an entry that has to have a value of the profile, in the order of the tests.
-#[derive(Clone, Copy, Debug, PartialEq, Eq)]
+#[derive(Clone, Copy, PartialEq, Eq)]
 pub enum StatsField {
     /// The frame type is a wildcard; or a field is exact that isn't the ingress port, the VLAN id, the frame type or the
     /// destination; or bits of the source address count.
@@ -28,7 +28,7 @@ pub enum StatsField {
 
 /// Why lines of flow statistics give no configuration of a network. A line is named by its number, from 1, and an entry by
 /// its number over the whole file, from 0.
-#[derive(Clone, Copy, Debug, PartialEq, Eq)]
+#[derive(Clone, Copy, PartialEq, Eq)]
 pub enum StatsFault {
     /// The line isn't a declared switch's name, one space and pairs of hexadecimal digits.
     BadLine(u32),

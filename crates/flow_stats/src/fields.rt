@@ -11,7 +11,7 @@ pub const REPLY_LENGTH: usize = 12;
 pub const ENTRY_LENGTH: usize = 88;
 
 /// The fields of struct ofp_stats_reply before its body.
-#[derive(Clone, Copy, Debug, PartialEq, Eq)]
+#[derive(Clone, Copy)]
 pub struct StatsReplyFields {
     pub version: u8,
     pub kind: u8,
@@ -41,7 +41,7 @@ impl StatsReplyFields {
 }
 
 /// The fields of struct ofp_flow_stats before its actions.
-#[derive(Clone, Copy, Debug, PartialEq, Eq)]
+#[derive(Clone, Copy)]
 pub struct FlowStatsFields {
     /// How many bytes the entry has, with its actions.
     pub len: u16,

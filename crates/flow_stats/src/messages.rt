@@ -17,7 +17,7 @@ const STATS_REPLY: u8 = 17;
 const FLOW: u16 = 1;
 
 /// How much of its table a switch has told.
-#[derive(Clone, Copy, Debug, PartialEq, Eq)]
+#[derive(Clone, Copy)]
 pub enum Progress {
     /// No message stands yet.
     Awaited,

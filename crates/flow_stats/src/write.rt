@@ -1,5 +1,6 @@
 //! The text of a configuration.
 ghost use Rattle.std.specs.Prelude.{◌≡◌, ◌<◌, ◌++◌, ◌∷◌, [], Ok, IfOk, OnOk, length, map, option_map, slice_index_or, string_bytes};
+ghost use Rattle.serde_json.specs.Data.{string, no_members};
 ghost use Rattle.serde_json.specs.View.{view, members_view};
 ghost use Rattle.net_base.specs.Text.{prefix_text};
 ghost use Rattle.topology.specs.Networks.{switch_count};
@@ -8,9 +9,10 @@ ghost use Rattle.path_walk.specs.UserConfigs.{IsUserConfig};
 ghost use Rattle.config_files.specs.Configuration.{configuration_in};
 ghost use Rattle.flow_stats.specs.ConfigText as texts;
 
+use flat_json::write_line;
 use flow_rules::{Action, Config, Rule, VlanTest};
-use net_base::{Memory, Port, Prefix, SwitchId, write_line};
-use serde_json::{Map, Value, put};
+use net_base::{Memory, Port, Prefix, SwitchId};
+use serde_json::{Map, Value, push, put};
 use std::alloc::Global;
 use topology::Net;
 
@@ -39,6 +41,12 @@ fn prefix_string(alloc: Global, prefix: Prefix) -> Result<String, Memory>
     let z = prefix.base % 256;
     let len = prefix.len;
     Ok(format!(in alloc; "{w}.{x}.{y}.{z}/{len}")?)
+}
+
+fn prefix_value(alloc: Global, prefix: Prefix) -> Result<Value, Memory>
+    ensures { IfOk result (λ v. view v ≡ string (prefix_text prefix)) }
+{
+    Ok(Value::String(prefix_string(alloc, prefix)?))
 }
 
 /// The name of a switch.
@@ -77,43 +85,27 @@ fn out_value(alloc: Global, action: Action) -> Result<Value, Memory>
     }
 }
 
-/// The members of a rule of a switch.
+/// Puts the members of a rule of a switch where there are none.
 #[tactic(auto, unfolding(crate::specs::ConfigText::rule_members))]
-fn rule_members(
+fn put_rule(
+    members: &mut Map<String, Value>,
     alloc: Global,
     net: &Net,
     switch: SwitchId,
     rule: &Rule,
-) -> Result<Map<String, Value>, Memory>
-    requires { switch.0 < switch_count net.now }
-    ensures { IfOk result (λ m. members_view m.entries ≡ texts.rule_members net.now switch rule.now) }
+) -> Result<(), Memory>
+    requires none { members_view members.old.entries ≡ no_members }
+    requires within { switch.0 < switch_count net.now }
+    ensures { OnOk result (members_view members.new.entries ≡ texts.rule_members net.now switch rule.now) }
 {
     let pattern = &rule.key.pattern;
-    let mut members = Map::new(alloc);
-    let dst = prefix_string(alloc, pattern.dst)?;
-    put(&mut members, alloc, "dst", Value::String(dst))?;
-    put(&mut members, alloc, "out", out_value(alloc, rule.action)?)?;
-    put(
-        &mut members,
-        alloc,
-        "priority",
-        Value::from(rule.key.priority),
-    )?;
+    put(members, alloc, "dst", prefix_value(alloc, pattern.dst)?)?;
+    put(members, alloc, "out", out_value(alloc, rule.action)?)?;
+    put(members, alloc, "priority", Value::from(rule.key.priority))?;
     let name = Value::try_from_str(alloc, name_of(net, switch))?;
-    put(&mut members, alloc, "switch", name)?;
-    put_some(
-        &mut members,
-        alloc,
-        "in_port",
-        in_port_value(pattern.in_port),
-    )?;
-    put_some(
-        &mut members,
-        alloc,
-        "vlan",
-        test_value(alloc, pattern.vlan)?,
-    )?;
-    Ok(members)
+    put(members, alloc, "switch", name)?;
+    put_some(members, alloc, "in_port", in_port_value(pattern.in_port))?;
+    put_some(members, alloc, "vlan", test_value(alloc, pattern.vlan)?)
 }
 
 /// The object of a rule of a switch.
@@ -121,7 +113,9 @@ fn rule_value(alloc: Global, net: &Net, switch: SwitchId, rule: &Rule) -> Result
     requires { switch.0 < switch_count net.now }
     ensures { IfOk result (λ v. view v ≡ texts.rule_tree net.now switch rule.now) }
 {
-    Ok(Value::Object(rule_members(alloc, net, switch, rule)?))
+    let mut members = Map::new(alloc);
+    put_rule(&mut members, alloc, net, switch, rule)?;
+    Ok(Value::Object(members))
 }
 
 /// The objects of the rules of a switch, behind those of the switches before it.
@@ -136,7 +130,7 @@ fn add_rules(
     ensures { OnOk result (map view values.new.items ≡ map view values.old.items ++ map (texts.rule_tree net.now switch) rules.now) }
 {
     for rule in rules {
-        values.push(rule_value(alloc, net, switch, rule)?)?;
+        push(values, rule_value(alloc, net, switch, rule)?)?;
     }
     Ok(())
 }
@@ -173,13 +167,9 @@ fn config_value(alloc: Global, net: &Net, config: &Config) -> Result<Value, Memo
     requires { length config.now ≡ switch_count net.now }
     ensures { IfOk result (λ v. view v ≡ texts.config_tree net.now (rules_of_all config.now)) }
 {
+    let rules = rules_value(alloc, net, config)?;
     let mut members = Map::new(alloc);
-    put(
-        &mut members,
-        alloc,
-        "rules",
-        rules_value(alloc, net, config)?,
-    )?;
+    put(&mut members, alloc, "rules", rules)?;
     Ok(Value::Object(members))
 }
 

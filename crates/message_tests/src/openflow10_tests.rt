@@ -168,7 +168,7 @@ fn is_refused(
     let mut bytes = bytes_of(rt, text);
     assert!(rt; offset < bytes.len());
     bytes[offset] = byte;
-    assert_eq!(rt; decode(&bytes).err(), Some(want), "{offset} {byte}");
+    assert!(rt; decode(&bytes) == Err(want), "{offset} {byte}");
 }
 
 #[test]

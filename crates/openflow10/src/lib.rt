@@ -18,7 +18,7 @@ pub use reading::decode;
 pub use writing::{encode_barrier, encode_change};
 
 /// What a flow message asks a switch to do with the entry of just its key (OpenFlow 1.0.0, section 5.3.3, `command`).
-#[derive(Clone, Copy, Debug, PartialEq, Eq)]
+#[derive(Clone, Copy, PartialEq, Eq)]
 pub enum Verb {
     /// Adds an entry with the action: OFPFC_ADD.
     Add(Action),
@@ -29,7 +29,7 @@ pub enum Verb {
 }
 
 /// A flow message (OFPT_FLOW_MOD).
-#[derive(Clone, Copy, Debug, PartialEq, Eq)]
+#[derive(Clone, Copy, PartialEq, Eq)]
 pub struct FlowMod {
     /// The number that pairs an answer with its request.
     pub xid: u32,
@@ -39,7 +39,7 @@ pub struct FlowMod {
 
 /// A message: a flow message, or a barrier request or reply with its `xid` (OpenFlow 1.0.0, section 5.3.7). A switch
 /// answers a barrier request when it has carried out all messages before it.
-#[derive(Clone, Copy, Debug, PartialEq, Eq)]
+#[derive(Clone, Copy, PartialEq, Eq)]
 pub enum Message {
     Flow(FlowMod),
     BarrierRequest(u32),
@@ -47,7 +47,7 @@ pub enum Message {
 }
 
 /// Why bytes begin with no message, in the order of the tests.
-#[derive(Clone, Copy, Debug, PartialEq, Eq)]
+#[derive(Clone, Copy, PartialEq, Eq)]
 pub enum WireFault {
     /// There are fewer than 8 bytes, or, behind `Length`, fewer than the message's length.
     Short,
@@ -62,7 +62,7 @@ pub enum WireFault {
 }
 
 /// A field or a group of fields of a flow message, in byte order.
-#[derive(Clone, Copy, Debug, PartialEq, Eq)]
+#[derive(Clone, Copy, PartialEq, Eq)]
 pub enum WireField {
     /// Bytes 8 to 11: a bit that isn't the one written, or a count of the destination above 32.
     Wildcards,

@@ -20,7 +20,7 @@ pub(crate) const STRIP_VLAN: u16 = 3;
 pub(crate) const ACTION_LENGTH: u16 = 8;
 
 /// The fields of an action of 8 bytes: its type, its length, the port or the VLAN id, and `max_len` or a pad.
-#[derive(Clone, Copy, Debug, PartialEq, Eq)]
+#[derive(Clone, Copy)]
 pub struct ActionFields {
     pub kind: u16,
     pub len: u16,

@@ -35,7 +35,7 @@ pub(crate) const IPV4: u16 = 0x0800;
 
 /// The fields of struct ofp_match as they stand in the 40 bytes of a flow match, whatever their values
 /// (OpenFlow 1.0.0, section 5.2.3).
-#[derive(Clone, Copy, Debug, PartialEq, Eq)]
+#[derive(Clone, Copy)]
 pub struct MatchFields {
     /// Which fields any packet matches: a bit each, and counts of ignored low bits for the two addresses.
     pub wildcards: u32,

@@ -15,7 +15,7 @@ use Rattle.net_base.specs.Blocks.{Block, IsBlock}
 use Rattle.net_base.specs.Fields.{field_name}
 use Rattle.net_base.specs.Reading.{check, need, in_turn, place_of}
 use Rattle.net_base.specs.Text.{prefix_in, is_based}
-use Rattle.net_base.specs.Tree.{is_object, text_at, whole_at, list_in, list_at}
+use Rattle.flat_json.specs.JsonTree.{is_object, text_at, whole_at, list_in, list_at}
 use Rattle.net_base.proofs.Prefixes.{address_in-some}
 use Rattle.net_base.proofs.Decimals.{decimal_in-some}
 use Rattle.net_base.proofs.Turns.{ok_is, in_turn-keeps}

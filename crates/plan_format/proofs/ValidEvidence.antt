@@ -11,7 +11,7 @@ use Rattle.net_base.specs.declared.field.Field.TheVariants.{Numberings, Befores,
 use Rattle.net_base.specs.declared.ids.Vlan.{Vlan}
 use Rattle.net_base.specs.declared.ids.Vlan.TheVariants as vlan
 use Rattle.net_base.specs.Reading.{check, need, in_turn}
-use Rattle.net_base.specs.Tree.{whole_in, list_in, list_at}
+use Rattle.flat_json.specs.JsonTree.{whole_in, list_in, list_at}
 use Rattle.net_base.proofs.MemberLaws.{each_weaker}
 use Rattle.net_base.proofs.Turns.{ok_is, in_turn-keeps}
 use Rattle.topology.specs.Networks.{Network, switch_count, IsVlan, is_vlan_id}

@@ -10,7 +10,7 @@ use Rattle.net_base.specs.declared.ids.Port.{Port}
 use Rattle.net_base.specs.Fields.{field_name}
 use Rattle.net_base.specs.Reading.{◌>>=◌, check, need, in_turn}
 use Rattle.net_base.specs.Text.{prefix_in}
-use Rattle.net_base.specs.Tree.{is_object, text_at, whole_in, whole_at, list_in, list_at}
+use Rattle.flat_json.specs.JsonTree.{is_object, text_at, whole_in, whole_at, list_in, list_at}
 use Rattle.topology.specs.Networks.{Network, switch_named, is_vlan_id}
 use Rattle.flow_rules.specs.declared.rules.VlanTest.{VlanTest}
 use Rattle.flow_rules.specs.declared.rules.VlanTest.TheVariants as test

@@ -8,7 +8,7 @@ use Rattle.net_base.specs.declared.field.Field.TheVariants.{Numberings, Befores,
 use Rattle.net_base.specs.declared.ids.Vlan.{Vlan}
 use Rattle.net_base.specs.declared.ids.Vlan.TheVariants as vlan
 use Rattle.net_base.specs.Reading.{◌>>=◌, check, need, in_turn}
-use Rattle.net_base.specs.Tree.{whole_in, list_in, list_at}
+use Rattle.flat_json.specs.JsonTree.{whole_in, list_in, list_at}
 use Rattle.topology.specs.Networks.{Network, switch_count, is_vlan_id}
 use Rattle.certificates.specs.declared.Shared.{Shared}
 use Rattle.certificates.specs.declared.OrderedPick.{OrderedPick}

@@ -4,7 +4,7 @@ use Rattle.std.specs.Str.{bytes_eq}
 use Rattle.serde_json.specs.Data.{Data}
 use Rattle.net_base.specs.declared.field.Field.TheVariants as field
 use Rattle.net_base.specs.Reading.{◌>>=◌, check, need}
-use Rattle.net_base.specs.Tree.{is_object, text_at, whole_at, tree_in}
+use Rattle.flat_json.specs.JsonTree.{is_object, text_at, whole_at, tree_in}
 use Rattle.topology.specs.Networks.{Network}
 use Rattle.update_model.specs.declared.Change.{Change}
 use Rattle.certificates.specs.declared.OrderedEvidence.{OrderedEvidence}

@@ -3,7 +3,8 @@ ghost use Rattle.std.specs.Prelude.{◌≡◌};
 ghost use Rattle.plan_format.specs.declared.fault.PlanFault.TheVariants.{Memory};
 ghost use Rattle.plan_format.specs.Faults.{of_json, fault_number, fault_name, fault_field, fault_place};
 
-use net_base::{Field, JsonFault};
+use flat_json::JsonFault;
+use net_base::Field;
 use std::alloc::{AllocError, AllocFailed};
 use thiserror::Error;
 

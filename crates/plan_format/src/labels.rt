@@ -3,7 +3,7 @@ ghost use Rattle.std.specs.Prelude.{◌≡◌, ◌≤◌, [], Ok, map, MatchResu
 ghost use Rattle.flat_json.specs.Trees.{data_of};
 ghost use Rattle.std.specs.Option.{option_and_then};
 ghost use Rattle.net_base.specs.Reading.{Gives, Fails, in_turn};
-ghost use Rattle.net_base.specs.Tree.{list_in};
+ghost use Rattle.flat_json.specs.JsonTree.{list_in};
 ghost use Rattle.plan_format.specs.declared.fault.PlanFault.TheVariants.{Memory};
 ghost use Rattle.plan_format.specs.Evidence as plan;
 ghost use Rattle.plan_format.specs.Evidence.{round_before};

@@ -17,7 +17,7 @@ use Rattle.net_base.specs.Fields.{field_name}
 use Rattle.net_base.specs.Reading.{in_turn, place_of}
 use Rattle.net_base.specs.Text.{prefix_text}
 use Rattle.net_base.proofs.Prefixes.{prefix_in-text}
-use Rattle.net_base.proofs.Trees.{list_of-items_of}
+use Rattle.flat_json.proofs.JsonTree.{list_of-items_of}
 use Rattle.topology.specs.Networks.{Network, switch_count, switch_named, IsPortNumber}
 use Rattle.flow_rules.specs.declared.rules.VlanTest.{VlanTest}
 use Rattle.flow_rules.specs.declared.rules.VlanTest.TheVariants as test

@@ -10,7 +10,7 @@ use Rattle.net_base.specs.declared.field.Field.TheVariants.{Befores, Uses}
 use Rattle.net_base.specs.declared.ids.Vlan.{Vlan}
 use Rattle.net_base.specs.declared.ids.Vlan.TheVariants as vlan
 use Rattle.net_base.specs.Reading.{place_of}
-use Rattle.net_base.proofs.Trees.{list_of-items_of}
+use Rattle.flat_json.proofs.JsonTree.{list_of-items_of}
 use Rattle.topology.specs.Networks.{Network, switch_count, IsVlan}
 use Rattle.certificates.specs.declared.Shared.{Shared}
 use Rattle.certificates.specs.declared.OrderedPick.{OrderedPick}

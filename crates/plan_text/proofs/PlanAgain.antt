@@ -5,7 +5,7 @@ use Rattle.std.proofs.lemmas.List.Sums.{sum_by-append}
 use Rattle.serde_json.specs.Data.{string, object, Members}
 use Rattle.serde_json.specs.Find.{get_member}
 use Rattle.net_base.specs.Members.{IsDistinct}
-use Rattle.net_base.specs.Tree.{tree_in}
+use Rattle.flat_json.specs.JsonTree.{tree_in}
 use Rattle.net_base.specs.declared.field.Field.TheVariants as field
 use Rattle.net_base.proofs.MemberLaws.{each_append, each_first, each_last}
 use Rattle.json.specs.Lex.{tokens}

@@ -18,8 +18,8 @@ use Rattle.net_base.specs.declared.ids.Port.{Port}
 use Rattle.net_base.specs.declared.ids.Vlan.{Vlan}
 use Rattle.net_base.specs.declared.ids.Vlan.TheVariants as vlan
 use Rattle.net_base.specs.Text.{prefix_text}
-use Rattle.net_base.specs.Tree.{tree_in}
-use Rattle.net_base.proofs.LineEnd.{tree_in-line_end}
+use Rattle.flat_json.specs.JsonTree.{tree_in}
+use Rattle.flat_json.proofs.LineEnd.{tree_in-line_end}
 use Rattle.topology.specs.Networks.{Network, switch_count, IsVlan}
 use Rattle.flow_rules.specs.declared.rules.VlanTest.{VlanTest}
 use Rattle.flow_rules.specs.declared.rules.VlanTest.TheVariants as test

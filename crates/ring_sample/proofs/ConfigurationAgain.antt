@@ -8,9 +8,9 @@ use Rattle.std.proofs.lemmas.List.FromFn.{length-map-range_with_len, get_or-map-
 use Rattle.serde_json.specs.Data.{Data}
 use Rattle.net_base.specs.Blocks.{IsBlock}
 use Rattle.net_base.specs.Reading.{in_turn, place_of}
-use Rattle.net_base.specs.Tree.{tree_in}
+use Rattle.flat_json.specs.JsonTree.{tree_in}
 use Rattle.net_base.proofs.Prefixes.{prefix_in-text}
-use Rattle.net_base.proofs.Trees.{list_of-items_of}
+use Rattle.flat_json.proofs.JsonTree.{list_of-items_of}
 use Rattle.topology.specs.Networks.{switch_count}
 use Rattle.flow_rules.specs.Overlaps.{keys_clash}
 use Rattle.flow_rules.specs.Patterns.{key_eq}

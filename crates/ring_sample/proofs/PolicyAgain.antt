@@ -8,10 +8,10 @@ use Rattle.std.proofs.lemmas.List.{append-nil, length-append, length-map, length
 use Rattle.std.proofs.lemmas.List.Sums.{length-filter, count_by-le-length}
 use Rattle.serde_json.specs.Data.{Data}
 use Rattle.net_base.specs.Reading.{in_turn, place_of}
-use Rattle.net_base.specs.Tree.{tree_in}
+use Rattle.flat_json.specs.JsonTree.{tree_in}
 use Rattle.net_base.proofs.MemberLaws.{each_filter}
 use Rattle.net_base.proofs.Prefixes.{prefix_in-text}
-use Rattle.net_base.proofs.Trees.{list_of-items_of}
+use Rattle.flat_json.proofs.JsonTree.{list_of-items_of}
 use Rattle.demands.specs.Duties.{DemandView}
 use Rattle.demands.specs.Policy.{host_in, source_in, from_in, test_in, through_in, deliver_in, dst_in, cover_in, demand_in, demand_at, members_in, demands_in}
 use Rattle.ring_sample.specs.Ring.{below, ring_name, ring_network, destinations, others, ring_prefix, ring_demand, ring_demands}

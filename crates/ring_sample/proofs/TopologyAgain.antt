@@ -7,8 +7,8 @@ use Rattle.std.proofs.lemmas.List.FromFn.{length-map-range_with_len, map-range_w
 use Rattle.std.proofs.lemmas.List.Sums.{sum_by-cons, count_by-le-length}
 use Rattle.serde_json.specs.Data.{Data, object}
 use Rattle.net_base.specs.Reading.{in_turn, place_of}
-use Rattle.net_base.specs.Tree.{tree_in}
-use Rattle.net_base.proofs.Trees.{list_of-items_of}
+use Rattle.flat_json.specs.JsonTree.{tree_in}
+use Rattle.flat_json.proofs.JsonTree.{list_of-items_of}
 use Rattle.net_base.specs.declared.field.Field.{Field}
 use Rattle.net_base.specs.declared.field.Field.TheVariants.{Links, Hosts}
 use Rattle.net_base.specs.declared.ids.Stop.{Stop}

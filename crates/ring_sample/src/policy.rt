@@ -1,6 +1,7 @@
 //! The text of the ring's policy.
 ghost use Rattle.std.specs.Prelude.{◌≡◌, ◌<◌, ◌++◌, Ok, IfOk, OnOk, map, flat_map};
-ghost use Rattle.serde_json.specs.View.{view};
+ghost use Rattle.serde_json.specs.Data.{object, no_members};
+ghost use Rattle.serde_json.specs.View.{view, members_view};
 ghost use Rattle.demands.specs.Policy.{demands_in};
 ghost use Rattle.ring_sample.specs.Ring.{below, others, ring_network, ring_demands};
 ghost use Rattle.ring_sample.specs.RingTrees.{list_tree, demand_tree, policy_tree};
@@ -9,9 +10,32 @@ use crate::configuration::DESTINATIONS;
 use crate::size::RingSize;
 use crate::topology_text::HOST_PORT;
 use crate::values::{port_value, prefix_value};
-use net_base::{Memory, write_line};
-use serde_json::{Map, Value, put};
+use flat_json::write_line;
+use net_base::Memory;
+use serde_json::{Map, Value, push, put};
 use std::alloc::Global;
+
+/// Puts the members of a demand where there are none.
+fn put_demand(
+    members: &mut Map<String, Value>,
+    alloc: Global,
+    switch: u32,
+    destination: u32,
+) -> Result<(), Memory>
+    requires none { members_view members.old.entries ≡ no_members }
+    requires destination { destination < 4 }
+    ensures { OnOk result (object (members_view members.new.entries) ≡ demand_tree switch destination) }
+{
+    put(
+        members,
+        alloc,
+        "from",
+        port_value(alloc, switch, HOST_PORT)?,
+    )?;
+    put(members, alloc, "dst", prefix_value(alloc, destination)?)?;
+    put(members, alloc, "deliver", Value::Bool(true))?;
+    Ok(())
+}
 
 /// The demand that what enters at a switch arrives at a destination.
 fn demand_value(alloc: Global, switch: u32, destination: u32) -> Result<Value, Memory>
@@ -19,19 +43,7 @@ fn demand_value(alloc: Global, switch: u32, destination: u32) -> Result<Value, M
     ensures { IfOk result (λ v. view v ≡ demand_tree switch destination) }
 {
     let mut members = Map::new(alloc);
-    put(
-        &mut members,
-        alloc,
-        "from",
-        port_value(alloc, switch, HOST_PORT)?,
-    )?;
-    put(
-        &mut members,
-        alloc,
-        "dst",
-        prefix_value(alloc, destination)?,
-    )?;
-    put(&mut members, alloc, "deliver", Value::Bool(true))?;
+    put_demand(&mut members, alloc, switch, destination)?;
     Ok(Value::Object(members))
 }
 
@@ -41,7 +53,7 @@ fn add_demands(alloc: Global, values: &mut Vec<Value>, switch: u32) -> Result<()
 {
     for j in 0..DESTINATIONS {
         if j != switch {
-            values.push(demand_value(alloc, switch, j)?)?;
+            push(values, demand_value(alloc, switch, j)?)?;
         }
     }
     Ok(())
@@ -61,13 +73,9 @@ fn demands_value(alloc: Global, switches: u32) -> Result<Value, Memory>
 fn policy_value(alloc: Global, switches: u32) -> Result<Value, Memory>
     ensures { IfOk result (λ v. view v ≡ policy_tree switches) }
 {
+    let demands = demands_value(alloc, switches)?;
     let mut members = Map::new(alloc);
-    put(
-        &mut members,
-        alloc,
-        "demands",
-        demands_value(alloc, switches)?,
-    )?;
+    put(&mut members, alloc, "demands", demands)?;
     Ok(Value::Object(members))
 }
 

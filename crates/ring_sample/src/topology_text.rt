@@ -1,15 +1,16 @@
 //! The text of the ring's topology.
-ghost use Rattle.std.specs.Prelude.{◌≡◌, ◌<◌, [], ◌∷◌, Ok, IfOk, map, codes};
-ghost use Rattle.serde_json.specs.Data.{string};
-ghost use Rattle.serde_json.specs.View.{view};
+ghost use Rattle.std.specs.Prelude.{◌≡◌, ◌<◌, [], ◌∷◌, Ok, IfOk, OnOk, map, codes};
+ghost use Rattle.serde_json.specs.Data.{string, object, no_members};
+ghost use Rattle.serde_json.specs.View.{view, members_view};
 ghost use Rattle.topology_files.specs.Topology.{network_in};
 ghost use Rattle.ring_sample.specs.Ring.{below, ring_network};
 ghost use Rattle.ring_sample.specs.RingTrees.{whole_tree, list_tree, switch_tree, link_tree, host_tree, topology_tree};
 
 use crate::size::RingSize;
 use crate::values::{name_value, port_value};
-use net_base::{Memory, write_line};
-use serde_json::{Map, Value, put};
+use flat_json::write_line;
+use net_base::Memory;
+use serde_json::{Map, Value, push, put};
 use std::alloc::Global;
 
 /// The number of table entries for which a switch has room.
@@ -27,12 +28,21 @@ pub const NEXT_PORT: u16 = 2;
 /// The port that leads to the switch before.
 pub const BACK_PORT: u16 = 3;
 
+/// Puts the members of a switch where there are none.
+fn put_switch(members: &mut Map<String, Value>, alloc: Global, switch: u32) -> Result<(), Memory>
+    requires { members_view members.old.entries ≡ no_members }
+    ensures { OnOk result (object (members_view members.new.entries) ≡ switch_tree switch) }
+{
+    put(members, alloc, "name", name_value(alloc, switch)?)?;
+    put(members, alloc, "capacity", Value::from(CAPACITY))?;
+    Ok(())
+}
+
 fn switch_value(alloc: Global, switch: u32) -> Result<Value, Memory>
     ensures { IfOk result (λ v. view v ≡ switch_tree switch) }
 {
     let mut members = Map::new(alloc);
-    put(&mut members, alloc, "name", name_value(alloc, switch)?)?;
-    put(&mut members, alloc, "capacity", Value::from(CAPACITY))?;
+    put_switch(&mut members, alloc, switch)?;
     Ok(Value::Object(members))
 }
 
@@ -41,19 +51,29 @@ fn switches_value(alloc: Global, switches: u32) -> Result<Value, Memory>
 {
     let mut values = Vec::new(alloc);
     for i in 0..switches {
-        values.push(switch_value(alloc, i)?)?;
+        push(&mut values, switch_value(alloc, i)?)?;
     }
     Ok(Value::Array(values))
+}
+
+/// Adds the ends of a link where there are none.
+fn add_ends(ends: &mut Vec<Value>, alloc: Global, switches: u32, switch: u32) -> Result<(), Memory>
+    requires none { ends.old.items ≡ [] }
+    requires within { switch < switches }
+    ensures { OnOk result (list_tree (map view ends.new.items) ≡ link_tree switches switch) }
+{
+    let next = (switch + 1) % switches;
+    push(ends, port_value(alloc, switch, NEXT_PORT)?)?;
+    push(ends, port_value(alloc, next, BACK_PORT)?)?;
+    Ok(())
 }
 
 fn link_value(alloc: Global, switches: u32, switch: u32) -> Result<Value, Memory>
     requires { switch < switches }
     ensures { IfOk result (λ v. view v ≡ link_tree switches switch) }
 {
-    let next = (switch + 1) % switches;
     let mut ends = Vec::new(alloc);
-    ends.push(port_value(alloc, switch, NEXT_PORT)?)?;
-    ends.push(port_value(alloc, next, BACK_PORT)?)?;
+    add_ends(&mut ends, alloc, switches, switch)?;
     Ok(Value::Array(ends))
 }
 
@@ -62,7 +82,7 @@ fn links_value(alloc: Global, switches: u32) -> Result<Value, Memory>
 {
     let mut values = Vec::new(alloc);
     for i in 0..switches {
-        values.push(link_value(alloc, switches, i)?)?;
+        push(&mut values, link_value(alloc, switches, i)?)?;
     }
     Ok(Value::Array(values))
 }
@@ -72,7 +92,7 @@ fn hosts_value(alloc: Global, switches: u32) -> Result<Value, Memory>
 {
     let mut values = Vec::new(alloc);
     for i in 0..switches {
-        values.push(port_value(alloc, i, HOST_PORT)?)?;
+        push(&mut values, port_value(alloc, i, HOST_PORT)?)?;
     }
     Ok(Value::Array(values))
 }
@@ -81,7 +101,7 @@ fn vlans_value(alloc: Global) -> Result<Value, Memory>
     ensures { IfOk result (λ v. view v ≡ list_tree (string (codes "untagged") ∷ [])) }
 {
     let mut values = Vec::new(alloc);
-    values.push(Value::try_from_str(alloc, "untagged")?)?;
+    push(&mut values, Value::try_from_str(alloc, "untagged")?)?;
     Ok(Value::Array(values))
 }
 
@@ -89,26 +109,34 @@ fn tags_value(alloc: Global) -> Result<Value, Memory>
     ensures { IfOk result (λ v. view v ≡ list_tree (whole_tree 3000 ∷ whole_tree 3000 ∷ [])) }
 {
     let mut values = Vec::new(alloc);
-    values.push(Value::from(TAG))?;
-    values.push(Value::from(TAG))?;
+    push(&mut values, Value::from(TAG))?;
+    push(&mut values, Value::from(TAG))?;
     Ok(Value::Array(values))
 }
 
+/// Puts the members of the topology where there are none.
 #[tactic(auto, unfolding(crate::specs::RingTrees::topology_tree))]
+fn put_topology(
+    members: &mut Map<String, Value>,
+    alloc: Global,
+    switches: u32,
+) -> Result<(), Memory>
+    requires { members_view members.old.entries ≡ no_members }
+    ensures { OnOk result (object (members_view members.new.entries) ≡ topology_tree switches) }
+{
+    put(members, alloc, "switches", switches_value(alloc, switches)?)?;
+    put(members, alloc, "links", links_value(alloc, switches)?)?;
+    put(members, alloc, "hosts", hosts_value(alloc, switches)?)?;
+    put(members, alloc, "vlans", vlans_value(alloc)?)?;
+    put(members, alloc, "tags", tags_value(alloc)?)?;
+    Ok(())
+}
+
 fn topology_value(alloc: Global, switches: u32) -> Result<Value, Memory>
     ensures { IfOk result (λ v. view v ≡ topology_tree switches) }
 {
     let mut members = Map::new(alloc);
-    put(
-        &mut members,
-        alloc,
-        "switches",
-        switches_value(alloc, switches)?,
-    )?;
-    put(&mut members, alloc, "links", links_value(alloc, switches)?)?;
-    put(&mut members, alloc, "hosts", hosts_value(alloc, switches)?)?;
-    put(&mut members, alloc, "vlans", vlans_value(alloc)?)?;
-    put(&mut members, alloc, "tags", tags_value(alloc)?)?;
+    put_topology(&mut members, alloc, switches)?;
     Ok(Value::Object(members))
 }
 

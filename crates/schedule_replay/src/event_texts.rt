@@ -1,5 +1,5 @@
 //! The texts of places and events.
-ghost use Rattle.std.specs.Prelude.{◌≡◌, ◌≤◌, ◌^◌, ◌++◌, ◌∷◌, [], IfOk, OnOk, Ok, length};
+ghost use Rattle.std.specs.Prelude.{◌≡◌, ◌≤◌, ◌^◌, ◌++◌, ◌∷◌, [], IfOk, OnOk, Ok, length, decimal};
 ghost use Rattle.std.specs.List.{AllByRecursion};
 ghost use Rattle.flow_rules.specs.Tables.{rules_of_all};
 ghost use Rattle.update_model.specs.Runs.{IsRun};
@@ -33,50 +33,83 @@ pub fn stop_text(alloc: Global, net: &Net, stop: Stop) -> Result<Vec<u8>, Memory
     Ok(format!(in alloc; "{name}:{port}")?.into_bytes())
 }
 
-/// A place: `SWITCH:PORT VLAN`.
-pub fn place_text(alloc: Global, net: &Net, place: Place) -> Result<Vec<u8>, Memory>
-    ensures { IfOk result (λ t. t.items ≡ texts.place_text net.now place) }
+/// Adds a word to a text.
+pub fn add_word(text: &mut Vec<u8>, word: &str) -> Result<(), Memory>
+    ensures { OnOk result (text.new.items ≡ text.old.items ++ word.now) }
+{
+    text.extend_from_slice(word.as_bytes())?;
+    Ok(())
+}
+
+/// Adds a text that was made for it.
+pub fn add_made(text: &mut Vec<u8>, made: Vec<u8>) -> Result<(), Memory>
+    ensures { OnOk result (text.new.items ≡ text.old.items ++ made.items) }
+{
+    let added = text.extend_from_slice(&made);
+    drop(made);
+    Ok(added?)
+}
+
+/// Adds a word and a number.
+pub fn add_numbered(text: &mut Vec<u8>, alloc: Global, word: &str, n: usize) -> Result<(), Memory>
+    ensures { OnOk result (text.new.items ≡ text.old.items ++ word.now ++ decimal n) }
+{
+    add_made(text, format!(in alloc; "{word}{n}")?.into_bytes())
+}
+
+/// Adds a place: `SWITCH:PORT VLAN`.
+pub fn add_place(text: &mut Vec<u8>, alloc: Global, net: &Net, place: Place) -> Result<(), Memory>
+    ensures { OnOk result (text.new.items ≡ text.old.items ++ texts.place_text net.now place) }
 {
     let stop = Stop {
         switch: place.switch,
         port: place.port,
     };
-    let mut text = stop_text(alloc, net, stop)?;
+    add_made(text, stop_text(alloc, net, stop)?)?;
     text.push(b' ')?;
-    text.extend_from_slice(&vlan_text(alloc, place.vlan)?)?;
-    Ok(text)
+    add_made(text, vlan_text(alloc, place.vlan)?)
 }
 
-/// A packet's entry and its address: `SWITCH:PORT VLAN ADDRESS`.
-pub fn entry_text(alloc: Global, net: &Net, place: Place, dst: u32) -> Result<Vec<u8>, Memory>
-    ensures { IfOk result (λ t. t.items ≡ texts.entry_text net.now place dst) }
+/// Adds a packet's entry and its address: `SWITCH:PORT VLAN ADDRESS`.
+pub fn add_entry(
+    text: &mut Vec<u8>,
+    alloc: Global,
+    net: &Net,
+    place: Place,
+    dst: u32,
+) -> Result<(), Memory>
+    ensures { OnOk result (text.new.items ≡ text.old.items ++ texts.entry_text net.now place dst) }
 {
-    let mut text = place_text(alloc, net, place)?;
+    add_place(text, alloc, net, place)?;
     text.push(b' ')?;
-    text.extend_from_slice(&addr_text(alloc, dst)?)?;
-    Ok(text)
+    add_made(text, addr_text(alloc, dst)?)
 }
 
-/// The line of an entry.
-fn enter_text(alloc: Global, net: &Net, place: Place, dst: u32) -> Result<Vec<u8>, Memory>
-    ensures { IfOk result (λ t. t.items ≡ texts.event_text net.now (Event.Enter place dst)) }
+/// Adds the line of an entry.
+fn add_enter(
+    text: &mut Vec<u8>,
+    alloc: Global,
+    net: &Net,
+    place: Place,
+    dst: u32,
+) -> Result<(), Memory>
+    ensures { OnOk result (text.new.items ≡ text.old.items ++ texts.event_text net.now (Event.Enter place dst)) }
 {
-    let mut text = b"enter ".to_vec(alloc)?;
-    text.extend_from_slice(&entry_text(alloc, net, place, dst)?)?;
-    Ok(text)
+    add_word(text, "enter ")?;
+    add_entry(text, alloc, net, place, dst)
 }
 
-/// The line of an event.
-fn event_text(alloc: Global, net: &Net, event: Event) -> Result<Vec<u8>, Memory>
-    ensures { IfOk result (λ t. t.items ≡ texts.event_text net.now event) }
+/// Adds the line of an event.
+fn add_event(text: &mut Vec<u8>, alloc: Global, net: &Net, event: Event) -> Result<(), Memory>
+    ensures { OnOk result (text.new.items ≡ text.old.items ++ texts.event_text net.now event) }
 {
     match event {
-        Event::Start => Ok(b"start".to_vec(alloc)?),
-        Event::Settle => Ok(b"settle".to_vec(alloc)?),
-        Event::Change(i) => Ok(format!(in alloc; "change {i}")?.into_bytes()),
-        Event::Enter(place, dst) => enter_text(alloc, net, place, dst),
-        Event::Hop(i) => Ok(format!(in alloc; "hop {i}")?.into_bytes()),
-        Event::Lose(i) => Ok(format!(in alloc; "lose {i}")?.into_bytes()),
+        Event::Start => add_word(text, "start"),
+        Event::Settle => add_word(text, "settle"),
+        Event::Change(i) => add_numbered(text, alloc, "change ", i),
+        Event::Enter(place, dst) => add_enter(text, alloc, net, place, dst),
+        Event::Hop(i) => add_numbered(text, alloc, "hop ", i),
+        Event::Lose(i) => add_numbered(text, alloc, "lose ", i),
     }
 }
 
@@ -111,13 +144,30 @@ pub fn schedule_text(alloc: Global, net: &Net, events: &Events) -> Result<Vec<u8
     events_text(alloc, net, events.list())
 }
 
+/// Adds an event in a line of its own.
+fn add_event_line(text: &mut Vec<u8>, alloc: Global, net: &Net, event: Event) -> Result<(), Memory>
+    ensures { OnOk result (text.new.items ≡ text.old.items ++ texts.event_text net.now event ++ 10 ∷ []) }
+{
+    add_event(text, alloc, net, event)?;
+    text.push(b'\n')?;
+    Ok(())
+}
+
+/// Adds events, each in a line of its own.
+fn add_events(text: &mut Vec<u8>, alloc: Global, net: &Net, events: &[Event]) -> Result<(), Memory>
+    ensures { OnOk result (text.new.items ≡ text.old.items ++ texts.schedule_text net.now events.now) }
+{
+    for event in events {
+        add_event_line(text, alloc, net, *event)?;
+    }
+    Ok(())
+}
+
 /// The text of events, each in a line of its own.
 pub fn events_text(alloc: Global, net: &Net, events: &[Event]) -> Result<Vec<u8>, Memory>
     ensures { IfOk result (λ t. t.items ≡ texts.schedule_text net.now events.now) }
 {
     let mut text = Vec::new(alloc);
-    for event in events {
-        add_line(&mut text, &event_text(alloc, net, *event)?)?;
-    }
+    add_events(&mut text, alloc, net, events)?;
     Ok(text)
 }

@@ -9,7 +9,7 @@ use update_model::Event;
 const MAX_EVENTS: usize = 4_000_000;
 
 /// An event of a schedule.
-#[derive(Clone, Copy, Debug, PartialEq, Eq)]
+#[derive(Clone, Copy, PartialEq, Eq)]
 pub struct ScheduleLine {
     /// The number of its line, from 1; 4294967295 for every line from there on.
     pub line: u32,

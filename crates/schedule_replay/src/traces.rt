@@ -1,79 +1,99 @@
 //! The traces of the packets of a world, as text.
 ghost use Rattle.std.specs.Prelude.{◌≡◌, ◌≤◌, ◌++◌, ◌∷◌, [], IfOk, OnOk, Ok, length};
 ghost use Rattle.std.specs.List.{AllByRecursion};
-ghost use Rattle.schedule_replay.specs.EventTexts.{HasLine};
+ghost use Rattle.schedule_replay.specs.EventTexts.{HasLine, stop_text};
 ghost use Rattle.net_base.specs.Lines.{text_of};
 ghost use Rattle.schedule_replay.specs.Schedules.{schedule_in, numbered};
 ghost use Rattle.schedule_replay.specs.Traces.{marked};
 ghost use Rattle.schedule_replay.specs.Traces as texts;
 
-use crate::event_texts::{add_line, entry_text, events_text, place_text, stop_text, switch_text};
+use crate::event_texts::{
+    add_entry, add_line, add_made, add_numbered, add_place, add_word, events_text, stop_text,
+    switch_text,
+};
 use net_base::{Memory, Place, Stop, SwitchId};
 use path_walk::Ended;
 use std::alloc::Global;
 use topology::Net;
 use update_model::{Event, Events, Packet, Phase, World};
 
-/// Where a packet entered, to which address, and how many rounds were settled then.
-fn packet_text(alloc: Global, net: &Net, i: usize, packet: &Packet) -> Result<Vec<u8>, Memory>
-    ensures { IfOk result (λ t. t.items ≡ texts.packet_text net.now i packet.now) }
+/// Adds where a packet entered, to which address, and how many rounds were settled then.
+fn add_packet(
+    text: &mut Vec<u8>,
+    alloc: Global,
+    net: &Net,
+    i: usize,
+    packet: &Packet,
+) -> Result<(), Memory>
+    ensures { OnOk result (text.new.items ≡ text.old.items ++ texts.packet_text net.now i packet.now) }
 {
-    let mut text = format!(in alloc; "packet {i} ")?.into_bytes();
-    text.extend_from_slice(&entry_text(alloc, net, packet.entry, packet.dst)?)?;
-    let born = packet.born;
-    text.extend_from_slice(format!(in alloc; " born {born}:")?.as_bytes())?;
-    Ok(text)
+    add_numbered(text, alloc, "packet ", i)?;
+    text.push(b' ')?;
+    add_entry(text, alloc, net, packet.entry, packet.dst)?;
+    add_numbered(text, alloc, " born ", packet.born as usize)?;
+    text.push(b':')?;
+    Ok(())
 }
 
-/// The stops, each after a space.
-fn stops_text(alloc: Global, net: &Net, stops: &[Stop]) -> Result<Vec<u8>, Memory>
-    ensures { IfOk result (λ t. t.items ≡ texts.stops_text net.now stops.now) }
+/// Adds a stop after a space.
+fn add_stop(text: &mut Vec<u8>, alloc: Global, net: &Net, stop: Stop) -> Result<(), Memory>
+    ensures { OnOk result (text.new.items ≡ text.old.items ++ 32 ∷ stop_text net.now stop) }
 {
-    let mut text = Vec::new(alloc);
+    text.push(b' ')?;
+    add_made(text, stop_text(alloc, net, stop)?)
+}
+
+/// Adds the stops, each after a space.
+fn add_stops(text: &mut Vec<u8>, alloc: Global, net: &Net, stops: &[Stop]) -> Result<(), Memory>
+    ensures { OnOk result (text.new.items ≡ text.old.items ++ texts.stops_text net.now stops.now) }
+{
     for stop in stops {
-        text.push(b' ')?;
-        text.extend_from_slice(&stop_text(alloc, net, *stop)?)?;
+        add_stop(text, alloc, net, *stop)?;
     }
-    Ok(text)
+    Ok(())
 }
 
-/// That a packet left, and where.
-fn left_text(alloc: Global, net: &Net, place: Place) -> Result<Vec<u8>, Memory>
-    ensures { IfOk result (λ t. t.items ≡ texts.end_text net.now (Ended.Left place.switch place.port place.vlan)) }
+/// Adds that a packet left, and where.
+fn add_left(text: &mut Vec<u8>, alloc: Global, net: &Net, place: Place) -> Result<(), Memory>
+    ensures { OnOk result (text.new.items ≡ text.old.items ++ texts.end_text net.now (Ended.Left place.switch place.port place.vlan)) }
 {
-    let mut text = b" left ".to_vec(alloc)?;
-    text.extend_from_slice(&place_text(alloc, net, place)?)?;
-    Ok(text)
+    add_word(text, " left ")?;
+    add_place(text, alloc, net, place)
 }
 
-/// That a packet was dropped, and where.
-fn dropped_text(alloc: Global, net: &Net, switch: SwitchId) -> Result<Vec<u8>, Memory>
-    ensures { IfOk result (λ t. t.items ≡ texts.end_text net.now (Ended.Dropped switch)) }
+/// Adds that a packet was dropped, and where.
+fn add_dropped(text: &mut Vec<u8>, net: &Net, switch: SwitchId) -> Result<(), Memory>
+    ensures { OnOk result (text.new.items ≡ text.old.items ++ texts.end_text net.now (Ended.Dropped switch)) }
 {
-    let name = switch_text(net, switch);
-    Ok(format!(in alloc; " dropped {name}")?.into_bytes())
+    add_word(text, " dropped ")?;
+    add_word(text, switch_text(net, switch))
 }
 
-/// How a packet ended, after a space.
-fn end_text(alloc: Global, net: &Net, ended: Ended) -> Result<Vec<u8>, Memory>
-    ensures { IfOk result (λ t. t.items ≡ texts.end_text net.now ended) }
+/// Adds how a packet ended, after a space.
+fn add_end(text: &mut Vec<u8>, alloc: Global, net: &Net, ended: Ended) -> Result<(), Memory>
+    ensures { OnOk result (text.new.items ≡ text.old.items ++ texts.end_text net.now ended) }
 {
     match ended {
-        Ended::UnderWay => Ok(b" under way".to_vec(alloc)?),
-        Ended::Left(switch, port, vlan) => left_text(alloc, net, Place { switch, port, vlan }),
-        Ended::Dropped(switch) => dropped_text(alloc, net, switch),
-        Ended::Lost => Ok(b" lost".to_vec(alloc)?),
+        Ended::UnderWay => add_word(text, " under way"),
+        Ended::Left(switch, port, vlan) => add_left(text, alloc, net, Place { switch, port, vlan }),
+        Ended::Dropped(switch) => add_dropped(text, net, switch),
+        Ended::Lost => add_word(text, " lost"),
     }
 }
 
-/// The trace of packet i.
-fn packet_line(alloc: Global, net: &Net, i: usize, packet: &Packet) -> Result<Vec<u8>, Memory>
-    ensures { IfOk result (λ t. t.items ≡ texts.packet_line net.now i packet.now) }
+/// Adds the trace of packet i.
+fn add_trace(
+    text: &mut Vec<u8>,
+    alloc: Global,
+    net: &Net,
+    i: usize,
+    packet: &Packet,
+) -> Result<(), Memory>
+    ensures { OnOk result (text.new.items ≡ text.old.items ++ texts.packet_line net.now i packet.now) }
 {
-    let mut text = packet_text(alloc, net, i, packet)?;
-    text.extend_from_slice(&stops_text(alloc, net, packet.visits.stops())?)?;
-    text.extend_from_slice(&end_text(alloc, net, packet.ended)?)?;
-    Ok(text)
+    add_packet(text, alloc, net, i, packet)?;
+    add_stops(text, alloc, net, packet.visits.stops())?;
+    add_end(text, alloc, net, packet.ended)
 }
 
 /// How many of so many rounds are settled, or which is running: `settled K of N` or `running K of N`.
@@ -90,8 +110,25 @@ pub fn phase_line(alloc: Global, phase: Phase, rounds: usize) -> Result<Vec<u8>,
 fn add_marked(text: &mut Vec<u8>, mark: &str, line: &[u8]) -> Result<(), Memory>
     ensures { OnOk result (text.new.items ≡ text.old.items ++ (mark.now ++ line.now ++ 10 ∷ [])) }
 {
-    text.extend_from_slice(mark.as_bytes())?;
+    add_word(text, mark)?;
     add_line(text, line)
+}
+
+/// Adds the trace of packet i in a line with a mark before it.
+fn add_trace_line(
+    text: &mut Vec<u8>,
+    mark: &str,
+    alloc: Global,
+    net: &Net,
+    i: usize,
+    packet: &Packet,
+) -> Result<(), Memory>
+    ensures { OnOk result (text.new.items ≡ text.old.items ++ (mark.now ++ texts.packet_line net.now i packet.now ++ 10 ∷ [])) }
+{
+    add_word(text, mark)?;
+    add_trace(text, alloc, net, i, packet)?;
+    text.push(b'\n')?;
+    Ok(())
 }
 
 /// The traces of packets, each in a line with a mark before it.
@@ -105,7 +142,7 @@ fn add_packets(
     ensures { OnOk result (text.new.items ≡ text.old.items ++ text_of (marked mark.now (texts.packet_lines net.now 0 packets.now))) }
 {
     for (i, packet) in packets.iter().enumerate() {
-        add_marked(text, mark, &packet_line(alloc, net, i, packet)?)?;
+        add_trace_line(text, mark, alloc, net, i, packet)?;
     }
     Ok(())
 }
@@ -122,7 +159,9 @@ fn add_traces(
 {
     add_packets(text, mark, alloc, net, world.packets())?;
     let phase = phase_line(alloc, world.phase(), world.rounds().count())?;
-    add_marked(text, mark, &phase)
+    let added = add_marked(text, mark, &phase);
+    drop(phase);
+    added
 }
 
 /// The traces of the packets of a world, one line each in the order of entry: where and to which address the packet entered,

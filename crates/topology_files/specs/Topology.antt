@@ -11,7 +11,7 @@ use Rattle.net_base.specs.declared.ids.Vlan.TheVariants.{Untagged, Id}
 use Rattle.net_base.specs.declared.field.Field.{Field}
 use Rattle.net_base.specs.declared.field.Field.TheVariants.{Top, Switches, Name, Capacity, Links, Hosts, Vlans, Tags}
 use Rattle.net_base.specs.Reading.{◌>>=◌, check, need, in_turn}
-use Rattle.net_base.specs.Tree.{is_object, text_at, whole_at, whole_in, list_in, list_at, tree_in}
+use Rattle.flat_json.specs.JsonTree.{is_object, text_at, whole_at, whole_in, list_in, list_at, tree_in}
 use Rattle.topology_files.specs.declared.fault.NetFault.{NetFault}
 use Rattle.topology_files.specs.declared.fault.NetFault.TheVariants.{NotJson, Shape, BadName, DoubleName, UnknownSwitch, BadPort, PortTwice, BadVlan, VlanTwice, BadTags, BadCapacity, TooMany}
 use Rattle.topology.specs.Networks.{Network, TagRange, switch_named, used_ports, is_on, stop_eq, vlan_eq, is_name, is_capacity, is_vlan_id}

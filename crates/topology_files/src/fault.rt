@@ -3,52 +3,41 @@ ghost use Rattle.std.specs.Prelude.{◌≡◌};
 ghost use Rattle.topology_files.specs.declared.fault.NetFault.TheVariants.{Memory};
 ghost use Rattle.topology_files.specs.Faults.{of_json, fault_number, fault_name, fault_field, fault_place};
 
-use net_base::{Field, JsonFault};
+use flat_json::JsonFault;
+use net_base::Field;
 use std::alloc::{AllocError, AllocFailed};
+use std::fmt;
 use thiserror::Error;
 
 /// Why bytes are no topology. The number is the place: that of the item of its list, from 0. A fault of the whole file
 /// has none.
-#[derive(Clone, Copy, Debug, PartialEq, Eq, Error)]
+#[derive(Clone, Copy, PartialEq, Eq, Error)]
 pub enum NetFault {
     /// `serde_json` finds no value.
-    #[error("NotJson")]
     NotJson,
     /// The member is absent or of the wrong kind.
-    #[error("Shape")]
     Shape(Field, u32),
     /// The name isn't 1 to 32 ASCII letters, digits, `-` and `_`.
-    #[error("BadName")]
     BadName(u32),
     /// An earlier switch has the name.
-    #[error("DoubleName")]
     DoubleName(u32),
     /// No switch has the name.
-    #[error("UnknownSwitch")]
     UnknownSwitch(u32),
     /// The port number isn't 1 to 65279.
-    #[error("BadPort")]
     BadPort(u32),
     /// The port is used before, by a link or a host.
-    #[error("PortTwice")]
     PortTwice(u32),
     /// The VLAN id isn't 1 to 4094.
-    #[error("BadVlan")]
     BadVlan(u32),
     /// The VLAN is declared before.
-    #[error("VlanTwice")]
     VlanTwice(u32),
     /// The tags aren't 1 to 4094, or from is above to.
-    #[error("BadTags")]
     BadTags,
     /// The capacity isn't 1 to 8192.
-    #[error("BadCapacity")]
     BadCapacity(u32),
     /// More than 128 switches, 64 used ports of a switch, or 64 declared VLANs.
-    #[error("TooMany")]
     TooMany(Field, u32),
     /// Memory was wanting.
-    #[error("Memory")]
     Memory,
 }
 
@@ -122,6 +111,19 @@ impl NetFault {
             | NetFault::BadCapacity(place)
             | NetFault::TooMany(_, place) => place,
         }
+    }
+}
+
+impl fmt::Display for NetFault {
+    fn fmt<W: fmt::Write>(&self, f: &mut fmt::Formatter<W>) -> fmt::Result {
+        f.write_str(self.name())
+    }
+}
+
+/// As it is printed, with the place: a derived one would have a path for each variant.
+impl fmt::Debug for NetFault {
+    fn fmt<W: fmt::Write>(&self, f: &mut fmt::Formatter<W>) -> fmt::Result {
+        write!(f, "{self} at {}", self.place())
     }
 }
 

@@ -2,9 +2,9 @@
 ghost use Rattle.std.specs.Prelude.{◌≡◌, ◌<◌, ◌≤◌, ◌++◌, ◌∷◌, [], Ok, None, length, map, option_map, count_by, true, false, IfOk, IfSome, OnOk, MatchResult};
 ghost use Rattle.std.specs.List.{list_any};
 ghost use Rattle.std.specs.Option.{option_and_then};
-ghost use Rattle.flat_json.specs.Trees.{data_of};
+ghost use Rattle.flat_json.specs.Trees.{data_of, top_of};
 ghost use Rattle.net_base.specs.Reading.{Gives, Fails, in_turn};
-ghost use Rattle.net_base.specs.Tree.{list_in};
+ghost use Rattle.flat_json.specs.JsonTree.{list_in};
 ghost use Rattle.topology_files.specs.declared.fault.NetFault.TheVariants.{Memory};
 ghost use Rattle.topology.specs.Networks as networks;
 ghost use Rattle.topology.specs.Networks.{switch_named, used_ports, stop_eq, vlan_eq, is_on, IsVlan, IsVlanId};
@@ -189,15 +189,22 @@ fn read_free_port(
     Ok(stop)
 }
 
+/// The texts of a list of two.
+fn texts_of<'t>(tree: &Tree<'t>, items: &[Node]) -> Option<(&'t str, &'t str)>
+    ensures { option_map (λ p. (p.0.now, p.1.now)) result ≡ topology.two_texts (map (data_of tree.now) items.now) }
+{
+    match items {
+        [a, b] => tree.as_str(a).zip(tree.as_str(b)),
+        _ => None,
+    }
+}
+
 /// Two texts.
 fn two_texts<'t>(tree: &Tree<'t>, value: &Node) -> Option<(&'t str, &'t str)>
     ensures { option_map (λ p. (p.0.now, p.1.now)) result
         ≡ option_and_then topology.two_texts (list_in (data_of tree.now value.now)) }
 {
-    match tree.list_in(value)? {
-        [a, b] => Some((tree.as_str(a)?, tree.as_str(b)?)),
-        _ => None,
-    }
+    texts_of(tree, tree.list_in(value)?)
 }
 
 /// Reads the ports of one link.
@@ -404,15 +411,38 @@ fn read_members(alloc: Global, net: &mut Net, tree: &Tree<'_>, top: &Node) -> Re
     read_tags(net, tree, top)
 }
 
+/// Reads the network of a tree.
+fn read_top(alloc: Global, tree: &Tree<'_>) -> Result<Net, NetFault>
+    ensures { Gives Memory (λ n. n) result (topology.members_in (top_of tree.now)) }
+{
+    let mut net = Net::empty(alloc);
+    match read_members(alloc, &mut net, tree, tree.top()) {
+        Ok(()) => Ok(net),
+        Err(fault) => {
+            drop(net);
+            Err(fault)
+        }
+    }
+}
+
+/// Reads the network that the bytes describe, with room for their texts.
+#[tactic(auto, unfolding(crate::specs::Topology::network_in))]
+fn read_bytes(alloc: Global, bytes: &[u8], scratch: &mut Scratch) -> Result<Net, NetFault>
+    ensures { Gives Memory (λ n. n) result (topology.network_in bytes.now) }
+{
+    let tree = parse_tree(alloc, bytes, scratch)?;
+    let read = read_top(alloc, &tree);
+    drop(tree);
+    read
+}
+
 /// The network that the bytes describe, or the first refusal of the table of members. The cost is that of the text, and
 /// for each port that is named that of look-ups in hash tables. Each declared VLAN is compared with those before it.
-#[tactic(auto, unfolding(crate::specs::Topology::network_in))]
 pub fn read_net(alloc: Global, bytes: &[u8]) -> Result<Net, NetFault>
     ensures { Gives Memory (λ n. n) result (topology.network_in bytes.now) }
 {
     let mut scratch = Scratch::new(alloc);
-    let tree = parse_tree(alloc, bytes, &mut scratch)?;
-    let mut net = Net::empty(alloc);
-    read_members(alloc, &mut net, &tree, tree.top())?;
-    Ok(net)
+    let read = read_bytes(alloc, bytes, &mut scratch);
+    drop(scratch);
+    read
 }

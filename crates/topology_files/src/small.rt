@@ -3,7 +3,7 @@ ghost use Rattle.std.specs.Prelude.{◌≡◌, ◌≤◌, Some, map, option_map,
 ghost use Rattle.std.specs.List.{list_all};
 ghost use Rattle.std.specs.Option.{option_and_then};
 ghost use Rattle.flat_json.specs.Trees.{data_of};
-ghost use Rattle.net_base.specs.Tree.{list_at};
+ghost use Rattle.flat_json.specs.JsonTree.{list_at};
 ghost use Rattle.topology.specs.Networks as networks;
 ghost use Rattle.topology.specs.Networks.{IsVlan, IsVlanId};
 ghost use Rattle.topology_files.specs.Topology as topology;
@@ -73,7 +73,7 @@ fn range_of(tree: &Tree<'_>, items: &[Node]) -> Option<Option<(u64, u64)>>
 {
     match items {
         [] => Some(None),
-        [a, b] => Some(Some((tree.whole(a)?, tree.whole(b)?))),
+        [a, b] => tree.whole(a).zip(tree.whole(b)).map(Some),
         _ => None,
     }
 }

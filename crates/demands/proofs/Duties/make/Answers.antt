@@ -9,5 +9,5 @@ invariant_of-result c =
     let rows : List PacketDuties = c.in_ok-rows.rows.items in
     let numbers : List ℕ = c.in_ok-rows.row_numbers.items in
     let made : AreStored c.args.demands.now c.args.classes.now rows numbers = record { covered = c.requires; count = c.in_ok-rows.ensures.0; in_order = c.in_ok-rows.ensures.1 } in
-    subst (λ (ds : List DemandView). AreStored ds c.in_ok-copy-2.field-0 rows numbers) (sym c.in_ok-copy.ensures)
-    (subst (λ (cl : ClassList). AreStored c.args.demands.now cl rows numbers) (sym c.in_ok-copy-2.ensures) made)
+    subst (λ (ds : List DemandView). AreStored ds c.in_ok-demands.classes rows numbers) (sym c.in_ok-demands.ensures.0)
+    (subst (λ (cl : ClassList). AreStored c.args.demands.now cl rows numbers) (sym c.in_ok-demands.ensures.1) made)

@@ -1,8 +1,10 @@
 use Rattle.std.proofs.Common.{◌≡◌, List, [], ◌∷◌, ◌++◌, get_or, sym, ap, ◌∙◌, Vec, Global}
 use Rattle.std.proofs.lemmas.Bool.{cond-true, cond-false}
+use Rattle.std.proofs.lemmas.List.{take_all}
 use Rattle.std.specs.Prelude.{◌==◌}
 use Rattle.std.specs.List.{list_any}
 use Rattle.net_base.specs.declared.ids.SwitchId.{SwitchId}
+use Rattle.demands.specs.Duties.{first_of_each}
 use Rattle.demands.proofs.ChainLaws.{once_step, get_same}
 use Rattle.demands.proofs.chains.each_once.Goals as goal
 use Rattle.demands.proofs.chains.each_once.Goals.{then-not-stands_in+in_ok-push, else-not-stands_in}
@@ -21,3 +23,6 @@ loop-switch-preserved c =
           ap (λ (v : Vec SwitchId Global). v.items) w.kept-is ∙ w.in_ok-push.ensures.items ∙ sym (cond-false c.stands_in.result kept (kept ++ x ∷ []) w.if-not-stands_in.true) ∙ all
       | else-not-stands_in w ↦ ap (λ (v : Vec SwitchId Global). v.items) w.kept-is ∙ sym (cond-true c.stands_in.result kept (kept ++ x ∷ []) w.if-not-stands_in.false) ∙ all
     ]
+
+pub returns : goal.returns
+returns c = c.loop-switch.invariant ∙ ap first_of_each (take_all c.loop-switch.switch-index c.args.switches.now c.loop-switch-test.false)

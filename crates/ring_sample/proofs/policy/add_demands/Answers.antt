@@ -9,7 +9,7 @@ use Rattle.ring_sample.proofs.policy.add_demands.Goals.{then-j-switch+in_ok-dema
 
 pub loop-j-preserved : goal.loop-j-preserved
 loop-j-preserved c = elim c.if-j-switch.branch [
-  | then-j-switch+in_ok-demand_value+in_ok-push w ↦ ap (λ v. map view v.items) w.values-is ∙ ap (map view) w.in_ok-push.ensures.items
+  | then-j-switch+in_ok-demand_value+in_ok-push w ↦ ap (λ v. map view v.items) w.values-is ∙ ap (map view) w.in_ok-push.ensures.ok
       ∙ one_passed (demand_tree c.args.switch) (λ k. not (k == c.args.switch)) (map view c.args.values.now.items) c.loop-j.values.items w.in_ok-demand_value.field-0 c.loop-j.j c.loop-j.invariant
       w.in_ok-demand_value.ensures (not_from_false (c.loop-j.j == c.args.switch) (ne_eqb c.loop-j.j c.args.switch w.if-j-switch.true))
   | else-j-switch w ↦ ap (λ v. map view v.items) w.values-is

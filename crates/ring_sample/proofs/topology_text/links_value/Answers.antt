@@ -6,5 +6,5 @@ use Rattle.ring_sample.proofs.topology_text.links_value.Goals as goal
 
 pub loop-i-preserved : goal.loop-i-preserved
 loop-i-preserved c =
-    ap (map view) c.in_ok-push.ensures.items
+    ap (map view) c.in_ok-push.ensures.ok
     ∙ one_more (link_tree c.args.switches) [] c.loop-i.values.items c.in_ok-link_value.field-0 c.loop-i.i c.loop-i.invariant c.in_ok-link_value.ensures

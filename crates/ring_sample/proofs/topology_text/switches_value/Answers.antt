@@ -6,4 +6,4 @@ use Rattle.ring_sample.proofs.topology_text.switches_value.Goals as goal
 
 pub loop-i-preserved : goal.loop-i-preserved
 loop-i-preserved c =
-    ap (map view) c.in_ok-push.ensures.items ∙ one_more switch_tree [] c.loop-i.values.items c.in_ok-switch_value.field-0 c.loop-i.i c.loop-i.invariant c.in_ok-switch_value.ensures
+    ap (map view) c.in_ok-push.ensures.ok ∙ one_more switch_tree [] c.loop-i.values.items c.in_ok-switch_value.field-0 c.loop-i.i c.loop-i.invariant c.in_ok-switch_value.ensures

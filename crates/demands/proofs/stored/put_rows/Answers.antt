@@ -6,7 +6,7 @@ use Rattle.dest_classes.specs.declared.Class.{Class}
 use Rattle.dest_classes.proofs.MapLaws.{number_fits}
 use Rattle.demands.specs.Duties.{duties_of, PacketDuties}
 use Rattle.demands.proofs.RowLaws.{get_before, get_last, length_push}
-use Rattle.demands.proofs.stored.all_duties.Goals as goal
+use Rattle.demands.proofs.stored.put_rows.Goals as goal
 
 pub loop-n-preserved : goal.loop-n-preserved
 loop-n-preserved c =

@@ -4,7 +4,7 @@ use Rattle.dest_classes.specs.declared.Class.{Class}
 use Rattle.demands.specs.Duties.{duties_of}
 use Rattle.demands.specs.OfClass.{HasRow}
 use Rattle.demands.specs.Sets.{duties_by}
-use Rattle.demands.proofs.stored.all_duties.Given as goal
+use Rattle.demands.proofs.stored.put_rows.Given as goal
 
 abbrev pub invariant-loop-n : goal.invariant-loop-n
 invariant-loop-n l = record {

@@ -1,6 +1,0 @@
-use Rattle.std.proofs.Common.{◌≡◌, ◌++◌, drop}
-use Rattle.schedule_replay.specs.Traces.{stops_text}
-use Rattle.schedule_replay.proofs.traces.stops_text.Given as goal
-
-abbrev pub invariant-loop-stop : goal.invariant-loop-stop
-invariant-loop-stop l = l.text.items ++ stops_text l.net (drop l.stop-index l.stops) ≡ stops_text l.net l.stops
