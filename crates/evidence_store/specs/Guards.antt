@@ -50,3 +50,8 @@ abbrev pub AreGuardsFound : Network → SwitchId → WalkState → List (List Sw
 AreGuardsFound net start noted chains (Some sets) = (length sets ≡ position_count chains) × AllByRecursion (IsLeastGuard net start noted) (positions chains sets)
 AreGuardsFound net start noted chains None =
     (sets : List (List ℕ)) → length sets ≡ position_count chains → ¬ AllByRecursion (IsGuarded start noted) (positions chains sets)
+
+-- the sets, if they are those of all positions
+abbrev pub if_all : Bool → List (List ℕ) → Option (List (List ℕ))
+if_all true sets = Some sets
+if_all false sets = None

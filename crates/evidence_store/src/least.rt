@@ -1,5 +1,5 @@
 //! The least before sets of the positions of a class.
-ghost use Rattle.std.specs.Prelude.{◌≡◌, ◌<◌, ◌≤◌, ◌++◌, ℕ, List, length, IfOk, Some, None};
+ghost use Rattle.std.specs.Prelude.{◌≡◌, ◌<◌, ◌≤◌, ◌++◌, [], ℕ, List, length, IfOk, Some, None};
 ghost use Rattle.std.specs.List.{AllByRecursion, last_or};
 ghost use Rattle.std.specs.Option.{option_copied};
 ghost use Rattle.topology.specs.Networks.{switch_count};
@@ -7,7 +7,7 @@ ghost use Rattle.dest_classes.specs.Classes.{class_count};
 ghost use Rattle.demands.specs.Duties.{duties_of};
 ghost use Rattle.certificates.specs.Valid.{IsChain};
 ghost use Rattle.dest_classes.specs.Numbered.{IsNumbered};
-ghost use Rattle.evidence_store.specs.Guards.{AreWithin, IsGuardFound, IsChainFound, AreGuardsFound};
+ghost use Rattle.evidence_store.specs.Guards.{AreWithin, IsGuardFound, IsChainFound, AreGuardsFound, if_all};
 
 use certificates::Befores;
 use demands::Duties;
@@ -93,6 +93,33 @@ fn add_chain(
     Ok(true)
 }
 
+/// Adds the least before sets of all positions of a class, as long as each guards its waypoint. False where no sets guard them.
+fn add_chains(
+    alloc: Global,
+    net: &Net,
+    walk: &WalkRoom,
+    duties: &Duties,
+    numbered: NumberedClass,
+    befores: &mut Befores,
+) -> Result<bool, Memory>
+    requires number { numbered.number < class_count duties.now.classes }
+    requires class { IsNumbered duties.now.classes numbered }
+    requires entry { numbered.class.entry.switch.0 < switch_count net.now }
+    requires within { AreWithin (switch_count net.now) walk.now }
+    requires none { befores.old ≡ [] }
+    ensures { IfOk result (λ all. AreGuardsFound net.now numbered.class.entry.switch walk.now (duties_of duties.now.demands numbered.class.entry numbered.class.first).chains (if_all all befores.new)) }
+{
+    let number = numbered.number;
+    let start = numbered.class.entry.switch;
+    for i in 0..duties.chains(number) {
+        let chain = duties.chain(number, i);
+        if !add_chain(alloc, net, walk, start, chain, befores)? {
+            return Ok(false);
+        }
+    }
+    Ok(true)
+}
+
 /// The least before sets of all positions of a class. None where no sets guard them.
 pub(crate) fn least_befores(
     alloc: Global,
@@ -107,14 +134,16 @@ pub(crate) fn least_befores(
     requires within { AreWithin (switch_count net.now) walk.now }
     ensures { IfOk result (AreGuardsFound net.now numbered.class.entry.switch walk.now (duties_of duties.now.demands numbered.class.entry numbered.class.first).chains) }
 {
-    let number = numbered.number;
-    let start = numbered.class.entry.switch;
     let mut befores = Befores::make(alloc)?;
-    for i in 0..duties.chains(number) {
-        let chain = duties.chain(number, i);
-        if !add_chain(alloc, net, walk, start, chain, &mut befores)? {
-            return Ok(None);
+    match add_chains(alloc, net, walk, duties, numbered, &mut befores) {
+        Ok(true) => Ok(Some(befores)),
+        Ok(false) => {
+            drop(befores);
+            Ok(None)
+        }
+        Err(memory) => {
+            drop(befores);
+            Err(memory)
         }
     }
-    Ok(Some(befores))
 }

@@ -57,11 +57,15 @@ impl Model for EvidenceStore {
 fn no_evidence(alloc: Global) -> Result<OrderedEvidence, Memory>
     ensures { IfOk result (λ evidence. evidence ≡ no_evidence) }
 {
+    let picks = OrderedPicks::make(alloc)?;
+    let befores = Befores::make(alloc)?;
+    let numberings = Numberings::make(alloc)?;
+    let uses = Uses::make(alloc)?;
     Ok(OrderedEvidence {
-        numberings: Numberings::make(alloc)?,
-        befores: Befores::make(alloc)?,
-        uses: Uses::make(alloc)?,
-        picks: OrderedPicks::make(alloc)?,
+        numberings,
+        befores,
+        uses,
+        picks,
     })
 }
 
@@ -123,11 +127,13 @@ impl EvidenceStore {
         requires { classes ≤ 8192 }
         ensures { IfOk result (λ s. s ≡ record { evidence = no_evidence; classes = classes }) }
     {
+        let in_force = no_uses(alloc, classes)?;
+        let evidence = no_evidence(alloc)?;
         Ok(EvidenceStore {
             alloc,
             keys: Keys::make(alloc),
-            evidence: no_evidence(alloc)?,
-            in_force: no_uses(alloc, classes)?,
+            evidence,
+            in_force,
         })
     }
 
@@ -171,7 +177,7 @@ impl EvidenceStore {
         ensures classes { IfOk result (λ s. s.classes ≡ self.classes) }
     {
         let mut store = self;
-        let shared = add_pick(
+        let added = add_pick(
             store.alloc,
             &mut store.keys,
             &mut store.evidence,
@@ -179,9 +185,18 @@ impl EvidenceStore {
             class,
             numbering,
             befores,
-        )?;
-        store.in_force[class as usize] = Some(shared);
-        Ok(store)
+        );
+        match added {
+            Ok(shared) => {
+                store.in_force[class as usize] = Some(shared);
+                Ok(store)
+            }
+            Err(memory) => {
+                drop(store.keys);
+                drop(store.evidence);
+                Err(memory)
+            }
+        }
     }
 
     /// The evidence.

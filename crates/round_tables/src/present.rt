@@ -135,6 +135,41 @@ fn roomy_mixes(alloc: Global, net: &Net, counts: &[usize]) -> Result<Vec<Mixed>,
     Ok(mixes)
 }
 
+/// Nothing prepared of each switch, with room for its capacity and for its changes in each of the rounds.
+fn mixes_for(alloc: Global, net: &Net, rounds: &Rounds) -> Result<Vec<Mixed>, Memory>
+    ensures len { IfOk result (λ mixes. length mixes.items ≡ switch_count net.now) }
+    ensures room { IfOk result (λ mixes. (s : Switch) (k : ℕ) → s.0 < switch_count net.now
+        → capacity_of net.now s + length (changes_at s (round_after k rounds.now)) ≤ (mix_at mixes.items s).room) }
+{
+    let counts = counts_of(alloc, net.switches(), rounds)?;
+    let mixes = roomy_mixes(alloc, net, &counts);
+    drop(counts);
+    mixes
+}
+
+/// A table without rules and nothing prepared for each switch, with room for the rounds.
+fn roomy_switches(alloc: Global, net: &Net, rounds: &Rounds) -> Result<(Config, Vec<Mixed>), Memory>
+    ensures tables { IfOk result (λ r. length r.0 ≡ switch_count net.now) }
+    ensures for_rules { IfOk result (λ r. (s : Switch) → s.0 < switch_count net.now → capacity_of net.now s ≤ room_of (table_at r.0 s)) }
+    ensures mixes { IfOk result (λ r. length r.1.items ≡ switch_count net.now) }
+    ensures for_marks { IfOk result (λ r. (s : Switch) (k : ℕ) → s.0 < switch_count net.now
+        → capacity_of net.now s + length (changes_at s (round_after k rounds.now)) ≤ (mix_at r.1.items s).room) }
+{
+    let tables = roomy_tables(alloc, net)?;
+    let mixes = mixes_for(alloc, net, rounds)?;
+    Ok((tables, mixes))
+}
+
+/// Lists with room for so many changes, and for as many rules.
+fn roomy_lists(alloc: Global, room: usize) -> Result<(Vec<Change>, Vec<Rule>), Memory>
+    ensures changes { IfOk result (λ r. room ≤ vec_capacity r.0) }
+    ensures rules { IfOk result (λ r. room ≤ vec_capacity r.1) }
+{
+    let changes = Vec::with_capacity(alloc, room)?;
+    let rules = Vec::with_capacity(alloc, room)?;
+    Ok((changes, rules))
+}
+
 /// Puts the rules of one table into another in the place of its own.
 fn refill(table: &mut Table, source: &Table)
     requires { length source.now.rules ≤ room_of table.old }
@@ -175,13 +210,9 @@ impl Present {
     pub fn make(alloc: Global, net: &Net, rounds: &Rounds) -> Result<Present, Memory>
         ensures { IfOk result (HasRoom net.now rounds.now) }
     {
-        let counts = counts_of(alloc, net.switches(), rounds)?;
-        let room = longest(rounds);
-        let changes = Vec::with_capacity(alloc, room)?;
-        let rules = Vec::with_capacity(alloc, room)?;
-        let touched = vec![in alloc; true; counts.len()]?;
-        let tables = roomy_tables(alloc, net)?;
-        let mixes = roomy_mixes(alloc, net, &counts)?;
+        let (changes, rules) = roomy_lists(alloc, longest(rounds))?;
+        let touched = vec![in alloc; true; net.switches() as usize]?;
+        let (tables, mixes) = roomy_switches(alloc, net, rounds)?;
         Ok(Present {
             tables,
             mixes,

@@ -6,19 +6,10 @@ ghost use Rattle.flow_rules.specs.Tables.{rules_of_all, rules_at};
 ghost use Rattle.path_walk.specs.UserConfigs.{IsUserConfig};
 ghost use Rattle.two_phase.specs.TwoPhasePlan.{is_host_bound, counted_tags, tagged_rules_by, ingress_rules_by, two_phase_need};
 
+use crate::copies::is_host_bound;
 use flow_rules::{Config, Rule, VlanTest, admits_port, admits_vlan};
 use net_base::{Port, SwitchId};
-use topology::{End, Net};
-
-/// Whether a rule is bound to a host port of its switch.
-fn is_bound_to_host(net: &Net, s: SwitchId, rule: &Rule) -> bool
-    ensures { result ≡ is_host_bound net.now s rule.now }
-{
-    match rule.key.pattern.in_port {
-        Some(port) => matches!(net.end(s, port), End::Host),
-        None => false,
-    }
-}
+use topology::Net;
 
 /// How many declared VLANs a test admits.
 fn count_vlans(net: &Net, test: VlanTest) -> u64
@@ -37,7 +28,7 @@ fn count_copies(net: &Net, s: SwitchId, rule: &Rule) -> u64
     ensures value { result ≡ cond (is_host_bound net.now s rule.now) 0 (count_by (admits_vlan rule.now.key.pattern.vlan) net.now.vlans) }
     ensures few { result ≤ 64 }
 {
-    if is_bound_to_host(net, s, rule) {
+    if is_host_bound(net, s, rule) {
         return 0;
     }
     count_vlans(net, rule.key.pattern.vlan)

@@ -1,5 +1,5 @@
 //! The two-phase plan, or why there is none.
-ghost use Rattle.std.specs.Prelude.{◌≡◌, ◌≤◌, ◌+◌, ◌∷◌, [], IfOk, IfErr, OnOk, map, length};
+ghost use Rattle.std.specs.Prelude.{◌≡◌, ◌≤◌, ◌+◌, ◌++◌, ◌∷◌, [], IfOk, IfErr, OnOk, map, length};
 ghost use Rattle.flow_rules.specs.Tables.{rules_of_all};
 ghost use Rattle.path_walk.specs.UserConfigs.{IsUserConfig};
 ghost use Rattle.certificates.specs.Valid.{IsValidPlan};
@@ -12,7 +12,7 @@ ghost use Rattle.demands.specs.Duties.{DemandView};
 ghost use Rattle.std.specs.Prelude.{List};
 ghost use Rattle.flow_rules.specs.declared.rules.Rule.{Rule};
 ghost use Rattle.tag_allocator.specs.Tags.{tags_of, available_tags};
-ghost use Rattle.two_phase.specs.TwoPhasePlan.{label_tables};
+ghost use Rattle.two_phase.specs.TwoPhasePlan.{label_table, label_tables};
 
 use crate::labels::make_labels;
 use crate::needs::need;
@@ -91,25 +91,54 @@ fn check_room(net: &Net, old: &Config, new: &Config) -> Result<(), TwoFault>
     Ok(())
 }
 
-/// The label tables: the declared VLANs stand for the old version in the first and for the new one in the second.
+/// Adds the label table of a version.
+fn add_table(
+    tables: &mut LabelTables,
+    alloc: Global,
+    net: &Net,
+    tags: &TagMap,
+    version: bool,
+) -> Result<(), Memory>
+    requires tags { tags.now ≡ map (λ t. t.tag) (tags_of net.now) }
+    requires enough { length net.now.vlans ≤ length (available_tags net.now) }
+    ensures { OnOk result (tables.new ≡ tables.old ++ label_table net.now version ∷ []) }
+{
+    tables.add(make_labels(alloc, net, tags, version)?)?;
+    Ok(())
+}
+
+/// Adds the label tables: the declared VLANs stand for the old version in the first and for the new one in the second.
+fn add_tables(
+    tables: &mut LabelTables,
+    alloc: Global,
+    net: &Net,
+    tags: &TagMap,
+) -> Result<(), Memory>
+    requires tags { tags.now ≡ map (λ t. t.tag) (tags_of net.now) }
+    requires enough { length net.now.vlans ≤ length (available_tags net.now) }
+    ensures { OnOk result (tables.new ≡ tables.old ++ label_tables net.now) }
+{
+    add_table(tables, alloc, net, tags, false)?;
+    add_table(tables, alloc, net, tags, true)
+}
+
+/// The label tables.
 fn make_tables(alloc: Global, net: &Net, tags: &TagMap) -> Result<LabelTables, Memory>
     requires tags { tags.now ≡ map (λ t. t.tag) (tags_of net.now) }
     requires enough { length net.now.vlans ≤ length (available_tags net.now) }
     ensures { IfOk result (λ tables. tables ≡ label_tables net.now) }
 {
     let mut tables = LabelTables::make(alloc)?;
-    tables.add(make_labels(alloc, net, tags, false)?)?;
-    tables.add(make_labels(alloc, net, tags, true)?)?;
+    add_tables(&mut tables, alloc, net, tags)?;
     Ok(tables)
 }
 
-/// The picks of the label tables: the first from round 1, the second from the round of the exchange, which comes after
-/// one round for the tagged rules and one for each rank.
-fn make_picks(alloc: Global, ranks: usize) -> Result<LabelPicks, Memory>
+/// Adds the picks of the label tables: the first from round 1, the second from the round of the exchange, which comes
+/// after one round for the tagged rules and one for each rank.
+fn add_picks(picks: &mut LabelPicks, ranks: usize) -> Result<(), Memory>
     requires { ranks ≤ 2049 }
-    ensures { IfOk result (λ picks. picks ≡ record { round = 1; labels = 0 } ∷ record { round = ranks + 2; labels = 1 } ∷ []) }
+    ensures { OnOk result (picks.new ≡ picks.old ++ record { round = 1; labels = 0 } ∷ record { round = ranks + 2; labels = 1 } ∷ []) }
 {
-    let mut picks = LabelPicks::make(alloc)?;
     picks.add(LabelPick {
         round: 1,
         labels: 0,
@@ -117,8 +146,28 @@ fn make_picks(alloc: Global, ranks: usize) -> Result<LabelPicks, Memory>
     picks.add(LabelPick {
         round: ranks as u32 + 2,
         labels: 1,
-    })?;
+    })
+}
+
+/// The picks of the label tables.
+fn make_picks(alloc: Global, ranks: usize) -> Result<LabelPicks, Memory>
+    requires { ranks ≤ 2049 }
+    ensures { IfOk result (λ picks. picks ≡ record { round = 1; labels = 0 } ∷ record { round = ranks + 2; labels = 1 } ∷ []) }
+{
+    let mut picks = LabelPicks::make(alloc)?;
+    add_picks(&mut picks, ranks)?;
     Ok(picks)
+}
+
+/// Adds the rounds to none.
+fn add_rounds(copy: &mut Rounds, alloc: Global, rounds: &Rounds) -> Result<(), Memory>
+    requires { copy.old ≡ [] }
+    ensures { OnOk result (copy.new ≡ rounds.now) }
+{
+    for k in 0..rounds.count() {
+        copy.push_round(Vec::from_slice(alloc, rounds.round(k))?)?;
+    }
+    Ok(())
 }
 
 /// The same rounds again.
@@ -126,10 +175,28 @@ fn copy_rounds(alloc: Global, rounds: &Rounds) -> Result<Rounds, Memory>
     ensures { IfOk result (λ copy. copy ≡ rounds.now) }
 {
     let mut copy = Rounds::make(alloc)?;
-    for k in 0..rounds.count() {
-        copy.push_round(Vec::from_slice(alloc, rounds.round(k))?)?;
-    }
+    add_rounds(&mut copy, alloc, rounds)?;
     Ok(copy)
+}
+
+/// The evidence of the plan, with these label tables.
+fn evidence_with(
+    alloc: Global,
+    labels: LabelTables,
+    ranks: usize,
+    tried: &Rounds,
+) -> Result<TwoPhaseEvidence, Memory>
+    requires { ranks ≤ 2049 }
+    ensures labels { IfOk result (λ e. e.labels ≡ labels) }
+    ensures picks { IfOk result (λ e. e.picks ≡ record { round = 1; labels = 0 } ∷ record { round = ranks + 2; labels = 1 } ∷ []) }
+    ensures tried { IfOk result (λ e. e.tried ≡ tried.now) }
+{
+    let picks = make_picks(alloc, ranks)?;
+    Ok(TwoPhaseEvidence {
+        labels,
+        picks,
+        tried: copy_rounds(alloc, tried)?,
+    })
 }
 
 /// The evidence of the plan.
@@ -147,11 +214,57 @@ fn make_evidence(
     ensures picks { IfOk result (λ e. e.picks ≡ record { round = 1; labels = 0 } ∷ record { round = ranks + 2; labels = 1 } ∷ []) }
     ensures tried { IfOk result (λ e. e.tried ≡ tried.now) }
 {
-    Ok(TwoPhaseEvidence {
-        labels: make_tables(alloc, net, tags)?,
-        picks: make_picks(alloc, ranks)?,
-        tried: copy_rounds(alloc, tried)?,
-    })
+    let labels = make_tables(alloc, net, tags)?;
+    evidence_with(alloc, labels, ranks, tried)
+}
+
+/// The plan with the tags of the declared VLANs.
+fn plan_with(
+    alloc: Global,
+    net: &Net,
+    old: &Config,
+    new: &Config,
+    tags: &TagMap,
+    tried: &Rounds,
+) -> Result<Plan, Memory>
+    requires old { IsUserConfig net.now (rules_of_all old.now) }
+    requires new { IsUserConfig net.now (rules_of_all new.now) }
+    requires tags { tags.now ≡ map (λ t. t.tag) (tags_of net.now) }
+    requires fits { FitsTwoPhase net.now (rules_of_all old.now) (rules_of_all new.now) }
+    ensures { IfOk result (λ p. p ≡ two_phase_plan net.now (rules_of_all old.now) (rules_of_all new.now) tried.now) }
+{
+    let (rounds, ranks) = make_rounds(alloc, net, old, new, tags)?;
+    match make_evidence(alloc, net, tags, ranks, tried) {
+        Ok(evidence) => Ok(Plan {
+            rounds,
+            evidence: Evidence::TwoPhase(evidence),
+        }),
+        Err(memory) => {
+            drop(rounds);
+            Err(memory)
+        }
+    }
+}
+
+/// The plan with the tags of the declared VLANs, where there is room for it.
+fn plan_in_room(
+    alloc: Global,
+    net: &Net,
+    old: &Config,
+    new: &Config,
+    tags: &TagMap,
+    tried: &Rounds,
+) -> Result<Plan, TwoFault>
+    requires old { IsUserConfig net.now (rules_of_all old.now) }
+    requires new { IsUserConfig net.now (rules_of_all new.now) }
+    requires tags { tags.now ≡ map (λ t. t.tag) (tags_of net.now) }
+    requires enough { length net.now.vlans ≤ length (available_tags net.now) }
+    ensures plan { IfOk result (λ p. p ≡ two_phase_plan net.now (rules_of_all old.now) (rules_of_all new.now) tried.now) }
+    ensures fits { IfOk result (λ _. FitsTwoPhase net.now (rules_of_all old.now) (rules_of_all new.now)) }
+    ensures cause { IfErr result (IsTwoCause net.now (rules_of_all old.now) (rules_of_all new.now)) }
+{
+    check_room(net, old, new)?;
+    Ok(plan_with(alloc, net, old, new, tags, tried)?)
 }
 
 /// The versioned two-phase plan of an update (Reitblatt and others, 2012), with the rounds that were tried before copied
@@ -180,11 +293,7 @@ pub fn two_phase(
     net.keeps_rules();
     rounds_make_no_classes(net, old, new);
     let tags = allot_tags(alloc, net)?;
-    check_room(net, old, new)?;
-    let (rounds, ranks) = make_rounds(alloc, net, old, new, &tags)?;
-    let evidence = make_evidence(alloc, net, &tags, ranks, tried)?;
-    Ok(Plan {
-        rounds,
-        evidence: Evidence::TwoPhase(evidence),
-    })
+    let plan = plan_in_room(alloc, net, old, new, &tags, tried);
+    drop(tags);
+    plan
 }

@@ -1,5 +1,5 @@
 //! The bands of all switches in key order, and the ranks.
-ghost use Rattle.std.specs.Prelude.{◌≡◌, ◌<◌, ◌≤◌, ◌∷◌, IfOk, length, map, flat_map};
+ghost use Rattle.std.specs.Prelude.{◌≡◌, ◌<◌, ◌≤◌, ◌∷◌, [], IfOk, OnOk, length, map, flat_map};
 ghost use Rattle.topology.specs.Networks.{switch_count};
 ghost use Rattle.flow_rules.specs.Tables.{rules_of_all, rules_at};
 ghost use Rattle.path_walk.specs.UserConfigs.{IsUserConfig};
@@ -59,6 +59,28 @@ fn ingress_at(
     Ok(rules)
 }
 
+/// Adds the tagged rules of all switches to none, in key order.
+fn add_all_tagged(
+    all: &mut SwitchRules,
+    alloc: Global,
+    net: &Net,
+    tags: &[VlanTag],
+    new: &Config,
+) -> Result<(), Memory>
+    requires none { all.old ≡ [] }
+    requires new { IsUserConfig net.now (rules_of_all new.now) }
+    requires tags { tags.now ≡ tags_of net.now }
+    requires enough { length net.now.vlans ≤ length (available_tags net.now) }
+    ensures ordered { OnOk result (AreOrdered net.now (λ s. tagged_rules net.now s (rules_at (rules_of_all new.now) s)) all.new) }
+    ensures count { OnOk result (length all.new ≡ switch_count net.now) }
+{
+    net.keeps_rules();
+    for number in 0..net.switches() {
+        all.push(tagged_at(alloc, net, SwitchId(number), tags, new)?)?;
+    }
+    Ok(())
+}
+
 /// The tagged rules of all switches, in key order.
 pub(crate) fn all_tagged(
     alloc: Global,
@@ -72,12 +94,31 @@ pub(crate) fn all_tagged(
     ensures ordered { IfOk result (AreOrdered net.now (λ s. tagged_rules net.now s (rules_at (rules_of_all new.now) s))) }
     ensures count { IfOk result (λ all. length all ≡ switch_count net.now) }
 {
-    net.keeps_rules();
     let mut all = SwitchRules::new(alloc);
-    for number in 0..net.switches() {
-        all.push(tagged_at(alloc, net, SwitchId(number), tags, new)?)?;
-    }
+    add_all_tagged(&mut all, alloc, net, tags, new)?;
     Ok(all)
+}
+
+/// Adds the ingress rules of all switches to none, in key order.
+fn add_all_ingress(
+    all: &mut SwitchRules,
+    alloc: Global,
+    net: &Net,
+    tags: &[VlanTag],
+    new: &Config,
+) -> Result<(), Memory>
+    requires none { all.old ≡ [] }
+    requires new { IsUserConfig net.now (rules_of_all new.now) }
+    requires tags { tags.now ≡ tags_of net.now }
+    requires enough { length net.now.vlans ≤ length (available_tags net.now) }
+    ensures ordered { OnOk result (AreOrdered net.now (λ s. ingress_rules net.now s (rules_at (rules_of_all new.now) s)) all.new) }
+    ensures count { OnOk result (length all.new ≡ switch_count net.now) }
+{
+    net.keeps_rules();
+    for number in 0..net.switches() {
+        all.push(ingress_at(alloc, net, SwitchId(number), tags, new)?)?;
+    }
+    Ok(())
 }
 
 /// The ingress rules of all switches, in key order.
@@ -93,11 +134,8 @@ pub(crate) fn all_ingress(
     ensures ordered { IfOk result (AreOrdered net.now (λ s. ingress_rules net.now s (rules_at (rules_of_all new.now) s))) }
     ensures count { IfOk result (λ all. length all ≡ switch_count net.now) }
 {
-    net.keeps_rules();
     let mut all = SwitchRules::new(alloc);
-    for number in 0..net.switches() {
-        all.push(ingress_at(alloc, net, SwitchId(number), tags, new)?)?;
-    }
+    add_all_ingress(&mut all, alloc, net, tags, new)?;
     Ok(all)
 }
 

@@ -15,7 +15,7 @@ ghost use Rattle.two_phase.specs.TwoPhasePlan.{by_switch, ingress_rules, tagged_
 
 use crate::ranks::{all_ingress, all_tagged, ranks_of};
 use crate::switch_rules::{Step, SwitchRules};
-use crate::vlan_tags::vlan_tags;
+use crate::vlan_tags::{VlanTag, vlan_tags};
 use flow_rules::Config;
 use net_base::Memory;
 use std::alloc::Global;
@@ -97,7 +97,9 @@ fn add_exchange(
         ++ filter (λ c. not (is_insert c)) (remaining (rules_of_all old.now) (rules_of_all new.now)) ∷ filter is_insert (remaining (rules_of_all old.now) (rules_of_all new.now)) ∷ []) }
 {
     let changes = remaining(alloc, old, new)?;
-    add_halves(alloc, rounds, &changes)
+    let added = add_halves(alloc, rounds, &changes);
+    drop(changes);
+    added
 }
 
 /// Adds the round of all rules.
@@ -129,9 +131,11 @@ fn add_laying(
     ensures { (first rest : SwitchId → List Rule) → AreOrdered net.now first tagged.now → AreOrdered net.now rest ingress.now
         → OnOk result (rounds.new ≡ rounds.old ++ (by_switch net.now Insert first ∷ []) ++ map (by_rank net.now Insert rest) (reverse ranks.now)) }
 {
-    let falling = reversed(alloc, ranks)?;
     add_round(alloc, rounds, net, Step::Lay, tagged)?;
-    add_rank_rounds(alloc, rounds, net, Step::Lay, ingress, &falling)
+    let falling = reversed(alloc, ranks)?;
+    let added = add_rank_rounds(alloc, rounds, net, Step::Lay, ingress, &falling);
+    drop(falling);
+    added
 }
 
 /// Adds the rounds that take the ingress rules away by ascending rank, and then the tagged rules.
@@ -150,6 +154,32 @@ fn add_taking(
 {
     add_rank_rounds(alloc, rounds, net, Step::Take, ingress, ranks)?;
     add_round(alloc, rounds, net, Step::Take, tagged)
+}
+
+/// Adds the rounds of the plan to none, from its rules in key order and its ranks.
+fn add_all(
+    alloc: Global,
+    rounds: &mut Rounds,
+    net: &Net,
+    old: &Config,
+    new: &Config,
+    tagged: &SwitchRules,
+    ingress: &SwitchRules,
+    rising: &[u16],
+) -> Result<(), Memory>
+    requires none { rounds.old ≡ [] }
+    requires few { length old.now < 2 ^ 32 }
+    requires tagged_count { length tagged.now ≡ switch_count net.now }
+    requires ingress_count { length ingress.now ≡ switch_count net.now }
+    requires tagged { AreOrdered net.now (λ s. tagged_rules net.now s (rules_at (rules_of_all new.now) s)) tagged.now }
+    requires ingress { AreOrdered net.now (λ s. ingress_rules net.now s (rules_at (rules_of_all new.now) s)) ingress.now }
+    requires ranks { rising.now ≡ ranks net.now (rules_of_all new.now) }
+    ensures { OnOk result (rounds.new ≡ two_phase_rounds net.now (rules_of_all old.now) (rules_of_all new.now)) }
+{
+    add_laying(alloc, rounds, net, tagged, ingress, rising)?;
+    add_exchange(alloc, rounds, old, new)?;
+    add_taking(alloc, rounds, net, tagged, ingress, rising)?;
+    Ok(())
 }
 
 /// The rounds of the plan, from its rules in key order and its ranks.
@@ -171,10 +201,77 @@ fn rounds_of(
     ensures { IfOk result (λ r. r ≡ two_phase_rounds net.now (rules_of_all old.now) (rules_of_all new.now)) }
 {
     let mut rounds = Rounds::make(alloc)?;
-    add_laying(alloc, &mut rounds, net, tagged, ingress, rising)?;
-    add_exchange(alloc, &mut rounds, old, new)?;
-    add_taking(alloc, &mut rounds, net, tagged, ingress, rising)?;
+    add_all(alloc, &mut rounds, net, old, new, tagged, ingress, rising)?;
     Ok(rounds)
+}
+
+/// The rounds of the plan, and the number of its ranks, from its rules in key order.
+fn ranked_rounds(
+    alloc: Global,
+    net: &Net,
+    old: &Config,
+    new: &Config,
+    tagged: &SwitchRules,
+    ingress: &SwitchRules,
+) -> Result<(Rounds, usize), Memory>
+    requires few { length old.now < 2 ^ 32 }
+    requires tagged_count { length tagged.now ≡ switch_count net.now }
+    requires ingress_count { length ingress.now ≡ switch_count net.now }
+    requires tagged { AreOrdered net.now (λ s. tagged_rules net.now s (rules_at (rules_of_all new.now) s)) tagged.now }
+    requires ingress { AreOrdered net.now (λ s. ingress_rules net.now s (rules_at (rules_of_all new.now) s)) ingress.now }
+    ensures rounds { IfOk result (λ r. r.0 ≡ two_phase_rounds net.now (rules_of_all old.now) (rules_of_all new.now)) }
+    ensures ranks { IfOk result (λ r. r.1 ≡ length (ranks net.now (rules_of_all new.now))) }
+{
+    let rising = ranks_of(ingress)?;
+    let count = rising.len();
+    let rounds = rounds_of(alloc, net, old, new, tagged, ingress, &rising);
+    drop(rising);
+    Ok((rounds?, count))
+}
+
+/// The rounds of the plan, and the number of its ranks, from its tagged rules in key order.
+fn rounds_over(
+    alloc: Global,
+    net: &Net,
+    old: &Config,
+    new: &Config,
+    pairs: &[VlanTag],
+    tagged: &SwitchRules,
+) -> Result<(Rounds, usize), Memory>
+    requires few { length old.now < 2 ^ 32 }
+    requires new { IsUserConfig net.now (rules_of_all new.now) }
+    requires pairs { pairs.now ≡ tags_of net.now }
+    requires enough { length net.now.vlans ≤ length (available_tags net.now) }
+    requires tagged_count { length tagged.now ≡ switch_count net.now }
+    requires tagged { AreOrdered net.now (λ s. tagged_rules net.now s (rules_at (rules_of_all new.now) s)) tagged.now }
+    ensures rounds { IfOk result (λ r. r.0 ≡ two_phase_rounds net.now (rules_of_all old.now) (rules_of_all new.now)) }
+    ensures ranks { IfOk result (λ r. r.1 ≡ length (ranks net.now (rules_of_all new.now))) }
+{
+    let ingress = all_ingress(alloc, net, pairs, new)?;
+    let rounds = ranked_rounds(alloc, net, old, new, tagged, &ingress);
+    drop(ingress);
+    rounds
+}
+
+/// The rounds of the plan, and the number of its ranks, with the tags of the declared VLANs.
+fn rounds_with(
+    alloc: Global,
+    net: &Net,
+    old: &Config,
+    new: &Config,
+    pairs: &[VlanTag],
+) -> Result<(Rounds, usize), Memory>
+    requires few { length old.now < 2 ^ 32 }
+    requires new { IsUserConfig net.now (rules_of_all new.now) }
+    requires pairs { pairs.now ≡ tags_of net.now }
+    requires enough { length net.now.vlans ≤ length (available_tags net.now) }
+    ensures rounds { IfOk result (λ r. r.0 ≡ two_phase_rounds net.now (rules_of_all old.now) (rules_of_all new.now)) }
+    ensures ranks { IfOk result (λ r. r.1 ≡ length (ranks net.now (rules_of_all new.now))) }
+{
+    let tagged = all_tagged(alloc, net, pairs, new)?;
+    let rounds = rounds_over(alloc, net, old, new, pairs, &tagged);
+    drop(tagged);
+    rounds
 }
 
 /// The rounds of the plan, and the number of its ranks.
@@ -194,9 +291,7 @@ pub(crate) fn make_rounds(
 {
     net.keeps_rules();
     let pairs = vlan_tags(alloc, net, tags)?;
-    let tagged = all_tagged(alloc, net, &pairs, new)?;
-    let ingress = all_ingress(alloc, net, &pairs, new)?;
-    let rising = ranks_of(&ingress)?;
-    let rounds = rounds_of(alloc, net, old, new, &tagged, &ingress, &rising)?;
-    Ok((rounds, rising.len()))
+    let rounds = rounds_with(alloc, net, old, new, &pairs);
+    drop(pairs);
+    rounds
 }

@@ -10,7 +10,7 @@ use Rattle.evidence_store.proofs.EvidenceStore.make.Goals as goal
 
 pub invariant_of-result : goal.invariant_of-result
 invariant_of-result c =
-    let is = c.in_ok-no_evidence.ensures in
+    let is = c.in_ok-evidence.ensures in
     let keys = c.make.ensures in
     record {
       stored = subst IsStored (sym is) nothing_stored;
@@ -19,7 +19,7 @@ invariant_of-result c =
         befores = keys.befores ∙ sym (ap (λ (e : OrderedEvidence). e.befores) is);
         uses = keys.uses ∙ sym (ap (λ (e : OrderedEvidence). e.uses) is);
       };
-      in_force = subst (λ (e : OrderedEvidence). AreInForce e.picks c.in_ok-no_uses.field-0.items) (sym is) (subst (AreInForce []) (sym c.in_ok-no_uses.ensures) (none_in_force c.args.classes));
-      few_classes = rw (c.in_ok-no_uses.ensures, length-replicate) c.requires;
-      classes = subst (λ (e : OrderedEvidence). AllByRecursion (λ p. p.class < length c.in_ok-no_uses.field-0.items) e.picks) (sym is) tt;
+      in_force = subst (λ (e : OrderedEvidence). AreInForce e.picks c.in_ok-in_force.in_force.items) (sym is) (subst (AreInForce []) (sym c.in_ok-in_force.ensures) (none_in_force c.args.classes));
+      few_classes = rw (c.in_ok-in_force.ensures, length-replicate) c.requires;
+      classes = subst (λ (e : OrderedEvidence). AllByRecursion (λ p. p.class < length c.in_ok-in_force.in_force.items) e.picks) (sym is) tt;
     }

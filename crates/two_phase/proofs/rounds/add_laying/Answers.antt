@@ -8,7 +8,7 @@ use Rattle.two_phase.proofs.rounds.add_laying.Goals as goal
 pub returns : goal.returns
 returns c = λ first rest tagged ingress.
     let falling = c.deref.ensures.value ∙ c.in_ok-falling.ensures in
-    on_ok_weaker c.add_rank_rounds.result
+    on_ok_weaker c.add_rank_rounds-added.result
     (λ e. e ∙ ap (λ rounds. rounds ++ map (by_rank c.args.net.now Insert rest) c.deref.result.now) (c.in_ok-add_round.ensures first tagged)
     ∙ ap (λ ranks. c.args.rounds.now ++ (by_switch c.args.net.now Insert first ∷ []) ++ map (by_rank c.args.net.now Insert rest) ranks) falling)
-    (c.add_rank_rounds.ensures rest ingress)
+    (c.add_rank_rounds-added.ensures rest ingress)

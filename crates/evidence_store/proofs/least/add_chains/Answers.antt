@@ -8,7 +8,7 @@ use Rattle.check_reasons.specs.Positions.{position_count}
 use Rattle.check_reasons.proofs.PositionLaws.{count_next, count_fits}
 use Rattle.evidence_store.specs.Guards.{IsGuarded, IsLeastGuard, IsChainFound}
 use Rattle.evidence_store.proofs.PositionLaws.{drop_front, positions_longer, positions_more, positions_of}
-use Rattle.evidence_store.proofs.least.least_befores.Goals as goal
+use Rattle.evidence_store.proofs.least.add_chains.Goals as goal
 
 pub returns-then-not-branch : goal.returns-then-not-branch
 returns-then-not-branch c sets count guards =

@@ -4,7 +4,7 @@ use Rattle.demands.specs.Duties.{duties_of}
 use Rattle.certificates.specs.Ordered.{positions}
 use Rattle.check_reasons.specs.Positions.{position_count}
 use Rattle.evidence_store.specs.Guards.{IsLeastGuard}
-use Rattle.evidence_store.proofs.least.least_befores.Given as goal
+use Rattle.evidence_store.proofs.least.add_chains.Given as goal
 
 abbrev pub invariant-loop-i : goal.invariant-loop-i
 invariant-loop-i l = record {

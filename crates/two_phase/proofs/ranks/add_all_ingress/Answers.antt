@@ -4,7 +4,7 @@ use Rattle.flow_rules.specs.Tables.{rules_of_all, rules_at}
 use Rattle.two_phase.specs.TwoPhasePlan.{ingress_rules, in_key_order}
 use Rattle.two_phase.proofs.MadeLaws.{ingress_table}
 use Rattle.two_phase.proofs.SwitchLaws.{list_pushed, all_ordered, ordered_count}
-use Rattle.two_phase.proofs.ranks.all_ingress.Goals as goal
+use Rattle.two_phase.proofs.ranks.add_all_ingress.Goals as goal
 
 pub loop-number-preserved : goal.loop-number-preserved
 loop-number-preserved c =
