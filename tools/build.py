@@ -1,15 +1,12 @@
 #!/usr/bin/env python3
-"""Proves and builds the program, crates side by side, and says on the error stream how far it is.
+"""Proves and builds the program, and says on the error stream how far it is.
 
     tools/build.py PROGRAM      PROGRAM is the crate with `main`, as crates.txt names it
 
-`rt` locks the crate that it works on and every crate below it. So two crates of one tree are never proved side by side, since all of them stand on
-the lowest one. Two copies of the tree can be at work at once: what `rt` kept in one copy it takes over in another one of the same text. So this
-script has copies of the crates beside the repository, as many as there are processors and memory for, and gives each copy a crate whose libraries
-are done. The last step is the program, in the repository itself, which takes over all libraries. What is proved is proved by `rt` alone.
-
-A build that is stopped goes on where it was: each finished crate leaves a sum of all that it was made from, and is done as long as that sum is the
-same. The copies are removed when the program stands.
+The work is done by `rt ci`, which proves each crate from nothing, several side by side, builds the program and runs it. It works in a copy that has
+the program's crates alone, without the crates of tests and without the edits that must be refused: those are for the test command. What `rt ci` has
+passed it keeps beside its kit, under sums of all that it read. So a build that is stopped goes on where it was, and the test command takes over
+what a build has proved, as a build takes over what the test command has.
 """
 import fcntl
 import hashlib
@@ -30,8 +27,9 @@ SECONDS_FOR_A_LINE = 0.08
 MEMORY_FOR_ONE_CRATE = 3_000_000_000
 # The parts of a crate from which it is made.
 PARTS = ("src", "specs", "proofs")
-# What the program writes when it is run with a word that is no command.
-USAGE = "unknown command or wrong words"
+# What says that a crate has ended, in the words of `rt ci`.
+PROVED = re.compile(r"^rt: (\w+) (?:proved$|is kept: )", re.M)
+FAILED = re.compile(r"^rt: (\w+) NOT PROVED", re.M)
 
 
 # ---- what is to be done, in what order
@@ -64,6 +62,11 @@ def needed(crates, program):
     return order
 
 
+def lines_for(crates, text):
+    """Returns the lines of crates.txt that are of these crates, as text."""
+    return "".join(line for line in text.splitlines(True) if line.partition(":")[0].strip() in crates)
+
+
 def read_seconds(text):
     """Returns the processor seconds of each crate that a text like that of MEASURED names."""
     listed = [line.partition("#")[0].split() for line in text.splitlines()]
@@ -91,21 +94,16 @@ def ready(crates, left, running, chain):
     return sorted(found, key=lambda it: -chain[it])
 
 
-def jobs_for(processors, crates_at_once):
-    """Returns how many processors each of so many crates may use."""
-    return max(1, -(-processors // max(1, crates_at_once)))
-
-
-def copies_for(processors, memory):
+def side_by_side(processors, memory):
     """Returns how many crates may be proved side by side."""
     return max(1, min(processors, memory // MEMORY_FOR_ONE_CRATE))
 
 
-def foretold(crates, left, seconds, chain, copies):
-    """Returns how many seconds the crates that are left take where so many are proved side by side, each by one processor, in the order of this script."""
+def foretold(crates, left, seconds, chain, at_once):
+    """Returns how many seconds the crates that are left take where so many are proved side by side, each by one processor, the longest chain first."""
     left, ends, now = [*left], {}, 0
     while left or ends:
-        for name in ready(crates, left, ends, chain)[:copies - len(ends)]:
+        for name in ready(crates, left, ends, chain)[:at_once - len(ends)]:
             ends[name] = now + seconds[name]
             left.remove(name)
         name = min(ends, key=ends.get)
@@ -133,6 +131,15 @@ def progress(whole, left, running, seconds):
     return f"planner: {whole - left} of {counted(whole, 'crate')} done{now}, {counted(int(seconds // 60), 'minute')} so far"
 
 
+def failure(log):
+    """Returns the crates that failed, and what was said of the first of them but for what was proved, from what `rt ci` wrote."""
+    failed = FAILED.findall(log)
+    if not failed:
+        return [], "".join(log.splitlines(True)[-20:])
+    said = log.rpartition(f"== {failed[0]}\n")[2].partition(f"rt: {failed[0]} NOT PROVED")[0]
+    return failed, "".join(line for line in said.splitlines(True) if not line.endswith(": proved\n"))
+
+
 class Voice:
     """Says lines on a stream. How far the work is stands in one line that is renewed where the stream is a terminal, otherwise in a line at each change."""
 
@@ -154,7 +161,20 @@ class Voice:
         self.stream.flush()
 
 
-# ---- the tree and its copies
+# ---- the files
+
+def read(file):
+    with open(file, "rb") as it:
+        return it.read()
+
+
+def text_of(file):
+    """Returns the text of a file, or none where it isn't there."""
+    try:
+        return read(file).decode(errors="replace")
+    except OSError:
+        return ""
+
 
 def files_of(folder):
     """Yields the files of a crate from which it is made, in one order."""
@@ -162,11 +182,6 @@ def files_of(folder):
         for at, folders, names in os.walk(f"{folder}/{part}"):
             folders.sort()
             yield from (f"{at}/{it}" for it in sorted(names))
-
-
-def read(file):
-    with open(file, "rb") as it:
-        return it.read()
 
 
 def lines_of(folder):
@@ -185,46 +200,14 @@ def sums(root, crates, order, kit):
     return found
 
 
-class Tree:
-    """The repository, or a copy of its crates."""
-
-    def __init__(self, root):
-        self.root = root
-
-    def out(self, crate):
-        return f"{self.root}/crates/{crate}/out"
-
-    def has(self, crate, sum_):
-        """Whether the crate was finished here, from what it is made of now."""
-        try:
-            return read(f"{self.out(crate)}/built.sum").decode() == sum_
-        except OSError:
-            return False
-
-    def keep(self, crate, sum_):
-        """Notes that the crate is finished."""
-        os.makedirs(self.out(crate), exist_ok=True)
-        with open(f"{self.out(crate)}/built.sum", "w") as it:
-            it.write(sum_)
-
-    def take_sources(self, root, crates):
-        """Makes this a copy of the tree at root, and leaves what was kept here. (rt wants each crate that crates.txt lists.)"""
-        os.makedirs(f"{self.root}/crates", exist_ok=True)
-        for name in ("crates.txt", "HANDLES"):
-            shutil.copy2(f"{root}/{name}", f"{self.root}/{name}")
-        for crate in crates:
-            for part in PARTS:
-                one, other = f"{root}/crates/{crate}/{part}", f"{self.root}/crates/{crate}/{part}"
-                shutil.rmtree(other, ignore_errors=True)
-                if os.path.isdir(one):
-                    shutil.copytree(one, other)
-
-    def begin(self, crate, words):
-        """Starts rt in the crate's folder, as the head of a process group of its own, with all that it says in out/build.log."""
-        os.makedirs(self.out(crate), exist_ok=True)
-        with open(f"{self.out(crate)}/build.log", "wb") as log:
-            how = {"cwd": f"{self.root}/crates/{crate}", "stdin": subprocess.DEVNULL, "stderr": log, "start_new_session": True}
-            return subprocess.Popen(["rt", *words], stdout=subprocess.PIPE if words[0] == "run" else log, **how)
+def copy_tree(root, order, to):
+    """Makes a copy of the tree that has these crates alone, without what was made of them and without their edits."""
+    os.makedirs(f"{to}/crates")
+    shutil.copy2(f"{root}/HANDLES", f"{to}/HANDLES")
+    with open(f"{to}/crates.txt", "w") as it:
+        it.write(lines_for(order, read(f"{root}/crates.txt").decode()))
+    for crate in order:
+        shutil.copytree(f"{root}/crates/{crate}", f"{to}/crates/{crate}", ignore=shutil.ignore_patterns("out", "must-fail"))
 
 
 def free_memory():
@@ -235,22 +218,11 @@ def free_memory():
         return 0
 
 
-def shares_work():
-    """Whether rt can take over in one copy what it kept in another one: for this it writes beside its kit."""
+def keeps_work():
+    """Whether `rt ci` can keep what it has passed: for this it writes beside its kit."""
     beside = os.path.dirname(os.path.dirname(os.path.dirname(os.path.realpath(shutil.which("rt")))))
     store = f"{beside}/rattle-kept"
     return os.stat(store).st_uid == os.geteuid() if os.path.isdir(store) else os.access(beside, os.W_OK)
-
-
-def place_of_copies(root):
-    """Returns the folder of this repository's copies, which lies outside of it, since rt refuses sources in other places of a repository."""
-    name = f"planner-build-{hashlib.sha256(os.path.realpath(root).encode()).hexdigest()[:16]}"
-    home = os.environ.get("XDG_CACHE_HOME") or os.path.expanduser("~/.cache")
-    try:
-        os.makedirs(home, exist_ok=True)
-        return f"{home}/{name}" if os.access(home, os.W_OK) else f"{tempfile.gettempdir()}/{name}"
-    except OSError:
-        return f"{tempfile.gettempdir()}/{name}"
 
 
 # ---- the build
@@ -260,102 +232,80 @@ class Stopped(Exception):
 
 
 class Failed(Exception):
-    """A crate wasn't proved or built: its name, and what rt said."""
+    """A crate wasn't proved, or the program not built: the crates that failed, and what rt said."""
 
 
 class Build:
     def __init__(self, root, program, voice):
         self.root, self.program, self.voice = root, program, voice
-        self.begun, self.running = time.monotonic(), {}
+        self.begun, self.process = time.monotonic(), None
+        self.out = f"{root}/crates/{program}/out"
         self.crates = read_crates(read(f"{root}/crates.txt").decode())
         self.order = needed(self.crates, program)
-        measured = read_seconds(read(f"{os.path.dirname(os.path.realpath(__file__))}/{MEASURED}").decode())
-        self.seconds_of = expected(measured, {it: lines_of(f"{root}/crates/{it}") for it in self.order})
-        self.chain = chains(self.crates, self.order, self.seconds_of)
         kit = subprocess.run(["rt", "version"], stdout=subprocess.PIPE, check=True).stdout.decode()
         self.sums = sums(root, self.crates, self.order, kit)
-        self.processors = len(os.sched_getaffinity(0))
-        copies = copies_for(self.processors, free_memory()) if shares_work() else 1
-        place = place_of_copies(root)
-        # (what an earlier build with more memory made also counts)
-        kept = [f"{place}/{it}" for it in sorted(os.listdir(place))] if os.path.isdir(place) else []
-        self.trees = [Tree(root), *[Tree(f"{place}/{it}") for it in range(1, copies)]]
-        self.kept = [*self.trees, *[Tree(it) for it in kept if it not in [tree.root for tree in self.trees]]]
-        self.place, self.copies = place, copies
-        self.lacking = [it for it in self.order if not any(tree.has(it, self.sums[it]) for tree in self.kept)]
-        # (the program's own step is made in any case: it also brings all libraries into the repository)
-        self.left = [*[it for it in self.lacking if it != program], program]
+        # (a line for each crate that was passed, in this build or an earlier one)
+        self.passed = {*text_of(f"{self.out}/passed").split()} if keeps_work() else set()
+        self.left = [it for it in self.order if self.sums[it] not in self.passed]
 
     def seconds(self):
         return time.monotonic() - self.begun
 
+    def first_line(self):
+        measured = read_seconds(read(f"{os.path.dirname(os.path.realpath(__file__))}/{MEASURED}").decode())
+        seconds_of = expected(measured, {it: lines_of(f"{self.root}/crates/{it}") for it in self.order})
+        processors = len(os.sched_getaffinity(0))
+        at_once = side_by_side(processors, free_memory())
+        seconds = foretold(self.crates, self.left, seconds_of, chains(self.crates, self.order, seconds_of), at_once)
+        return first_line(len(self.order), len(self.left), seconds / 60, processors)
+
     def run(self):
-        seconds = foretold(self.crates, self.lacking, self.seconds_of, self.chain, self.copies)
-        self.voice.say(first_line(len(self.order), len(self.lacking), seconds / 60, self.processors))
-        if len(self.left) > 1:
-            for tree in self.trees[1:]:
-                tree.take_sources(self.root, self.crates)
-        while self.left:
-            self.start_all()
-            self.tell()
-            self.wait_for_one()
-        shutil.rmtree(self.place, ignore_errors=True)
+        self.voice.say(self.first_line())
+        os.makedirs(self.out, exist_ok=True)
+        with tempfile.TemporaryDirectory(prefix="planner-build-") as room, open(f"{self.out}/build.log", "w+b") as log:
+            tree = f"{room}/tree"
+            copy_tree(self.root, self.order, tree)
+            self.process = subprocess.Popen(["rt", "ci"], cwd=tree, stdin=subprocess.DEVNULL, stdout=log, stderr=log, start_new_session=True)
+            try:
+                while self.process.poll() is None:
+                    self.look(tree, log.name)
+                    time.sleep(0.5)
+            finally:
+                self.stop()
+            self.look(tree, log.name)
+            if self.process.returncode:
+                raise Failed(*failure(text_of(log.name)))
+            self.take(f"{tree}/crates/{self.program}/out/{self.program}")
         self.voice.say(f"planner: built, {counted(round(self.seconds() / 60), 'minute')}")
 
-    def tell(self):
-        self.voice.renew(progress(len(self.order), len(self.left), list(self.running), self.seconds()))
+    def look(self, tree, log):
+        """Notes which crates have been passed, and says how far the build is."""
+        new = {self.sums[it] for it in PROVED.findall(text_of(log)) if it in self.sums} - self.passed
+        if new:
+            with open(f"{self.out}/passed", "a") as it:
+                it.writelines(f"{sum_}\n" for sum_ in new)
+            self.passed |= new
+        left = [it for it in self.order if self.sums[it] not in self.passed]
+        # (rt makes the folder out/ of a crate when it begins with it)
+        running = [it for it in left if os.path.isdir(f"{tree}/crates/{it}/out")]
+        self.voice.renew(progress(len(self.order), len(left), running, self.seconds()))
 
-    def start_all(self):
-        """Gives each idle tree a crate whose libraries are done."""
-        idle = [it for it in self.trees if it not in [tree for tree, _ in self.running.values()]]
-        found = ready(self.crates, self.left, self.running, self.chain)
-        if self.program in found:
-            # (the program is the last one, and belongs into the repository)
-            self.running[self.program] = self.trees[0], self.trees[0].begin(self.program, ["run", "--", "--help"])
-            return
-        for crate, tree in zip(found, idle):
-            at_once = min(len(self.trees), len(self.running) + len(found))
-            jobs = [] if at_once == 1 else ["--jobs", str(jobs_for(self.processors, at_once))]
-            self.running[crate] = tree, tree.begin(crate, ["lib", *jobs])
-
-    def wait_for_one(self):
-        """Waits until a crate ends, and takes it off the list."""
-        while True:
-            for crate, (tree, process) in self.running.items():
-                if process.poll() is not None:
-                    self.finish(crate, tree, process)
-                    return
-            time.sleep(0.1)
-            if self.voice.is_terminal:
-                self.tell()
-
-    def finish(self, crate, tree, process):
-        """Takes a crate whose process has ended off the list. Raises Failed where it isn't proved."""
-        del self.running[crate]
-        is_well = process.returncode == 0
-        if crate == self.program:
-            is_well = process.stdout.read().decode(errors="replace").strip() == USAGE
-        if not is_well:
-            raise Failed(crate, read(f"{tree.out(crate)}/build.log").decode(errors="replace"))
-        tree.keep(crate, self.sums[crate])
-        self.left.remove(crate)
-        if crate == self.program:
-            for it in self.order:
-                tree.keep(it, self.sums[it])
+    def take(self, program):
+        """Brings the program into the repository, in one step."""
+        new = f"{self.out}/{self.program}.new"
+        shutil.copyfile(program, new)
+        os.chmod(new, 0o755)
+        os.replace(new, f"{self.out}/{self.program}")
 
     def stop(self):
-        """Ends what was started here, each with its own children."""
-        for _, process in self.running.values():
+        """Ends rt, which ends what it has started, where it hasn't ended by itself."""
+        if self.process and self.process.poll() is None:
+            self.process.terminate()
             try:
-                os.killpg(process.pid, signal.SIGTERM)
-            except ProcessLookupError:
-                pass
-        for _, process in self.running.values():
-            try:
-                process.wait(10)
+                self.process.wait(10)
             except subprocess.TimeoutExpired:
-                os.killpg(process.pid, signal.SIGKILL)
-                process.wait()
+                self.process.kill()
+                self.process.wait()
 
 
 def stop_at(number, _):
@@ -385,28 +335,23 @@ def main(words):
         return 1
     for it in (signal.SIGINT, signal.SIGTERM, signal.SIGHUP):
         signal.signal(it, stop_at)
-    build = None
     try:
         held = alone(root, voice)
         build = Build(root, words[0], voice)
         build.run()
         # (an edit made during the build makes the program stale again)
-        program = f"{build.trees[0].out(words[0])}/{words[0]}"
-        os.utime(program, (begun, begun))
+        os.utime(f"{build.out}/{words[0]}", (begun, begun))
         os.close(held)
         return 0
     except Failed as it:
-        crate, said = it.args
+        failed, said = it.args
         voice.say(said.rstrip("\n"))
-        voice.say(f"planner: the program could not be built: {crate} failed, as told above")
+        voice.say(f"planner: the program could not be built{': ' + ', '.join(failed) + ' failed' if failed else ''}, as told above")
     except Stopped as it:
-        voice.say("planner: stopped; the next run goes on from here")
+        voice.say(f"planner: stopped; {'the next run goes on from here' if keeps_work() else 'the next run begins anew, since rt cannot keep what it has proved'}")
         return 128 + it.args[0]
     except (OSError, ValueError, subprocess.CalledProcessError) as it:
         voice.say(f"planner: the program could not be built: {it}")
-    finally:
-        if build:
-            build.stop()
     return 1
 
 

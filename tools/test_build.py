@@ -1,4 +1,4 @@
-"""Tests of build.py: the order of crates, what is ready, what is said, and whole builds over an rt that only waits."""
+"""Tests of build.py: the order of crates, what is foretold and said, and whole builds over an rt that only waits."""
 import io
 import os
 import signal
@@ -57,15 +57,15 @@ class Order(unittest.TestCase):
         ]:
             self.assertEqual(build.ready(CRATES, left, running, chain), wanted)
 
-    def test_processors_are_shared(self):
-        self.assertEqual([build.jobs_for(4, it) for it in (1, 2, 3, 4, 9)], [4, 2, 2, 1, 1])
+    def test_each_crate_has_memory(self):
+        self.assertEqual([build.side_by_side(4, it) for it in (0, 2_999_999_999, 6_000_000_000, 99_000_000_000)], [1, 1, 2, 4])
 
-    def test_copies_have_memory(self):
-        self.assertEqual([build.copies_for(4, it) for it in (0, 2_999_999_999, 6_000_000_000, 99_000_000_000)], [1, 1, 2, 4])
+    def test_only_the_lines_of_the_program_are_listed(self):
+        self.assertEqual(build.lines_for(["base", "top"], LISTED), "base: json\ntop: left right base\n")
 
     def test_time_is_that_of_the_order_in_which_crates_are_proved(self):
         chain = {"base": 190, "left": 60, "right": 90, "top": 50}
-        of = lambda left, copies: build.foretold(CRATES, left, SECONDS, chain, copies)
+        of = lambda left, at_once: build.foretold(CRATES, left, SECONDS, chain, at_once)
         self.assertEqual(of(["base", "left", "right", "top"], 1), 200)
         self.assertEqual(of(["base", "left", "right", "top"], 4), 190)
         self.assertEqual(of(["left"], 4), 10)
@@ -101,16 +101,25 @@ class Words(unittest.TestCase):
         self.assertEqual(stream.getvalue(), "1 done, now a, 0 minutes\n2 done, now b, 1 minute\n")
 
 
-# An rt that waits: it proves what has no file `bad`, where all listed crates are there, and notes what it was asked for.
+# An rt that waits: in a tree of the program's crates alone it proves what has no file `bad` and wasn't kept, and notes what it has proved.
 RT = """#!/bin/sh
 [ "$1" = version ] && { echo kit; exit 0; }
-echo "$(basename "$PWD") $*" >> "$ASKED"
-[ -e src/bad ] && { echo "error: bad"; exit 1; }
-for it in base left right top top_tests; do [ -e "../$it/src/lib.rt" ] || { echo "no $it"; exit 2; }; done
-sleep "${WAITS:-0.1}"
-mkdir -p out
-[ "$1" = run ] && { echo built > out/top; echo "unknown command or wrong words"; exit 2; }
-exit 0
+[ "$1" = ci ] && [ -e HANDLES ] && [ ! -e crates/top_tests ] && [ ! -e crates/base/must-fail ] || { echo "a wrong tree"; exit 2; }
+for it in base left right top; do
+    key="$KEPT/$it-$(cat crates/$it/src/* | cksum | tr ' ' -)"
+    [ -e "$key" ] && { echo "rt: $it is kept: an earlier run proved the same"; continue; }
+    mkdir -p "crates/$it/out"
+    sleep "${WAITS:-0.1}"
+    echo "== $it"
+    echo "fn $it::one: proved"
+    [ -e "crates/$it/src/bad" ] && { echo "error: bad"; echo "rt: $it NOT PROVED"; exit 1; }
+    echo "$it" >> "$ASKED"
+    touch "$key"
+    echo "rt: $it proved"
+done
+mkdir -p crates/top/out
+echo built > crates/top/out/top
+echo "4 passed, 0 failed"
 """
 
 
@@ -118,8 +127,8 @@ class Builds(unittest.TestCase):
     def setUp(self):
         self.room = tempfile.TemporaryDirectory()
         self.root, self.asked = f"{self.room.name}/tree", f"{self.room.name}/asked"
-        os.makedirs(f"{self.root}/tools")
-        os.makedirs(f"{self.room.name}/kit/rattle/bin")
+        for folder in ("tree/tools", "kit/rattle/bin", "kept", "temporary"):
+            os.makedirs(f"{self.room.name}/{folder}")
         for file, text in ((f"{self.root}/crates.txt", LISTED), (f"{self.root}/HANDLES", ""), (f"{self.room.name}/kit/rattle/bin/rt", RT), (self.asked, "")):
             with open(file, "w") as it:
                 it.write(text)
@@ -130,8 +139,10 @@ class Builds(unittest.TestCase):
             it.write("base 1\n")
         for crate in CRATES:
             os.makedirs(f"{self.root}/crates/{crate}/src")
+            os.makedirs(f"{self.root}/crates/{crate}/must-fail")
             self.write(crate, "one line\n")
-        self.how = {**os.environ, "PATH": f"{self.room.name}/kit/rattle/bin:{os.environ['PATH']}", "ASKED": self.asked, "XDG_CACHE_HOME": f"{self.room.name}/cache"}
+        kit, temporary = f"{self.room.name}/kit/rattle/bin:{os.environ['PATH']}", f"{self.room.name}/temporary"
+        self.how = {**os.environ, "PATH": kit, "ASKED": self.asked, "KEPT": f"{self.room.name}/kept", "TMPDIR": temporary}
 
     def tearDown(self):
         self.room.cleanup()
@@ -145,45 +156,51 @@ class Builds(unittest.TestCase):
         return subprocess.Popen(words, env={**self.how, **more}, stderr=subprocess.PIPE, text=True)
 
     def build(self, **more):
-        """Returns the exit status, the lines said, and the crates that rt was asked for."""
-        os.remove(self.asked)
+        """Returns the exit status, the lines said, and the crates that rt proved."""
+        with open(self.asked, "w"):
+            pass
         ran = self.begin(**more)
         said = ran.communicate()[1].splitlines()
+        self.assertEqual(os.listdir(f"{self.room.name}/temporary"), [])
         return ran.returncode, said, self.crates_asked()
 
     def crates_asked(self):
         with open(self.asked) as it:
-            return [line.split()[0] for line in it]
+            return it.read().split()
 
     def test_builds_all_then_only_what_changed(self):
-        status, said, asked = self.build()
-        self.assertEqual((status, asked[0], sorted(asked[1:3]), asked[3:]), (0, "base", ["left", "right"], ["top"]))
+        status, said, asked = self.build(WAITS="0.5")
+        self.assertEqual((status, asked), (0, ["base", "left", "right", "top"]))
         self.assertIn("4 crates, about 1 minute on", said[0])
-        self.assertEqual(said[1], "planner: 0 of 4 crates done, now base, 0 minutes so far")
+        self.assertIn("planner: 1 of 4 crates done, now left, 0 minutes so far", said)
         self.assertEqual(said[-1], "planner: built, 0 minutes")
-        self.assertEqual(os.listdir(f"{self.room.name}/cache"), [])
+        with open(f"{self.root}/crates/top/out/top") as it:
+            self.assertEqual(it.read(), "built\n")
         status, said, asked = self.build()
-        self.assertEqual((asked, said[0].partition(": 4")[2]), (["top"], " of 4 crates done before, 0 to do, about 1 minute on " + said[0].partition("minute on ")[2]))
+        self.assertEqual((status, asked), (0, []))
+        self.assertIn("4 of 4 crates done before, 0 to do, about 1 minute on", said[0])
         self.write("left", "another line\n")
-        self.assertEqual(self.build()[2], ["left", "top"])
-        self.write("top_tests", "another line\n")
-        self.assertEqual(self.build()[2], ["top"])
+        status, said, asked = self.build()
+        self.assertEqual((status, asked), (0, ["left"]))
+        self.assertIn("2 of 4 crates done before, 2 to do", said[0])
 
     def test_goes_on_where_it_was_stopped(self):
         ran = self.begin(WAITS="1")
-        while "right" not in self.crates_asked():
+        while "left" not in self.crates_asked():
             time.sleep(0.05)
+        time.sleep(0.5)
         ran.send_signal(signal.SIGTERM)
         said = ran.communicate()[1]
         self.assertEqual((ran.returncode, said.splitlines()[-1]), (128 + signal.SIGTERM, "planner: stopped; the next run goes on from here"))
+        self.assertFalse(os.path.exists(f"{self.root}/crates/top/out/top"))
         status, said, asked = self.build()
-        self.assertEqual((status, sorted(asked)), (0, ["left", "right", "top"]))
-        self.assertIn("1 of 4 crates done before, 3 to do", said[0])
+        self.assertEqual((status, asked), (0, ["right", "top"]))
+        self.assertIn("2 of 4 crates done before, 2 to do", said[0])
 
     def test_a_crate_that_fails_is_named_with_what_rt_said(self):
         self.write("left", "", "bad")
         status, said, asked = self.build()
-        self.assertEqual((status, "top" in asked), (1, False))
+        self.assertEqual((status, asked), (1, ["base"]))
         self.assertEqual(said[-2:], ["error: bad", "planner: the program could not be built: left failed, as told above"])
 
 
