@@ -125,10 +125,16 @@ def first_line(whole, left, minutes, processors):
     return f"planner: proving and building the program: {kept}, about {about} on {counted(processors, 'processor')} with nothing else to do"
 
 
-def progress(whole, left, running, seconds):
-    """Returns what is said while crates are proved."""
+def expected_end(seconds, whole, rest):
+    """Returns after how many seconds the build is expected to end, at the pace so far: of `whole` seconds that were foretold, these have done all but `rest`."""
+    return seconds * whole / (whole - rest) if rest < whole else whole
+
+
+def progress(whole, left, running, seconds, end):
+    """Returns what is said while crates are proved, by a build that is expected to take `end` seconds in all."""
     now = f", now {', '.join(running)}" if running else ""
-    return f"planner: {whole - left} of {counted(whole, 'crate')} done{now}, {counted(int(seconds // 60), 'minute')} so far"
+    minutes = int(seconds // 60)
+    return f"planner: {whole - left} of {counted(whole, 'crate')} done{now}, {minutes} of about {counted(max(minutes + 1, round(end / 60)), 'minute')}"
 
 
 def failure(log):
@@ -247,20 +253,23 @@ class Build:
         # (a line for each crate that was passed, in this build or an earlier one)
         self.passed = {*text_of(f"{self.out}/passed").split()} if keeps_work() else set()
         self.left = [it for it in self.order if self.sums[it] not in self.passed]
+        measured = read_seconds(read(f"{os.path.dirname(os.path.realpath(__file__))}/{MEASURED}").decode())
+        self.seconds_of = expected(measured, {it: lines_of(f"{root}/crates/{it}") for it in self.order})
+        self.processors = len(os.sched_getaffinity(0))
+        self.at_once = side_by_side(self.processors, free_memory())
+        # (the seconds that the build is expected to take in all: at first those foretold, then by the pace of what has been done)
+        self.whole = self.end = self.foretold(self.left, [])
 
     def seconds(self):
         return time.monotonic() - self.begun
 
-    def first_line(self):
-        measured = read_seconds(read(f"{os.path.dirname(os.path.realpath(__file__))}/{MEASURED}").decode())
-        seconds_of = expected(measured, {it: lines_of(f"{self.root}/crates/{it}") for it in self.order})
-        processors = len(os.sched_getaffinity(0))
-        at_once = side_by_side(processors, free_memory())
-        seconds = foretold(self.crates, self.left, seconds_of, chains(self.crates, self.order, seconds_of), at_once)
-        return first_line(len(self.order), len(self.left), seconds / 60, processors)
+    def foretold(self, left, running):
+        """Returns the seconds foretold for what is left, where the crates that are running are taken to be half done."""
+        seconds_of = {it: seconds / 2 if it in running else seconds for it, seconds in self.seconds_of.items()}
+        return foretold(self.crates, left, seconds_of, chains(self.crates, self.order, seconds_of), self.at_once)
 
     def run(self):
-        self.voice.say(self.first_line())
+        self.voice.say(first_line(len(self.order), len(self.left), self.whole / 60, self.processors))
         os.makedirs(self.out, exist_ok=True)
         with tempfile.TemporaryDirectory(prefix="planner-build-") as room, open(f"{self.out}/build.log", "w+b") as log:
             tree = f"{room}/tree"
@@ -288,7 +297,9 @@ class Build:
         left = [it for it in self.order if self.sums[it] not in self.passed]
         # (rt makes the folder out/ of a crate when it begins with it)
         running = [it for it in left if os.path.isdir(f"{tree}/crates/{it}/out")]
-        self.voice.renew(progress(len(self.order), len(left), running, self.seconds()))
+        if new:
+            self.end = expected_end(self.seconds(), self.whole, self.foretold(left, running))
+        self.voice.renew(progress(len(self.order), len(left), running, self.seconds(), self.end))
 
     def take(self, program):
         """Brings the program into the repository, in one step."""

@@ -72,6 +72,12 @@ class Order(unittest.TestCase):
         self.assertEqual(of([], 4), 0)
 
 
+    def test_the_end_is_expected_at_the_pace_so_far(self):
+        self.assertEqual(build.expected_end(60, 1000, 800), 300)
+        self.assertEqual(build.expected_end(60, 1000, 0), 60)
+        self.assertEqual(build.expected_end(60, 1000, 1000), 1000)
+
+
 class Words(unittest.TestCase):
     def test_lines(self):
         self.assertEqual(
@@ -82,8 +88,9 @@ class Words(unittest.TestCase):
             build.first_line(30, 1, 0.2, 1),
             "planner: proving and building the program: 29 of 30 crates done before, 1 to do, about 1 minute on 1 processor with nothing else to do",
         )
-        self.assertEqual(build.progress(30, 27, ["left", "right"], 119.9), "planner: 3 of 30 crates done, now left, right, 1 minute so far")
-        self.assertEqual(build.progress(30, 1, [], 120), "planner: 29 of 30 crates done, 2 minutes so far")
+        self.assertEqual(build.progress(30, 27, ["left", "right"], 119.9, 1475), "planner: 3 of 30 crates done, now left, right, 1 of about 25 minutes")
+        self.assertEqual(build.progress(30, 30, [], 59, 10), "planner: 0 of 30 crates done, 0 of about 1 minute")
+        self.assertEqual(build.progress(30, 1, [], 120, 100), "planner: 29 of 30 crates done, 2 of about 3 minutes")
 
     def test_a_terminal_has_one_line_that_is_renewed(self):
         stream = io.StringIO()
@@ -96,9 +103,9 @@ class Words(unittest.TestCase):
     def test_another_stream_has_a_line_at_each_change(self):
         stream = io.StringIO()
         voice = build.Voice(stream, False, 0)
-        for it in ("1 done, now a, 0 minutes", "1 done, now a, 1 minute", "2 done, now b, 1 minute"):
+        for it in ("1 done, now a, 0 of about 3 minutes", "1 done, now a, 1 of about 4 minutes", "2 done, now b, 1 of about 3 minutes"):
             voice.renew(it)
-        self.assertEqual(stream.getvalue(), "1 done, now a, 0 minutes\n2 done, now b, 1 minute\n")
+        self.assertEqual(stream.getvalue(), "1 done, now a, 0 of about 3 minutes\n2 done, now b, 1 of about 3 minutes\n")
 
 
 # An rt that waits: in a tree of the program's crates alone it proves what has no file `bad` and wasn't kept, and notes what it has proved.
@@ -172,7 +179,7 @@ class Builds(unittest.TestCase):
         status, said, asked = self.build(WAITS="0.5")
         self.assertEqual((status, asked), (0, ["base", "left", "right", "top"]))
         self.assertIn("4 crates, about 1 minute on", said[0])
-        self.assertIn("planner: 1 of 4 crates done, now left, 0 minutes so far", said)
+        self.assertIn("planner: 1 of 4 crates done, now left, 0 of about 1 minute", said)
         self.assertEqual(said[-1], "planner: built, 0 minutes")
         with open(f"{self.root}/crates/top/out/top") as it:
             self.assertEqual(it.read(), "built\n")
