@@ -5,7 +5,6 @@ import signal
 import subprocess
 import sys
 import tempfile
-import time
 import unittest
 
 import build
@@ -108,7 +107,8 @@ class Words(unittest.TestCase):
         self.assertEqual(stream.getvalue(), "1 done, now a, 0 of about 3 minutes\n2 done, now b, 1 of about 3 minutes\n")
 
 
-# An rt that waits: in a tree of the program's crates alone it proves what has no file `bad` and wasn't kept, and notes what it has proved.
+# An rt that proves, in a tree of the program's crates alone, what has no file `bad` and wasn't kept, and notes what it has proved. At the crate $HOLDS
+# it waits until the file $ON is there.
 RT = """#!/bin/sh
 [ "$1" = version ] && { echo kit; exit 0; }
 [ "$1" = ci ] && [ -e HANDLES ] && [ ! -e crates/top_tests ] && [ ! -e crates/base/must-fail ] || { echo "a wrong tree"; exit 2; }
@@ -116,7 +116,7 @@ for it in base left right top; do
     key="$KEPT/$it-$(cat crates/$it/src/* | cksum | tr ' ' -)"
     [ -e "$key" ] && { echo "rt: $it is kept: an earlier run proved the same"; continue; }
     mkdir -p "crates/$it/out"
-    sleep "${WAITS:-0.1}"
+    while [ "$it" = "$HOLDS" ] && [ ! -e "$ON" ]; do sleep 0.1; done
     echo "== $it"
     echo "fn $it::one: proved"
     [ -e "crates/$it/src/bad" ] && { echo "error: bad"; echo "rt: $it NOT PROVED"; exit 1; }
@@ -149,7 +149,8 @@ class Builds(unittest.TestCase):
             os.makedirs(f"{self.root}/crates/{crate}/must-fail")
             self.write(crate, "one line\n")
         kit, temporary = f"{self.room.name}/kit/rattle/bin:{os.environ['PATH']}", f"{self.room.name}/temporary"
-        self.how = {**os.environ, "PATH": kit, "ASKED": self.asked, "KEPT": f"{self.room.name}/kept", "TMPDIR": temporary}
+        self.on = f"{self.room.name}/on"
+        self.how = {**os.environ, "PATH": kit, "ASKED": self.asked, "KEPT": f"{self.room.name}/kept", "TMPDIR": temporary, "ON": self.on}
 
     def tearDown(self):
         self.room.cleanup()
@@ -162,24 +163,36 @@ class Builds(unittest.TestCase):
         words = [sys.executable, "-B", f"{self.root}/tools/build.py", "top"]
         return subprocess.Popen(words, env={**self.how, **more}, stderr=subprocess.PIPE, text=True)
 
-    def build(self, **more):
+    def until(self, ran, line):
+        """Reads what a build says until it says this line, and returns all that it has said."""
+        said = [ran.stderr.readline().rstrip("\n")]
+        while said[-1] not in ("", line):
+            said.append(ran.stderr.readline().rstrip("\n"))
+        self.assertEqual(said[-1], line)
+        return said
+
+    def end(self, ran):
         """Returns the exit status, the lines said, and the crates that rt proved."""
-        with open(self.asked, "w"):
-            pass
-        ran = self.begin(**more)
         said = ran.communicate()[1].splitlines()
         self.assertEqual(os.listdir(f"{self.room.name}/temporary"), [])
         return ran.returncode, said, self.crates_asked()
+
+    def build(self):
+        with open(self.asked, "w"):
+            pass
+        return self.end(self.begin())
 
     def crates_asked(self):
         with open(self.asked) as it:
             return it.read().split()
 
     def test_builds_all_then_only_what_changed(self):
-        status, said, asked = self.build(WAITS="0.5")
+        ran = self.begin(HOLDS="left")
+        self.assertIn("4 crates, about 1 minute on", self.until(ran, "planner: 1 of 4 crates done, now left, 0 of about 1 minute")[0])
+        with open(self.on, "w"):
+            pass
+        status, said, asked = self.end(ran)
         self.assertEqual((status, asked), (0, ["base", "left", "right", "top"]))
-        self.assertIn("4 crates, about 1 minute on", said[0])
-        self.assertIn("planner: 1 of 4 crates done, now left, 0 of about 1 minute", said)
         self.assertEqual(said[-1], "planner: built, 0 minutes")
         with open(f"{self.root}/crates/top/out/top") as it:
             self.assertEqual(it.read(), "built\n")
@@ -192,13 +205,12 @@ class Builds(unittest.TestCase):
         self.assertIn("2 of 4 crates done before, 2 to do", said[0])
 
     def test_goes_on_where_it_was_stopped(self):
-        ran = self.begin(WAITS="1")
-        while "left" not in self.crates_asked():
-            time.sleep(0.05)
-        time.sleep(0.5)
+        ran = self.begin(HOLDS="right")
+        self.until(ran, "planner: 2 of 4 crates done, now right, 0 of about 1 minute")
         ran.send_signal(signal.SIGTERM)
-        said = ran.communicate()[1]
-        self.assertEqual((ran.returncode, said.splitlines()[-1]), (128 + signal.SIGTERM, "planner: stopped; the next run goes on from here"))
+        status, said, asked = self.end(ran)
+        self.assertEqual((status, said[-1]), (128 + signal.SIGTERM, "planner: stopped; the next run goes on from here"))
+        self.assertEqual(asked, ["base", "left"])
         self.assertFalse(os.path.exists(f"{self.root}/crates/top/out/top"))
         status, said, asked = self.build()
         self.assertEqual((status, asked), (0, ["right", "top"]))
