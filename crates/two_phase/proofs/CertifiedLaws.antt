@@ -1,15 +1,8 @@
 -- The two-phase plan is certified.
-use Rattle.std.proofs.Common.{ℕ, ◌^◌, ◌<◌, List, ◌∷◌, length, refl, inl, inr, arith}
-use Rattle.std.specs.Prelude.{nat_lt, filter, flat_map}
-use Rattle.std.proofs.lemmas.Bool.{ltb-true}
-use Rattle.net_base.specs.Blocks.{Block}
-use Rattle.net_base.specs.Places.{stop_of}
-use Rattle.net_base.proofs.MemberLaws.{in_from_filter}
-use Rattle.topology.specs.Networks.{Network, IsNetwork, IsEntry}
+use Rattle.std.proofs.Common.{ℕ, ◌<◌, List, length, refl, arith}
+use Rattle.topology.specs.Networks.{Network, IsNetwork}
 use Rattle.flow_rules.specs.declared.rules.Rule.{Rule}
 use Rattle.path_walk.specs.UserConfigs.{IsUserConfig}
-use Rattle.dest_classes.specs.Classes.{classes_of, block_ends, boundaries, IsClass}
-use Rattle.dest_classes.specs.declared.Class.{Class}
 use Rattle.update_model.specs.Changes.{round_after}
 use Rattle.update_model.specs.Mixtures.{Rollout, tables_before}
 use Rattle.certificates.specs.Certified.{blocks_of}
@@ -19,8 +12,6 @@ use Rattle.two_phase.proofs.TagLaws.{tagging}
 use Rattle.two_phase.proofs.StageLaws.{IsSound}
 use Rattle.two_phase.proofs.CertificateLaws.{IsStage, certificate}
 use Rattle.two_phase.proofs.PlanLaws.{plan_sound, sound_at, ends_at}
-use Rattle.net_base.proofs.ItemLaws.{in_from_get}
-use Rattle.dest_classes.proofs.RisingLaws.{in_from_ascending}
 use Rattle.dest_classes.proofs.EntryLaws.{class_entry, class_small}
 
 module _ (net : Network) (net_is : IsNetwork net) (old new : List (List Rule)) (old_user : IsUserConfig net old) (new_user : IsUserConfig net new) where

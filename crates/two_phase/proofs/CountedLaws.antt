@@ -1,5 +1,5 @@
--- The tagged rules and the ingress rules of a switch, counted by the declared VLANs.
-use Rattle.std.proofs.Common.{◌≡◌, ℕ, ◌+◌, ◌*◌, ◌≤◌, Bool, true, false, cond, List, [], ◌∷◌, ◌++◌, map, length, take, sum_by, refl, ◌∙◌, ap, arith, length-append}
+-- The tagged rules and the ingress rules of a switch, counted by the declared VLANs, and how many rules and host ports it has at most.
+use Rattle.std.proofs.Common.{◌≡◌, ℕ, ◌+◌, ◌*◌, ◌<◌, ◌≤◌, Bool, true, false, cond, List, [], ◌∷◌, ◌++◌, map, length, take, sum_by, refl, ◌∙◌, ap, arith, length-append}
 use Rattle.std.specs.Prelude.{◌&&◌, ◌==◌, count_by, filter, flat_map, Some, None}
 use Rattle.std.proofs.Math.Nat.{mul-le-mul_right}
 use Rattle.std.proofs.lemmas.List.{length-map}
@@ -9,12 +9,15 @@ use Rattle.net_base.specs.declared.ids.SwitchId.{SwitchId}
 use Rattle.net_base.specs.declared.ids.Port.{Port}
 use Rattle.net_base.specs.declared.ids.Stop.{Stop}
 use Rattle.net_base.specs.declared.ids.Vlan.{Vlan}
-use Rattle.topology.specs.Networks.{Network, IsNetwork}
+use Rattle.net_base.proofs.MemberLaws.{each_weaker, each_get_or}
+use Rattle.topology.specs.Networks.{Network, IsNetwork, switch_count, capacity_of}
 use Rattle.topology.specs.declared.net.Link.{Link}
 use Rattle.flow_rules.specs.Patterns.{admits_port, admits_vlan}
+use Rattle.flow_rules.specs.Tables.{rules_at}
 use Rattle.flow_rules.specs.declared.rules.Rule.{Rule}
 use Rattle.flow_rules.specs.declared.rules.Action.TheVariants.{Discard}
 use Rattle.flow_rules.specs.declared.rules.VlanTest.TheVariants as test
+use Rattle.path_walk.specs.UserConfigs.{IsUserConfig}
 use Rattle.tag_allocator.specs.Tags.{Tagged}
 use Rattle.table_difference.specs.SameClasses.{every_address}
 use Rattle.two_phase.specs.TwoPhasePlan.{is_host_bound, tagged_copy, ingress_copy, hosts_of, rule, tagged_rules_by, ingress_rules_by, counted_tags}
@@ -104,3 +107,11 @@ module _ (net : Network) (s : SwitchId) where
 
   pub few_counted : IsNetwork net → (i count most : ℕ) → count ≤ length (ports_of s (take i net.hosts)) * most → count ≤ 64 * most
   few_counted is i count most le = let m = mul-le-mul_right most (few_hosts is i) in omega arith
+
+pub capacity_most : (net : Network) → IsNetwork net → (s : SwitchId) → capacity_of net s ≤ 8192
+capacity_most net is s =
+    each_get_or (λ c. c ≤ 8192) net.capacities s.0 0 (each_weaker (λ c. (1 ≤ c) × (c ≤ 8192)) (λ c. c ≤ 8192) (λ c h. h.1) net.capacities is.capacities) (omega arith)
+
+-- a switch has few rules of a user configuration
+pub few_rules : (net : Network) → IsNetwork net → (tables : List (List Rule)) → IsUserConfig net tables → (s : SwitchId) → s.0 < switch_count net → length (rules_at tables s) ≤ 8192
+few_rules net is tables user s within = let fits = user.fits s within in let most = capacity_most net is s in omega arith

@@ -1,10 +1,10 @@
 -- The bands are clear, name no key twice, and their rounds name no entry twice.
-use Rattle.std.proofs.Common.{◌≡◌, ◌⊎◌, ℕ, zero, suc, ◌+◌, ◌-◌, ◌<◌, ◌≤◌, ◌^◌, Bool, true, false, cond, List, [], ◌∷◌, ◌++◌, map, refl, sym, ◌∙◌, subst, ap, inl, inr, arith}
+use Rattle.std.proofs.Common.{◌≡◌, ◌⊎◌, ℕ, ◌+◌, ◌≤◌, Bool, true, false, cond, List, [], ◌∷◌, map, refl, sym, ◌∙◌, subst, ap, inl, inr, arith}
 use Rattle.std.specs.Prelude.{◌==◌, ◌&&◌, flat_map, filter, Option, Some, None}
 use Rattle.std.specs.Ordering.{is_lt}
 use Rattle.std.specs.List.{AllByRecursion}
-use Rattle.std.proofs.lemmas.Bool.{eqb-true, eq-eqb, cond_both, and_from, and_parts, le-leb, lt-ltb}
-use Rattle.net_base.specs.Blocks.{Block, in_block, block_size}
+use Rattle.std.proofs.lemmas.Bool.{eqb-true, eq-eqb, cond_both, and_parts}
+use Rattle.net_base.specs.Blocks.{in_block}
 use Rattle.net_base.specs.Members.{IsIn, IsDistinct}
 use Rattle.net_base.proofs.MemberLaws.{in_map, in_from_map, in_from_filter, each_at}
 use Rattle.net_base.specs.declared.ids.SwitchId.{SwitchId}
@@ -14,9 +14,8 @@ use Rattle.net_base.specs.declared.ids.Vlan.{Vlan}
 use Rattle.net_base.specs.declared.ids.Vlan.TheVariants as vlan
 use Rattle.topology.specs.Networks.{Network, IsNetwork, switch_count}
 use Rattle.flow_rules.specs.Order.{key_cmp}
-use Rattle.flow_rules.specs.Patterns.{Header, covers, admits_port, admits_vlan}
+use Rattle.flow_rules.specs.Patterns.{admits_port, admits_vlan}
 use Rattle.flow_rules.specs.Tables.{IsClear, IsTable}
-use Rattle.flow_rules.specs.declared.rules.VlanTest.{VlanTest}
 use Rattle.flow_rules.specs.declared.rules.VlanTest.TheVariants as test
 use Rattle.flow_rules.specs.declared.rules.Action.TheVariants.{Discard}
 use Rattle.flow_rules.specs.declared.rules.Rule.{Rule}
@@ -27,7 +26,7 @@ use Rattle.update_model.proofs.MadeLaws.{distinct_some}
 use Rattle.tag_allocator.specs.Tags.{Tagged, tags_of, numbers_from}
 use Rattle.table_difference.specs.SameClasses.{every_address}
 use Rattle.two_phase.specs.TwoPhasePlan.{is_host_bound, test_of, tagged_action, ingress_action, rule, tagged_copy, tagged_rules, ingress_copy, hosts_of, ingress_rules, with_rule, in_key_order, switches, by_switch}
-use Rattle.net_base.proofs.ListLaws.{in_flat_map, in_from_flat_map, in_when, IsTold, told_from_distinct, distinct_append, distinct_members, distinct_map, distinct_flat_map}
+use Rattle.net_base.proofs.ListLaws.{in_flat_map, in_from_flat_map, in_when, told_from_distinct, distinct_append, distinct_members, distinct_map, distinct_flat_map}
 use Rattle.two_phase.proofs.TagLaws.{IsTagging}
 use Rattle.net_base.proofs.NameLaws.{same_port, same_switch}
 use Rattle.two_phase.proofs.BandLaws.{header, covers_as, covers_from, names_it, named_is, id_is, IsCopy, tagged_cases, ingress_cases}

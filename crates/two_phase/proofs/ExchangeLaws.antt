@@ -15,7 +15,7 @@ use Rattle.flow_rules.proofs.KeyLaws.{key_eq-true, key_eq-refl}
 use Rattle.path_walk.specs.UserConfigs.{IsUserConfig, IsUserRule}
 use Rattle.update_model.specs.Changes.{switch_of, entry_named, Applies, changes_at, rules_after, tables_after, IsGoodRound}
 use Rattle.update_model.specs.Mixtures.{IsMixture}
-use Rattle.update_model.specs.Matches.{Writes}
+use Rattle.update_model.proofs.Matches.{Writes}
 use Rattle.update_model.specs.Remaining.{remaining, changes_between}
 use Rattle.flow_rules.specs.Same.{action_eq}
 use Rattle.update_model.specs.declared.Change.{Change}

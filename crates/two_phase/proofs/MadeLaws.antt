@@ -1,6 +1,6 @@
 -- What is made of a configuration: its bands have distinct keys, and each declared VLAN its tag.
-use Rattle.std.proofs.Common.{◌≡◌, ℕ, zero, suc, ◌+◌, ◌<◌, ◌≤◌, List, [], ◌∷◌, ◌++◌, map, length, take, refl, sym, ◌∙◌, subst, ap, arith}
-use Rattle.std.specs.Prelude.{slice_get, Option, Some, None}
+use Rattle.std.proofs.Common.{◌≡◌, ℕ, zero, suc, ◌+◌, ◌≤◌, List, [], ◌∷◌, ◌++◌, map, length, take, refl, sym, ◌∙◌, ap, arith}
+use Rattle.std.specs.Prelude.{slice_get, Some}
 use Rattle.std.proofs.lemmas.List.{length-map}
 use Rattle.std.proofs.lemmas.Option.{none-some, same_Some}
 use Rattle.net_base.specs.declared.ids.SwitchId.{SwitchId}
@@ -11,27 +11,22 @@ use Rattle.flow_rules.specs.Tables.{TableState, IsTable, rules_at, rules_of_all}
 use Rattle.path_walk.specs.UserConfigs.{IsUserConfig}
 use Rattle.path_walk.proofs.WalkedLaws.{rules_held}
 use Rattle.tag_allocator.specs.Tags.{Tagged, paired, tags_of, available_tags}
-use Rattle.two_phase.specs.TwoPhasePlan.{tagged_rules_by, tagged_rules, ingress_rules_by, ingress_rules, in_key_order}
+use Rattle.two_phase.specs.SwitchRules.{band_rules_by, band_rules}
+use Rattle.two_phase.specs.declared.bands.Band.{Band}
+use Rattle.two_phase.specs.declared.bands.Band.TheVariants as band
 use Rattle.two_phase.proofs.TagLaws.{tagging}
 use Rattle.two_phase.proofs.DistinctLaws.{tagged_distinct, ingress_distinct}
 
 module _ (net : Network) (is : IsNetwork net) (enough : length net.vlans ≤ length (available_tags net)) (new : List (List Rule)) (user : IsUserConfig net new) (s : SwitchId) where
-  pub tagged_table : IsTable (tagged_rules net s (rules_at new s))
-  tagged_table = tagged_distinct net is (tagging net is enough) s (rules_at new s) (user.distinct s) (user.clear s) (user.rules s)
+  pub band_table : (b : Band) → IsTable (band_rules b net s (rules_at new s))
+  band_table band.Tagged = tagged_distinct net is (tagging net is enough) s (rules_at new s) (user.distinct s) (user.clear s) (user.rules s)
+  band_table band.Ingress = ingress_distinct net is (tagging net is enough) s (rules_at new s) (user.distinct s) (user.clear s) (user.rules s)
 
-  pub ingress_table : IsTable (ingress_rules net s (rules_at new s))
-  ingress_table = ingress_distinct net is (tagging net is enough) s (rules_at new s) (user.distinct s) (user.clear s) (user.rules s)
-
--- the bands that are made of a table by the tags
-pub tagged_made : (net : Network) (tags : List Tagged) → tags ≡ tags_of net → (new : List TableState) (s : SwitchId) (table : TableState) → slice_get new s.0 ≡ Some table
-    → (rules : List Rule) → rules ≡ tagged_rules_by tags net s table.rules → rules ≡ tagged_rules net s (rules_at (rules_of_all new) s)
-tagged_made net tags same new s table held rules made =
-    made ∙ ap (λ ts. tagged_rules_by ts net s table.rules) same ∙ ap (tagged_rules net s) (sym (rules_held new s table held))
-
-pub ingress_made : (net : Network) (tags : List Tagged) → tags ≡ tags_of net → (new : List TableState) (s : SwitchId) (table : TableState) → slice_get new s.0 ≡ Some table
-    → (rules : List Rule) → rules ≡ ingress_rules_by tags net s table.rules → rules ≡ ingress_rules net s (rules_at (rules_of_all new) s)
-ingress_made net tags same new s table held rules made =
-    made ∙ ap (λ ts. ingress_rules_by ts net s table.rules) same ∙ ap (ingress_rules net s) (sym (rules_held new s table held))
+-- the band that is made of a table by the tags
+pub band_made : (b : Band) (net : Network) (tags : List Tagged) → tags ≡ tags_of net → (new : List TableState) (s : SwitchId) (table : TableState) → slice_get new s.0 ≡ Some table
+    → (rules : List Rule) → rules ≡ band_rules_by b tags net s table.rules → rules ≡ band_rules b net s (rules_at (rules_of_all new) s)
+band_made b net tags same new s table held rules made =
+    made ∙ ap (λ ts. band_rules_by b ts net s table.rules) same ∙ ap (band_rules b net s) (sym (rules_held new s table held))
 
 pub paired_length : (vs : List Vlan) (ts : List ℕ) → length vs ≤ length ts → length (paired vs ts) ≡ length vs
 paired_length [] ts enough = refl

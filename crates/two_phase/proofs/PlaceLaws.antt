@@ -2,7 +2,7 @@
 use Rattle.std.proofs.Common.{◌≡◌, ℕ, ◌<◌, Bool, true, false, cond, List, [], ◌∷◌, ◌++◌, length, refl, sym, ◌∙◌, subst, ap, inl, inr}
 use Rattle.std.specs.Prelude.{◌==◌, flat_map, filter}
 use Rattle.std.specs.List.{AllByRecursion, list_any}
-use Rattle.std.proofs.lemmas.Bool.{eqb-true, eq-eqb, and_parts, cond_both, false_from_ne_true}
+use Rattle.std.proofs.lemmas.Bool.{eq-eqb, cond_both, false_from_ne_true}
 use Rattle.net_base.specs.Members.{IsIn, IsDistinct}
 use Rattle.net_base.proofs.MemberLaws.{in_map, in_filter, in_append_left, in_append_right, each_at}
 use Rattle.net_base.specs.declared.ids.SwitchId.{SwitchId}
@@ -29,7 +29,6 @@ use Rattle.path_walk.proofs.PathLaws.{HasVlan, lookup_each}
 use Rattle.certificates.specs.TwoPhase.{outcome_carrying}
 use Rattle.two_phase.specs.TwoPhasePlan.{host_end, link_end, is_host, restore, tagged_action, ingress_action, hosts_of}
 use Rattle.net_base.proofs.ListLaws.{in_from_any}
-use Rattle.net_base.proofs.NameLaws.{same_port, same_switch}
 use Rattle.topology.proofs.LinkLaws.{stop_eq-true}
 
 abbrev pub stop_at : SwitchId → Port → Stop

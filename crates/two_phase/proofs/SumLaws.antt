@@ -1,7 +1,6 @@
 -- Sums over lists: added, exchanged, bounded.
 use Rattle.std.proofs.Common.{◌≡◌, ℕ, suc, ◌+◌, ◌*◌, ◌≤◌, Bool, true, false, cond, List, [], ◌∷◌, ◌++◌, map, length, sum_by, refl, sym, subst, ap, inl, inr, arith}
-use Rattle.std.specs.Prelude.{◌==◌, filter, not, filter_map, Option, Some, None, reverse}
-use Rattle.std.specs.List.{cons_option}
+use Rattle.std.specs.Prelude.{◌==◌, filter, not, reverse}
 use Rattle.std.proofs.lemmas.Bool.Decides.{eqb_tells}
 use Rattle.std.proofs.lemmas.List.{reverse-append}
 use Rattle.std.proofs.lemmas.List.Sums.{sum_by-cons, sum_by-append}

@@ -1,18 +1,17 @@
 -- Rounds that insert given rules at each switch, or delete them: what the mixtures hold, and the tables after.
-use Rattle.std.proofs.Common.{◌≡◌, ◌⊎◌, ◌↔◌, ℕ, ◌+◌, ◌<◌, ◌≤◌, true, cond, List, [], ◌∷◌, ◌++◌, map, length, refl, sym, ◌∙◌, subst, ap, inl, inr, arith, length-append}
+use Rattle.std.proofs.Common.{◌≡◌, ◌⊎◌, ◌↔◌, ℕ, ◌+◌, ◌<◌, ◌≤◌, true, List, [], ◌∷◌, ◌++◌, map, length, refl, sym, ◌∙◌, subst, ap, inl, inr, arith, length-append}
 use Rattle.std.specs.Prelude.{◌==◌, filter, not}
 use Rattle.std.specs.List.{AllByRecursion}
-use Rattle.std.proofs.lemmas.Bool.{eqb-true, eq-eqb, cond_both}
+use Rattle.std.proofs.lemmas.Bool.{eqb-true, eq-eqb}
 use Rattle.net_base.specs.Members.{IsIn, IsDistinct, IsSubsequence}
 use Rattle.net_base.proofs.MemberLaws.{in_map, in_from_map, in_filter, in_from_filter, in_from_subsequence, IsSubsequence_refl, each_weaker, each_from_in}
 use Rattle.net_base.specs.declared.ids.SwitchId.{SwitchId}
 use Rattle.flow_rules.specs.Patterns.{key_eq}
 use Rattle.flow_rules.specs.Tables.{rules_at, keys_of, IsTable}
 use Rattle.flow_rules.specs.declared.rules.Rule.{Rule}
-use Rattle.flow_rules.proofs.KeyLaws.{key_eq-true}
 use Rattle.update_model.specs.Changes.{switch_of, AppliesTo, Applies, entry_named, changes_at, rules_after_change, rules_after, tables_after, IsGoodRound}
 use Rattle.update_model.specs.Mixtures.{IsMixture}
-use Rattle.update_model.specs.Matches.{Writes, IsWritten}
+use Rattle.update_model.proofs.Matches.{Writes, IsWritten}
 use Rattle.update_model.specs.declared.Change.{Change}
 use Rattle.update_model.specs.declared.Change.TheVariants.{Insert, Delete, Replace}
 use Rattle.update_model.proofs.ChangeLaws.{key_named, StandsAfterAll, stands_all_from_in, in_from_stands_all, applies_all_kept, IsWithin, rules_at-after}

@@ -1,15 +1,12 @@
 -- The tags of declared VLANs: each has one, different ones have different tags, and no tag is declared.
-use Rattle.std.proofs.Common.{◌≡◌, ◌⊎◌, ℕ, zero, suc, ◌+◌, ◌<◌, ◌≤◌, Bool, List, [], ◌∷◌, map, length, refl, sym, subst, ap, inl, inr, arith}
-use Rattle.std.specs.Prelude.{filter, not, Option, Some, None}
-use Rattle.std.specs.List.{list_any}
-use Rattle.std.proofs.lemmas.Bool.{both_ways, not-true, eq-eqb, cond_both}
+use Rattle.std.proofs.Common.{◌≡◌, ℕ, ◌≤◌, List, [], ◌∷◌, map, length, refl, sym, subst, ap, inl, inr, arith}
 use Rattle.net_base.specs.Members.{IsIn, IsDistinct}
-use Rattle.net_base.proofs.MemberLaws.{in_from_filter, in_from_map}
+use Rattle.net_base.proofs.MemberLaws.{in_from_map}
 use Rattle.net_base.specs.declared.ids.Vlan.{Vlan}
 use Rattle.net_base.specs.declared.ids.Vlan.TheVariants as vlan
-use Rattle.topology.specs.Networks.{Network, IsNetwork, TagRange}
-use Rattle.tag_allocator.specs.Tags.{numbers_from, ids_of, has_id, available_tags, Tagged, paired, tags_of}
-use Rattle.net_base.proofs.ListLaws.{any_in, IsTold, told_from_distinct, distinct_members}
+use Rattle.topology.specs.Networks.{Network, IsNetwork}
+use Rattle.tag_allocator.specs.Tags.{available_tags, Tagged, paired, tags_of}
+use Rattle.net_base.proofs.ListLaws.{IsTold, told_from_distinct, distinct_members}
 use Rattle.tag_allocator.proofs.TagLaws.{tags_distinct, tag_undeclared}
 
 pub paired_user : (vs : List Vlan) (ts : List ℕ) (x : Tagged) → IsIn x (paired vs ts) → IsIn x.user vs

@@ -1,5 +1,5 @@
 -- How many ranks, rounds and changes the plan has.
-use Rattle.std.proofs.Common.{◌≡◌, ℕ, zero, suc, ◌+◌, ◌<◌, ◌≤◌, cond, List, [], ◌∷◌, ◌++◌, map, length, get_or, sum_by, refl, sym, ◌∙◌, subst, ap, inl, inr, arith, length-append}
+use Rattle.std.proofs.Common.{◌≡◌, ℕ, zero, suc, ◌+◌, ◌<◌, ◌≤◌, List, [], ◌∷◌, ◌++◌, map, length, get_or, sum_by, refl, sym, ◌∙◌, subst, ap, inl, inr, arith, length-append}
 use Rattle.std.specs.Prelude.{filter, flat_map, not, reverse}
 use Rattle.std.specs.List.{AllByRecursion}
 use Rattle.std.specs.Ordering.{is_lt}
@@ -8,17 +8,15 @@ use Rattle.std.proofs.lemmas.List.{length-map, length-reverse}
 use Rattle.std.proofs.lemmas.List.Concat.{length-flat_map}
 use Rattle.std.proofs.lemmas.List.Sums.{sum_by-cons, sum_by-append}
 use Rattle.net_base.specs.Members.{IsIn, IsDistinct}
-use Rattle.net_base.proofs.MemberLaws.{in_append_left, in_append_right, in_map, in_from_map, each_weaker, each_get_or}
+use Rattle.net_base.proofs.MemberLaws.{in_append_left, in_append_right, in_map, in_from_map}
 use Rattle.net_base.proofs.ListLaws.{in_from_flat_map, no_longer}
 use Rattle.net_base.specs.declared.ids.SwitchId.{SwitchId}
-use Rattle.topology.specs.Networks.{Network, IsNetwork, switch_count, capacity_of}
+use Rattle.topology.specs.Networks.{Network, IsNetwork, switch_count}
 use Rattle.flow_rules.specs.Order.{key_cmp}
-use Rattle.flow_rules.specs.Patterns.{key_eq}
-use Rattle.flow_rules.specs.Tables.{rules_at, keys_of}
-use Rattle.flow_rules.specs.declared.rules.Key.{Key}
+use Rattle.flow_rules.specs.Tables.{rules_at}
 use Rattle.flow_rules.specs.declared.rules.Rule.{Rule}
 use Rattle.update_model.specs.Mixtures.{is_insert}
-use Rattle.update_model.specs.Remaining.{remaining, changes_from, changes_between, difference, rule_with, with_key, keys_in_order}
+use Rattle.update_model.specs.Remaining.{remaining}
 use Rattle.update_model.specs.declared.Change.{Change}
 use Rattle.update_model.specs.declared.Change.TheVariants.{Insert, Delete}
 use Rattle.tag_allocator.specs.Tags.{numbers_from}
@@ -27,6 +25,7 @@ use Rattle.table_difference.specs.Tried.{AreTried}
 use Rattle.two_phase.specs.Laws.{FitsTwoPhase}
 use Rattle.two_phase.specs.TwoPhasePlan.{tagged_rules, ingress_rules, with_rule, in_key_order, switches, by_switch, ranks, of_rank, two_phase_rounds}
 use Rattle.two_phase.proofs.CountLaws.{tagged_counted, ingress_counted}
+use Rattle.two_phase.proofs.CountedLaws.{capacity_most}
 use Rattle.two_phase.proofs.BandLaws.{ingress_cases}
 use Rattle.two_phase.proofs.RankLaws.{IsRising, ranks_rise}
 use Rattle.two_phase.proofs.SumLaws.{sum_less, sum_most, sum_map, sum_reverse, sum_swap, sum_both, length_split, parts_most}
@@ -127,10 +126,6 @@ ranks_length net new change ks distinct =
     let c = sum_swap part ks (switches net) in
     let d = sum_less (λ s. sum_by (λ rank. part rank s) ks) (λ s. length (ingress_rules net s (rules_at new s))) (switches net) (λ s _. parts_most (λ (r : Rule). r.key.priority) ks distinct (ingress_rules net s (rules_at new s))) in
     omega arith
-
-capacity_most : (net : Network) → IsNetwork net → (s : SwitchId) → capacity_of net s ≤ 8192
-capacity_most net is s =
-    each_get_or (λ c. c ≤ 8192) net.capacities s.0 0 (each_weaker (λ c. (1 ≤ c) × (c ≤ 8192)) (λ c. c ≤ 8192) (λ c h. h.1) net.capacities is.capacities) (omega arith)
 
 module _ (net : Network) (is : IsNetwork net) (old new : List (List Rule)) (fits : FitsTwoPhase net old new) where
   abbrev tagged_at : SwitchId → ℕ

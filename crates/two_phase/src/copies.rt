@@ -1,13 +1,19 @@
 //! The copies of a new rule that the two-phase plan makes for a declared VLAN and its tag.
-ghost use Rattle.std.specs.Prelude.{◌≡◌, ◌≤◌, ◌++◌, OnOk};
+ghost use Rattle.std.specs.Prelude.{◌≡◌, ◌≤◌, ◌++◌, IsTrue, OnOk};
 ghost use Rattle.flow_rules.specs.Patterns.{admits_port, admits_vlan};
 ghost use Rattle.table_difference.specs.SameClasses.{every_address};
 ghost use Rattle.two_phase.specs.TwoPhasePlan.{host_end, link_end, is_host_bound, restore, test_of, tagged_action, ingress_action, rule, tagged_copy, ingress_copy};
 
 use crate::vlan_tags::VlanTag;
-use flow_rules::{Action, Key, Pattern, Rewrite, Rule, VlanTest, admits_port, admits_vlan};
+use flow_rules::{Action, Key, Pattern, Rewrite, Rule, VlanTest, admits_vlan};
 use net_base::{Memory, Port, Prefix, SwitchId, Vlan};
 use topology::{End, Net};
+
+/// The base of the tagged rules' priorities, which the default of a tag has. A copy adds its new rule's priority to it.
+pub(crate) const TAGGED_BASE: u16 = 16384;
+
+/// The base of the ingress rules' priorities, which the default of a host port has. A copy adds its new rule's priority to it.
+pub(crate) const INGRESS_BASE: u16 = 32768;
 
 /// Whether a host is there.
 fn is_host_end(end: End) -> bool
@@ -135,7 +141,7 @@ pub(crate) fn add_tagged_copy(
     let pattern = &new.key.pattern;
     if admits_vlan(pattern.vlan, v.user) {
         rules.push(make_rule(
-            16384 + new.key.priority,
+            TAGGED_BASE + new.key.priority,
             pattern.in_port,
             VlanTest::Id(v.tag),
             pattern.dst,
@@ -145,7 +151,7 @@ pub(crate) fn add_tagged_copy(
     Ok(())
 }
 
-/// Adds the ingress copy of a new rule at a host port for a declared VLAN, where the rule covers both.
+/// Adds the ingress copy of a new rule at a host port that it covers for a declared VLAN, where it covers that too.
 pub(crate) fn add_ingress_copy(
     rules: &mut Vec<Rule>,
     net: &Net,
@@ -154,13 +160,14 @@ pub(crate) fn add_ingress_copy(
     new: &Rule,
     v: &VlanTag,
 ) -> Result<(), Memory>
-    requires { new.now.key.priority ≤ 16383 }
+    requires priority { new.now.key.priority ≤ 16383 }
+    requires port { IsTrue (admits_port new.now.key.pattern.in_port host) }
     ensures { OnOk result (rules.new.items ≡ rules.old.items ++ ingress_copy net.now s host new.now v.now) }
 {
     let pattern = &new.key.pattern;
-    if admits_port(pattern.in_port, host) && admits_vlan(pattern.vlan, v.user) {
+    if admits_vlan(pattern.vlan, v.user) {
         rules.push(make_rule(
-            32768 + new.key.priority,
+            INGRESS_BASE + new.key.priority,
             Some(host),
             test_of(v.user),
             pattern.dst,

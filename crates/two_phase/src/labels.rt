@@ -1,10 +1,10 @@
 //! The label tables of the two-phase plan, and their picks.
-ghost use Rattle.std.specs.Prelude.{◌≡◌, ◌≤◌, ◌++◌, ◌∷◌, [], IfOk, OnOk, flat_map, length, map, true};
+ghost use Rattle.std.specs.Prelude.{◌≡◌, ◌≤◌, ◌+◌, ◌++◌, ◌∷◌, [], IfOk, OnOk, flat_map, length, map, true};
 ghost use Rattle.tag_allocator.specs.Tags.{tags_of, available_tags};
-ghost use Rattle.two_phase.specs.TwoPhasePlan.{label, label_table, vlan_number};
+ghost use Rattle.two_phase.specs.TwoPhasePlan.{label, label_table, label_tables, vlan_number};
 ghost use Rattle.net_base.specs.declared.ids.Vlan.TheVariants as vlan;
 
-use certificates::{Label, Labels};
+use certificates::{Label, LabelPick, LabelPicks, LabelTables, Labels};
 use net_base::{Memory, Vlan};
 use std::alloc::Global;
 use tag_allocator::TagMap;
@@ -63,12 +63,7 @@ fn table_with(alloc: Global, list: &[Label]) -> Result<Labels, Memory>
 }
 
 /// A label table: the declared VLANs have this version, their tags the new one.
-pub(crate) fn make_labels(
-    alloc: Global,
-    net: &Net,
-    tags: &TagMap,
-    version: bool,
-) -> Result<Labels, Memory>
+fn make_labels(alloc: Global, net: &Net, tags: &TagMap, version: bool) -> Result<Labels, Memory>
     requires tags { tags.now ≡ map (λ t. t.tag) (tags_of net.now) }
     requires enough { length net.now.vlans ≤ length (available_tags net.now) }
     ensures { IfOk result (λ labels. labels ≡ label_table net.now version) }
@@ -77,4 +72,55 @@ pub(crate) fn make_labels(
     let mut list = list_labels(alloc, net, tags, version)?;
     list.sort_unstable_by_key(|label| vlan_place(label.vlan));
     table_with(alloc, &list)
+}
+
+/// Adds the label table of a version.
+// What owns the label tables lets them go at each of its ends, which makes its proof long. So this borrows them.
+fn add_label_table(
+    tables: &mut LabelTables,
+    alloc: Global,
+    net: &Net,
+    tags: &TagMap,
+    version: bool,
+) -> Result<(), Memory>
+    requires tags { tags.now ≡ map (λ t. t.tag) (tags_of net.now) }
+    requires enough { length net.now.vlans ≤ length (available_tags net.now) }
+    ensures { OnOk result (tables.new ≡ tables.old ++ label_table net.now version ∷ []) }
+{
+    tables.add(make_labels(alloc, net, tags, version)?)?;
+    Ok(())
+}
+
+/// The label tables: the declared VLANs stand for the old version in the first and for the new one in the second.
+pub(crate) fn make_label_tables(
+    alloc: Global,
+    net: &Net,
+    tags: &TagMap,
+) -> Result<LabelTables, Memory>
+    requires tags { tags.now ≡ map (λ t. t.tag) (tags_of net.now) }
+    requires enough { length net.now.vlans ≤ length (available_tags net.now) }
+    ensures { IfOk result (λ tables. tables ≡ label_tables net.now) }
+{
+    let mut tables = LabelTables::make(alloc)?;
+    add_label_table(&mut tables, alloc, net, tags, false)?;
+    add_label_table(&mut tables, alloc, net, tags, true)?;
+    Ok(tables)
+}
+
+/// The picks of the label tables: the first from round 1, the second from the round of the exchange, which comes after one
+/// round for the tagged rules and one for each rank.
+pub(crate) fn make_label_picks(alloc: Global, ranks: usize) -> Result<LabelPicks, Memory>
+    requires { ranks ≤ 2049 }
+    ensures { IfOk result (λ picks. picks ≡ record { round = 1; labels = 0 } ∷ record { round = ranks + 2; labels = 1 } ∷ []) }
+{
+    let mut picks = LabelPicks::make(alloc)?;
+    picks.add(LabelPick {
+        round: 1,
+        labels: 0,
+    })?;
+    picks.add(LabelPick {
+        round: ranks as u32 + 2,
+        labels: 1,
+    })?;
+    Ok(picks)
 }

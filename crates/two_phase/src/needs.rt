@@ -88,26 +88,30 @@ fn count_ingress(net: &Net, s: SwitchId, rules: &[Rule]) -> u64
     count
 }
 
-/// The rules of a switch.
-fn rules_of(config: &Config, s: SwitchId) -> &[Rule]
-    requires { s.0 < length config.now }
-    ensures { result.now ≡ rules_at (rules_of_all config.now) s }
+/// The rules of a user configuration at a switch.
+fn rules_of<'a>(net: &Net, config: &'a Config, s: SwitchId) -> &'a [Rule]
+    requires within { s.0 < switch_count net.now }
+    requires user { IsUserConfig net.now (rules_of_all config.now) }
+    ensures value { result.now ≡ rules_at (rules_of_all config.now) s }
+    ensures few { length result.now ≤ 8192 }
 {
+    net.keeps_rules();
     config.table(s).rules()
 }
 
 /// The entries that the two-phase plan needs at a switch: those of the greater of both configurations there, its tagged
 /// rules and its ingress rules, which are counted without being made.
+///
+/// Takes time by the host ports of the network, and by the new rules of the switch times the declared VLANs and times its host
+/// ports, and times both where a rule covers the port.
 pub fn need(net: &Net, old: &Config, new: &Config, s: SwitchId) -> u64
     requires within { s.0 < switch_count net.now }
     requires old { IsUserConfig net.now (rules_of_all old.now) }
     requires new { IsUserConfig net.now (rules_of_all new.now) }
     ensures { result ≡ two_phase_need net.now (rules_of_all old.now) (rules_of_all new.now) s }
 {
-    net.keeps_rules();
-    let _capacity = net.capacity(s);
-    let before = rules_of(old, s);
-    let after = rules_of(new, s);
+    let before = rules_of(net, old, s);
+    let after = rules_of(net, new, s);
     let most = before.len().max(after.len()) as u64;
     most + count_tagged(net, s, after) + count_ingress(net, s, after)
 }

@@ -1,5 +1,8 @@
 //! The two-phase plan, or why there is none.
-ghost use Rattle.std.specs.Prelude.{◌≡◌, ◌≤◌, ◌+◌, ◌++◌, ◌∷◌, [], IfOk, IfErr, OnOk, map, length};
+//!
+//! What a function owns is let go at each of its ends, which makes its proof long. So each part of the plan is made by a
+//! function of its own, and the one that owns the tags lends them to the one that makes the plan.
+ghost use Rattle.std.specs.Prelude.{◌≡◌, ◌≤◌, ◌+◌, ◌∷◌, [], IfOk, IfErr, OnOk, map, length};
 ghost use Rattle.flow_rules.specs.Tables.{rules_of_all};
 ghost use Rattle.path_walk.specs.UserConfigs.{IsUserConfig};
 ghost use Rattle.certificates.specs.Valid.{IsValidPlan};
@@ -12,12 +15,12 @@ ghost use Rattle.demands.specs.Duties.{DemandView};
 ghost use Rattle.std.specs.Prelude.{List};
 ghost use Rattle.flow_rules.specs.declared.rules.Rule.{Rule};
 ghost use Rattle.tag_allocator.specs.Tags.{tags_of, available_tags};
-ghost use Rattle.two_phase.specs.TwoPhasePlan.{label_table, label_tables};
+ghost use Rattle.two_phase.specs.TwoPhasePlan.{label_tables};
 
-use crate::labels::make_labels;
+use crate::labels::{make_label_picks, make_label_tables};
 use crate::needs::need;
 use crate::rounds::make_rounds;
-use certificates::{Evidence, LabelPick, LabelPicks, LabelTables, Plan, TwoPhaseEvidence};
+use certificates::{Evidence, Plan, TwoPhaseEvidence};
 use flow_rules::Config;
 use net_base::{Memory, SwitchId};
 use std::alloc::Global;
@@ -91,112 +94,15 @@ fn check_room(net: &Net, old: &Config, new: &Config) -> Result<(), TwoFault>
     Ok(())
 }
 
-/// Adds the label table of a version.
-fn add_table(
-    tables: &mut LabelTables,
-    alloc: Global,
-    net: &Net,
-    tags: &TagMap,
-    version: bool,
-) -> Result<(), Memory>
-    requires tags { tags.now ≡ map (λ t. t.tag) (tags_of net.now) }
-    requires enough { length net.now.vlans ≤ length (available_tags net.now) }
-    ensures { OnOk result (tables.new ≡ tables.old ++ label_table net.now version ∷ []) }
-{
-    tables.add(make_labels(alloc, net, tags, version)?)?;
-    Ok(())
-}
-
-/// Adds the label tables: the declared VLANs stand for the old version in the first and for the new one in the second.
-fn add_tables(
-    tables: &mut LabelTables,
-    alloc: Global,
-    net: &Net,
-    tags: &TagMap,
-) -> Result<(), Memory>
-    requires tags { tags.now ≡ map (λ t. t.tag) (tags_of net.now) }
-    requires enough { length net.now.vlans ≤ length (available_tags net.now) }
-    ensures { OnOk result (tables.new ≡ tables.old ++ label_tables net.now) }
-{
-    add_table(tables, alloc, net, tags, false)?;
-    add_table(tables, alloc, net, tags, true)
-}
-
-/// The label tables.
-fn make_tables(alloc: Global, net: &Net, tags: &TagMap) -> Result<LabelTables, Memory>
-    requires tags { tags.now ≡ map (λ t. t.tag) (tags_of net.now) }
-    requires enough { length net.now.vlans ≤ length (available_tags net.now) }
-    ensures { IfOk result (λ tables. tables ≡ label_tables net.now) }
-{
-    let mut tables = LabelTables::make(alloc)?;
-    add_tables(&mut tables, alloc, net, tags)?;
-    Ok(tables)
-}
-
-/// Adds the picks of the label tables: the first from round 1, the second from the round of the exchange, which comes
-/// after one round for the tagged rules and one for each rank.
-fn add_picks(picks: &mut LabelPicks, ranks: usize) -> Result<(), Memory>
-    requires { ranks ≤ 2049 }
-    ensures { OnOk result (picks.new ≡ picks.old ++ record { round = 1; labels = 0 } ∷ record { round = ranks + 2; labels = 1 } ∷ []) }
-{
-    picks.add(LabelPick {
-        round: 1,
-        labels: 0,
-    })?;
-    picks.add(LabelPick {
-        round: ranks as u32 + 2,
-        labels: 1,
-    })
-}
-
-/// The picks of the label tables.
-fn make_picks(alloc: Global, ranks: usize) -> Result<LabelPicks, Memory>
-    requires { ranks ≤ 2049 }
-    ensures { IfOk result (λ picks. picks ≡ record { round = 1; labels = 0 } ∷ record { round = ranks + 2; labels = 1 } ∷ []) }
-{
-    let mut picks = LabelPicks::make(alloc)?;
-    add_picks(&mut picks, ranks)?;
-    Ok(picks)
-}
-
-/// Adds the rounds to none.
-fn add_rounds(copy: &mut Rounds, alloc: Global, rounds: &Rounds) -> Result<(), Memory>
-    requires { copy.old ≡ [] }
-    ensures { OnOk result (copy.new ≡ rounds.now) }
-{
-    for k in 0..rounds.count() {
-        copy.push_round(Vec::from_slice(alloc, rounds.round(k))?)?;
-    }
-    Ok(())
-}
-
 /// The same rounds again.
 fn copy_rounds(alloc: Global, rounds: &Rounds) -> Result<Rounds, Memory>
     ensures { IfOk result (λ copy. copy ≡ rounds.now) }
 {
     let mut copy = Rounds::make(alloc)?;
-    add_rounds(&mut copy, alloc, rounds)?;
+    for k in 0..rounds.count() {
+        copy.push_round(Vec::from_slice(alloc, rounds.round(k))?)?;
+    }
     Ok(copy)
-}
-
-/// The evidence of the plan, with these label tables.
-fn evidence_with(
-    alloc: Global,
-    labels: LabelTables,
-    ranks: usize,
-    tried: &Rounds,
-) -> Result<TwoPhaseEvidence, Memory>
-    requires { ranks ≤ 2049 }
-    ensures labels { IfOk result (λ e. e.labels ≡ labels) }
-    ensures picks { IfOk result (λ e. e.picks ≡ record { round = 1; labels = 0 } ∷ record { round = ranks + 2; labels = 1 } ∷ []) }
-    ensures tried { IfOk result (λ e. e.tried ≡ tried.now) }
-{
-    let picks = make_picks(alloc, ranks)?;
-    Ok(TwoPhaseEvidence {
-        labels,
-        picks,
-        tried: copy_rounds(alloc, tried)?,
-    })
 }
 
 /// The evidence of the plan.
@@ -214,12 +120,17 @@ fn make_evidence(
     ensures picks { IfOk result (λ e. e.picks ≡ record { round = 1; labels = 0 } ∷ record { round = ranks + 2; labels = 1 } ∷ []) }
     ensures tried { IfOk result (λ e. e.tried ≡ tried.now) }
 {
-    let labels = make_tables(alloc, net, tags)?;
-    evidence_with(alloc, labels, ranks, tried)
+    let labels = make_label_tables(alloc, net, tags)?;
+    let picks = make_label_picks(alloc, ranks)?;
+    Ok(TwoPhaseEvidence {
+        labels,
+        picks,
+        tried: copy_rounds(alloc, tried)?,
+    })
 }
 
 /// The plan with the tags of the declared VLANs.
-fn plan_with(
+fn make_plan(
     alloc: Global,
     net: &Net,
     old: &Config,
@@ -264,14 +175,17 @@ fn plan_in_room(
     ensures cause { IfErr result (IsTwoCause net.now (rules_of_all old.now) (rules_of_all new.now)) }
 {
     check_room(net, old, new)?;
-    Ok(plan_with(alloc, net, old, new, tags, tried)?)
+    Ok(make_plan(alloc, net, old, new, tags, tried)?)
 }
 
 /// The versioned two-phase plan of an update (Reitblatt and others, 2012), with the rounds that were tried before copied
 /// into its evidence: tagged copies of the new rules, the ingress rules by rank, the exchange of the old rules, and the way
 /// back.
 ///
-/// Takes time by the rules of the plan and the logarithm of their number.
+/// Takes time by these numbers, with a logarithm for sorting and searching: the changes of the plan and of the rounds that were
+/// tried; the rules of both configurations; the new rules of a switch times the declared VLANs and times its host ports, and
+/// times both where a rule covers the port; the switches times the ranks, and times the host ports of the network; the ids of
+/// the tag range times the declared VLANs.
 pub fn two_phase(
     alloc: Global,
     net: &Net,

@@ -1,4 +1,7 @@
 //! The rounds of the two-phase plan.
+//!
+//! What a function owns is let go at each of its ends, which makes its proof long. So the rules of both bands, the ranks and the
+//! rounds are owned by a function each, which lends them to the next one.
 ghost use Rattle.std.specs.Prelude.{◌≡◌, ◌<◌, ◌≤◌, ◌^◌, ◌++◌, ◌∷◌, [], List, not, IfOk, OnOk, length, map, reverse, filter};
 ghost use Rattle.net_base.specs.declared.ids.SwitchId.{SwitchId};
 ghost use Rattle.topology.specs.Networks.{switch_count};
@@ -13,9 +16,10 @@ ghost use Rattle.two_phase.specs.Laws.{FitsTwoPhase};
 ghost use Rattle.two_phase.specs.SwitchRules.{AreOrdered, change_by, by_rank};
 ghost use Rattle.two_phase.specs.TwoPhasePlan.{by_switch, ingress_rules, tagged_rules, two_phase_rounds, ranks};
 
-use crate::ranks::{all_ingress, all_tagged, ranks_of};
+use crate::bands::Band;
+use crate::ranks::{make_band, ranks_of};
 use crate::switch_rules::{Step, SwitchRules};
-use crate::vlan_tags::{VlanTag, vlan_tags};
+use crate::vlan_tags::vlan_tags;
 use flow_rules::Config;
 use net_base::Memory;
 use std::alloc::Global;
@@ -156,34 +160,8 @@ fn add_taking(
     add_round(alloc, rounds, net, Step::Take, tagged)
 }
 
-/// Adds the rounds of the plan to none, from its rules in key order and its ranks.
-fn add_all(
-    alloc: Global,
-    rounds: &mut Rounds,
-    net: &Net,
-    old: &Config,
-    new: &Config,
-    tagged: &SwitchRules,
-    ingress: &SwitchRules,
-    rising: &[u16],
-) -> Result<(), Memory>
-    requires none { rounds.old ≡ [] }
-    requires few { length old.now < 2 ^ 32 }
-    requires tagged_count { length tagged.now ≡ switch_count net.now }
-    requires ingress_count { length ingress.now ≡ switch_count net.now }
-    requires tagged { AreOrdered net.now (λ s. tagged_rules net.now s (rules_at (rules_of_all new.now) s)) tagged.now }
-    requires ingress { AreOrdered net.now (λ s. ingress_rules net.now s (rules_at (rules_of_all new.now) s)) ingress.now }
-    requires ranks { rising.now ≡ ranks net.now (rules_of_all new.now) }
-    ensures { OnOk result (rounds.new ≡ two_phase_rounds net.now (rules_of_all old.now) (rules_of_all new.now)) }
-{
-    add_laying(alloc, rounds, net, tagged, ingress, rising)?;
-    add_exchange(alloc, rounds, old, new)?;
-    add_taking(alloc, rounds, net, tagged, ingress, rising)?;
-    Ok(())
-}
-
 /// The rounds of the plan, from its rules in key order and its ranks.
-fn rounds_of(
+fn rounds_from_ranks(
     alloc: Global,
     net: &Net,
     old: &Config,
@@ -201,12 +179,14 @@ fn rounds_of(
     ensures { IfOk result (λ r. r ≡ two_phase_rounds net.now (rules_of_all old.now) (rules_of_all new.now)) }
 {
     let mut rounds = Rounds::make(alloc)?;
-    add_all(alloc, &mut rounds, net, old, new, tagged, ingress, rising)?;
+    add_laying(alloc, &mut rounds, net, tagged, ingress, rising)?;
+    add_exchange(alloc, &mut rounds, old, new)?;
+    add_taking(alloc, &mut rounds, net, tagged, ingress, rising)?;
     Ok(rounds)
 }
 
 /// The rounds of the plan, and the number of its ranks, from its rules in key order.
-fn ranked_rounds(
+fn rounds_from_bands(
     alloc: Global,
     net: &Net,
     old: &Config,
@@ -224,54 +204,9 @@ fn ranked_rounds(
 {
     let rising = ranks_of(ingress)?;
     let count = rising.len();
-    let rounds = rounds_of(alloc, net, old, new, tagged, ingress, &rising);
+    let rounds = rounds_from_ranks(alloc, net, old, new, tagged, ingress, &rising);
     drop(rising);
     Ok((rounds?, count))
-}
-
-/// The rounds of the plan, and the number of its ranks, from its tagged rules in key order.
-fn rounds_over(
-    alloc: Global,
-    net: &Net,
-    old: &Config,
-    new: &Config,
-    pairs: &[VlanTag],
-    tagged: &SwitchRules,
-) -> Result<(Rounds, usize), Memory>
-    requires few { length old.now < 2 ^ 32 }
-    requires new { IsUserConfig net.now (rules_of_all new.now) }
-    requires pairs { pairs.now ≡ tags_of net.now }
-    requires enough { length net.now.vlans ≤ length (available_tags net.now) }
-    requires tagged_count { length tagged.now ≡ switch_count net.now }
-    requires tagged { AreOrdered net.now (λ s. tagged_rules net.now s (rules_at (rules_of_all new.now) s)) tagged.now }
-    ensures rounds { IfOk result (λ r. r.0 ≡ two_phase_rounds net.now (rules_of_all old.now) (rules_of_all new.now)) }
-    ensures ranks { IfOk result (λ r. r.1 ≡ length (ranks net.now (rules_of_all new.now))) }
-{
-    let ingress = all_ingress(alloc, net, pairs, new)?;
-    let rounds = ranked_rounds(alloc, net, old, new, tagged, &ingress);
-    drop(ingress);
-    rounds
-}
-
-/// The rounds of the plan, and the number of its ranks, with the tags of the declared VLANs.
-fn rounds_with(
-    alloc: Global,
-    net: &Net,
-    old: &Config,
-    new: &Config,
-    pairs: &[VlanTag],
-) -> Result<(Rounds, usize), Memory>
-    requires few { length old.now < 2 ^ 32 }
-    requires new { IsUserConfig net.now (rules_of_all new.now) }
-    requires pairs { pairs.now ≡ tags_of net.now }
-    requires enough { length net.now.vlans ≤ length (available_tags net.now) }
-    ensures rounds { IfOk result (λ r. r.0 ≡ two_phase_rounds net.now (rules_of_all old.now) (rules_of_all new.now)) }
-    ensures ranks { IfOk result (λ r. r.1 ≡ length (ranks net.now (rules_of_all new.now))) }
-{
-    let tagged = all_tagged(alloc, net, pairs, new)?;
-    let rounds = rounds_over(alloc, net, old, new, pairs, &tagged);
-    drop(tagged);
-    rounds
 }
 
 /// The rounds of the plan, and the number of its ranks.
@@ -291,7 +226,11 @@ pub(crate) fn make_rounds(
 {
     net.keeps_rules();
     let pairs = vlan_tags(alloc, net, tags)?;
-    let rounds = rounds_with(alloc, net, old, new, &pairs);
+    let tagged = make_band(alloc, net, &pairs, new, Band::Tagged)?;
+    let ingress = make_band(alloc, net, &pairs, new, Band::Ingress)?;
     drop(pairs);
+    let rounds = rounds_from_bands(alloc, net, old, new, &tagged, &ingress);
+    drop(ingress);
+    drop(tagged);
     rounds
 }

@@ -10,7 +10,7 @@ use Rattle.update_model.specs.declared.Change.TheVariants.{Insert, Delete}
 use Rattle.two_phase.specs.TwoPhasePlan.{tagged_rules, ingress_rules, by_switch}
 use Rattle.two_phase.specs.SwitchRules.{by_rank}
 use Rattle.two_phase.proofs.RoundsLaws.{rounds_joined}
-use Rattle.two_phase.proofs.rounds.add_all.Goals as goal
+use Rattle.two_phase.proofs.rounds.rounds_from_ranks.Goals as goal
 
 pub returns : goal.returns
 returns c =
@@ -23,5 +23,5 @@ returns c =
     subst (λ ranks. c.add_taking.new.rounds ≡ (by_switch net Insert tagged ∷ []) ++ map (by_rank net Insert ingress) (reverse ranks) ++ exchange ++ map (by_rank net Delete ingress) ranks ++ (by_switch net Delete tagged ∷ []))
     c.requires.ranks
     (rounds_joined (by_switch net Insert tagged) (by_switch net Delete tagged) exchange (by_rank net Insert ingress) (by_rank net Delete ingress) c.args.rising.now
-    c.args.rounds.now c.add_laying.new.rounds c.add_exchange.new.rounds c.add_taking.new.rounds c.requires.none
+    c.in_ok-rounds.rounds c.add_laying.new.rounds c.add_exchange.new.rounds c.add_taking.new.rounds c.in_ok-rounds.ensures
     (c.in_ok-add_laying.ensures tagged ingress c.requires.tagged c.requires.ingress) c.in_ok-add_exchange.ensures (c.in_ok-add_taking.ensures tagged ingress c.requires.tagged c.requires.ingress))

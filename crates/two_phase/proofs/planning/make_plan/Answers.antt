@@ -8,7 +8,7 @@ use Rattle.two_phase.specs.Laws.{two_phase_evidence}
 use Rattle.two_phase.specs.TwoPhasePlan.{label_tables, label_picks}
 use Rattle.two_phase.proofs.ValidCounts.{few_ranks}
 use Rattle.two_phase.proofs.ValidPlans.{same_evidence}
-use Rattle.two_phase.proofs.planning.plan_with.Goals as goal
+use Rattle.two_phase.proofs.planning.make_plan.Goals as goal
 
 pub make_evidence-requires-clause-few : goal.make_evidence-requires-clause-few
 make_evidence-requires-clause-few c = let few = few_ranks c.args.net.now (rules_of_all c.args.new.now) c.requires.new.few in let ranks = c.in_ok-rounds.ensures.ranks in omega arith
