@@ -1,5 +1,5 @@
 //! The text of a configuration.
-ghost use Rattle.std.specs.Prelude.{◌≡◌, ◌<◌, ◌++◌, ◌∷◌, [], Ok, IfOk, OnOk, length, map, option_map, slice_index_or, string_bytes};
+ghost use Rattle.std.specs.Prelude.{◌≡◌, ◌<◌, ◌++◌, ◌∷◌, [], Ok, IfOk, OnOk, length, map, option_map, slice_index_or};
 ghost use Rattle.serde_json.specs.Data.{string, no_members};
 ghost use Rattle.serde_json.specs.View.{view, members_view};
 ghost use Rattle.net_base.specs.Text.{prefix_text};
@@ -11,7 +11,7 @@ ghost use Rattle.flow_stats.specs.ConfigText as texts;
 
 use flat_json::write_line;
 use flow_rules::{Action, Config, Rule, VlanTest};
-use net_base::{Memory, Port, Prefix, SwitchId};
+use net_base::{Memory, Port, Prefix, SwitchId, prefix_string};
 use serde_json::{Map, Value, push, put};
 use std::alloc::Global;
 use topology::Net;
@@ -30,17 +30,6 @@ fn put_some(
         Some(value) => Ok(put(members, alloc, name, value)?),
         None => Ok(()),
     }
-}
-
-fn prefix_string(alloc: Global, prefix: Prefix) -> Result<String, Memory>
-    ensures { IfOk result (λ s. string_bytes s ≡ prefix_text prefix) }
-{
-    let w = prefix.base >> 24;
-    let x = (prefix.base >> 16) % 256;
-    let y = (prefix.base >> 8) % 256;
-    let z = prefix.base % 256;
-    let len = prefix.len;
-    Ok(format!(in alloc; "{w}.{x}.{y}.{z}/{len}")?)
 }
 
 fn prefix_value(alloc: Global, prefix: Prefix) -> Result<Value, Memory>

@@ -15,6 +15,6 @@ pub use ids::{Place, Port, Stop, SwitchId, Vlan};
 pub use lines::is_comment;
 pub use list_of::ListOf;
 pub use prefix::{BadPrefix, Prefix, read_address, read_prefix};
-pub use spelling::{addr_text, prefix_text, vlan_text};
+pub use spelling::{addr_text, prefix_string, prefix_text, vlan_text};
 pub use text::{cut_first, cut_last, place_of, read_decimal};
 pub use wants::Memory;

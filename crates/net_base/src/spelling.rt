@@ -1,5 +1,5 @@
 //! How addresses, prefixes and VLANs are written.
-ghost use Rattle.std.specs.Prelude.{◌≡◌, IfOk};
+ghost use Rattle.std.specs.Prelude.{◌≡◌, IfOk, string_bytes};
 ghost use Rattle.net_base.specs.Text as texts;
 
 use crate::{Memory, Prefix, Vlan};
@@ -17,15 +17,22 @@ pub fn addr_text(alloc: Global, a: u32) -> Result<Vec<u8>, Memory>
 }
 
 /// The text of a prefix: its first address, `/` and its length.
-pub fn prefix_text(alloc: Global, p: Prefix) -> Result<Vec<u8>, Memory>
-    ensures { IfOk result (λ t. t.items ≡ texts.prefix_text p) }
+pub fn prefix_string(alloc: Global, p: Prefix) -> Result<String, Memory>
+    ensures { IfOk result (λ s. string_bytes s ≡ texts.prefix_text p) }
 {
     let w = p.base >> 24;
     let x = (p.base >> 16) % 256;
     let y = (p.base >> 8) % 256;
     let z = p.base % 256;
     let len = p.len;
-    Ok(format!(in alloc; "{w}.{x}.{y}.{z}/{len}")?.into_bytes())
+    Ok(format!(in alloc; "{w}.{x}.{y}.{z}/{len}")?)
+}
+
+/// The bytes of the text of a prefix.
+pub fn prefix_text(alloc: Global, p: Prefix) -> Result<Vec<u8>, Memory>
+    ensures { IfOk result (λ t. t.items ≡ texts.prefix_text p) }
+{
+    Ok(prefix_string(alloc, p)?.into_bytes())
 }
 
 /// The text of a VLAN: `untagged`, or its id.

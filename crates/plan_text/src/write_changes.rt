@@ -1,5 +1,5 @@
 //! Rules and changes as JSON objects, token by token.
-ghost use Rattle.std.specs.Prelude.{◌≡◌, IfOk, OnOk, true, codes, string_bytes, map};
+ghost use Rattle.std.specs.Prelude.{◌≡◌, IfOk, OnOk, true, codes, map};
 ghost use Rattle.serde_json.specs.Data.{boolean, string, object, put};
 ghost use Rattle.net_base.specs.Text.{prefix_text};
 ghost use Rattle.plan_text.specs.PlanText.{whole_tree, list_tree, name_of, in_port_tree, test_tree, out_tree, set_tree, strip_tree, rule_members, rule_tree, word_of, plan_rule_of, change_tree, round_tree, rounds_tree};
@@ -9,22 +9,11 @@ use crate::write_lists::{write_number_at, write_text_at};
 use crate::write_used::plan_rule_of;
 use flow_rules::{Action, Rewrite, VlanTest};
 use json::Writer;
-use net_base::{Memory, Port, Prefix, SwitchId};
+use net_base::{Memory, Port, Prefix, SwitchId, prefix_string};
 use plan_format::PlanRule;
 use std::alloc::Global;
 use topology::Net;
 use update_model::{Change, Rounds};
-
-fn prefix_string(alloc: Global, prefix: Prefix) -> Result<String, Memory>
-    ensures { IfOk result (λ s. string_bytes s ≡ prefix_text prefix) }
-{
-    let w = prefix.base >> 24;
-    let x = (prefix.base >> 16) % 256;
-    let y = (prefix.base >> 8) % 256;
-    let z = prefix.base % 256;
-    let len = prefix.len;
-    Ok(format!(in alloc; "{w}.{x}.{y}.{z}/{len}")?)
-}
 
 /// Writes the destinations of the rule.
 fn write_dst(out: &mut Writer, alloc: Global, dst: Prefix) -> Result<(), Memory>

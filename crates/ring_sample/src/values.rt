@@ -1,12 +1,12 @@
 //! The names of switches, ports and prefixes.
-ghost use Rattle.std.specs.Prelude.{◌≡◌, ◌<◌, IfOk, string_bytes};
+ghost use Rattle.std.specs.Prelude.{◌≡◌, ◌<◌, IfOk};
 ghost use Rattle.serde_json.specs.View.{view};
 ghost use Rattle.serde_json.specs.Data.{string};
 ghost use Rattle.net_base.specs.Text.{prefix_text};
 ghost use Rattle.ring_sample.specs.Ring.{ring_name, ring_prefix};
 ghost use Rattle.ring_sample.specs.RingTrees.{port_text};
 
-use net_base::{Memory, Prefix};
+use net_base::{Memory, Prefix, prefix_string};
 use serde_json::Value;
 use std::alloc::Global;
 
@@ -24,17 +24,6 @@ pub fn port_value(alloc: Global, switch: u32, port: u16) -> Result<Value, Memory
     ensures { IfOk result (λ v. view v ≡ string (port_text switch port)) }
 {
     Ok(Value::String(format!(in alloc; "r{switch}:{port}")?))
-}
-
-fn prefix_string(alloc: Global, prefix: Prefix) -> Result<String, Memory>
-    ensures { IfOk result (λ s. string_bytes s ≡ prefix_text prefix) }
-{
-    let w = prefix.base >> 24;
-    let x = (prefix.base >> 16) % 256;
-    let y = (prefix.base >> 8) % 256;
-    let z = prefix.base % 256;
-    let len = prefix.len;
-    Ok(format!(in alloc; "{w}.{x}.{y}.{z}/{len}")?)
 }
 
 /// The prefix of a destination, 10.0.0.0/24 of the first.
