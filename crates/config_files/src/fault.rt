@@ -13,7 +13,7 @@ use thiserror::Error;
 /// the whole file has none.
 #[derive(Clone, Copy, PartialEq, Eq, Error)]
 pub enum ConfigFault {
-    /// `serde_json` finds no value.
+    /// The bytes are no JSON text.
     NotJson,
     /// The member is absent without a default, or of the wrong kind.
     Shape(Field, u32),

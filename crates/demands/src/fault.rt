@@ -12,7 +12,7 @@ use thiserror::Error;
 /// Why bytes are no policy. The number is the place: that of the demand, from 0. A fault of the whole file has none.
 #[derive(Clone, Copy, PartialEq, Eq, Error)]
 pub enum DemandFault {
-    /// `serde_json` finds no value.
+    /// The bytes are no JSON text.
     NotJson,
     /// The member is absent or of the wrong kind.
     Shape(Field, u32),

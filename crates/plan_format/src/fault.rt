@@ -6,35 +6,28 @@ ghost use Rattle.plan_format.specs.Faults.{of_json, fault_number, fault_name, fa
 use flat_json::JsonFault;
 use net_base::Field;
 use std::alloc::{AllocError, AllocFailed};
+use std::fmt;
 use thiserror::Error;
 
 /// Why bytes are no plan. The number is the place: of a fault of a change that of the change, from 0, counted over all
 /// rounds, `tried` ones after the others; of another fault that of the item in its list, from 0.
-#[derive(Clone, Copy, Debug, PartialEq, Eq, Error)]
+#[derive(Clone, Copy, PartialEq, Eq, Error)]
 pub enum PlanFault {
-    /// `serde_json` finds no value.
-    #[error("NotJson")]
+    /// The bytes are no JSON text.
     NotJson,
     /// The member is absent or of the wrong kind.
-    #[error("Shape")]
     Shape(Field, u32),
     /// The format is neither 1 nor 2.
-    #[error("BadFormat")]
     BadFormat,
     /// No switch has the name.
-    #[error("UnknownSwitch")]
     UnknownSwitch(u32),
     /// A number, a prefix or a port of a rule is out of its range, or its rewrites exclude each other.
-    #[error("BadRule")]
     BadRule(u32),
     /// A number that names a part of the plan is out of its range, or numbers don't ascend.
-    #[error("BadIndex")]
     BadIndex(u32),
     /// More than 4200 rounds, 4096 tried rounds, 2,200,000 changes or 2,200,000 rules.
-    #[error("TooMany")]
     TooMany(Field),
     /// Memory was wanting.
-    #[error("Memory")]
     Memory,
 }
 
@@ -93,6 +86,19 @@ impl PlanFault {
             | PlanFault::BadRule(place)
             | PlanFault::BadIndex(place) => place,
         }
+    }
+}
+
+impl fmt::Display for PlanFault {
+    fn fmt<W: fmt::Write>(&self, f: &mut fmt::Formatter<W>) -> fmt::Result {
+        f.write_str(self.name())
+    }
+}
+
+/// As it is printed, with the place: a derived one would have a path for each variant.
+impl fmt::Debug for PlanFault {
+    fn fmt<W: fmt::Write>(&self, f: &mut fmt::Formatter<W>) -> fmt::Result {
+        write!(f, "{self} at {}", self.place())
     }
 }
 

@@ -13,7 +13,7 @@ use thiserror::Error;
 /// has none.
 #[derive(Clone, Copy, PartialEq, Eq, Error)]
 pub enum NetFault {
-    /// `serde_json` finds no value.
+    /// The bytes are no JSON text.
     NotJson,
     /// The member is absent or of the wrong kind.
     Shape(Field, u32),
