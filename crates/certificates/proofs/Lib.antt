@@ -11,3 +11,4 @@ pub mod TreePaths
 pub mod TreeSteps
 pub mod TreeLaw
 pub mod Chains
+pub mod PickLaws

@@ -28,7 +28,7 @@ use Rattle.ordered_check.specs.Guarded.{IsGuarded}
 use Rattle.ordered_check.specs.Judged.{IsWayRound, AreGuardedBelow, IsFirstWayRound}
 use Rattle.ordered_check.specs.declared.guarded.GuardedClass.{GuardedClass}
 use Rattle.ordered_check.specs.declared.ways.WayRound.{WayRound}
-use Rattle.ordered_check.proofs.MeaningLaws.{at_place}
+use Rattle.certificates.proofs.PickLaws.{at_place}
 
 -- ---- valid evidence
 
@@ -71,9 +71,6 @@ module _ (class : Class) (steps steps_ : List Edge) (leaving leaving_ : List Swi
       steps steps_ leaving leaving_ demands demands_ befores befores_ indices indices_ p q r b i h
 
 -- ---- a class like the one that was guarded
-
-pub same_switch : (a b : SwitchId) → a.0 ≡ b.0 → a ≡ b
-same_switch a b h = ap (λ (n : ℕ). let s : SwitchId = record { 0 = n } in s) h
 
 -- what is kept is guarded for each class with its start, use, duties and walks
 pub guarded_of_same : (t : Task) (e : OrderedEvidence) (o : Option GuardedClass) (kept of : GuardedClass) (steps steps_ : List Edge) (leaving leaving_ : List SwitchId) → o ≡ Some kept

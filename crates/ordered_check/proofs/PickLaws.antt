@@ -10,13 +10,10 @@ use Rattle.net_base.proofs.MemberLaws.{each_at, each_weaker, each_append, in_app
 use Rattle.certificates.proofs.Chains.{all_at}
 use Rattle.certificates.specs.Valid.{IsChain, IsPickBefore}
 use Rattle.certificates.specs.declared.OrderedPick.{OrderedPick}
+use Rattle.certificates.proofs.PickLaws.{chain_rest}
 use Rattle.ordered_check.specs.Picks.{PicksState, PicksStand, IsKeptPick}
 
 -- ---- picks in order
-
-pub chain_rest : (p : OrderedPick) (picks : List OrderedPick) → IsChain IsPickBefore (p ∷ picks) → IsChain IsPickBefore picks
-chain_rest p [] h = tt
-chain_rest p (q ∷ picks) h = h.1
 
 no_later : (p q : OrderedPick) → IsPickBefore p q → p.round ≤ q.round
 no_later p q (inl less) = omega arith

@@ -41,7 +41,7 @@ use Rattle.mixed_walks.proofs.PlaceLaws.{tables_keep, on_walk_vlan}
 use Rattle.ordered_check.specs.Picks.{IsKeptPick}
 use Rattle.ordered_check.specs.Laws.{IsMissedAfter}
 use Rattle.ordered_check.specs.Kept.{is_marked, HoldsWalks, HoldsWalksBefore, touches_walk}
-use Rattle.ordered_check.proofs.MeaningLaws.{one_in_force}
+use Rattle.certificates.proofs.PickLaws.{one_in_force}
 
 -- ---- changes that a round doesn't have
 

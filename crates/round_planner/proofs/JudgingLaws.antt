@@ -28,7 +28,7 @@ use Rattle.certificates.specs.declared.OrderedEvidence.{OrderedEvidence}
 use Rattle.evidence_store.specs.Found.{IsSafeEvidence}
 use Rattle.evidence_store.specs.Stored.{IsStored}
 use Rattle.evidence_store.proofs.ListLaws.{chain_push}
-use Rattle.ordered_check.proofs.MeaningLaws.{one_in_force, one_meaning, at_place}
+use Rattle.certificates.proofs.PickLaws.{one_in_force, one_meaning, at_place}
 use Rattle.dest_classes.specs.Numbered.{IsNumbered}
 use Rattle.dest_classes.specs.declared.NumberedClass.{NumberedClass}
 use Rattle.config_check.proofs.JudgeLaws.{class_within}

@@ -9,7 +9,7 @@ use Rattle.topology.specs.Networks.{switch_count}
 use Rattle.acyclic_numbering.specs.declared.Edge.{Edge}
 use Rattle.certificates.specs.Valid.{IsValidUse, IsValidNumbering}
 use Rattle.ordered_check.specs.Judged.{HasEdgeUp}
-use Rattle.ordered_check.proofs.MeaningLaws.{at_place}
+use Rattle.certificates.proofs.PickLaws.{at_place}
 use Rattle.ordered_check.proofs.TogetherLaws.{empty_list}
 use Rattle.ordered_check.proofs.together.are_safe.Goals as goal
 
