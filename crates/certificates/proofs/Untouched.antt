@@ -17,7 +17,7 @@ use Rattle.path_walk.specs.Paths.{outcome_in}
 use Rattle.path_walk.specs.declared.Outcome.{Outcome}
 use Rattle.update_model.specs.Changes.{switch_of, rule_of, AppliesTo, IsGoodRound, changes_at, round_after}
 use Rattle.update_model.specs.Mixtures.{Rollout, tables_before, IsPossible, MayHold}
-use Rattle.update_model.specs.Matches.{Writes}
+use Rattle.update_model.proofs.Matches.{Writes}
 use Rattle.update_model.specs.declared.Change.{Change}
 use Rattle.update_model.specs.declared.Change.TheVariants.{Insert, Delete, Replace}
 use Rattle.update_model.proofs.ChangeLaws.{key_named, stands_all_from_in, in_from_stands_all}

@@ -20,7 +20,7 @@ use Rattle.waypoint_evidence.specs.Befores.{IsGuard}
 use Rattle.demands.specs.Duties.{PacketDuties}
 use Rattle.update_model.specs.Changes.{rule_of, AppliesTo, IsGoodRound, changes_at, rules_after, round_after}
 use Rattle.update_model.specs.Mixtures.{Rollout, tables_before, IsPossible, MayHold, MayGo, IsOnMixedWalk}
-use Rattle.update_model.specs.Matches.{Writes}
+use Rattle.update_model.proofs.Matches.{Writes}
 use Rattle.update_model.specs.declared.Change.{Change}
 use Rattle.update_model.specs.declared.Change.TheVariants.{Insert, Delete, Replace}
 use Rattle.update_model.proofs.ChangeLaws.{key_named, stands_all_from_in, in_from_stands_all}

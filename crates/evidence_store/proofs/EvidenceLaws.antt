@@ -2,7 +2,6 @@
 use Rattle.std.proofs.Common.{◌≡◌, ◌↔◌, ℕ, ◌<◌, ◌≤◌, IsTrue, List, [], ◌∷◌, length, drop, Option, Some, None, refl, sym, ap, subst, arith}
 use Rattle.std.specs.List.{AllByRecursion}
 use Rattle.std.proofs.lemmas.List.{length-drop}
-use Rattle.std.proofs.lemmas.List.Elements.{All-from_recursion}
 use Rattle.net_base.specs.Members.{IsIn}
 use Rattle.net_base.specs.Walks.{IsWalk, end_of}
 use Rattle.net_base.specs.declared.ids.SwitchId.{SwitchId}
@@ -22,7 +21,7 @@ use Rattle.certificates.specs.Valid.{IsValidBefore}
 use Rattle.mixed_walks.specs.Walks.{WalkState, IsWalked}
 use Rattle.check_reasons.specs.Positions.{position_count}
 use Rattle.check_reasons.proofs.PositionLaws.{count_chain}
-use Rattle.evidence_store.specs.Guards.{AreWithin, IsGuarded, IsLeastGuard, AreGuardsFound}
+use Rattle.evidence_store.specs.Guards.{IsGuarded, IsLeastGuard, AreGuardsFound}
 use Rattle.evidence_store.specs.Found.{IsSafeEvidence}
 
 -- ---- numbers that fall
@@ -104,14 +103,6 @@ module _ (V : List ℕ → Type 0) where
       (of_positions chains rest (omega arith) (each_last (λ (p : Position). V p.set) (chain_positions None c sets) (positions chains rest) all))
 
 -- ---- a class whose mixed walks were noted
-
--- what is noted stands at switches of the network
-pub all_within : (u : Rollout) (k dst : ℕ) (entry : _) (noted : WalkState) (net : Network) → u.net ≡ net → IsWalked u k dst entry noted → AreWithin (switch_count net) noted
-all_within u k dst entry noted net same walked =
-    subst (λ (n : Network). AreWithin (switch_count n) noted) same (record {
-      steps = All-from_recursion (λ (e : Edge). (e.from.0 < switch_count u.net) × (e.to.0 < switch_count u.net)) noted.steps walked.steps_within;
-      leaving = All-from_recursion (λ (s : SwitchId). s.0 < switch_count u.net) noted.leaving walked.leaving_within;
-    })
 
 module _ (u : Rollout) (k : ℕ) (class : Class) (duties : PacketDuties) (noted : WalkState) (walked : IsWalked u k class.first class.entry noted) where
   abbrev mixed : SwitchId → SwitchId → Type 0

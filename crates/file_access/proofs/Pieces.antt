@@ -1,18 +1,14 @@
 -- How a file is read, and a text is written, piece after piece.
-use Rattle.std.proofs.Common.{◌≡◌, ℕ, ◌-◌, ◌<◌, ◌≤◌, List, [], ◌++◌, length, take, drop, None, Some, length-drop, take-append-drop, take_all, refl, sym, ap, ◌∙◌, append_assoc, append-nil, length-append, arith}
+use Rattle.std.proofs.Common.{◌≡◌, ℕ, ◌-◌, ◌<◌, ◌≤◌, List, ◌++◌, length, take, drop, None, Some, length-drop, take-append-drop, take_all, refl, sym, ap, ◌∙◌, append_assoc, length-append, arith}
 use Rattle.std.specs.declared.option.Option.{Option}
-use Rattle.std.specs.Io.KnownBytes.{Consumes, Appends, Keeps, IsAtEnd}
+use Rattle.std.specs.Io.KnownBytes.{Consumes, Appends, Keeps}
 use Rattle.std.proofs.Math.Seq.{take-append_seam}
-use Rattle.file_access.specs.Outside.{Files, IsMissing, Opens, IsFile, IsLonger, AppendsFront}
+use Rattle.file_access.specs.Outside.{Files, IsLonger, AppendsFront}
 
 -- where the source tells what it holds, these bytes of the file are read, and the rest is left
 abbrev pub Reads : Option Files → List ℕ → List ℕ → Option (List ℕ) → Type 0
 Reads None name bytes left = Unit {0}
 Reads (Some files) name bytes left = (rest : List ℕ) × (left ≡ Some rest) × (files name ≡ Some (bytes ++ rest))
-
-opened : (held content : Option (List ℕ)) (left : Option (List ℕ)) → (content ≡ None → ⊥) → left ≡ content → (rest : List ℕ) × (left ≡ Some rest) × (content ≡ Some rest)
-opened held None left there same = absurd (there refl)
-opened held (Some rest) left there same = (rest, same, refl)
 
 -- a piece more is read
 pub reads-more : (held : Option Files) (name bytes piece : List ℕ) (old new : Option (List ℕ)) → Reads held name bytes old → Consumes old new piece → Reads held name (bytes ++ piece) new

@@ -1,14 +1,13 @@
 -- A list in the tree, and the values that the code holds.
-use Rattle.std.proofs.Common.{◌≡◌, ℕ, Bool, true, false, List, [], ◌∷◌, Option, Some, None, option_map, map, Bor, cond, refl, ap, sym, ◌∙◌}
+use Rattle.std.proofs.Common.{◌≡◌, ℕ, Bool, true, false, List, [], ◌∷◌, Option, Some, None, option_map, map, Bor, cond, refl, ap}
 use Rattle.std.specs.Global.{Vec}
 use Rattle.serde_json.specs.Data.{Data}
-use Rattle.serde_json.specs.Find.{as_array}
 use Rattle.serde_json.specs.View.{view, items_of, items_view}
 use Rattle.serde_json.specs.declared.value.Value.{Value}
 use Rattle.serde_json.specs.Read.{read}
 use Rattle.std.specs.Str.{IsUtf8, is_utf8}
 use Rattle.std.proofs.lemmas.Str.{IsUtf8-from_is_utf8, is_utf8-from_IsUtf8}
-use Rattle.flat_json.specs.JsonTree.{list_of, list_in, tree_in}
+use Rattle.flat_json.specs.JsonTree.{list_of, tree_in}
 
 pub list_of-items_of : (ds : List Data) → list_of (items_of ds) ≡ ds
 list_of-items_of [] = refl
@@ -17,10 +16,6 @@ list_of-items_of (d ∷ ds) = ap (λ es. d ∷ es) (list_of-items_of ds)
 listed : (o : Option (Bor (Vec Value))) → option_map list_of (option_map (λ v. items_view v.now.items) o) ≡ option_map (λ v. map view v.now.items) o
 listed None = refl
 listed (Some v) = ap (λ ds. Some ds) (list_of-items_of (map view v.now.items))
-
--- what `as_array` gives
-pub list_in-as_array : (d : Data) (o : Option (Bor (Vec Value))) → option_map (λ v. items_view v.now.items) o ≡ as_array d → option_map (λ v. map view v.now.items) o ≡ list_in d
-list_in-as_array d o e = sym (listed o) ∙ ap (option_map list_of) e
 
 -- the tree that the bytes are, in the words of `from_slice`
 pub tree_in-some : (bs : List ℕ) (d : Data) → IsUtf8 bs × (read bs ≡ Some d) → tree_in bs ≡ Some d

@@ -119,17 +119,6 @@ link_same : (slots others : List ℕ) (slot other limit m n : ℕ) → slots ≡
 link_same slots others slot other limit m n e f g is =
     subst (λ xs. IsLink xs other limit n) e (subst (λ (x : ℕ). IsLink slots x limit n) f (subst (λ (x : ℕ). IsLink slots slot limit x) g is))
 
--- no slots lead to no patterns
-pub space_none : (heads : List ℕ) (kinds : List Pattern) → 0 < length heads → ((slot : ℕ) → get_or heads slot 0 ≡ 0) → IsSpace heads [] [] kinds
-space_none heads kinds some empty = record {
-  some_slots = some;
-  first = λ slot within. link_same [] [] slot slot 0 0 (get_or heads slot 0) refl refl (sym (empty slot))
-      (record { within = omega arith; same = λ more. absurd (omega arith); last = λ j le less. absurd (omega arith) });
-  after = λ i less. absurd (omega arith);
-  known = λ p i. absurd i;
-  blocks = λ p i. absurd i;
-}
-
 module _ (slots : List ℕ) (s : ℕ) where
   -- a slot more behind the limit
   link_kept : (slot limit n : ℕ) → limit ≤ length slots → IsLink slots slot limit n → IsLink (slots ++ s ∷ []) slot limit n

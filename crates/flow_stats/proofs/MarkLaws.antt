@@ -169,12 +169,6 @@ two_vlans true true true w true = refl
 two_vlans true true true true false = refl
 two_vlans true true true false false = refl
 
-pub any_vlan : (s : SwitchId) (in_port : Option (Option Port)) (q k : Key) → k.pattern.vlan ≡ test.Any
-    → (is_in_group (record { switch = s; priority = k.priority; in_port = in_port; vlan = None }) q && blocks_meet q.pattern.dst k.pattern.dst) ≡ meets_by in_port q k
-any_vlan s in_port q k is =
-    all_vlans (q.priority == k.priority) (is_port_of in_port q.pattern.in_port) (blocks_meet q.pattern.dst k.pattern.dst)
-    ∙ ap (λ v. q.priority == k.priority && (is_port_of in_port q.pattern.in_port && v && blocks_meet q.pattern.dst k.pattern.dst)) (sym (ap (vlans_meet q.pattern.vlan) is ∙ vlan_any q.pattern.vlan))
-
 pub one_vlan : (s : SwitchId) (in_port : Option (Option Port)) (q k : Key) → ¬ (k.pattern.vlan ≡ test.Any)
     → meets_by in_port q k
     ≡ ((is_in_group (record { switch = s; priority = k.priority; in_port = in_port; vlan = Some test.Any }) q && blocks_meet q.pattern.dst k.pattern.dst)
@@ -201,10 +195,6 @@ two_ports true true true true true = refl
 two_ports true true true true false = refl
 two_ports true true false true true = refl
 two_ports true true false true false = refl
-
-pub any_port : (q k : Key) → k.pattern.in_port ≡ None → meets_by None q k ≡ keys_clash q k
-any_port q k is =
-    ap (λ i. q.priority == k.priority && (i && vlans_meet q.pattern.vlan k.pattern.vlan && blocks_meet q.pattern.dst k.pattern.dst)) (sym (ap (ports_meet q.pattern.in_port) is ∙ port_any q.pattern.in_port))
 
 pub one_port : (q k : Key) → ¬ (k.pattern.in_port ≡ None) → keys_clash q k ≡ (meets_by (Some None) q k || meets_by (Some k.pattern.in_port) q k)
 one_port q k other =

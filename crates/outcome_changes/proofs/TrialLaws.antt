@@ -20,7 +20,7 @@ use Rattle.path_walk.specs.Outcomes.{header_at, acted, outcome}
 use Rattle.path_walk.specs.declared.Outcome.{Outcome}
 use Rattle.update_model.specs.Changes.{AppliesTo, rules_after}
 use Rattle.update_model.specs.Mixtures.{IsMixture, MayBe}
-use Rattle.update_model.specs.Matches.{IsDelete, Writes, IsKept, MayMatch, MayMiss}
+use Rattle.update_model.proofs.Matches.{IsDelete, Writes, IsKept, MayMatch, MayMiss}
 use Rattle.update_model.specs.declared.Change.{Change}
 use Rattle.update_model.specs.declared.Change.TheVariants.{Insert, Delete, Replace}
 use Rattle.update_model.proofs.ChangeLaws.{key_named, writes_key, stands_all_from_in, in_from_stands_all}

@@ -23,7 +23,7 @@ use Rattle.flow_rules.proofs.LookupLaws.{lookup_by_set}
 use Rattle.flow_rules.proofs.TableLaws.{key_found}
 use Rattle.update_model.specs.Changes.{AppliesTo, rules_after}
 use Rattle.update_model.specs.Mixtures.{IsMixture}
-use Rattle.update_model.specs.Matches.{IsWritten}
+use Rattle.update_model.proofs.Matches.{IsWritten}
 use Rattle.update_model.specs.declared.Change.{Change}
 use Rattle.update_model.specs.declared.Change.TheVariants.{Insert, Delete, Replace}
 use Rattle.update_model.proofs.ChangeLaws.{key_named, writes_key, stands_all_from_in, in_from_stands_all}

@@ -13,7 +13,7 @@ use Rattle.flow_rules.specs.declared.rules.Key.{Key}
 use Rattle.flow_rules.specs.declared.rules.Rule.{Rule}
 use Rattle.update_model.specs.Mixtures.{is_insert, entries_needed}
 use Rattle.update_model.specs.Changes.{AppliesTo}
-use Rattle.update_model.specs.Matches.{Writes, IsWritten}
+use Rattle.update_model.proofs.Matches.{Writes, IsWritten}
 use Rattle.update_model.specs.declared.Change.{Change}
 use Rattle.update_model.specs.declared.Change.TheVariants.{Insert, Delete, Replace}
 use Rattle.update_model.proofs.ChangeLaws.{key_named, writes_key, StandsAfterAll, stands_all_from_in}

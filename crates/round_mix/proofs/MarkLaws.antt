@@ -15,7 +15,7 @@ use Rattle.flow_rules.specs.declared.rules.Key.{Key}
 use Rattle.flow_rules.specs.declared.rules.Rule.{Rule}
 use Rattle.update_model.specs.Changes.{AppliesTo, rules_after}
 use Rattle.update_model.specs.Mixtures.{IsMixture}
-use Rattle.update_model.specs.Matches.{IsDelete, Writes, IsWritten, IsKept}
+use Rattle.update_model.proofs.Matches.{IsDelete, Writes, IsWritten, IsKept}
 use Rattle.update_model.specs.declared.Change.{Change}
 use Rattle.update_model.specs.declared.Change.TheVariants.{Insert, Delete, Replace}
 use Rattle.update_model.proofs.ChangeLaws.{key_named, writes_key}

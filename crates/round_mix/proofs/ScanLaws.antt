@@ -16,7 +16,7 @@ use Rattle.flow_rules.specs.declared.rules.Rule.{Rule}
 use Rattle.flow_rules.specs.declared.rules.Action.{Action}
 use Rattle.flow_rules.specs.declared.rules.Action.TheVariants.{Discard}
 use Rattle.update_model.specs.Mixtures.{IsMixture}
-use Rattle.update_model.specs.Matches.{MayMatch, MayMiss}
+use Rattle.update_model.proofs.Matches.{MayMatch, MayMiss}
 use Rattle.update_model.specs.declared.Change.{Change}
 use Rattle.update_model.proofs.MatchLaws.{may_match, may_miss, misses_somewhere, matches_somewhere}
 use Rattle.round_mix.specs.Found.{AreAllOutcomes}

@@ -17,7 +17,7 @@ use Rattle.flow_rules.specs.declared.rules.Action.{Action}
 use Rattle.flow_rules.specs.declared.rules.Action.TheVariants.{Discard, Out}
 use Rattle.path_walk.specs.UserConfigs.{IsUserPort, IsUserVlan, IsUserAction, IsUserRule, IsUserConfig}
 use Rattle.update_model.specs.Changes.{switch_of, rule_of, AppliesTo, Applies, rules_after_change, tables_after, tables_after_change}
-use Rattle.update_model.specs.Matches.{Writes}
+use Rattle.update_model.proofs.Matches.{Writes}
 use Rattle.update_model.specs.Ranges.{IsPlanPort, IsPlanVlan, IsPlanRewrite, IsPlanAction, IsPlanChange}
 use Rattle.update_model.specs.Remaining.{remaining}
 use Rattle.update_model.specs.declared.Change.{Change}

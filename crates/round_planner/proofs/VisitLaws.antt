@@ -1,5 +1,5 @@
 -- The switches that packets of a class come to before, in and after a round; and a class that a change doesn't meet at any of them.
-use Rattle.std.proofs.Common.{◌≡◌, ◌≢◌, ℕ, suc, ◌+◌, ◌<◌, false, List, [], ◌∷◌, length, set, sym, ◌∙◌, subst, inl, inr, arith, get_or-set_same, get_or-set_other}
+use Rattle.std.proofs.Common.{◌≡◌, ◌≢◌, ℕ, suc, ◌+◌, ◌<◌, false, List, [], ◌∷◌, length, set, sym, ◌∙◌, subst, inl, inr, arith, get_or-set_same}
 use Rattle.std.specs.Prelude.{◌==◌, IsTrue}
 use Rattle.std.specs.List.{AllByRecursion}
 use Rattle.std.proofs.lemmas.Bool.{cases_eq, cases_lt, eqb-true}
@@ -106,9 +106,6 @@ module _ (u : Rollout) (k : ℕ) (class : Class) (c : Change) (round_is : round_
 -- the marks of one class put in
 pub put_there : (came : List ℕ) (n : ℕ) (marks : ℕ) → n < length came → marks_at (set came n marks) n ≡ marks
 put_there came n marks less = get_or-set_same came n marks 0 less
-
-pub put_others : (came : List ℕ) (n : ℕ) (marks : ℕ) (m : ℕ) → m ≢ n → marks_at (set came n marks) m ≡ marks_at came m
-put_others came n marks m ne = get_or-set_other came n m marks 0 ne
 
 module _ (aim : Aim) (u : Rollout) (k : ℕ) where
   -- the marks of each class hold where its packets come to before the round, and those of each class below a number its mixed walks

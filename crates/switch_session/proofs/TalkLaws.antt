@@ -1,6 +1,6 @@
 -- What a step of reading makes of what was said.
 use Rattle.std.proofs.Common.{◌≡◌, ℕ, ◌+◌, ◌-◌, ◌≤◌, true, false, List, [], ◌++◌, length, take, drop, refl, sym, ap, ◌∙◌, subst, vec_len, vec_capacity, arith}
-use Rattle.std.proofs.lemmas.List.{drop_all, length-take-le, drop-drop, take_rest}
+use Rattle.std.proofs.lemmas.List.{drop_all, length-take-le}
 use Rattle.byteorder.specs.Numbers.{big_from-take}
 use Rattle.openflow10.specs.Layout.{number_at}
 use Rattle.switch_session.specs.Fronts.{type_in, length_in, front_of}
@@ -84,10 +84,6 @@ taken_message old new bytes n going e is room =
     }
 
 -- ---- all of the bytes
-
--- what is left of a slice from an offset on
-pub part : (bytes : List ℕ) (at : ℕ) → take (length bytes - at) (drop at bytes) ≡ drop at bytes
-part bytes at = take_rest bytes at
 
 -- ---- a piece behind the unread bytes
 

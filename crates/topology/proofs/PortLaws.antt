@@ -20,7 +20,7 @@ use Rattle.net_base.specs.declared.ids.SwitchId.{SwitchId}
 use Rattle.net_base.specs.declared.ids.Stop.{Stop}
 use Rattle.topology.proofs.LinkLaws.{stop_eq-true, stop_eq-refl, stop_ne, any_from_in, in_from_any, ends_of, not_both}
 use Rattle.topology.specs.Networks.{Network, IsNetwork, IsUsed, stop_eq, far_end, end_at, used_ports, is_used, is_host, is_on}
-use Rattle.topology.specs.Ends.{port_ends, is_host_end, AreCounts, IsPort}
+use Rattle.topology.specs.Ends.{port_ends, is_host_end, AreCounts}
 use Rattle.topology.specs.declared.net.Link.{Link}
 use Rattle.topology.specs.declared.net.End.{End}
 use Rattle.topology.specs.declared.net.End.TheVariants as at
@@ -277,7 +277,3 @@ module _ (net : Network) (ends : List Entry) (kept : ends ≡ port_ends net.link
 -- no switch has more than 64 used ports
 pub count_few : (net : Network) → IsNetwork net → (s : SwitchId) → count_by (is_on s) (used_ports net) ≤ 64
 count_few net is s = let a = length-filter (is_on s) (used_ports net) in let b = is.few_ports s in omega arith
-
--- a port's switch is one of at most 128
-pub port_few : (net : Network) → IsNetwork net → (stop : Stop) → IsPort net stop → stop.switch.0 < 128
-port_few net is stop port = let less = port.0 in let few = is.few in omega arith

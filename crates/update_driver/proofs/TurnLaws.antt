@@ -1,9 +1,9 @@
 -- Messages that are put into turns one after the other.
-use Rattle.std.proofs.Common.{◌≡◌, ◌≢◌, ℕ, zero, suc, ◌+◌, ◌<◌, ◌≤◌, Bool, true, false, cond, eqb, ◌||◌, ◌&&◌, List, [], ◌∷◌, ◌++◌, length, map, take, get_or, refl, sym, ap, ◌∙◌, subst, ◌⊎◌, inl, inr, append_assoc, append-nil, length-append, arith}
+use Rattle.std.proofs.Common.{◌≡◌, ℕ, suc, ◌+◌, ◌<◌, true, false, cond, eqb, ◌||◌, List, [], ◌∷◌, ◌++◌, length, map, take, get_or, refl, sym, ap, ◌∙◌, subst, inl, inr, append_assoc, append-nil, length-append, arith}
 use Rattle.std.specs.Prelude.{flat_map, filter, Option, Some, None}
-use Rattle.std.specs.List.{list_any, range_with_len}
-use Rattle.std.proofs.lemmas.Bool.{cases_Bool, cases_eq, eq-eqb, ne_eqb, eqb-true, cond-true, cond-false}
-use Rattle.std.proofs.lemmas.List.{take_more, length-take-le, map-append, length-map, get_or_default}
+use Rattle.std.specs.List.{range_with_len}
+use Rattle.std.proofs.lemmas.Bool.{cases_Bool, cases_eq, eq-eqb, ne_eqb, cond-true, cond-false}
+use Rattle.std.proofs.lemmas.List.{take_more, length-take-le, map-append, length-map}
 use Rattle.std.proofs.lemmas.List.FromFn.{filter_of_map_range_with_len_more}
 use Rattle.std.proofs.lemmas.Grind.{flat_map-append}
 use Rattle.net_base.specs.declared.ids.SwitchId.{SwitchId}
@@ -21,7 +21,7 @@ use Rattle.round_messages.specs.ToSwitch.{messages_to}
 use Rattle.round_messages.proofs.Requests.{sent_from-append}
 use Rattle.round_messages.proofs.BySwitch.{messages_to-append}
 use Rattle.update_driver.specs.Drivers.{change_events, barrier_in}
-use Rattle.update_driver.specs.Inside.{IsEmptyTurn, AreEmpty, HoldMessages, HoldEvents, AreUnasked, PutsMessage, PutsBarriers, IsQuietAt, IsBusyAt, TakesTurn, barriers_below}
+use Rattle.update_driver.specs.Inside.{HoldMessages, HoldEvents, AreUnasked, PutsMessage, PutsBarriers, TakesTurn, barriers_below}
 use Rattle.update_driver.specs.declared.turns.Turn.{Turn}
 use Rattle.update_driver.specs.declared.turns.Turns.{Turns}
 
@@ -284,13 +284,6 @@ pub round_sent : (net : Network) (k xid : ℕ) (changes : List Change)
 round_sent net k xid changes =
     sent_from-append xid (map (change_request k) changes) (map (barrier_request k) (switches_changed net changes))
     ∙ ap (λ (n : ℕ). sent_from xid (map (change_request k) changes) ++ barriers_below k changes (switch_count net) (xid + n)) (length-map changes (change_request k))
-
-pub round_length : (net : Network) (k : ℕ) (changes : List Change) → length (round_requests net k changes) ≡ length changes + length (passed changes (switch_count net))
-round_length net k changes =
-    let a = length-append (map (change_request k) changes) (map (barrier_request k) (switches_changed net changes)) in
-    let b = length-map changes (change_request k) in
-    let c = length-map (switches_changed net changes) (barrier_request k) in
-    omega (arith, a, b, c)
 
 -- ---- one turn more
 

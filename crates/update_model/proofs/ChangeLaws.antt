@@ -12,7 +12,7 @@ use Rattle.flow_rules.proofs.KeyLaws.{key_eq-refl, key_eq-false, key_ne}
 use Rattle.flow_rules.specs.declared.rules.Key.{Key}
 use Rattle.flow_rules.specs.declared.rules.Rule.{Rule}
 use Rattle.update_model.specs.Changes.{switch_of, rule_of, AppliesTo, rules_after_change, rules_after, tables_after_change, tables_after, changes_at}
-use Rattle.update_model.specs.Matches.{Writes, IsWritten}
+use Rattle.update_model.proofs.Matches.{Writes, IsWritten}
 use Rattle.update_model.specs.declared.Change.{Change}
 use Rattle.update_model.specs.declared.Change.TheVariants.{Insert, Delete, Replace}
 

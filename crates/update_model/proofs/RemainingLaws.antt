@@ -14,7 +14,7 @@ use Rattle.flow_rules.proofs.KeyLaws.{key_eq-true, key_eq-refl, cases_key}
 use Rattle.flow_rules.specs.declared.rules.Key.{Key}
 use Rattle.flow_rules.specs.declared.rules.Rule.{Rule}
 use Rattle.update_model.specs.Changes.{switch_of, AppliesTo, Applies, rules_after_change, tables_after, tables_after_change}
-use Rattle.update_model.specs.Matches.{Writes}
+use Rattle.update_model.proofs.Matches.{Writes}
 use Rattle.update_model.specs.Remaining.{rule_with, difference, changes_between, changes_from, with_key, keys_in_order, remaining, AreRemaining}
 use Rattle.update_model.specs.declared.Change.{Change}
 use Rattle.update_model.specs.declared.Change.TheVariants.{Insert, Delete, Replace}

@@ -9,7 +9,7 @@ use Rattle.net_base.specs.declared.ids.SwitchId.{SwitchId}
 use Rattle.flow_rules.specs.Tables.{rules_at}
 use Rattle.flow_rules.specs.declared.rules.Rule.{Rule}
 use Rattle.update_model.specs.Changes.{switch_of, AppliesTo, Applies, entry_named, changes_at, rules_after, rules_after_change, tables_after, tables_after_change, round_after, settled_tables, IsGoodRound}
-use Rattle.update_model.specs.Matches.{Writes}
+use Rattle.update_model.proofs.Matches.{Writes}
 use Rattle.update_model.specs.declared.Change.{Change}
 use Rattle.update_model.proofs.ChangeLaws.{key_named, writes_key, StandsAfterAll, stands_from_in, in_from_stands, stands_all_from_in, in_from_stands_all, rules_at-after_change}
 use Rattle.update_model.proofs.MadeLaws.{made_of, made_some, made_more, made_still, made_this, made_fresh, at_some, distinct_some, keys_distinct, apply_there, same_entry, each_some}

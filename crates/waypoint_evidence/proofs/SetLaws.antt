@@ -1,5 +1,5 @@
 -- Marks as a set of numbers.
-use Rattle.std.proofs.Common.{◌≡◌, ◌⊎◌, ◌↔◌, ℕ, zero, suc, ◌+◌, ◌<◌, ◌≤◌, Bool, true, false, List, [], ◌∷◌, ◌++◌, length, get_or, set, replicate, refl, sym, ap, ◌∙◌, subst, inl, inr, arith}
+use Rattle.std.proofs.Common.{◌≡◌, ◌⊎◌, ◌↔◌, ℕ, zero, suc, ◌+◌, ◌<◌, ◌≤◌, Bool, true, false, List, [], ◌∷◌, ◌++◌, length, get_or, set, refl, sym, ap, ◌∙◌, subst, inl, inr, arith}
 use Rattle.std.proofs.lemmas.Bool.{false≢true, cases_eq, cases_lt, false_from_ne_true}
 use Rattle.std.proofs.lemmas.List.{get_or-set_same, get_or-set_other, get_or_default}
 use Rattle.std.specs.List.{AllByRecursion}
@@ -7,10 +7,6 @@ use Rattle.net_base.specs.Members.{IsIn}
 use Rattle.std.specs.Prelude.{Option, Some, None}
 use Rattle.net_base.specs.declared.ids.SwitchId.{SwitchId}
 use Rattle.waypoint_evidence.specs.Befores.{marked_from, HoldsEarlier}
-
-pub marked_none : (k n : ℕ) → marked_from k (replicate n false) ≡ []
-marked_none k zero = refl
-marked_none k (suc n) = marked_none (k + 1) n
 
 marked_above : (k : ℕ) (marks : List Bool) (n : ℕ) → IsIn n (marked_from k marks) → k ≤ n
 marked_above k [] n i = absurd i
