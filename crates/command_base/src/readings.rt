@@ -92,6 +92,10 @@ fn plan_of(alloc: Global, net: &Net, bytes: &[u8]) -> Result<Plan, Exit>
 }
 
 /// Fetches and reads a topology.
+///
+/// # Errors
+///
+/// A file that can't be read, that is too long or whose bytes mean no topology, with its line; or want of memory.
 pub fn read_topology<S: Source>(alloc: Global, source: &mut S, name: &str) -> Result<Net, Exit>
     ensures gives { IfOk result (λ v. (last : Option FileRead)
         → Gives (S.held source.old) last (reading_topology name.now) v (Some (file_read FileKind.Topology name.now))) }
@@ -105,7 +109,11 @@ pub fn read_topology<S: Source>(alloc: Global, source: &mut S, name: &str) -> Re
     network_of(alloc, &bytes)
 }
 
-/// Fetches and reads a configuration of the network.
+/// Fetches and reads a configuration of the network. The kind, the old or the new one, is what a bad line names.
+///
+/// # Errors
+///
+/// A file that can't be read, that is too long or whose bytes mean no configuration, with its line; or want of memory.
 pub fn read_configuration<S: Source>(
     alloc: Global,
     source: &mut S,
@@ -127,6 +135,10 @@ pub fn read_configuration<S: Source>(
 }
 
 /// Fetches and reads a policy of the network, if one is named; otherwise nothing is demanded.
+///
+/// # Errors
+///
+/// A file that can't be read, that is too long or whose bytes mean no policy, with its line; or want of memory.
 pub fn read_policy<S: Source>(
     alloc: Global,
     source: &mut S,
@@ -152,6 +164,10 @@ pub fn read_policy<S: Source>(
 }
 
 /// Fetches and reads a plan of the network. It is a valid plan.
+///
+/// # Errors
+///
+/// A file that can't be read, that is too long or whose bytes mean no plan, with its line; or want of memory.
 pub fn read_plan_file<S: Source>(
     alloc: Global,
     source: &mut S,

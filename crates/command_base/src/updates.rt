@@ -29,6 +29,10 @@ pub struct UpdateFiles {
 }
 
 /// Fetches and reads the files of an update, in the order of their names.
+///
+/// # Errors
+///
+/// The early end at the first file that can't be read, is too long or is bad, with its line; or want of memory.
 pub fn read_update<S: Source>(
     alloc: Global,
     source: &mut S,

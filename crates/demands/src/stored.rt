@@ -141,8 +141,8 @@ fn copy_both(demands: &Demands, classes: &ClassMap) -> Result<(Demands, ClassMap
 }
 
 impl Duties {
-    /// The duties of the classes of a map. The prefix of each demand is one of the map's. It takes time in the product of
-    /// classes and demands. Classes that the same demands cover have their chains once: that takes time by the square of
+    /// The duties of the classes of a map. The prefix of each demand is one of the map's. The network isn't looked at. It takes
+    /// time in the product of classes and demands. Classes that the same demands cover have their chains once: that takes time by the square of
     /// the chains, and memory by their length.
     pub fn make(
         alloc: Global,
@@ -201,8 +201,8 @@ impl Duties {
         self.duty(class).arrive
     }
 
-    /// Whether the same demands cover both classes: then their duties are the same. It takes no memory, and the same time for
-    /// any duties.
+    /// Whether both classes have one row of duties, as classes have that the same demands cover: then their duties are the same.
+    /// `false` promises nothing of them. It takes no memory, and the same time for any duties.
     pub fn are_shared(&self, a: u32, b: u32) -> bool
         requires one { a < class_count self.now.classes }
         requires other { b < class_count self.now.classes }

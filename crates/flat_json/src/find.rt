@@ -69,7 +69,7 @@ impl<'a> Tree<'a> {
         }
     }
 
-    /// The member with a name. Of equal names it is the last.
+    /// The member with a name. Of equal names it is the last. It looks at each member.
     #[tactic(auto, unfolding(crate::specs::Trees::data_of, crate::specs::Stores::data_in))]
     pub fn get(&self, node: &Node, name: &str) -> Option<&Node>
         ensures { option_map (λ n. data_of self.now n.now) result ≡ get name.now (data_of self.now node.now) }

@@ -72,7 +72,7 @@ impl<'a> OrderedCase<'a> {
     }
 
     /// How many classes each host port has: one for each VLAN and atom. Classes whose numbers differ by a multiple of it have the
-    /// same VLAN and atom.
+    /// same VLAN and atom. Only the speed rests on it: it says which classes are tried together.
     pub(crate) fn classes_of_host(&self) -> u32 {
         let case = self.case;
         let hosts = u32::try_from(case.net.hosts().len()).unwrap_or(0);

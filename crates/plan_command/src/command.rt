@@ -23,7 +23,12 @@ fn say_plan(alloc: Global, files: &UpdateFiles) -> Result<Reply, Exit>
     Ok(new_plan(alloc, files)?)
 }
 
-/// Plans an update.
+/// Plans an update. The reply is Done and the plan's text, Refused and the first break of an end, too few tags or too small a
+/// table with the rounds that were tried, or a bad file's line.
+///
+/// # Errors
+///
+/// The early end of a reading, or want of memory.
 pub fn plan<S: Source>(
     alloc: Global,
     source: &mut S,

@@ -61,9 +61,10 @@ pub struct MarkedRule {
 /// Why a switch and a round are not prepared.
 #[derive(Clone, Copy, PartialEq, Eq)]
 pub enum MixFault {
-    /// The first change that doesn't apply or names a key that was named before.
+    /// The position, from 0, of the first change that doesn't apply or names a key that was named before.
     BadChange(usize),
-    /// The least positions of two rules that make a mixture unclear.
+    /// The least positions, from 0, of two rules that make a mixture unclear: among the table's rules and the inserted ones
+    /// behind them.
     Ambiguous(usize, usize),
 }
 
@@ -374,7 +375,7 @@ impl Mixed {
     ///
     /// It sorts the rules, and then compares each with those behind it of the same priority whose first address lies in
     /// its prefix. Many changes are looked up among the sorted rules. A few, and those of a round that it refuses, are each
-    /// compared with all rules and all changes.
+    /// compared with all rules and all changes; and where it answers that a mixture is unclear, it compares each two rules.
     pub fn load(&mut self, table: &Table, changes: &[Change]) -> Result<(), MixFault>
         requires { entries_needed table.now.rules changes.now ≤ self.old.room }
         ensures ok { OnOk result (IsSomeAnd self.new.prepared (IsPrepared table.now.rules changes.now)) }
@@ -391,8 +392,8 @@ impl Mixed {
         Ok(())
     }
 
-    /// Prepares a switch that is prepared for a table alone for one change of it, where every mixture is clear. Where one
-    /// isn't, what is prepared stays. It looks at each prepared rule, and takes no memory.
+    /// Prepares a switch that is prepared for a table alone for one change of it, where every mixture is clear, and says
+    /// whether it is. Where one isn't, what is prepared stays. It looks at each prepared rule, and takes no memory.
     pub fn begin(&mut self, change: &Change) -> bool
         requires { IsSomeAnd self.old.prepared (λ marks. length marks < self.old.room) }
         ensures yes { (table : List Rule) → IsTable table → AppliesTo table change.now → IsSomeAnd self.old.prepared (IsPrepared table [])

@@ -52,7 +52,8 @@ pub enum Ordered {
 /// A change that failed is tried again only after one that touches what its failure rests on: the table of its switch, or a
 /// class at a switch that the class's walks came to. Each try looks once at each atom of addresses and at each class whose
 /// address the change's prefix holds. It takes one walk for each class that the change covers, by its address and VLAN, at a
-/// switch that the last walk of the class came to, up to the first class that it doesn't keep safe. As long as no change is
+/// switch that the last walk of the class came to, up to the first class that it doesn't keep safe. Each change that is made
+/// takes a look at all that remain. As long as no change is
 /// made, a try that finds none such takes one walk for each other class, too. A walk is that of a packet through the mixtures
 /// of the round. It holds some 100 bytes for each change that remains, of which there are at most 4096, and 40 for each class.
 pub fn order(
