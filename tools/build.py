@@ -27,8 +27,9 @@ SECONDS_FOR_A_LINE = 0.08
 MEMORY_FOR_ONE_CRATE = 3_000_000_000
 # The parts of a crate from which it is made.
 PARTS = ("src", "specs", "proofs")
-# What says that a crate has ended, in the words of `rt ci`.
-PROVED = re.compile(r"^rt: (\w+) (?:proved$|is kept: )", re.M)
+# What says that a crate has ended, in the words of `rt ci`: it was proved, or an earlier run had proved it, or it failed.
+PROVED = re.compile(r"^rt: (\w+) proved$", re.M)
+KEPT = re.compile(r"^rt: (\w+) is kept: ", re.M)
 FAILED = re.compile(r"^rt: (\w+) NOT PROVED", re.M)
 
 
@@ -257,8 +258,8 @@ class Build:
         self.seconds_of = expected(measured, {it: lines_of(f"{root}/crates/{it}") for it in self.order})
         self.processors = len(os.sched_getaffinity(0))
         self.at_once = side_by_side(self.processors, free_memory())
-        # (the seconds that the build is expected to take in all: at first those foretold, then by the pace of what has been done)
-        self.whole = self.end = self.foretold(self.left, [])
+        # (the seconds that the build is expected to take in all)
+        self.end = self.foretold(self.left, [])
 
     def seconds(self):
         return time.monotonic() - self.begun
@@ -269,7 +270,7 @@ class Build:
         return foretold(self.crates, left, seconds_of, chains(self.crates, self.order, seconds_of), self.at_once)
 
     def run(self):
-        self.voice.say(first_line(len(self.order), len(self.left), self.whole / 60, self.processors))
+        self.voice.say(first_line(len(self.order), len(self.left), self.end / 60, self.processors))
         os.makedirs(self.out, exist_ok=True)
         with tempfile.TemporaryDirectory(prefix="planner-build-") as room, open(f"{self.out}/build.log", "w+b") as log:
             tree = f"{room}/tree"
@@ -289,7 +290,9 @@ class Build:
 
     def look(self, tree, log):
         """Notes which crates have been passed, and says how far the build is."""
-        new = {self.sums[it] for it in PROVED.findall(text_of(log)) if it in self.sums} - self.passed
+        said = text_of(log)
+        proved, kept = PROVED.findall(said), KEPT.findall(said)
+        new = {self.sums[it] for it in [*proved, *kept] if it in self.sums} - self.passed
         if new:
             with open(f"{self.out}/passed", "a") as it:
                 it.writelines(f"{sum_}\n" for sum_ in new)
@@ -298,7 +301,9 @@ class Build:
         # (rt makes the folder out/ of a crate when it begins with it)
         running = [it for it in left if os.path.isdir(f"{tree}/crates/{it}/out")]
         if new:
-            self.end = expected_end(self.seconds(), self.whole, self.foretold(left, running))
+            # (what was kept takes no time, and says nothing of the pace)
+            whole = self.foretold([it for it in self.left if it not in kept], [])
+            self.end = expected_end(self.seconds(), whole, self.foretold(left, running)) if proved else whole
         self.voice.renew(progress(len(self.order), len(left), running, self.seconds(), self.end))
 
     def take(self, program):

@@ -216,6 +216,19 @@ class Builds(unittest.TestCase):
         self.assertEqual((status, asked), (0, ["right", "top"]))
         self.assertIn("2 of 4 crates done before, 2 to do", said[0])
 
+    def test_what_was_kept_says_nothing_of_the_pace(self):
+        self.build()
+        os.remove(f"{self.root}/crates/top/out/passed")
+        with open(f"{self.root}/tools/{build.MEASURED}", "w") as it:
+            it.write("base 600\nright 600\n")
+        self.write("right", "another line\n")
+        ran = self.begin(HOLDS="right")
+        self.assertIn("4 crates, about 20 minutes on", self.until(ran, "planner: 2 of 4 crates done, now right, 0 of about 10 minutes")[0])
+        with open(self.on, "w"):
+            pass
+        status, said, asked = self.end(ran)
+        self.assertEqual((status, asked, said[-1]), (0, ["base", "left", "right", "top", "right"], "planner: built, 0 minutes"))
+
     def test_a_crate_that_fails_is_named_with_what_rt_said(self):
         self.write("left", "", "bad")
         status, said, asked = self.build()
