@@ -18,6 +18,7 @@ ghost use Rattle.check_reasons.specs.Passed.{ChangesPass, ClassesPass, RoundsPas
 ghost use Rattle.check_reasons.specs.Reasons.{IsFirstReason};
 
 use crate::CheckRoom;
+use crate::tables::{self, apply_round, load_round, wrong_end};
 use certificates::laws::certified_consistent;
 use certificates::{Evidence, Plan};
 use check_reasons::{Case, Reason, Verdict};
@@ -77,7 +78,7 @@ fn classes_reason(case: &Case, k: usize, room: &mut CheckRoom) -> Option<Reason>
     requires within { k < length case.now.task.rounds }
     requires fits { Fits case.now.task room.old }
     requires evidence { EvidenceStands case.now.task case.now.evidence k room.old }
-    requires loaded { AreLoaded (rollout case.now.task) k room.old.present.mixes }
+    requires loaded { AreLoaded (rollout case.now.task) k room.old.tables.mixes }
     requires ends { EndsAreGood case.now.task }
     requires before { RoundsPass case.now.task case.now.evidence k }
     requires pass { ChangesPass case.now.task case.now.evidence k }
@@ -85,7 +86,7 @@ fn classes_reason(case: &Case, k: usize, room: &mut CheckRoom) -> Option<Reason>
     ensures some { IfSome result (IsFirstFrom case.now.task case.now.evidence (classes_start k)) }
     ensures fits { Fits case.now.task room.new }
     ensures evidence { IfNone result (EvidenceStands case.now.task case.now.evidence (suc k) room.new) }
-    ensures present { room.new.present ≡ room.old.present }
+    ensures tables { room.new.tables ≡ room.old.tables }
 {
     match &case.plan.evidence {
         Evidence::Ordered(evidence) => {
@@ -95,11 +96,11 @@ fn classes_reason(case: &Case, k: usize, room: &mut CheckRoom) -> Option<Reason>
                 classes: &room.classes,
                 duties: &room.duties,
             };
-            room.ordered.judge_round(&of, room.present.mixes(), k)
+            room.ordered.judge_round(&of, room.tables.mixes(), k)
         }
         Evidence::TwoPhase(evidence) => room
             .two_phase
-            .judge_round(case, evidence, &room.classes, room.present.mixes(), k),
+            .judge_round(case, evidence, &room.classes, room.tables.mixes(), k),
     }
 }
 
@@ -114,13 +115,13 @@ fn round_reason(case: &Case, k: usize, room: &mut CheckRoom) -> Option<Reason>
     ensures fits { Fits case.now.task room.new }
 {
     case.keeps_rules();
-    if let Some(reason) = room.present.load_round(case, k) {
+    if let Some(reason) = load_round(case, k, &mut room.tables) {
         return Some(reason);
     }
     if let Some(reason) = classes_reason(case, k, room) {
         return Some(reason);
     }
-    room.present.apply_round(case, k);
+    apply_round(case, k, &mut room.tables);
     None
 }
 
@@ -129,7 +130,7 @@ fn start(case: &Case, room: &mut CheckRoom)
     requires { Fits case.now.task room.old }
     ensures { IsReady case.now 0 room.new }
 {
-    room.present.start(case);
+    tables::start(case, &mut room.tables);
     match &case.plan.evidence {
         Evidence::Ordered(evidence) => {
             let of = OrderedCase {
@@ -175,7 +176,7 @@ fn first_reason(case: &Case, room: &mut CheckRoom) -> Option<Reason>
     if let Some(reason) = rounds_reason(case, room) {
         return Some(reason);
     }
-    room.present.wrong_end(case)
+    wrong_end(case, &room.tables)
 }
 
 /// Checks a plan that leads from an old to a new configuration under demands: whether it is certified, and so every

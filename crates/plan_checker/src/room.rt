@@ -4,7 +4,7 @@ ghost use Rattle.topology.specs.Networks.{switch_count};
 ghost use Rattle.dest_classes.specs.Classes.{class_count};
 ghost use Rattle.certificates.specs.Certified.{classes_for};
 ghost use Rattle.certificates.specs.Laws.{task_of};
-ghost use Rattle.round_tables.specs.Present.{HasRoom};
+ghost use Rattle.round_tables.specs.PreparedTables.{HasRoom};
 ghost use Rattle.ordered_check.specs.Kept.{HasClassRoom};
 ghost use Rattle.plan_checker.specs.Fits.{Fits, IsCauseFor};
 
@@ -16,7 +16,7 @@ use flow_rules::Config;
 use net_base::Memory;
 use ordered_check::OrderedRoom;
 use path_walk::PathRoom;
-use round_tables::Present;
+use round_tables::PreparedTables;
 use std::alloc::Global;
 use std::marker::Model;
 use topology::Net;
@@ -27,7 +27,7 @@ use two_phase_check::TwoPhaseRoom;
 pub struct CheckRoom {
     pub(crate) classes: ClassMap,
     pub(crate) duties: Duties,
-    pub(crate) present: Present,
+    pub(crate) tables: PreparedTables,
     pub(crate) ordered: OrderedRoom,
     pub(crate) two_phase: TwoPhaseRoom,
     pub(crate) path: PathRoom,
@@ -38,7 +38,7 @@ impl Model for CheckRoom {
 
     ghost Value = { RoomView };
 
-    ghost view = { λ r. record { classes = r.classes; duties = r.duties; present = r.present; ordered = r.ordered; two_phase = r.two_phase; path = r.path } };
+    ghost view = { λ r. record { classes = r.classes; duties = r.duties; tables = r.tables; ordered = r.ordered; two_phase = r.two_phase; path = r.path } };
 }
 
 /// Why there is no room for a check.
@@ -78,7 +78,7 @@ impl From<ClassFault> for RoomFault {
 /// The rooms of a check beside its classes and duties.
 #[derive(Drop)]
 struct Rooms {
-    present: Present,
+    tables: PreparedTables,
     ordered: OrderedRoom,
     two_phase: TwoPhaseRoom,
     path: PathRoom,
@@ -86,16 +86,16 @@ struct Rooms {
 
 impl Rooms {
     fn make(alloc: Global, net: &Net, plan: &Plan, classes: &ClassMap) -> Result<Rooms, Memory>
-        ensures present { IfOk result (λ r. HasRoom net.now plan.now.rounds r.present) }
+        ensures tables { IfOk result (λ r. HasRoom net.now plan.now.rounds r.tables) }
         ensures ordered { IfOk result (λ r. HasClassRoom classes.now r.ordered) }
         ensures path { IfOk result (λ r. r.path.switches ≡ switch_count net.now) }
     {
         let path = PathRoom::make(alloc, net)?;
-        let present = Present::make(alloc, net, &plan.rounds)?;
+        let tables = PreparedTables::make(alloc, net, &plan.rounds)?;
         let two_phase = TwoPhaseRoom::make(alloc)?;
         let ordered = OrderedRoom::make(alloc, classes)?;
         Ok(Rooms {
-            present,
+            tables,
             ordered,
             two_phase,
             path,
@@ -143,7 +143,7 @@ impl CheckRoom {
         let classes = classes_of_plan(alloc, net, old, new, demands, plan)?;
         let duties = Duties::make(alloc, net, demands, &classes)?;
         let Rooms {
-            present,
+            tables,
             ordered,
             two_phase,
             path,
@@ -151,7 +151,7 @@ impl CheckRoom {
         Ok(CheckRoom {
             classes,
             duties,
-            present,
+            tables,
             ordered,
             two_phase,
             path,

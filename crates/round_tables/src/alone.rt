@@ -4,7 +4,7 @@ ghost use Rattle.net_base.specs.declared.ids.SwitchId.{SwitchId as Switch};
 ghost use Rattle.topology.specs.Networks.{switch_count, capacity_of};
 ghost use Rattle.flow_rules.specs.Tables.{IsClear, rules_at, rules_of_all};
 ghost use Rattle.path_walk.specs.UserConfigs.{IsUserConfig};
-ghost use Rattle.round_tables.specs.Present.{mix_at, IsMixed};
+ghost use Rattle.round_tables.specs.PreparedTables.{mix_at, IsMixed};
 
 use flow_rules::{Config, Table};
 use net_base::{Memory, SwitchId};

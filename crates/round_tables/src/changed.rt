@@ -5,7 +5,7 @@ ghost use Rattle.flow_rules.specs.Tables.{IsTable};
 ghost use Rattle.flow_rules.specs.declared.rules.Rule.{Rule};
 ghost use Rattle.update_model.specs.Changes.{AppliesTo, rules_after_change};
 ghost use Rattle.round_mix.specs.Prepared.{AreClear};
-ghost use Rattle.round_tables.specs.Present.{mix_at, IsMixed};
+ghost use Rattle.round_tables.specs.PreparedTables.{mix_at, IsMixed};
 
 use net_base::SwitchId;
 use round_mix::Mixed;
