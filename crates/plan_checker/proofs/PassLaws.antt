@@ -27,7 +27,7 @@ use Rattle.check_reasons.specs.Reasons.{IsBadChange, IsUnclear, IsReason, IsOrde
 use Rattle.check_reasons.specs.Reasons as why
 use Rattle.check_reasons.specs.Passed.{IsFirstFrom, ChangesPass, RoundKeepsVlans}
 use Rattle.check_reasons.specs.Loaded.{AreLoaded, IsLoaded}
-use Rattle.round_tables.specs.PreparedTables.{PreparedState, IsMixed, mix_at, StandsAt}
+use Rattle.round_tables.specs.PreparedTables.{PreparedState, IsMixed, mix_at}
 use Rattle.round_tables.specs.Loading.{ArePrepared, AreWithin, IsFirstOver}
 use Rattle.plan_checker.specs.Rewrites.{IsFirstRewrite, IsRewriteFound, IsOrdered}
 use Rattle.check_reasons.specs.declared.reason.Reason.{Reason}

@@ -15,7 +15,8 @@ use Rattle.certificates.specs.declared.Evidence.TheVariants as evidence
 use Rattle.certificates.specs.declared.OrderedEvidence.{OrderedEvidence}
 use Rattle.evidence_store.specs.State.{StoreState}
 use Rattle.evidence_store.specs.Stored.{IsStored}
-use Rattle.round_tables.specs.Trials.{TrialState, IsSettled, IsTrying}
+use Rattle.round_tables.specs.PreparedTables.{PreparedState}
+use Rattle.round_tables.specs.Trials.{IsSettled, IsTrying}
 use Rattle.round_planner.specs.declared.Ordered.{Ordered}
 use Rattle.round_planner.specs.declared.Ordered.TheVariants.{Rounds, Stuck}
 use Rattle.round_planner.specs.declared.failing.Failure.{Failure}
@@ -40,7 +41,7 @@ pub record IsGoal (net : Network) (new : List TableState) (duties : ClassDuties)
 
 -- the tables with what is prepared of them, the rounds, their evidence, and for each class the switches that its packets come to
 pub record SearchState : Type 0 where
-  pub trial : TrialState
+  pub trial : PreparedState
   pub rounds : List (List Change)
   pub store : StoreState
   pub came : List ℕ
