@@ -27,6 +27,7 @@ import os
 import pathlib
 import random
 import re
+import resource
 import shlex
 import shutil
 import signal
@@ -228,8 +229,11 @@ def full_table(lab):
 
 
 def full_disk(lab):
-    size = 5 + lab.rounds * len(lab.names) // 16          # blocks of 512 bytes
-    told = lab.end_of(lab.begin(before=["sh", "-c", f'ulimit -f {size}; exec "$@"', "sh"]))[1]
+    run = lab.begin()
+    lab.until(lab.middle(), run)
+    size = lab.record.stat().st_size
+    resource.prlimit(run.pid, resource.RLIMIT_FSIZE, (size + 200, size + 200))
+    told = lab.end_of(run)[1]
     return told, *lab.go_on(told)
 
 

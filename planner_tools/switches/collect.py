@@ -27,19 +27,25 @@ from planner_tools.switches.connections import OWN, Stop, Switches, host_and_por
 from planner_tools.switches.entries import Entry, ExtendedEntry, cut_entries
 from planner_tools.switches.expected import Answers
 
-FLOW_XID, EXTENDED_XID, BARRIER_XID = OWN + 1, OWN + 2, OWN + 3
+# The xids of a run of questions: these, over a number of its own.
+FLOW_XID, EXTENDED_XID, BARRIER_XID = 1, 2, 3
+FIRST_RUN, RUNS = OWN + 0x1000, 0x3000
 EVERY_PACKET = struct.pack("!I", 0x003FFFFF) + bytes(36)
 NICIRA = 0x2320
-QUESTIONS = (openflow.message(openflow.STATS_REQUEST, FLOW_XID, struct.pack("!HH", 1, 0) + EVERY_PACKET + struct.pack("!BxH", 0xFF, 0xFFFF))
-             + openflow.message(openflow.STATS_REQUEST, EXTENDED_XID, struct.pack("!HHII4xHHB3x", 0xFFFF, 0, NICIRA, 0, 0xFFFF, 0, 0xFF))
-             + openflow.message(openflow.BARRIER_REQUEST, BARRIER_XID))
+
+
+def questions(base):
+    """The questions for the table of a switch, with xids over this number."""
+    return (openflow.message(openflow.STATS_REQUEST, base + FLOW_XID, struct.pack("!HH", 1, 0) + EVERY_PACKET + struct.pack("!BxH", 0xFF, 0xFFFF))
+            + openflow.message(openflow.STATS_REQUEST, base + EXTENDED_XID, struct.pack("!HHII4xHHB3x", 0xFFFF, 0, NICIRA, 0, 0xFFFF, 0, 0xFF))
+            + openflow.message(openflow.BARRIER_REQUEST, base + BARRIER_XID))
 
 
 class Tables:
     """What the switches answered, and what is to be written of it."""
 
     def __init__(self, names):
-        self.names = names
+        self.names, self.runs = names, 0
         self.answers = {name: Answers() for name in names}
 
     def missing(self):
@@ -51,26 +57,29 @@ class Tables:
         self.answers[name] = Answers()
 
     def ask(self, connection):
-        """Asks a switch, from the beginning."""
-        self.answers[connection.name] = Answers()
-        connection.send(QUESTIONS)
+        """Asks a switch, from the beginning. What it still answers to earlier questions is passed over, by its xid."""
+        self.runs += 1
+        base = FIRST_RUN + 4 * (self.runs % RUNS)
+        self.answers[connection.name] = Answers(base)
+        connection.send(questions(base))
 
     def take(self, connection, message):
         """Takes a message where it answers a question."""
-        kind, xid = openflow.type_of(message), openflow.xid_of(message)
-        if not openflow.is_message(message) or xid not in (FLOW_XID, EXTENDED_XID, BARRIER_XID):
+        answers, kind = self.answers[connection.name], openflow.type_of(message)
+        xid = openflow.xid_of(message)
+        if not openflow.is_message(message) or not FIRST_RUN <= xid < FIRST_RUN + 4 * RUNS:
             return False
-        answers = self.answers[connection.name]
+        xid -= answers.base
         if kind == openflow.STATS_REPLY and xid == FLOW_XID:
             answers.flow.append(message)
-        elif kind == openflow.STATS_REPLY and answers.extended is not None:
+        elif kind == openflow.STATS_REPLY and xid == EXTENDED_XID and answers.extended is not None:
             answers.extended.append(message)
         elif kind == openflow.ERROR and xid == EXTENDED_XID:
             answers.extended = None       # the switch has no such statistics
-        elif kind == openflow.ERROR:
+        elif kind == openflow.ERROR and xid in (FLOW_XID, BARRIER_XID):
             words = openflow.error_words(int.from_bytes(message[8:10], "big"), int.from_bytes(message[10:12], "big"))
             raise Stop(f"{connection.name} refused the question for its table: {words}", "see that it speaks OpenFlow 1.0, and ask again")
-        elif kind == openflow.BARRIER_REPLY:
+        elif kind == openflow.BARRIER_REPLY and xid == BARRIER_XID:
             answers.is_whole = True
         return True
 
@@ -81,6 +90,9 @@ class Tables:
             reading = Reading(name, self.answers[name].flow, self.answers[name].extended)
             lines += reading.lines
             faults += reading.faults
+        for name, answers in self.answers.items():
+            for mark in answers.marks() if not faults else ():
+                lines.append(f"# {name}: has the mark of an update at work, {mark}")
         for fault in faults:
             say(fault)
         if faults:
@@ -97,7 +109,7 @@ class Reading:
         try:
             for reply in flow:
                 kept = b"".join(self.keep(Entry(data)) for data in cut_entries(reply[12:], 88))
-                self.lines.append(f"{name} {openflow.message(openflow.STATS_REPLY, FLOW_XID, reply[8:12] + kept).hex()}")
+                self.lines.append(f"{name} {openflow.message(openflow.STATS_REPLY, OWN + FLOW_XID, reply[8:12] + kept).hex()}")
             if extended is not None:
                 self.compare([ExtendedEntry(data) for reply in extended for data in cut_entries(reply[24:], 48)])
         except (ValueError, struct.error):

@@ -106,7 +106,8 @@ def repair_plan(found):
 class Answers:
     """What a switch answers to the questions for its table: messages of statistics, of both kinds where it has both."""
 
-    def __init__(self):
+    def __init__(self, base=0):
+        self.base = base             # what the xids of the questions are counted from
         self.flow, self.extended, self.is_whole = [], [], False
 
     def marks(self):

@@ -7,6 +7,7 @@ import unittest
 from network import EXAMPLES, Network, UpdateTest, planner
 import fake_switch
 from planner_tools.switches import collect, openflow
+from planner_tools.switches.connections import OWN
 
 
 def sent(text):
@@ -23,12 +24,15 @@ class Applying(UpdateTest):
     def test_what_a_switch_receives_is_what_drive_says_and_questions_that_change_nothing(self):
         net = Network(self, "square")
         text = self.settles(net, net.apply())
-        mark = net.mark()
-        own = {openflow.message(openflow.FEATURES_REQUEST, 0xFEA70000), *openflow.cut(collect.QUESTIONS)[0], *openflow.cut(mark.put() + mark.take_away())[0]}
+        def without_xid(data):
+            return {piece[:4] + piece[8:] for piece in openflow.cut(data)[0]}
+
+        own = {openflow.HELLO_BYTES[:4], *without_xid(openflow.message(openflow.FEATURES_REQUEST, 0) + collect.questions(0) + net.mark().put() + net.mark().take_away())}
         for name, data in sent(text).items():
             pieces = openflow.cut(net.switches[name].received)[0]
-            self.assertEqual(b"".join(it for it in pieces if it not in own), data)
-            self.assertEqual(pieces.count(openflow.cut(collect.QUESTIONS)[0][0]), 4)      # at the beginning, before each round, at the end
+            self.assertEqual(b"".join(it for it in pieces if openflow.xid_of(it) < OWN), data)
+            self.assertLessEqual(without_xid(b"".join(it for it in pieces if openflow.xid_of(it) >= OWN)), own)
+            self.assertEqual([it[8:10] for it in pieces if openflow.type_of(it) == openflow.STATS_REQUEST].count(b"\0\1"), 4)     # at first, before each round, at last
 
     def test_each_line_of_the_record_is_followed_by_what_drive_says_of_it(self):
         net = Network(self, "square")

@@ -6,8 +6,9 @@ import subprocess
 import time
 import unittest
 
-from network import LONGEST, Network, UpdateTest
+from network import LONGEST, Network, UpdateTest, planner
 import fake_switch
+from planner_tools.switches import collect
 
 DROP_ALL = {"dst": "10.0.0.0/24", "priority": 200, "out": "drop"}
 # A switch that speaks OpenFlow 1.3 alone says so in its HELLO.
@@ -183,6 +184,14 @@ class Faults(UpdateTest):
         self.press(said)
         self.settles(net, self.end_of(said))
 
+    def test_a_two_phase_update_that_can_t_go_on_is_left_by_a_record_that_gives_back_the_old_tables(self):
+        net = Network(self, "detour", listen=True)
+        net.apply_until("round 5 starts")
+        self.another(net)
+        self.stops(net.apply(), "another update is at work", "go on with --take-over")
+        self.stops(net.apply("--resume", "--take-over"), "So the switches don't have the tables of", "No plan can start from what they have: a configuration can't say it")
+        self.settles(net, net.apply("--resume", "--repair"))
+
     def test_a_switch_that_refuses_the_mark_is_named(self):
         net = Network(self, "square", only={"s4": {"refuses": True}})
         self.stops(net.apply(), "s4 refuses the mark of the update: flow message failed: all tables full", "--no-mark")
@@ -215,6 +224,17 @@ class Faults(UpdateTest):
         self.settles(net, net.apply("--resume"))
 
     # ---- words
+
+    def test_a_refusal_of_import_names_the_switch_and_the_entry(self):
+        net = Network(self, "square")
+        net.switches["s3"].entries = [fake_switch.entry_of(fake_switch.match_of(DROP_ALL), 100, fake_switch.actions_of({"out": 9}))]
+        text = net.collect().stdout
+        (net.folder / "replies").write_text(text)
+        said = planner("import", net.files[0], net.folder / "replies")
+        self.assertEqual(said, "bad replies: 7 BadPort at 2\n")
+        self.assertEqual(collect.entry_at(net.folder / "replies", said), "an entry of the switch s3: priority 100 type 0800 10.0.0.0/24 -> output 9")
+        self.assertEqual(collect.entry_at(net.folder / "replies", "bad replies: 2 BadMessage at 4\n"), "line 4, of the switch s2")
+        self.assertIsNone(collect.entry_at(net.folder / "replies", "bad replies: 9 OverCapacity at 0\n"))
 
     def test_a_resume_that_fails_says_what_the_record_has(self):
         net = Network(self, "square")
