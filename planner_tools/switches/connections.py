@@ -9,7 +9,7 @@ import socket
 import sys
 import time
 
-import openflow
+from planner_tools.switches import openflow
 
 # The upper half of all xids of these scripts' own questions. Those of `planner drive` count from 1 and are far below.
 OWN = 0xFEA70000

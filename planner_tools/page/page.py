@@ -1,7 +1,6 @@
-#!/usr/bin/env python3
 """Writes a page that shows what a plan does, one HTML file that needs nothing else:
 
-    view/page.py TOPO OLD NEW POLICY PLAN [--schedule FILE] > update.html
+    planner page TOPO OLD NEW POLICY PLAN [--schedule FILE] > update.html
 """
 import argparse
 import html
@@ -10,26 +9,25 @@ import os
 import re
 import sys
 
-HERE = os.path.dirname(os.path.realpath(__file__))
-sys.path.insert(0, HERE)
-sys.dont_write_bytecode = True
+from planner_tools import program
+from planner_tools.page.layout import layout
+from planner_tools.page.values import Files
+from planner_tools.page.verdict import Refused, traces, verdict
 
-from files import Files  # noqa: E402
-from layout import layout  # noqa: E402
-from verdict import Refused, traces, verdict  # noqa: E402
+HERE = os.path.dirname(os.path.realpath(__file__))
 
 SCRIPTS = ("model.js", "walks.js", "words.js", "picture.js", "player.js", "main.js")
 
 
-def words():
-    parser = argparse.ArgumentParser(description="Writes a page that shows what a plan does.")
+def asked_by(words):
+    parser = argparse.ArgumentParser(prog="planner page", description="Writes a page that shows what a plan does.")
     for name, text in (("topology", "the network"), ("old", "the rules now"), ("new", "the rules wanted"), ("policy", "what packets must do"),
                        ("plan", "the plan, from any source")):
         parser.add_argument(name, metavar={"topology": "TOPO"}.get(name, name.upper()), help=text)
     parser.add_argument("--schedule", metavar="FILE", help="a run of the plan, to be played: what `planner simulate` or `planner explain` wrote, or a record")
-    parser.add_argument("--planner", metavar="PATH", help="the program; else the variable PLANNER, else the script at the root of the repository")
+    parser.add_argument("--planner", metavar="PATH", help="the program; else the variable PLANNER, else the one that is built or installed")
     parser.add_argument("--layout", choices=("graphviz", "own"), default="graphviz", help="own: Graphviz isn't used, even where it is there")
-    return parser.parse_args()
+    return parser.parse_args(words)
 
 
 def part(name):
@@ -46,7 +44,7 @@ def page(values):
 
 
 def values_of(asked):
-    planner = asked.planner or os.environ.get("PLANNER") or os.path.join(os.path.dirname(HERE), "planner")
+    planner = asked.planner or program.path()
     update = [asked.topology, asked.old, asked.new, asked.policy, asked.plan]
     said = verdict(planner, update)
     files = Files(*update)
@@ -60,18 +58,18 @@ def values_of(asked):
     return values
 
 
-def main():
+def main(words):
     try:
-        text = page(values_of(words()))
+        text = page(values_of(asked_by(words)))
     except Refused as fault:
         print(fault, file=sys.stderr)
         return fault.status
+    except program.NoProgram as fault:
+        print(fault, file=sys.stderr)
+        return program.NO_PROGRAM
     except OSError as fault:
         print(f"a file can't be read: {fault}", file=sys.stderr)
         return 6
     sys.stdout.buffer.write(text.encode())
     return 0
 
-
-if __name__ == "__main__":
-    sys.exit(main())

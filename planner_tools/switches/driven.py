@@ -1,18 +1,5 @@
-"""The program `planner`: runs of it, and what a run of `planner drive` says. The environment variable PLANNER names another program than the script
-`planner` of this repository."""
-import os
-import pathlib
-import subprocess
-
-import openflow
-
-PROGRAM = os.environ.get("PLANNER") or str(pathlib.Path(__file__).resolve().parent.parent / "planner")
-
-
-def run(*words):
-    """The exit status of a run, and its text in one piece."""
-    done = subprocess.run([PROGRAM, *map(str, words)], capture_output=True, text=True, check=False)
-    return done.returncode, done.stdout
+"""What a run of `planner drive` says."""
+from planner_tools.switches import openflow
 
 
 class Driven:

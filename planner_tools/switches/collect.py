@@ -1,7 +1,6 @@
-#!/usr/bin/env python3
 """Asks each switch for its flow table, and writes the file REPLIES that `planner import TOPOLOGY REPLIES` reads.
 
-    controller/collect.py TOPOLOGY --switches FILE [--listen HOST:PORT] [--patience SECONDS] > REPLIES
+    planner collect TOPOLOGY --switches FILE [--listen HOST:PORT] [--patience SECONDS] > REPLIES
 
 FILE has a line for each switch, `NAME DATAPATH [HOST:PORT]`: the datapath id in 16 hexadecimal digits, and where the switch listens. A switch
 without an address connects to the address behind --listen. --patience is how long a switch may take to answer (15 s).
@@ -22,9 +21,9 @@ import struct
 import sys
 import time
 
-import openflow
-from entries import Entry, ExtendedEntry, cut_entries
-from switches import OWN, Stop, Switches, host_and_port, read_switches, say
+from planner_tools.switches import openflow
+from planner_tools.switches.connections import OWN, Stop, Switches, host_and_port, read_switches, say
+from planner_tools.switches.entries import Entry, ExtendedEntry, cut_entries
 
 FLOW_XID, EXTENDED_XID, BARRIER_XID = OWN + 1, OWN + 2, OWN + 3
 EVERY_PACKET = struct.pack("!I", 0x003FFFFF) + bytes(36)
@@ -125,7 +124,7 @@ class Reading:
 
 
 def main(words):
-    parser = argparse.ArgumentParser(description=__doc__, formatter_class=argparse.RawDescriptionHelpFormatter)
+    parser = argparse.ArgumentParser(prog="planner collect", description=__doc__, formatter_class=argparse.RawDescriptionHelpFormatter)
     parser.add_argument("topology", metavar="TOPOLOGY")
     parser.add_argument("--switches", metavar="FILE", required=True)
     parser.add_argument("--listen", metavar="HOST:PORT", type=host_and_port)
@@ -153,6 +152,3 @@ def main(words):
         if switches is not None:
             switches.close()
 
-
-if __name__ == "__main__":
-    sys.exit(main(sys.argv[1:]))

@@ -4,8 +4,8 @@ import fcntl
 import os
 import re
 
-import openflow
-from switches import Stop
+from planner_tools.switches import openflow
+from planner_tools.switches.connections import Stop
 
 
 class Record:

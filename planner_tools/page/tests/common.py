@@ -10,7 +10,7 @@ import unittest
 import browser
 import networks
 
-PAGE = os.path.join(networks.ROOT, "view", "page.py")
+FRONT_END = os.path.join(networks.ROOT, "planner")
 NO_BROWSER = "no browser on this machine: the tests that open pages in one are left out"
 SECONDS = 60
 
@@ -51,7 +51,7 @@ class Pages(unittest.TestCase):
 
     def page(self, *words, status=0):
         """Writes a page, and returns its path and what the script wrote to its error stream."""
-        done = subprocess.run([sys.executable, "-B", PAGE, *words], capture_output=True, timeout=SECONDS, check=False)
+        done = subprocess.run([sys.executable, "-B", FRONT_END, "page", *words], capture_output=True, timeout=SECONDS, check=False)
         self.assertEqual(status, done.returncode, done.stderr.decode())
         path = os.path.join(self.folder, "update.html")
         with open(path, "wb") as file:

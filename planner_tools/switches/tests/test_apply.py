@@ -1,13 +1,12 @@
-"""Tests of apply.py: whole updates of fake switches over the loopback. PLANNER names the program."""
+"""Tests of `planner apply`: whole updates of fake switches over the loopback. PLANNER names the program."""
 import re
 import socket
 import time
 import unittest
 
-from network import CONTROLLER, EXAMPLES, Network
-import collect
+from network import EXAMPLES, Network
 import fake_switch
-import openflow
+from planner_tools.switches import collect, openflow
 
 
 def sent(text):

@@ -1,9 +1,8 @@
-#!/usr/bin/env python3
 """Carries out a plan on the switches of a network. Every byte that changes a table is decided by `planner drive`; this script carries bytes.
 
-    controller/apply.py TOPOLOGY OLD NEW POLICY PLAN INPUT --switches FILE [--listen HOST:PORT] [--wait SECONDS | --ask] [--patience SECONDS] [--resume]
+    planner apply TOPOLOGY OLD NEW POLICY PLAN INPUT --switches FILE [--listen HOST:PORT] [--wait SECONDS | --ask] [--patience SECONDS] [--resume]
 
-FILE and --listen are those of collect.py. INPUT is the record of the update, a new file. What the switches send is appended to it, and a line `start`
+FILE and --listen are those of `planner collect`. INPUT is the record of the update, a new file. What the switches send is appended to it, and a line `start`
 for each round; then `planner drive` reads it, and what it says is to be sent beyond the last time is sent. So `planner drive TOPOLOGY OLD NEW POLICY
 PLAN INPUT` tells anyone later what was sent, what was answered, and how far the update came.
 
@@ -29,11 +28,12 @@ import sys
 import tempfile
 import time
 
-import openflow
-import planner
-from collect import Tables
-from record import Record
-from switches import OWN, Stop, Switches, host_and_port, read_switches, say
+from planner_tools import program
+from planner_tools.switches import openflow
+from planner_tools.switches.collect import Tables
+from planner_tools.switches.connections import OWN, Stop, Switches, host_and_port, read_switches, say
+from planner_tools.switches.driven import Driven
+from planner_tools.switches.record import Record
 
 # `check` accepts it exactly where the two configurations have the same tables and good paths.
 NO_ROUNDS = {"format": 2, "kind": "ordered", "rules": [], "rounds": [], "numberings": [], "befores": [], "uses": [], "picks": []}
@@ -93,7 +93,7 @@ class Update:
         self.record.keep()
         self.record.is_fresh = False
         before, last = time.monotonic(), self.driven
-        status, text = planner.run("drive", *self.files, self.options.input)
+        status, text = program.run("drive", *self.files, self.options.input)
         took = time.monotonic() - before
         if took > SLOW and not self.is_slow:
             self.is_slow = True
@@ -102,7 +102,7 @@ class Update:
         if status != 0:
             raise Stop(f"`planner drive` ended with status {status}{f' and said: {text.strip()}' if text else ''}",
                        AFTER_REFUSAL.get(status, f"see that the program can run; then {'go on with --resume' if last else 'begin again'}"))
-        self.driven = planner.Driven(text)
+        self.driven = Driven(text)
         if last is not None and self.driven.settled > last.settled:
             self.settled_at = time.monotonic()
             seconds = f", {self.settled_at - self.started_at:.3f} s after its start" if self.started_at else ""
@@ -212,14 +212,14 @@ class Update:
         replies, config = f"{self.options.input}.{word}", f"{self.options.input}.{word}.json"
         pathlib.Path(replies).write_text(self.tables.replies(), encoding="ascii")
         self.tables = None
-        status, text = planner.run("import", self.options.topology, replies)
+        status, text = program.run("import", self.options.topology, replies)
         if status != 0:
             raise Stop(f"`planner import` refuses the tables of the switches: {text.strip()}", f"see docs/FORMATS.md for what it said of {replies}")
         pathlib.Path(config).write_text(text, encoding="ascii")
         with tempfile.NamedTemporaryFile("w", suffix=".json") as plan:
             json.dump(NO_ROUNDS, plan)
             plan.flush()
-            status, text = planner.run("check", self.options.topology, config, path, self.options.policy, plan.name)
+            status, text = program.run("check", self.options.topology, config, path, self.options.policy, plan.name)
         if status != 0:
             raise Stop(f"the switches don't have the tables of {path}: {text.strip()}",
                        f"make a plan from {config}, which has those that they have, and begin it with a record of its own")
@@ -251,7 +251,7 @@ def stopped(update, why):
 
 
 def main(words):
-    parser = argparse.ArgumentParser(description=__doc__, formatter_class=argparse.RawDescriptionHelpFormatter)
+    parser = argparse.ArgumentParser(prog="planner apply", description=__doc__, formatter_class=argparse.RawDescriptionHelpFormatter)
     for name in ("topology", "old", "new", "policy", "plan", "input"):
         parser.add_argument(name, metavar=name.upper())
     parser.add_argument("--switches", metavar="FILE", required=True)
@@ -267,13 +267,10 @@ def main(words):
         update = Update(options)
         update.run()
         return 0
-    except (Stop, OSError, KeyboardInterrupt) as why:
+    except (Stop, OSError, program.NoProgram, KeyboardInterrupt) as why:
         stopped(update, why)
         return 1
     finally:
         if update is not None and update.switches is not None:
             update.switches.close()
 
-
-if __name__ == "__main__":
-    sys.exit(main(sys.argv[1:]))

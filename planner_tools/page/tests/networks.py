@@ -4,7 +4,7 @@ import json
 import os
 import random
 
-ROOT = os.path.dirname(os.path.dirname(os.path.dirname(os.path.realpath(__file__))))
+ROOT = os.path.realpath(os.path.join(os.path.dirname(os.path.realpath(__file__)), "..", "..", ".."))
 FILES = ("topology", "old", "new", "policy")
 
 Update = collections.namedtuple("Update", FILES)

@@ -9,12 +9,13 @@ import sys
 import tempfile
 import time
 
-CONTROLLER = pathlib.Path(__file__).resolve().parent.parent
-sys.path.insert(0, str(CONTROLLER))
 import fake_switch
+from planner_tools import program
 
-EXAMPLES = CONTROLLER.parent / "examples"
-PLANNER = os.environ.get("PLANNER") or str(CONTROLLER.parent / "planner")
+ROOT = pathlib.Path(__file__).resolve().parents[3]
+EXAMPLES = ROOT / "examples"
+FRONT_END = ROOT / "planner"
+PLANNER = program.path()
 DATAPATHS = {"square": {"s1": 0xA1, "s2": 0xA2, "s3": 0xA3, "s4": 0xA4}, "detour": {"s": 0xB1, "x": 0xB2, "w": 0xB3, "y": 0xB4, "d": 0xB5}}
 # No run of a test takes longer, in seconds.
 LONGEST = 30
@@ -41,13 +42,13 @@ class Network:
         test.addCleanup(lambda: [one.stop() for one in self.switches.values()])
 
     def begin(self, *more):
-        """A run of apply.py, begun."""
-        words = [sys.executable, CONTROLLER / "apply.py", *self.files, self.record, "--switches", self.listed, *self.where, *more]
+        """A run of `planner apply`, begun."""
+        words = [sys.executable, FRONT_END, "apply", *self.files, self.record, "--switches", self.listed, *self.where, *more]
         return subprocess.Popen([*map(str, words), *([] if {"--wait", "--ask"} & set(more) else ["--wait", "0.05"])], stdin=subprocess.PIPE, stderr=subprocess.PIPE, text=True,
                                 env={**os.environ, "PLANNER": PLANNER})
 
     def apply(self, *more):
-        """A run of apply.py: its status and what it said."""
+        """A run of `planner apply`: its status and what it said."""
         run = self.begin(*more)
         try:
             said = run.communicate(timeout=LONGEST)[1]
@@ -57,7 +58,7 @@ class Network:
         return run.returncode, said
 
     def apply_until(self, text, *more):
-        """A run of apply.py that is killed when its record has the text."""
+        """A run of `planner apply` that is killed when its record has the text."""
         run, until = self.begin(*more), time.monotonic() + LONGEST
         while time.monotonic() < until and not (self.record.exists() and text in self.record.read_text()):
             time.sleep(0.01)
@@ -65,7 +66,7 @@ class Network:
         return run.communicate()[1]
 
     def collect(self, *more):
-        words = [sys.executable, CONTROLLER / "collect.py", self.files[0], "--switches", self.listed, *self.where, *more]
+        words = [sys.executable, FRONT_END, "collect", self.files[0], "--switches", self.listed, *self.where, *more]
         return subprocess.run(list(map(str, words)), capture_output=True, text=True, timeout=LONGEST, check=False)
 
     def drive(self):

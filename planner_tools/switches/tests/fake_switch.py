@@ -7,8 +7,8 @@ import sys
 import threading
 import time
 
-sys.path.insert(0, str(pathlib.Path(__file__).resolve().parent.parent))
-import openflow
+sys.path.insert(0, str(pathlib.Path(__file__).resolve().parents[3]))
+from planner_tools.switches import openflow
 
 DELETE_STRICT = 4
 TAG_PRIORITY = 1 << 20      # the bit of `wildcards`

@@ -1,4 +1,4 @@
-"""Tests of collect.py: what fake switches answer over the loopback, and what `planner import` makes of it. PLANNER names the program."""
+"""Tests of `planner collect`: what fake switches answer over the loopback, and what `planner import` makes of it. PLANNER names the program."""
 import pathlib
 import socket
 import struct
@@ -25,7 +25,7 @@ TYPE, PREFIX = "00000602" "0800", "00001108" "0a000000" "ffffff00"
 
 class Collecting(unittest.TestCase):
     def reading(self, entries, shown=None):
-        """What collect.py does where s1 of the square has these entries, and the configuration that `import` reads."""
+        """What `planner collect` does where s1 of the square has these entries, and the configuration that `import` reads."""
         net = Network(self, "square")
         net.switches["s1"].entries, net.switches["s1"].extended = entries, shown
         run = net.collect()

@@ -8,8 +8,8 @@ import unittest.mock
 import networks
 from common import Pages, PagesInBrowser, planner
 
-sys.path.insert(0, os.path.join(networks.ROOT, "view"))
-import layout  # noqa: E402
+sys.path.insert(0, networks.ROOT)
+from planner_tools.page import layout  # noqa: E402
 
 
 def setUpModule():
@@ -66,7 +66,7 @@ class Layouts(unittest.TestCase):
                     self.check(len(number), links, range(len(number)), graphviz)
 
     def test_without_graphviz_the_layout_is_our_own(self):
-        with unittest.mock.patch("layout.subprocess.run", side_effect=FileNotFoundError):
+        with unittest.mock.patch("planner_tools.page.layout.subprocess.run", side_effect=FileNotFoundError):
             self.assertIsNone(layout.by_graphviz(2, [(0, 1)]))
             self.check(2, [(0, 1)], [0], True)
 
