@@ -181,14 +181,15 @@ def change_by_hand(lab):
 
 
 def kills(lab):
-    told, more = "", []
+    more = []
     for _ in range(6):
         run = lab.begin(*more)
         time.sleep(0.4 + lab.chance.random() * (float(lab.wait) + 0.6))
         run.kill()
-        said = lab.end_of(run)[1]
-        told, more = told or said, ["--resume"] if lab.record.exists() else []
-    return told, "--resume, six times", *lab.end_of(lab.begin(*more))
+        lab.end_of(run)
+        more = ["--resume"] if lab.record.exists() else []
+    status, end = lab.end_of(lab.begin(*more))
+    return end.splitlines()[0], "--resume, six times", status, end
 
 
 def cuts(lab):
@@ -244,7 +245,7 @@ FAULTS = {"two controllers": two_controllers, "emptied switch": emptied_switch, 
 def telling(said):
     """The line that tells of the fault."""
     lines = said.strip().splitlines() or ["nothing"]
-    shown = [line for line in lines if line.startswith("stopped: ")] or [line for line in lines if re.search("missing|too much|sent again|closed its|no answer", line)]
+    shown = [line for line in lines if line.startswith("stopped: ")] or [line for line in lines if re.search("missing|too much|closed its|no answer", line)]
     return (shown or lines[-1:])[0].replace("|", "/")
 
 

@@ -115,9 +115,8 @@ class Comparison(Conversation):
             say(str(one))
         for one in found[:NOTED]:
             self.record.remark(str(one))
-        since = f"since {self.compared_at}, when all was as it must be," if self.compared_at else "until now"
-        say(f"what packets may have met {since}: at {', '.join(sorted({one.switch for one in found}))} those that fit these entries may have been dropped, "
-            "sent elsewhere, or sent with another VLAN")
+        since = f"since {self.compared_at}, when all was as it must be, " if self.compared_at else ""
+        say(f"{since}packets that fit these entries may have been dropped, sent elsewhere or sent with another VLAN at {', '.join(sorted({one.switch for one in found}))}")
 
     def differs(self, found):
         names = sorted({one.switch for one in found})

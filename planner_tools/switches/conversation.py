@@ -50,7 +50,7 @@ class Conversation:
         self.runs, self.seconds, self.cycles = 0, 0.0, []
         self.settled_at = self.started_at = None
         self.sent_rounds = 0         # how many rounds this run has sent
-        self.compared_at = self.record.last_seen and f"{self.record.last_seen[:19]}Z"      # when the tables were last as they must be, or soon after
+        self.compared_at = self.record.last_compared and f"{self.record.last_compared}Z"      # when the tables were last as they must be
         self.since, self.told = {}, time.monotonic()       # since when each switch is waited for, and when that was said last
         self.asked = False
 

@@ -16,6 +16,8 @@ from planner_tools.switches.connections import Stop
 SUM = re.compile("#([1-9][0-9]*) ([0-9a-f]{16})")
 HEAD = re.compile("# update ([0-9a-f]{12}) begun ([0-9]+) (.*)")
 FEED = re.compile("feed ([^ ]+) (([0-9a-fA-F]{2}){8,})")
+# Remarks that are made right after the tables were found to be as they must be.
+COMPARED = re.compile("# (....-..-..T..:..:..)[^ ]* (?:round [0-9]+ starts|the switches have the tables of) ")
 MARKED = " the mark of the update is put on the switches"
 # What comes and goes with one switch is noted once in so many seconds, so that a switch that comes and goes for a week fills no disk.
 SELDOM = 600.0
@@ -47,7 +49,7 @@ class Record:
         self.starts = 0               # how many rounds were started by it
         self.is_marked = False        # whether the mark was put on the switches
         self.lines, self.count, self.sum, self.size = 0, 0, "", 0       # lines of the file, those with a sum, the last sum, bytes of the file
-        self.last_seen = None         # the time of its last remark
+        self.last_compared = None     # when the tables were last found to be as they must be
         self.quiet = {}               # by switch: when it was noted last that it came or went, and how often since
         if resume:
             try:
@@ -101,11 +103,11 @@ class Record:
         self.count, self.sum, self.lines, self.size = self.count + 1, mark[2], at + 2, self.size + len(lines[at]) + len(line) + 2
         self.starts += line == "start"
         self.is_marked = self.is_marked or line.endswith(MARKED)
-        feed, remark = FEED.fullmatch(line), re.match("# (....-..-..T[^ ]*) ", line)
+        feed, compared = FEED.fullmatch(line), COMPARED.match(line)
         if feed:
             self.note(feed[1], bytes.fromhex(feed[2]))
-        elif remark:
-            self.last_seen = remark[1]
+        elif compared:
+            self.last_compared = compared[1]
 
     def not_as_written(self, number, what, good):
         """The first line that isn't as it was written, and how many are good before it."""

@@ -46,20 +46,20 @@ class Faults(UpdateTest):
     # ---- what a switch has is compared with what it must have
 
     def test_an_emptied_switch_is_told_before_anything_is_sent_and_repaired(self):
-        for name, at, empty_at, missing in (("square", "s3", 1, "s3: missing: priority 100 10.0.0.0/24"), ("detour", "x", 1, "x: missing: priority 16"),
-                                            ("detour", "s", 3, "s: missing: priority 328"), ("detour", "d", 5, "d: missing: priority")):
-            for has_extended in (False, True):
-                with self.subTest(name, at=at, has_extended=has_extended):
-                    net = Network(self, name, only={at: {"empty_at": empty_at}}, has_extended=has_extended)
-                    run = net.apply()
-                    self.stops(run, f"of {at} are not as they must be, and said above", "go on with --resume --repair, which sends what is missing")
-                    if missing in run[1] or empty_at > 1:
-                        self.assertIn(f"{at}: missing: the mark of this update", run[1])
-                    self.assertRegex(run[1], r"what packets may have met since \d{4}-\d\d-\d\dT\d\d:\d\d:\d\dZ, when all was as it must be,: at ")
-                    before = net.switches[at].flow_messages
+        for name, at, empty_at, missing, has_extended in (("square", "s3", 1, "s3: missing: priority 100 10.0.0.0/24 -> output 3", False),
+                                                          ("detour", "x", 1, "x: missing: the mark of this update", True),
+                                                          ("detour", "s", 3, "s: missing: priority 328", False), ("detour", "d", 5, "d: missing: priority 164", True)):
+            with self.subTest(name, at=at):
+                net = Network(self, name, only={at: {"empty_at": empty_at}}, has_extended=has_extended)
+                run = net.apply()
+                self.stops(run, f"of {at} are not as they must be, and said above", "go on with --resume --repair, which sends what is missing")
+                self.assertIn(f"{at}: missing: the mark of this update", run[1])
+                self.assertRegex(run[1], r"since \d{4}-\d\d-\d\dT\d\d:\d\d:\d\dZ, when all was as it must be, packets that fit these entries may have been dropped.* at " + at)
+                before = net.switches[at].flow_messages
+                if name == "square":
                     self.stops(net.apply("--resume"), "not as they must be", "--resume --repair")
                     self.assertEqual(net.switches[at].flow_messages, before)
-                    self.settles(net, net.apply("--resume", "--repair"))
+                self.settles(net, net.apply("--resume", "--repair"))
 
     def test_an_emptied_switch_is_repaired_at_once_where_that_is_wanted(self):
         net = Network(self, "detour", only={"s": {"empty_at": 2}, "w": {"empty_at": 1}}, has_extended=True)
