@@ -19,7 +19,10 @@ class Applying(UpdateTest):
         for name, wait in (("square", "0.05"), ("detour", "0")):
             with self.subTest(name):
                 net = Network(self, name)
-                self.settles(net, net.apply("--wait", wait))
+                run = net.apply("--wait", wait)
+                rounds = int(re.search(r"# settled \d+ of (\d+)", self.settles(net, run))[1])
+                told = re.findall(r"round (\d+) of \d+ is settled, [0-9.]+ s after its start; (\d+) are left, some \d+ s", run[1])
+                self.assertEqual(told, [(str(it), str(rounds - it)) for it in range(1, rounds)])
 
     def test_what_a_switch_receives_is_what_drive_says_and_questions_that_change_nothing(self):
         net = Network(self, "square")
@@ -56,22 +59,22 @@ class Applying(UpdateTest):
 
     def test_a_switch_that_answers_late_is_named_and_waited_for(self):
         net = Network(self, "square", only={"s3": {"delay": 1.0}})
-        run = net.apply("--patience", "6")
+        run = net.apply("--patience", "10")
         self.settles(net, run)
         self.assertIn("1 of 2 rounds are settled, round 2 is running, no answer yet from s3", run[1])
 
     def test_a_switch_that_never_answers_ends_the_patience(self):
         net = Network(self, "square", only={"s3": {"is_silent": True}})
-        run = net.apply("--patience", "2")
+        run = net.apply("--patience", "4")
         self.stops(run, "1 of 2 rounds are settled, round 2 is running, no answer yet from s3", "see that s3 is connected and answers; then go on with")
-        self.assertIn("the patience of 2 s is at its end: s3 hasn't answered the messages of the round", run[1])
+        self.assertIn("the patience of 4 s is at its end: s3 hasn't answered the messages of the round", run[1])
         net.switches["s3"].is_silent = False
         self.settles(net, net.apply("--resume"))
 
     def test_a_switch_that_isn_t_there_ends_the_patience(self):
         net = Network(self, "square")
         net.switches["s2"].stop()
-        self.stops(net.apply("--patience", "1"), "no answer yet from s2", "--resume")
+        self.stops(net.apply("--patience", "4"), "no answer yet from s2", "--resume")
         self.assertEqual(sum(one.flow_messages for one in net.switches.values()), 0)
 
     def test_an_error_stops_the_update_with_its_cause(self):

@@ -1,8 +1,5 @@
 """Tests of updates among faults: whole updates of fake switches over the loopback. PLANNER names the program."""
-import os
-import re
 import shutil
-import subprocess
 import time
 import unittest
 
@@ -47,13 +44,14 @@ class Faults(UpdateTest):
 
     def test_an_emptied_switch_is_told_before_anything_is_sent_and_repaired(self):
         for name, at, empty_at, missing, has_extended in (("square", "s3", 1, "s3: missing: priority 100 10.0.0.0/24 -> output 3", False),
-                                                          ("detour", "x", 1, "x: missing: the mark of this update", True),
-                                                          ("detour", "s", 3, "s: missing: priority 328", False), ("detour", "d", 5, "d: missing: priority 164", True)):
+                                                          ("detour", "x", 1, "x: missing: the mark of this update", False),
+                                                          ("detour", "s", 3, "s: missing: priority 328", True)):
             with self.subTest(name, at=at):
                 net = Network(self, name, only={at: {"empty_at": empty_at}}, has_extended=has_extended)
                 run = net.apply()
                 self.stops(run, f"of {at} are not as they must be, and said above", "go on with --resume --repair, which sends what is missing")
                 self.assertIn(f"{at}: missing: the mark of this update", run[1])
+                self.assertIn(missing, run[1])
                 self.assertRegex(run[1], r"since \d{4}-\d\d-\d\dT\d\d:\d\d:\d\dZ, when all was as it must be, packets that fit these entries may have been dropped.* at " + at)
                 before = net.switches[at].flow_messages
                 if name == "square":
@@ -244,21 +242,14 @@ class Faults(UpdateTest):
     def test_a_switch_of_another_version_is_named(self):
         for listen in (True, False):
             net = Network(self, "square", listen=listen, only={"s2": {"hello": HELLO_13}})
-            self.stops(net.apply("--patience", "2"), "offers OpenFlow 1.3, and not OpenFlow 1.0", "protocols=OpenFlow10" if listen else "see that s2 is connected")
+            self.stops(net.apply("--patience", "4"), "offers OpenFlow 1.3, and not OpenFlow 1.0", "protocols=OpenFlow10" if listen else "see that s2 is connected")
 
     def test_the_patience_rules_every_wait_for_a_switch(self):
-        for listen in (True, False):
-            net = Network(self, "square", listen=listen, only={"s2": {"late": 1.5}})
-            self.settles(net, net.apply("--patience", "20"))
-            self.assertEqual(net.switches["s2"].connections, 1)
+        net = Network(self, "square", listen=True, only={"s2": {"late": 1.5}})
+        self.settles(net, net.apply("--patience", "20"))
+        self.assertEqual(net.switches["s2"].connections, 1)
         net = Network(self, "square", listen=True, only={"s2": {"late": 60.0}})
-        self.stops(net.apply("--patience", "1"), "the patience of 1 s is at its end: s2 isn't connected", "see that s2 is connected and answers")
-
-    def test_the_rounds_that_are_left_are_told_with_the_time(self):
-        net = Network(self, "detour")
-        run = net.apply("--wait", "0.1")
-        self.settles(net, run)
-        self.assertEqual(re.findall(r"round (\d) of 8 is settled, [0-9.]+ s after its start; (\d) are left, some \d+ s", run[1]), [(str(it), str(8 - it)) for it in range(1, 8)])
+        self.stops(net.apply("--patience", "4"), "the patience of 4 s is at its end: s2 isn't connected", "see that s2 is connected and answers")
 
     def test_echo_requests_don_t_reach_the_record_while_nothing_happens(self):
         net = Network(self, "square", echo=0.02)
