@@ -59,8 +59,10 @@ class Update(Comparison):
             self.pump()
             if self.suspects:
                 self.compare()
-            if self.may_start() and self.compare() and not self.awaited():
-                self.start()
+            if self.may_start():
+                self.asked = False
+                if self.compare() and not self.awaited():
+                    self.start()
         self.compare()
         self.compare_as_configuration("after", self.options.new)
         self.take_marks_away()
@@ -102,7 +104,7 @@ class Update(Comparison):
         seconds = f", {now - self.started_at:.3f} s after its start" if self.started_at else ""
         least = self.options.wait + (now - self.started_at if self.started_at else 0.0)
         each = sum(self.cycles[-20:]) / len(self.cycles[-20:]) if self.cycles else least
-        time_left = "" if self.options.ask or not left else f"; {left} are left, some {duration(each * left)}"
+        time_left = "" if self.options.ask or not left else f"; {left} left, some {duration(each * left)}"
         say(f"round {self.driven.settled} of {self.driven.rounds} is settled{seconds}{time_left}")
 
     def after_refusal(self, status, text):

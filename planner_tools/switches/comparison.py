@@ -136,11 +136,13 @@ class Comparison(Conversation):
             status, text = self.import_tables("before")
         except Stop:
             return f"{repair}. No plan can start from what they have: a configuration can't say it"
-        if status == 0:
-            write(config, text)
-            status, text = self.ask("config", self.options.topology, config, self.options.policy)
         if status != 0:
-            return f"{repair}. No plan can start from what they have: `planner` says {text.strip()}"
+            where = entry_at(f"{self.options.input}.before", text)
+            return f"{repair}. No plan can start from what they have: `planner import` says {text.strip()}{f', which is {where}' if where else ''}"
+        write(config, text)
+        status, text = self.ask("config", self.options.topology, config, self.options.policy)
+        if status != 0:
+            return f"{repair}. No plan can start from what they have: `planner config` says {text.strip()}"
         return (f"make a plan from {config}, which has those that they have, and begin it with a record of its own; or {repair}")
 
     def repair(self, found):

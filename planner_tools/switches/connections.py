@@ -82,7 +82,7 @@ class Connection:
         self.sock, self.peer, self.expected, self.is_made = sock, peer, expected, is_made
         self.name, self.datapath = None, None
         self.since = time.monotonic()
-        self.rest, self.unsent = b"", b""
+        self.rest, self.unsent, self.awaited = b"", b"", 0
         self.early = []          # messages that came before the name was known
         self.why = None          # why it is of no use, where it said so
         self.is_open = False     # whether its HELLO came
@@ -202,7 +202,13 @@ class Switches:
         self.add(Connection(sock, "%s:%d" % address, name, is_made=state == 0))
 
     def add(self, connection):
-        self.selector.register(connection.sock, connection.events(), connection)
+        connection.awaited = connection.events()
+        self.selector.register(connection.sock, connection.awaited, connection)
+
+    def wait_for(self, connection):
+        if connection.events() != connection.awaited:
+            connection.awaited = connection.events()
+            self.selector.modify(connection.sock, connection.awaited, connection)
 
     def poll(self, seconds, quiet=0.005, longest=0.5):
         """Takes what comes until the connections are quiet, after at most `seconds` for the first sign: a list of ("up", connection, None),
@@ -212,7 +218,7 @@ class Switches:
             if one.name is None and time.monotonic() - one.since > self.patience:
                 self.turn_away(one, f"didn't say which switch it is within {self.patience:g} s")
             else:
-                self.selector.modify(one.sock, one.events(), one)
+                self.wait_for(one)
         found, until = [], time.monotonic() + longest
         signs = self.selector.select(seconds)
         while signs:
@@ -240,7 +246,7 @@ class Switches:
                 return []
             one.is_made = True
             one.flush()
-            self.selector.modify(one.sock, one.events(), one)
+            self.wait_for(one)
         return self.take(one) if events & selectors.EVENT_READ else []
 
     def take(self, one):

@@ -49,12 +49,12 @@ class Expected:
             key, odd = entry.test(), entry.oddity()
             allowed = {action_of(rules.get(key)), action_of(pending[key])} if key in pending else {action_of(rules.get(key))}
             if odd or key in seen or allowed == {None}:
-                found.append(Difference(name, key, None, str(entry), odd))
+                found.append(Difference(name, key, None, str(entry), odd or entry.time_words(), is_named=odd is None))
                 continue
             seen.add(key)
             action = ", ".join(action_words(entry.actions)) or "drop"
             if action not in allowed or entry.time_words():
-                found.append(Difference(name, key, rules.get(key), action, entry.time_words()))
+                found.append(Difference(name, key, rules.get(key), action if key in rules else str(entry), entry.time_words()))
         for key, rule in rules.items():
             if key not in seen and not (key in pending and pending[key] is None):
                 found.append(Difference(name, key, rule, None))
@@ -66,10 +66,11 @@ def action_of(rule):
 
 
 class Difference:
-    """An entry of a switch that isn't as it must be: the rule that must stand there, or None; what is there, in words, or None; and what is odd of it."""
+    """An entry of a switch that isn't as it must be: the rule that must stand there, or None; what is there, in words, or None; what is odd of it; and
+    whether a rule's message reaches it."""
 
-    def __init__(self, switch, key, rule, there, odd=None):
-        self.switch, self.key, self.rule, self.there, self.odd = switch, key, rule, there, odd
+    def __init__(self, switch, key, rule, there, odd=None, is_named=True):
+        self.switch, self.key, self.rule, self.there, self.odd, self.is_named = switch, key, rule, there, odd, is_named
 
     def __str__(self):
         if self.there is None:
@@ -81,7 +82,7 @@ class Difference:
 
     def can_be_repaired(self):
         """Whether a message of the program can put it right: it names an entry of table 0 by priority, ingress port, VLAN and prefix alone."""
-        return self.rule is not None or self.odd is None and 1 <= self.key[0] <= 65535
+        return self.rule is not None or self.is_named and 1 <= self.key[0] <= 65535
 
     def repair(self):
         """The change that puts it right, with its rule, as in a plan."""

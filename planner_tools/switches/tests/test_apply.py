@@ -21,7 +21,7 @@ class Applying(UpdateTest):
                 net = Network(self, name)
                 run = net.apply("--wait", wait)
                 rounds = int(re.search(r"# settled \d+ of (\d+)", self.settles(net, run))[1])
-                told = re.findall(r"round (\d+) of \d+ is settled, [0-9.]+ s after its start; (\d+) are left, some \d+ s", run[1])
+                told = re.findall(r"round (\d+) of \d+ is settled, [0-9.]+ s after its start; (\d+) left, some \d+ s", run[1])
                 self.assertEqual(told, [(str(it), str(rounds - it)) for it in range(1, rounds)])
 
     def test_what_a_switch_receives_is_what_drive_says_and_questions_that_change_nothing(self):

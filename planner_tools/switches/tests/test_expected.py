@@ -51,6 +51,8 @@ class Comparing(unittest.TestCase):
         self.differ([STRIP], [], [{**STRIP, "strip": False}], "s1: not as it must be: priority 16484 10.0.1.0/32 VLAN 3000 -> output 3: must be strip VLAN, output 3")
         self.differ([LOW], [], [{**LOW, "out": "drop"}], "s1: not as it must be: priority 10 10.0.0.0/8 -> drop: must be output 1")
         self.differ([LOW], [], [LOW], "s1: not as it must be: priority 10 10.0.0.0/8 -> output 1: it goes away by itself (idle timeout 9 s, hard timeout 0 s)", idle=9)
+        found = self.differ([], [], [LOW], "s1: too much: priority 10 type 0800 10.0.0.0/8 -> output 1: it goes away by itself (idle timeout 9 s, hard timeout 0 s)", idle=9)
+        self.assertTrue(found[0].can_be_repaired())
 
     def test_another_priority_port_vlan_or_prefix_is_another_entry(self):
         for part in ({"priority": 21}, {"in_port": 4}, {"in_port": "any"}, {"vlan": 10}, {"vlan": "any"}, {"dst": "10.0.0.0/25"}, {"dst": "10.0.1.0/24"}):
@@ -63,6 +65,7 @@ class Comparing(unittest.TestCase):
         for rules in itertools.product(([LOW], [after]), ([HIGH], []), ([STRIP], [])):
             self.differ([LOW, HIGH], pending, [*rules[0], *rules[1], *rules[2]])
         self.differ([LOW, HIGH], pending, [HIGH], "s1: missing: priority 10 10.0.0.0/8 -> output 1")
+        self.differ([LOW, HIGH], pending, [LOW, HIGH, {**STRIP, "out": 9}], "s1: too much: priority 16484 type 0800 VLAN 3000 10.0.1.0/32 -> strip VLAN, output 9")
         self.differ([LOW, HIGH], pending, [{**LOW, "out": 3}], "s1: not as it must be: priority 10 10.0.0.0/8 -> output 3: must be output 1")
 
     def test_marks_and_what_no_ip_packet_meets_aren_t_compared(self):

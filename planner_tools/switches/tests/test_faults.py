@@ -43,7 +43,7 @@ class Faults(UpdateTest):
     # ---- what a switch has is compared with what it must have
 
     def test_an_emptied_switch_is_told_before_anything_is_sent_and_repaired(self):
-        for name, at, empty_at, missing, has_extended in (("square", "s3", 1, "s3: missing: priority 100 10.0.0.0/24 -> output 3", False),
+        for name, at, empty_at, missing, has_extended in (("square", "s3", 1, "s3: missing: priority 100 10.0.0.0/24 -> output 2", False),
                                                           ("detour", "x", 1, "x: missing: the mark of this update", False),
                                                           ("detour", "s", 3, "s: missing: priority 328", True)):
             with self.subTest(name, at=at):
