@@ -150,7 +150,8 @@ def undeclared_cautions(policy, network):
 
 
 def is_undeclared(demand, network):
-    return demand.get("vlan", "any") != "any" and demand["vlan"] not in network.vlans
+    vlan = demand.get("vlan", "any")
+    return vlan not in network.vlans and (vlan == "untagged" or isinstance(vlan, int))
 
 
 def undeclared(number, demand, where, network):

@@ -6,7 +6,7 @@ import os
 import re
 
 from planner_tools import network as nets
-from planner_tools.files import NotJson, did_you_mean, like, member_path, read_json, short
+from planner_tools.files import NotJson, counted, did_you_mean, like, member_path, read_json, short
 
 # Which word of a command a kind of file is, as the program names the kinds.
 WORD_OF_KIND = {"topology": "TOPO", "config": "CONFIG", "old": "OLD", "new": "NEW", "policy": "POLICY", "plan": "PLAN", "schedule": "SCHEDULE",
@@ -167,12 +167,10 @@ class Explainer:
             return []
         item = plan.at(("rounds", round_ - 1, change))
         if plan.root.member("format").whole() == 1:
-            what, rule, at = item.member("do").held, nets.plain(item), item
+            what, rule = item.member("do").held, nets.plain(item)
         else:
-            what, at = item.held[0].held, plan.at(("rules", item.held[1].whole()))
-            rule = nets.plain(at)
-        return [f"the change, {plan.where(item.start)}: {what} {plan.shown(at)}: at {rule['switch']}, {nets.match_words(rule)}, priority {rule['priority']}, "
-                f"{nets.action_words(rule, net)}"]
+            what, rule = item.held[0].held, nets.plain(plan.at(("rules", item.held[1].whole())))
+        return [f"the change, {plan.where(item.start)}: {what} at {rule['switch']}: {nets.match_words(rule)}, priority {rule['priority']}, {nets.action_words(rule, net)}"]
 
     def capacity_lines(self, switch):
         net = self.network()
@@ -268,6 +266,7 @@ class Explainer:
         is_short = value.kind not in ("object", "list") or value.end - value.start <= 60
         subject = f"{way} is {json.shown(value)}: " if way and is_short and not fault.what.startswith("the member ") else f"{way}: " if way else ""
         more = [f"{words}: {json.where(json.at(other).start)}, {member_path(other)} is {json.shown(json.at(other))}" for other, words in fault.others]
+        more += fault.more
         more += [f"right: {fault.right}"] if fault.right else []
         self.voice.refuse(f"{json.where(value.start)}: {subject}{fault.what}", more)
 
@@ -280,8 +279,8 @@ class Explainer:
         if net is not None:
             tags = net.json.root.member("tags")
             more.append(f"{net.json.where(tags.start)}: tags is {net.json.shown(tags)}, of which {has} {'is' if has == 1 else 'are'} no declared VLAN")
-        self.voice.refuse(f"no order of single changes was found, and a two-phase plan needs a tag for each of the {need} declared VLANs; there {'is' if has == 1 else 'are'} {has}",
-                          [*more, f"Next: widen `tags` of {self.shown('TOPO')} to at least {need} ids from 1 to 4094 that the network uses for nothing else, or declare fewer `vlans`"])
+        self.voice.refuse(f"no order of single changes was found, and a two-phase plan needs {counted(need, 'tag')}, one for each declared VLAN; there {'is' if has == 1 else 'are'} {has}",
+                          [*more, f"Next: widen `tags` of {self.shown('TOPO')} to at least {counted(need, 'id')} from 1 to 4094 that the network uses for nothing else, or declare fewer `vlans`"])
 
     def explain_small(self):
         found = re.match(r"too small: switch (\S+) need (\d+) capacity (\d+)", self.first)
@@ -296,8 +295,11 @@ class Explainer:
                 with open(found.real, "rb") as file:
                     file.read(1)
             except OSError as fault:
+                if found.shown.startswith("--"):
+                    self.voice.refuse(option_lines([found.shown])[0], ["`planner --help` has the options"])
+                    return
                 more = [f"the folder {found.folder} stands for the names that are left out, and has to have this file"] if found.folder else []
-                self.voice.refuse(f"{found.shown}: {fault.strerror}{like(found.real) if fault.errno == 2 else ''}", more)
+                self.voice.refuse(f"{found.shown}: {fault.strerror}{like(found.real) if fault.errno == 2 and not found.folder else ''}", more)
                 return
         self.voice.refuse("a file couldn't be read to its end: " + ", ".join(one.shown for one in self.run.files.values()))
 
@@ -314,10 +316,6 @@ class Explainer:
 
     BY_STATUS = {1: explain_refused, 2: explain_words, 3: explain_bad, 4: explain_tags, 5: explain_small, 6: explain_unread, 7: explain_unwritten,
                  8: explain_no_run, 9: explain_memory}
-
-
-def counted(number, word):
-    return f"{number} {word}{'' if number == 1 else 's'}"
 
 
 def demand_words(demand):
@@ -379,5 +377,5 @@ def spelling(word, text):
 
 def option_lines(given):
     """Words about options that the planner doesn't have."""
-    options = [one for one in given[1:] if one.startswith("--")]
+    options = [one for one in given if one.startswith("--")]
     return [f"there is no option {one}{did_you_mean(one, ['--help', '--version', '--quiet', '--strict'])}" for one in options]

@@ -10,7 +10,9 @@ MODULES = {
     "page": "planner_tools.page.page",
     "show": "planner_tools.show",
 }
-WRONG_WORDS, UNWRITTEN, INTERRUPTED = 2, 7, 130
+# Those of them whose answer `-o FILE` takes.
+WITH_OUTPUT = ("collect", "from-graphml", "from-mininet", "from-ofctl", "page", "show")
+WRONG_WORDS, INTERRUPTED = 2, 130
 
 
 class Options:
@@ -47,10 +49,10 @@ def main(words):
     from planner_tools.proved import Run, Stop
     from planner_tools.voice import Voice
     try:
-        options, rest = take_options(words) if words[:1] != ["apply"] else (Options(), words)
-        if rest and rest[0] in MODULES:
-            return run_module(rest, options)
-        return Run(rest, options).run()
+        if words and words[0] in MODULES and words[0] not in WITH_OUTPUT:
+            return run_module(words, Options())
+        options, rest = take_options(words)
+        return run_module(rest, options) if rest and rest[0] in MODULES else Run(rest, options).run()
     except Stop as stop:
         Voice().refuse(str(stop), stop.more)
         return stop.status

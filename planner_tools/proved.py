@@ -22,10 +22,20 @@ class Stop(Exception):
 
 
 class Given:
-    """A file of a run: the path that the program gets, its name as it was typed, and the folder that it was taken from, or None."""
+    """A file of a run: the path that the program gets, its name as it is told, the folder for which it stands, or None, and the word that was typed."""
 
-    def __init__(self, real, shown, folder=None):
-        self.real, self.shown, self.folder = real, shown, folder
+    def __init__(self, real, shown, folder=None, typed=None):
+        self.real, self.shown, self.folder, self.typed = real, shown, folder, typed or shown
+
+
+def joined(folder, name):
+    return name if folder == "." else os.path.join(folder, name)
+
+
+def inside(folder, name):
+    """A word behind a folder: where it names no file, but one of the folder, it is that one."""
+    path = joined(folder, name)
+    return Given(path, path, typed=name) if not os.path.exists(name) and os.path.isfile(path) else name
 
 
 class Run:
@@ -61,16 +71,17 @@ class Run:
         for word, text in zip(wanted, rest):
             if word in words.FILES:
                 self.files[word] = text if isinstance(text, Given) else self.file(text)
-        self.passed = [self.given[0], *(self.files[word].real if word in self.files else text for word, text in zip(wanted, rest))]
+        self.passed = [self.given[0], *(self.files[word].real if word in self.files else getattr(text, "typed", text) for word, text in zip(wanted, rest))]
 
     @staticmethod
     def unfolded(folder, wanted, least, behind):
         """The words of a command whose first names are in a folder: as many as are left out stand for files of it."""
+        behind = [inside(folder, word) for word in behind]
         count = max(1, least - len(behind))
-        inside = [Given(path, path, folder) for path in (os.path.join(folder, words.IN_FOLDER.get(word, "")) for word in wanted[:count])]
-        rest = [*inside, *behind]
+        taken = [Given(path, path, folder) for path in (joined(folder, words.IN_FOLDER.get(word, "")) for word in wanted[:count])]
+        rest = [*taken, *behind]
         for word in wanted[len(rest):]:
-            path = os.path.join(folder, words.IN_FOLDER.get(word, ""))
+            path = joined(folder, words.IN_FOLDER.get(word, ""))
             if os.path.isfile(path):
                 rest.append(Given(path, path, folder))
         return rest

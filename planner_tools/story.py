@@ -3,7 +3,7 @@ import re
 import tempfile
 
 from planner_tools import network as nets
-from planner_tools.files import Text, read_bytes
+from planner_tools.files import Text, counted, read_bytes
 
 TRACE = re.compile(r"packet (\d+) (\S+) (\S+) (\S+) born (\d+):((?: \S+:\d+)*) (left|dropped|lost|under way)(.*)")
 
@@ -34,16 +34,6 @@ class Tables:
         if do != "delete":
             self.rules[key_of(rule)] = rule
         return before
-
-
-def change_words(do, rule, before, net):
-    """A change in words: the entry, and from where to where."""
-    words = f"{nets.match_words(rule)}, priority {rule['priority']}"
-    if do == "delete":
-        was = f", which was {nets.action_words(before, net)}" if before else ""
-        return f"delete {words}{was}".replace("was is dropped", "dropped it").replace("was to", "sent it to")
-    was = f", was {nets.action_words(before, net)}" if before and do == "replace" else ", new" if do == "insert" else ""
-    return f"{words} {nets.action_words(rule, net)}{was}".replace("was is dropped", "was dropped")
 
 
 def replayed(explainer, schedule):
@@ -88,7 +78,7 @@ def events_in_words(schedule, net, rules, changes, packets):
             lines.append(f"round {round_} starts: its {f'{count} changes' if count != 1 else 'change'} may be made at any time{', in any order' if count > 1 else ''}")
         elif words[0] == "change":
             do, rule = changes.rounds[round_ - 1][int(words[1])]
-            lines.append(f"change {words[1]}, at {rule['switch']}: {change_words(do, rule, tables.make(do, rule), net)}")
+            lines.append(f"change {words[1]}, at {rule['switch']}: {nets.change_words(do, rule, tables.make(do, rule), net)}")
         elif words[0] == "settle":
             lines.append(f"round {round_} is settled")
         elif words[0] == "enter":
@@ -150,7 +140,7 @@ def event_refused(explainer, line, before):
     if words[0] == "change" and is_running:
         one = int(words[1])
         if one >= len(changes):
-            return f"round {number} has {len(changes)} changes, numbered from 0"
+            return f"round {number} has {counted(len(changes), 'change')}, numbered from 0"
         return "this change is made already" if one in made else f"it doesn't fit the table that {changes[one][1]['switch']} has then"
     if words[0] == "settle" and is_running:
         left = [str(one) for one in range(len(changes)) if one not in made]
@@ -162,7 +152,7 @@ def event_refused(explainer, line, before):
         return f"{words[1]} is no host port" if words[1] not in net.hosts else f"the VLAN {words[2]} isn't declared" if words[2] not in vlans else ""
     one = int(words[1])
     if one >= len(packets):
-        return f"{len(packets)} packets have entered, and they are numbered from 0"
+        return f"so far {counted(len(packets), 'packet')} entered, numbered from 0"
     return f"packet {one} {'is lost' if packets[one][1] == 'lost' else 'has left' if packets[one][1] == 'left' else 'was dropped'} already"
 
 
