@@ -127,9 +127,8 @@ class Explainer:
             return
         if entry not in net.hosts:
             name = entry.rpartition(":")[0]
-            what = f"{entry} is no host port" if name in net.numbers else f"no switch is named `{name}`"
-            right = [f"the host ports are {', '.join(net.hosts[:12])}"]
-            self.voice.refuse(f"{what}{did_you_mean(entry, net.hosts)}", right)
+            what = f"{entry} is no host port{did_you_mean(entry, net.hosts)}" if name in net.numbers else f"no switch is named `{name}`{did_you_mean(name, net.names)}"
+            self.voice.refuse(what, [f"the host ports are {', '.join(net.hosts[:12])}"])
         else:
             self.voice.refuse(f"the VLAN {vlan} isn't declared in `vlans` of {self.shown('TOPO')}", [f"the VLANs are {', '.join(map(str, net.vlans))}"])
 

@@ -355,9 +355,10 @@ class Configuration(Rules):
 def rule_parts(item):
     """The switch, the priority and the match of a rule of a configuration, or None where they can't be told."""
     switch, priority, dst = item.member("switch"), item.member("priority"), item.member("dst")
-    if switch is None or priority is None or dst is None or dst.kind != "text" or prefix(dst.held) is None:
-        return None
     in_port, vlan = item.member("in_port"), item.member("vlan")
+    is_whole = all(one is not None and one.kind not in ("object", "list") for one in (switch, priority, dst)) and dst.kind == "text"
+    if not is_whole or prefix(dst.held) is None or any(one is not None and one.kind in ("object", "list") for one in (in_port, vlan)):
+        return None
     return switch.held, priority.held, ("any" if in_port is None else in_port.held, "any" if vlan is None else vlan.held, prefix(dst.held))
 
 

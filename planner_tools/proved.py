@@ -49,7 +49,7 @@ class Run:
             self.command = words.Command(given[0] if given else "", "", "", "")
         self.program, self.files, self.spooled = None, {}, None
         self.status, self.text, self.fault, self.target = None, "", None, options.output or "the standard output"
-        self.passed = list(given)
+        self.passed, self.notes = list(given), []
 
     def ask(self, *more):
         """The status and the text of another run of the program."""
@@ -108,15 +108,19 @@ class Run:
             return BAD_FILE
         self.hand_on()
         self.safely(self.explain)
+        for one in self.notes if self.status == 0 else []:
+            self.voice.note(one.what, one.more)
         return self.status if self.status >= 0 else 128 - self.status
 
     def has_warnings(self):
         from planner_tools.cautions import cautions
         found = self.safely(lambda: cautions(self)) or []
         voice = Voice() if self.options.is_strict else self.voice
-        for one in found:
-            (voice.warn if one.is_warning else voice.note)(one.what, one.more)
-        return any(one.is_warning for one in found)
+        warnings = [one for one in found if one.is_warning]
+        self.notes = [one for one in found if not one.is_warning]
+        for one in warnings:
+            voice.warn(one.what, one.more)
+        return bool(warnings)
 
     def explain(self):
         from planner_tools.explanations import Explainer

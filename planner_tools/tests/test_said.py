@@ -1,6 +1,7 @@
-"""What is said of wrong files and wrong words: the rows of said.txt, each with its whole text. PLANNER names the program."""
+"""What is said of wrong files and wrong words: the rows of said.txt and said-paths.txt, each with its whole text. PLANNER names the program."""
 import os
 import stat
+import subprocess
 import sys
 import tempfile
 import unittest
@@ -32,15 +33,37 @@ class Said(unittest.TestCase):
         os.environ.update(PLANNER=self.older, PLANNER_TOOLS_TEST="1", NO_COLOR="1")
         self.addCleanup(lambda: (os.environ.clear(), os.environ.update(self.before)))
 
-    def test_what_is_said_is_what_stands_in_the_table(self):
-        for row in rows.read(os.path.join(rows.HERE, "said.txt")):
+    def check(self, name):
+        """Runs the rows of a file: what is said is what stands there, and the text and the status are the program's."""
+        for row in rows.read(os.path.join(rows.HERE, name)):
             with self.subTest(row.title), tempfile.TemporaryDirectory(dir=self.room.name) as folder:
                 row.prepare(folder)
                 status, text, said = row.run(rows.FRONT_END, folder)
                 self.assertEqual("".join(f"{line}\n" for line in row.said), said)
                 self.assertEqual(row.status, status)
                 if row.words and self.is_plain(row, folder):
-                    self.assertEqual((status, text), row.run(self.older, folder)[:2])
+                    self.assertEqual((status, text), row.run(os.environ["PLANNER"], folder)[:2])
+
+    def test_what_is_said_is_what_stands_in_the_table(self):
+        self.check("said.txt")
+
+    def test_what_is_said_of_paths(self):
+        os.environ.update(PLANNER=os.path.join(rows.HERE, "fake_program.py"), REAL_PROGRAM=self.older)
+        self.check("said-paths.txt")
+
+    def test_the_paths_of_these_tests_are_those_of_the_program(self):
+        """The program says what fake_program.py says, where it has the commands."""
+        real, fake = os.path.abspath(program.path()) if not self.before.get("PLANNER") else self.before["PLANNER"], os.path.join(rows.HERE, "fake_program.py")
+        os.environ["REAL_PROGRAM"] = real
+        for example in ("square", "detour", "leaf-spine"):
+            names = [os.path.join(rows.ROOT, "examples", example, f"{one}.json") for one in ("topology", "old", "policy")]
+            entry = {"square": "s1:1", "detour": "s:1", "leaf-spine": "l1:1"}[example]
+            for given in (["paths", *names], ["paths", *names[:2]], ["trace", *names[:2], entry, "untagged", "10.0.0.1"], ["trace", *names[:2], "none:1", "untagged", "10.0.0.1"]):
+                with self.subTest(example=example, words=given[0]):
+                    answers = [subprocess.run([one, *given], capture_output=True, check=False, timeout=rows.SECONDS) for one in (real, fake)]
+                    if answers[0].returncode == 2:
+                        self.skipTest(f"this program has no `{given[0]}`")
+                    self.assertEqual(*((one.returncode, one.stdout) for one in answers))
 
     @staticmethod
     def is_plain(row, folder):
