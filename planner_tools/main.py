@@ -1,4 +1,5 @@
 """The words of the command line: the front end's options, and which command is named."""
+import signal
 import sys
 
 from planner_tools import program
@@ -39,6 +40,11 @@ def take_options(words):
     return options, rest
 
 
+def ended(number, _):
+    """Ends the front end at a signal, by way of all that is to be put in order."""
+    raise SystemExit(128 + number)
+
+
 def main(words):
     if words[:1] == ["--version"]:
         from planner_tools.version import VERSION
@@ -52,6 +58,7 @@ def main(words):
         if words and words[0] in MODULES and words[0] not in WITH_OUTPUT:
             return run_module(words, Options())
         options, rest = take_options(words)
+        signal.signal(signal.SIGTERM, ended)
         return run_module(rest, options) if rest and rest[0] in MODULES else Run(rest, options).run()
     except Stop as stop:
         Voice().refuse(str(stop), stop.more)

@@ -10,7 +10,8 @@ from planner_tools.voice import Voice
 
 # So much of the text is kept for what is said of it.
 KEPT = 4 << 20
-WRONG_WORDS, BAD_FILE, UNWRITTEN, INTERRUPTED = 2, 3, 7, 130
+WRONG_WORDS, BAD_FILE, UNREAD, UNWRITTEN = 2, 3, 6, 7
+STANDARD_OUTPUT = 1
 
 
 class Stop(Exception):
@@ -91,6 +92,8 @@ class Run:
             return Given(text, text)
         if self.spooled is not None:
             raise Stop("`-` stands twice among the words, and the standard input can be read only once", WRONG_WORDS)
+        if sys.stdin is None:
+            raise Stop("the standard input is closed", UNREAD)
         import shutil
         self.spooled = tempfile.NamedTemporaryFile(prefix="planner-")
         shutil.copyfileobj(sys.stdin.buffer, self.spooled)
@@ -142,37 +145,55 @@ class Run:
         self.program = program.path()
         self.status, self.text = self.ask(*self.passed)
 
+    def begun(self):
+        try:
+            return subprocess.Popen([self.program, *self.passed], stdout=subprocess.PIPE)
+        except OSError as fault:
+            raise program.NoProgram(f"the program can't be run: {fault}") from fault
+
     def hand_on(self):
         """Runs the program, and hands on what it writes as it comes."""
-        output, kept = Output(self.options.output), []
-        with subprocess.Popen([self.program, *self.passed], stdout=subprocess.PIPE) as process:
-            size, source = 0, process.stdout.fileno()
-            try:
-                while piece := os.read(source, 1 << 16):
-                    if size < KEPT:
-                        kept.append(piece)
-                        size += len(piece)
-                    output.write(piece)
-            except OSError as fault:
-                self.fault = fault
-                process.stdout.close()
-            self.status = process.wait()
-        self.text = b"".join(kept).decode("utf-8", "replace")
-        if self.fault is None:
-            try:
-                output.end(self.status)
-            except OSError as fault:
-                self.fault = fault
-        if self.fault is not None:
+        output = Output(self.options.output)
+        try:
+            with self.begun() as process:
+                try:
+                    self.hand_on_from(process, output)
+                except OSError as fault:
+                    self.fault = fault
+                    process.stdout.close()
+                except BaseException:
+                    process.terminate()
+                    raise
+                self.status = process.wait()
+            if self.fault is None:
+                self.end(output)
+        finally:
             output.drop()
-            self.status = self.status if self.status not in (0, 1) else UNWRITTEN
+        if self.fault is not None:
+            self.status = UNWRITTEN
+
+    def hand_on_from(self, process, output):
+        """Hands on what a process writes, and keeps the beginning of it."""
+        kept, size = [], 0
+        while piece := os.read(process.stdout.fileno(), 1 << 16):
+            if size < KEPT:
+                kept.append(piece)
+                size += len(piece)
+            output.write(piece)
+        self.text = b"".join(kept).decode("utf-8", "replace")
+
+    def end(self, output):
+        try:
+            output.end(self.status)
+        except OSError as fault:
+            self.fault = fault
 
 
 class Output:
     """Where the text goes: to the standard output, or with `-o` into a file, which is there only where the answer is yes."""
 
     def __init__(self, path):
-        self.path, self.handle, self.name = path, sys.stdout.fileno(), None
+        self.path, self.handle, self.name = path, STANDARD_OUTPUT, None
         if path is not None and (not os.path.exists(path) or os.path.isfile(path)):
             self.open_beside()
         elif path is not None:
@@ -204,7 +225,7 @@ class Output:
                 text = file.read()
             self.drop()
             while text:
-                text = text[os.write(sys.stdout.fileno(), text):]
+                text = text[os.write(STANDARD_OUTPUT, text):]
         self.name = None
 
     def drop(self):
