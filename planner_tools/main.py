@@ -13,6 +13,8 @@ MODULES = {
 }
 # Those of them whose answer `-o FILE` takes.
 WITH_OUTPUT = ("collect", "from-graphml", "from-mininet", "from-ofctl", "page", "show")
+# Those of them in which a folder stands for names.
+UNFOLDING = ("apply", "collect", "page")
 WRONG_WORDS, INTERRUPTED = 2, 130
 
 
@@ -73,10 +75,22 @@ def main(words):
         return INTERRUPTED
 
 
+def unfolded(words):
+    """The words of a command of the front end, where a folder stands for the names of files that are left out before its options."""
+    import os
+    if words[0] not in UNFOLDING or len(words) < 2 or not os.path.isdir(words[1]):
+        return words
+    from planner_tools.proved import Run
+    from planner_tools.words import BY_NAME
+    end = next((at for at, word in enumerate(words) if word.startswith("-")), len(words))
+    wanted = [word for word in BY_NAME[words[0]].usage.partition(" -")[0].split() if not word.startswith("[")]
+    return [words[0], *(getattr(one, "shown", one) for one in Run.unfolded(words[1], wanted, len(wanted), words[2:end])), *words[end:]]
+
+
 def run_module(words, options):
     """Runs a command of the front end itself; with `-o` its output goes into a file, which is there only where the status is 0."""
     import importlib
-    command = importlib.import_module(MODULES[words[0]]).main
+    command, words = importlib.import_module(MODULES[words[0]]).main, unfolded(words)
     if options.output is None:
         return command(words[1:])
     from planner_tools.proved import Output

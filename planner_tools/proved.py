@@ -14,6 +14,21 @@ WRONG_WORDS, BAD_FILE, UNREAD, UNWRITTEN = 2, 3, 6, 7
 STANDARD_OUTPUT = 1
 
 
+class Refusals:
+    """The options of a run of which only refusals are told."""
+
+    is_quiet, is_strict, output = True, False, None
+
+
+def say_why(*given):
+    """Runs the program, and says why it refuses what it is given, where it does. Returns its status and its text."""
+    run = Run(list(given), Refusals)
+    run.capture()
+    if run.status not in (0, 1):
+        run.safely(run.explain)
+    return run.status, run.text
+
+
 class Stop(Exception):
     """The front end can't do what is asked: why, and the exit status."""
 

@@ -11,16 +11,10 @@ import sys
 from planner_tools import network as nets
 from planner_tools import story
 from planner_tools.files import NotJson, counted, like, read_json
-from planner_tools.proved import Run, Stop, joined
+from planner_tools.proved import Stop, joined, say_why
 
 WAIT = 2.0
 BAD_FILE = 3
-
-
-class Quiet:
-    """The options of a run whose text isn't handed on."""
-
-    is_quiet, is_strict, output = True, False, None
 
 
 def kind_of(path):
@@ -78,12 +72,10 @@ class Shown:
 
     def ask(self, *given):
         """The text of a run of the program over files. Where it refuses them, it is said why, and it is Stop."""
-        run = Run(list(given), Quiet)
-        run.capture()
-        if run.status not in (0, 1):
-            run.explain()
-            raise Stop(None, run.status)
-        return run.text
+        status, text = say_why(*given)
+        if status not in (0, 1):
+            raise Stop(None, status)
+        return text
 
     def network(self):
         return nets.Network(read_json(self.topology))

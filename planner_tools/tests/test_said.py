@@ -1,4 +1,5 @@
 """What is said of wrong files and wrong words: the rows of said.txt and said-paths.txt, each with its whole text. PLANNER names the program."""
+import concurrent.futures
 import os
 import stat
 import subprocess
@@ -35,14 +36,19 @@ class Said(unittest.TestCase):
 
     def check(self, name):
         """Runs the rows of a file: what is said is what stands there, and the text and the status are the program's."""
-        for row in rows.read(os.path.join(rows.HERE, name)):
-            with self.subTest(row.title), tempfile.TemporaryDirectory(dir=self.room.name) as folder:
-                row.prepare(folder)
-                status, text, said = row.run(rows.FRONT_END, folder)
-                self.assertEqual("".join(f"{line}\n" for line in row.said), said)
-                self.assertEqual(row.status, status)
-                if row.words and self.is_plain(row, folder):
-                    self.assertEqual((status, text), row.run(os.environ["PLANNER"], folder)[:2])
+        found = rows.read(os.path.join(rows.HERE, name))
+        with concurrent.futures.ThreadPoolExecutor() as several:
+            for row, (status, text, said), direct in several.map(self.run_row, found):
+                with self.subTest(row.title):
+                    self.assertEqual("".join(f"{line}\n" for line in row.said), said)
+                    self.assertEqual(row.status, status)
+                    self.assertIn(direct, (None, (status, text)))
+
+    def run_row(self, row):
+        """What the front end answers and says of a row, and what the program answers, where the words are the program's alone."""
+        with tempfile.TemporaryDirectory(dir=self.room.name) as folder:
+            row.prepare(folder)
+            return row, row.run(rows.FRONT_END, folder), row.run(os.environ["PLANNER"], folder)[:2] if row.words and self.is_plain(row, folder) else None
 
     def test_what_is_said_is_what_stands_in_the_table(self):
         self.check("said.txt")
