@@ -14,7 +14,7 @@ LONGEST_OTHER = 1 << 20
 # Files up to this length are looked through member by member; longer ones where some object has a member that no object of the file has.
 SMALL = 1 << 14
 # The commands that speak of what packets a policy covers, and the configuration that is looked at.
-JUDGING = {"config": "CONFIG", "plan": "NEW", "check": "NEW"}
+JUDGING = {"config": "CONFIG", "plan": "NEW", "check": "NEW", "pack": "NEW", "certify": "NEW"}
 KIND_OF_WORD = {"TOPO": "topology", "CONFIG": "configuration", "OLD": "configuration", "NEW": "configuration", "POLICY": "policy", "PLAN": "plan"}
 # The members of the objects in the lists of a file.
 INNER = {"topology": {"switches": "switch"}, "configuration": {"rules": "rule"}, "policy": {"demands": "demand"},

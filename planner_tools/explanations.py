@@ -31,6 +31,8 @@ class Explainer:
         status = self.run.status
         if status == 0:
             self.explain_done()
+        elif self.run.command.usage == "" and status not in (2, 7, 9):
+            pass                 # a command that stands in no list: its answer has to do
         elif status in self.BY_STATUS:
             self.BY_STATUS[status](self)
         elif status < 0 or status > 128:
@@ -144,10 +146,8 @@ class Explainer:
 
         sentence, parts = sentence_of(self.first)
         number, more = parts["number"], []
-        if number == 2:
-            more += self.change_lines(parts["round"], parts["change"])
-        if number == 4:
-            more += self.capacity_lines(parts["switch"])
+        if number in (2, 3, 4, 5, 13):
+            more += self.round_lines(number, parts)
         if "host" in parts:
             for word in ("OLD", "NEW"):
                 more += self.path_lines(word, parts["host"], parts["vlan"], parts["address"])
@@ -158,6 +158,23 @@ class Explainer:
         if self.run.command.name != "plan":
             more.append(f"Next: `{self.command('plan', *update[:4])}` makes a plan of its own")
         self.voice.refuse(sentence, more)
+
+    def round_lines(self, number, parts):
+        """What there is to say of a reason that names no packet."""
+        from planner_tools.story import Story
+
+        story, switch = Story(self), parts["switch"]
+        if number == 2:
+            return self.change_lines(parts["round"], parts["change"]) + [story.why_change_is_bad(parts["round"], parts["change"])]
+        if number == 3:
+            return [f"one of them: {entry}" for entry in story.twins(parts["round"], switch)]
+        if number == 4:
+            held = sum(rule["switch"] == switch for rule in story.before(parts["round"]).rules.values())
+            return [f"before the round it has {counted(held, 'entry', 'entries')}, and the round inserts {parts['need'] - held}", *self.capacity_lines(switch)]
+        if number == 5:
+            at = next(at for at, (_, rule) in enumerate(story.rounds[parts["round"] - 1]) if rule["switch"] == switch and ("set" in rule or "strip" in rule))
+            return self.change_lines(parts["round"], at)
+        return story.differences(switch)[:8]
 
     def change_lines(self, round_, change):
         """A change of a plan in words."""
@@ -298,7 +315,7 @@ class Explainer:
                     self.voice.refuse(option_lines([found.shown])[0], ["`planner --help` has the options"])
                     return
                 more = [f"the folder {found.folder} stands for the names that are left out, and has to have this file"] if found.folder else []
-                self.voice.refuse(f"{found.shown}: {fault.strerror}{like(found.real) if fault.errno == 2 and not found.folder else ''}", more)
+                self.voice.refuse(f"{found.shown}: {fault.strerror}{like(found.real, bool(found.folder)) if fault.errno == 2 else ''}", more)
                 return
         self.voice.refuse("a file couldn't be read to its end: " + ", ".join(one.shown for one in self.run.files.values()))
 

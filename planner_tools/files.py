@@ -392,11 +392,12 @@ def did_you_mean(name, known):
     return f"; did you mean `{guess}`?" if guess is not None else ""
 
 
-def like(path):
-    """Words for a file beside a path that isn't there and has a similar name, or none."""
+def like(path, is_fixed=False):
+    """Words for a file beside a path that isn't there and has a similar name, or none. A name that is fixed is no likely one for another such name."""
+    from planner_tools.words import IN_FOLDER
     folder, name = os.path.split(path)
     try:
-        names = sorted(os.listdir(folder or "."))
+        names = sorted(one for one in os.listdir(folder or ".") if not is_fixed or one not in IN_FOLDER.values())
     except OSError:
         return ""
     guess = nearest(name, names)

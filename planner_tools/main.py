@@ -15,7 +15,7 @@ MODULES = {
 WITH_OUTPUT = ("collect", "from-graphml", "from-mininet", "from-ofctl", "page", "show")
 # Those of them in which a folder stands for names.
 UNFOLDING = ("apply", "collect", "page")
-WRONG_WORDS, INTERRUPTED = 2, 130
+WRONG_WORDS, UNWRITTEN, INTERRUPTED = 2, 7, 130
 
 
 class Options:
@@ -48,6 +48,25 @@ def ended(number, _):
 
 
 def main(words):
+    """Does what the words say, and returns the exit status."""
+    status = answer(words)
+    try:
+        sys.stdout.flush()
+    except OSError as fault:
+        return unwritten(fault)
+    return status
+
+
+def unwritten(fault):
+    """Says that the standard output couldn't be written, and sees that it isn't tried again."""
+    import os
+    from planner_tools.voice import Voice
+    os.dup2(os.open(os.devnull, os.O_WRONLY), 1)
+    Voice().refuse(f"the standard output: the output couldn't all be written: {fault.strerror}; what is there isn't whole")
+    return UNWRITTEN
+
+
+def answer(words):
     if words[:1] == ["--version"]:
         from planner_tools.version import VERSION
         print(f"planner {VERSION}")
@@ -92,17 +111,20 @@ def run_module(words, options):
     import importlib
     command, words = importlib.import_module(MODULES[words[0]]).main, unfolded(words)
     if options.output is None:
-        return command(words[1:])
+        try:
+            return command(words[1:])
+        except OSError as fault:
+            return unwritten(fault)
     from planner_tools.proved import Output
     output, before = Output(options.output), sys.stdout
-    with open(output.handle, "w", encoding="utf-8", closefd=False) as sys.stdout:
-        try:
+    try:
+        with open(output.handle, "w", encoding="utf-8", closefd=False) as sys.stdout:
             status = command(words[1:])
-        finally:
-            sys.stdout.flush()
-            sys.stdout = before
-    output.end(status)
-    return status
+        output.end(status)
+        return status
+    finally:
+        sys.stdout = before
+        output.drop()
 
 
 def print_help(words):

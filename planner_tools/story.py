@@ -36,6 +36,65 @@ class Tables:
         return before
 
 
+class Story:
+    """The tables of an update round by round, for the sentences about a reason of the checker."""
+
+    def __init__(self, explainer):
+        self.network = explainer.network()
+        old, new, plan = (explainer.json(word) for word in ("OLD", "NEW", "PLAN"))
+        self.old, self.new = nets.plain(old.root)["rules"], nets.plain(new.root)["rules"]
+        self.rounds = Changes(nets.plain(plan.root)).rounds
+
+    def before(self, round_):
+        """The tables before a round, from 1; behind the last round those at the end."""
+        tables = Tables(self.old)
+        for changes in self.rounds[:round_ - 1]:
+            for do, rule in changes:
+                tables.make(do, rule)
+        return tables
+
+    def entry(self, rule):
+        """A rule in words."""
+        return f"{nets.match_words(rule)}, priority {rule['priority']}, {nets.action_words(rule, self.network)}"
+
+    def why_change_is_bad(self, round_, number):
+        """Why a change doesn't fit the table before its round."""
+        changes = self.rounds[round_ - 1]
+        do, rule = changes[number]
+        twin = next((at for at, (_, other) in enumerate(changes[:number]) if key_of(other) == key_of(rule)), None)
+        there = self.before(round_).rules.get(key_of(rule))
+        if twin is not None:
+            return f"change {twin} of the round is for the same entry"
+        if there is None:
+            return f"{rule['switch']} has no entry of this priority and match then"
+        return f"the entry that is there{' already' if do == 'insert' else ' does otherwise'}: {self.entry(there)}"
+
+    def twins(self, round_, switch):
+        """Two entries of equal priority that a packet may match both while a round is carried out."""
+        from planner_tools.faults import overlap
+        held = [rule for rule in self.before(round_).rules.values() if rule["switch"] == switch]
+        held += [rule for do, rule in self.rounds[round_ - 1] if do == "insert" and rule["switch"] == switch]
+        tests = [(rule.get("in_port", "any"), rule.get("vlan", "any"), nets.prefix(rule["dst"])) for rule in held]
+        for at, one in enumerate(held):
+            for other in range(at):
+                if one["priority"] == held[other]["priority"] and tests[at] != tests[other] and overlap(tests[at], tests[other]):
+                    return [self.entry(held[other]), self.entry(one)]
+        return []
+
+    def differences(self, switch):
+        """How the last table of a switch differs from the new one."""
+        last = {key: rule for key, rule in self.before(len(self.rounds) + 1).rules.items() if rule["switch"] == switch}
+        new = {key_of(rule): rule for rule in self.new if rule["switch"] == switch}
+        words = [f"it has no entry for {self.entry(new[key])}" for key in new if key not in last]
+        words += [f"it still has {self.entry(last[key])}" for key in last if key not in new]
+        return words + [f"it has {self.entry(last[key])}, and wanted is {nets.action_words(new[key], self.network)}" for key in new
+                        if key in last and action_of(new[key]) != action_of(last[key])]
+
+
+def action_of(rule):
+    return rule["out"], rule.get("set"), rule.get("strip", False)
+
+
 def replayed(explainer, schedule):
     """What `replay` of the program says of a text of events: its status and text."""
     with tempfile.NamedTemporaryFile("w", suffix=".schedule") as file:

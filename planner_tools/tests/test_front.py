@@ -117,6 +117,19 @@ class Answers(unittest.TestCase):
         self.assertEqual(7, done.returncode)
         self.assertIn(b"Broken pipe", done.stderr)
 
+    def test_output_of_the_front_end_that_cannot_be_written(self):
+        for words in (["show", "."], ["--help"], ["--version"], ["page", "."]):
+            with self.subTest(words[0]), open("/dev/full", "wb") as full:
+                done = subprocess.run([rows.FRONT_END, *words], cwd=SQUARE, stdout=full, stderr=subprocess.PIPE, check=False, env={**os.environ, "PLANNER": PROGRAM})
+                self.assertEqual((7, b"planner: the standard output: the output couldn't all be written: No space left on device; what is there isn't whole\n"),
+                                 (done.returncode, done.stderr))
+
+    def test_wrong_words_leave_no_file_behind(self):
+        with tempfile.TemporaryDirectory() as folder:
+            for words in (["page", "none"], ["show", "none", "none"], ["plan", "none"], ["chek"]):
+                self.assertNotEqual(0, planner(*words, "-o", os.path.join(folder, "answer")).returncode)
+            self.assertEqual([], os.listdir(folder))
+
     def test_a_file_that_may_not_be_read(self):
         with tempfile.TemporaryDirectory() as folder:
             path = os.path.join(folder, "old.json")
