@@ -14,6 +14,7 @@ from planner_tools import program
 from planner_tools.page.layout import layout
 from planner_tools.page.values import Files
 from planner_tools.page.verdict import Refused, driven, traces, verdict
+from planner_tools.proved import say_why
 
 HERE = os.path.dirname(os.path.realpath(__file__))
 
@@ -76,11 +77,23 @@ def lines_of(text):
     return text.removesuffix("\n").split("\n") if text else []
 
 
+def words_of_refused(asked, line):
+    """The words of the command that refused a file of the page."""
+    if asked.schedule and line.startswith(("bad schedule", "planner replay")):
+        return "replay", asked.topology, asked.old, asked.plan, asked.schedule
+    files = [one for one in (asked.topology, asked.old, asked.new, asked.policy, asked.plan) if one]
+    if asked.schedule and line.startswith(("bad input", "planner drive", "not a run")):
+        return "drive", *files, asked.schedule
+    return "check" if len(files) == 5 else "config", *files
+
+
 def main(words):
+    asked = asked_by(words)
     try:
-        text = page(values_of(asked_by(words)))
+        text = page(values_of(asked))
     except Refused as fault:
         print(fault, file=sys.stderr)
+        say_why(*words_of_refused(asked, str(fault)))
         return fault.status
     except program.NoProgram as fault:
         print(fault, file=sys.stderr)

@@ -7,13 +7,14 @@ Nothing here waits for one switch while another one has something to say: connec
 """
 import errno
 import fcntl
-import json
 import os
 import selectors
 import socket
 import sys
 import time
 
+from planner_tools.files import NotJson, read_json
+from planner_tools.network import Network
 from planner_tools.switches import openflow
 
 # The upper half of all xids of these scripts' own messages. Those of `planner drive` count from 1 and are far below.
@@ -37,8 +38,7 @@ def say(words):
 
 def read_switches(path, topology):
     """The datapath id and the address, or None, of each switch of a file of switches, in the topology's order."""
-    with open(topology, "rb") as file:
-        declared = [one["name"] for one in json.load(file)["switches"]]
+    declared = declared_switches(topology)
     listed = {}
     with open(path, encoding="ascii", errors="replace") as file:
         for number, line in enumerate(file, 1):
@@ -68,6 +68,18 @@ def lock(path):
     except BlockingIOError:
         raise Stop(f"another run is at work with the switches of {path}", "wait for its end: two controllers at once break what each of them keeps") from None
     return file
+
+
+def declared_switches(topology):
+    """The names of the switches of a topology. The program says more of a file that is none."""
+    more = "correct the file; `planner config TOPOLOGY CONFIG` says more of it"
+    try:
+        names = Network(read_json(topology)).names
+    except NotJson as fault:
+        raise Stop(f"{topology}: {fault}", more) from fault
+    if not names or None in names:
+        raise Stop(f"{topology} is no topology with names of switches", more)
+    return names
 
 
 def host_and_port(text):
