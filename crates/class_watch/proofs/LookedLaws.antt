@@ -1,5 +1,5 @@
 -- The marks of atoms, the next marked one, and the numbers of classes up to it.
-use Rattle.std.proofs.Common.{◌≡◌, ℕ, suc, ◌+◌, ◌-◌, ◌*◌, ◌/◌, ◌%◌, ◌<◌, ◌≤◌, Bool, true, false, List, [], ◌∷◌, ◌++◌, length, get_or, set, Some, refl, sym, ap, ◌∙◌, subst, inl, inr, arith, get_or-set_same, get_or-set_other, suc-mul, div-add-mod'}
+use Rattle.std.proofs.Common.{◌≡◌, ◌⊎◌, ℕ, suc, ◌+◌, ◌-◌, ◌*◌, ◌/◌, ◌%◌, ◌<◌, ◌≤◌, Bool, true, false, List, [], ◌∷◌, ◌++◌, length, get_or, set, Some, refl, sym, ap, ◌∙◌, subst, inl, inr, arith, get_or-set_same, get_or-set_other, suc-mul, div-add-mod'}
 use Rattle.std.specs.Prelude.{◌||◌, slice_get}
 use Rattle.std.proofs.lemmas.Bool.{cases_eq, cases_lt}
 use Rattle.std.proofs.lemmas.List.{length-set}
@@ -7,7 +7,7 @@ use Rattle.std.proofs.lemmas.Nat.{mod-mul-add, mod_below}
 use Rattle.std.proofs.lemmas.Option.{same_Some, slice_get_within}
 use Rattle.net_base.specs.Blocks.{in_block}
 use Rattle.net_base.specs.Members.{IsIn}
-use Rattle.net_base.proofs.MemberLaws.{in_append_cases}
+use Rattle.net_base.proofs.MemberLaws.{in_append_cases, in_append_left, in_append_right}
 use Rattle.dest_classes.specs.Classes.{ClassList, atom_count, class_count, boundaries}
 use Rattle.dest_classes.specs.declared.Class.{Class}
 use Rattle.dest_classes.proofs.MapLaws.{number_fits, some_atom}
@@ -17,7 +17,7 @@ use Rattle.update_model.specs.declared.Change.{Change}
 use Rattle.certificates.specs.declared.OrderedPick.{OrderedPick}
 use Rattle.check_reasons.specs.AtomMarks.{AreTouched}
 use Rattle.class_watch.specs.Classes.{AreClasses}
-use Rattle.class_watch.specs.Looked.{IsNext, AreNext}
+use Rattle.class_watch.specs.Looked.{IsNext, AreNext, IsNextNumber}
 use Rattle.class_watch.proofs.ListLaws.{get_set_same, get_set_other, some_at}
 
 -- ---- marks
@@ -49,6 +49,22 @@ picked_more marks count front p same some so q i =
       ]
     ])
 
+-- and no others are marked but those that were
+pub picked_only : (old marks : List Bool) (count : ℕ) (front : List OrderedPick) (p : OrderedPick) → count ≡ length marks
+    → ((a : ℕ) → get_or marks a false ≡ true → (get_or old a false ≡ true) ⊎ ((q : OrderedPick) × IsIn q front × (q.class % length marks ≡ a)))
+    → (a : ℕ) → get_or (set marks (p.class % count) true) a false ≡ true
+    → (get_or old a false ≡ true) ⊎ ((q : OrderedPick) × IsIn q (front ++ p ∷ []) × (q.class % length (set marks (p.class % count) true) ≡ a))
+picked_only old marks count front p same only a on =
+    let at = p.class % count in
+    let long : length marks ≡ length (set marks at true) = sym (length-set marks at true) in
+    elim (cases_eq a at) [
+      | inl e ↦ inr (p, in_append_right p front (p ∷ []) (inl refl), ap (λ (n : ℕ). p.class % n) (sym long ∙ sym same) ∙ sym e)
+      | inr ne ↦ elim (only a (sym (get_or-set_other marks at a true false ne) ∙ on)) [
+        | inl was ↦ inl was
+        | inr of ↦ inr (of.0, in_append_left of.0 front (p ∷ []) of.1, ap (λ (n : ℕ). of.0.class % n) (sym long) ∙ of.2)
+      ]
+    ]
+
 or_false : (b : Bool) → b ≡ (b || false)
 or_false true = refl
 or_false false = refl
@@ -74,8 +90,8 @@ touched_by_first map list c marks are count each n class is =
 
 -- ---- the next marked atom
 
-pub next_here : (marks : List Bool) (atom : ℕ) → IsNext marks atom atom
-next_here marks atom = record { from = omega arith; passed = λ a ge lt. absurd (omega arith) }
+pub next_here : (marks : List Bool) (atom : ℕ) → get_or marks atom false ≡ true → IsNext marks atom atom
+next_here marks atom on = record { from = omega arith; passed = λ a ge lt. absurd (omega arith); marked = λ lt. on }
 
 pub next_later : (marks : List Bool) (atom next : ℕ) → get_or marks atom false ≡ false → IsNext marks (atom + 1) next → IsNext marks atom next
 next_later marks atom next off h = record {
@@ -85,6 +101,7 @@ next_later marks atom next off h = record {
         | inl more ↦ h.passed a (omega arith) lt
         | inr less ↦ let e : a ≡ atom = omega arith in ap (λ (n : ℕ). get_or marks n false) e ∙ off
       ];
+  marked = h.marked;
 }
 
 -- the atoms from one on know the next marked one, and so does this one
@@ -97,7 +114,7 @@ pub record AreLinked (marks : List Bool) (atom first : ℕ) (next : List ℕ) : 
 pub linked_none : (marks : List Bool) (next : List ℕ) → length next ≡ length marks → AreLinked marks (length marks) (length marks) next
 linked_none marks next count = record {
   within = omega arith;
-  first_is = next_here marks (length marks);
+  first_is = record { from = omega arith; passed = λ a ge lt. absurd (omega arith); marked = λ lt. absurd (omega arith) };
   count = count;
   each = λ a n ge at. (let lt = slice_get_within next a n at in absurd (omega arith));
 }
@@ -151,3 +168,34 @@ module _ (marks : List Bool) (nexts : List ℕ) (are : AreNext marks nexts) (num
             let place : n % atoms ≡ b = ap (λ (x : ℕ). x % atoms) (sym here) ∙ mod-mul-add (suc (number / atoms)) atoms b low in
             ap (λ (x : ℕ). get_or marks x false) place ∙ next.passed b (omega arith) (omega arith)
       ]
+
+  -- so the next class is there, in its row
+  pub next_in_row : in_row < length marks → IsNextNumber marks number (number - number % length marks + in_row)
+  next_in_row low =
+      let atoms = length marks in
+      let (within, next) = are.each (number % atoms) in_row at in
+      let from = next.from in
+      let split = div-add-mod' number atoms in
+      let same : number / atoms * atoms + in_row ≡ number - number % atoms + in_row = omega arith in
+      let place : (number - number % atoms + in_row) % atoms ≡ in_row = ap (λ (x : ℕ). x % atoms) (sym same) ∙ mod-mul-add (number / atoms) atoms in_row low in
+      record { from = omega arith; passed = passed_in_row; marked = ap (λ (x : ℕ). get_or marks x false) place ∙ next.marked low }
+
+  -- or in the next row
+  pub next_in_next : (first : ℕ) → slice_get nexts 0 ≡ Some first → length marks ≤ in_row → first < length marks → IsNextNumber marks number (number - number % length marks + length marks + first)
+  next_in_next first at_first past low =
+      let atoms = length marks in
+      let (within, next) = are.each 0 first at_first in
+      let split = div-add-mod' number atoms in
+      let row = suc-mul (number / atoms) atoms in
+      let some = are.some in
+      let under : number % atoms < atoms = mod_below number atoms some in
+      let same : suc (number / atoms) * atoms + first ≡ number - number % atoms + atoms + first = omega arith in
+      let place : (number - number % atoms + atoms + first) % atoms ≡ first = ap (λ (x : ℕ). x % atoms) (sym same) ∙ mod-mul-add (suc (number / atoms)) atoms first low in
+      record { from = omega arith; passed = passed_in_next first at_first past; marked = ap (λ (x : ℕ). get_or marks x false) place ∙ next.marked low }
+
+-- where no atom is marked there is none
+pub none_next : (marks : List Bool) (nexts : List ℕ) → AreNext marks nexts → (first : ℕ) → slice_get nexts 0 ≡ Some first → length marks ≤ first → (n : ℕ) → get_or marks (n % length marks) false ≡ false
+none_next marks nexts are first at past n =
+    let (within, next) = are.each 0 first at in
+    let low = mod_below n (length marks) are.some in
+    next.passed (n % length marks) (omega arith) (omega arith)

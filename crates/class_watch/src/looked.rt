@@ -1,5 +1,5 @@
 //! The atoms of a class map whose classes are looked at.
-ghost use Rattle.std.specs.Prelude.{◌≡◌, ℕ, ◌+◌, ◌%◌, ◌<◌, ◌≤◌, ◌∷◌, [], true, false, Some, length, replicate, slice_get, IfOk};
+ghost use Rattle.std.specs.Prelude.{◌≡◌, ◌⊎◌, ℕ, ◌+◌, ◌%◌, ◌<◌, ◌≤◌, ◌∷◌, [], true, false, Some, length, replicate, slice_get, IfOk, IfSome, IfNone};
 ghost use Rattle.net_base.specs.Blocks.{in_block};
 ghost use Rattle.net_base.specs.Members.{IsIn};
 ghost use Rattle.dest_classes.specs.Classes.{ClassList, class_count, atom_count};
@@ -7,7 +7,7 @@ ghost use Rattle.dest_classes.specs.declared.Class.{Class as ClassOf};
 ghost use Rattle.certificates.specs.declared.OrderedPick.{OrderedPick};
 ghost use Rattle.check_reasons.specs.AtomMarks.{is_marked, AreTouched};
 ghost use Rattle.class_watch.specs.Classes.{AreClasses};
-ghost use Rattle.class_watch.specs.Looked.{IsNext, AreNext};
+ghost use Rattle.class_watch.specs.Looked.{IsNext, AreNext, IsNextNumber};
 
 use certificates::OrderedPick;
 use check_reasons::TouchedAtoms;
@@ -68,6 +68,10 @@ fn mark_picked(marks: &mut Vec<bool>, picks: &[OrderedPick])
         → is_marked marks.new.items atom ≡ true }
     ensures picked { (pick : OrderedPick) → IsIn pick picks.now
         → is_marked marks.new.items (pick.class % length marks.new.items) ≡ true }
+    ensures only { (atom : ℕ) → is_marked marks.new.items atom ≡ true
+        → (is_marked marks.old.items atom ≡ true)
+        ⊎ ((pick : OrderedPick) × IsIn pick picks.now
+            × (pick.class % length marks.new.items ≡ atom)) }
 {
     for pick in picks {
         let atom = pick.class as usize % marks.len();
@@ -150,6 +154,9 @@ impl LookedAtoms {
             → is_marked self.new atom ≡ true }
         ensures picked { (pick : OrderedPick) → IsIn pick picks.now
             → is_marked self.new (pick.class % length self.new) ≡ true }
+        ensures only { (atom : ℕ) → atom < length self.new → is_marked self.new atom ≡ true
+            → (is_marked touched.now atom ≡ true)
+            ⊎ ((pick : OrderedPick) × IsIn pick picks.now × (pick.class % length self.new ≡ atom)) }
     {
         mark_touched(&mut self.marks, touched);
         mark_picked(&mut self.marks, picks);
@@ -175,11 +182,10 @@ impl LookedAtoms {
         number % self.marks.len() as u32
     }
 
-    /// A class number from this one on, where no class from this one up to it has an atom that is looked at.
-    fn first_number(&self, number: u32) -> usize
-        ensures from { number ≤ result }
-        ensures passed { (n : ℕ) → number ≤ n → n < result
-            → is_marked self.now (n % length self.now) ≡ false }
+    /// The first class number from this one on whose atom is looked at, if there is one.
+    fn first_number(&self, number: u32) -> Option<usize>
+        ensures some { IfSome result (IsNextNumber self.now number) }
+        ensures none { IfNone result ((n : ℕ) → is_marked self.now (n % length self.now) ≡ false) }
     {
         let number = number as usize;
         let atoms = self.next.len();
@@ -187,24 +193,33 @@ impl LookedAtoms {
         let row = number - atom;
         let in_row = self.next[atom] as usize;
         if in_row < atoms {
-            return row + in_row;
+            return Some(row + in_row);
         }
-        row + atoms + self.next[0] as usize
+        let first = self.next[0] as usize;
+        if first < atoms {
+            return Some(row + atoms + first);
+        }
+        None
     }
 
-    /// The same, but at most `end`.
+    /// The first class number from this one on whose atom is looked at, where it lies below `end`; otherwise `end`.
     pub fn next_number(&self, number: u32, end: u32) -> u32
         requires { number ≤ end }
         ensures from { number ≤ result }
         ensures within { result ≤ end }
         ensures passed { (n : ℕ) → number ≤ n → n < result
             → is_marked self.now (n % length self.now) ≡ false }
+        ensures looked { result < end → is_marked self.now (result % length self.now) ≡ true }
     {
-        let first = self.first_number(number);
-        if first < end as usize {
-            first as u32
-        } else {
-            end
+        match self.first_number(number) {
+            None => end,
+            Some(first) => {
+                if first < end as usize {
+                    first as u32
+                } else {
+                    end
+                }
+            }
         }
     }
 }

@@ -68,7 +68,7 @@ impl ClassWatch {
     }
 
     /// Walks the mixed walks of a class in the round that the switches of a network are prepared for, and notes the switches
-    /// that they come to as those of the class. The answer are these switches.
+    /// that they come to as those of the class. The answer is the set of these switches.
     pub fn walk(&mut self, net: &Net, mixes: &[Mixed], numbered: NumberedClass) -> SwitchSet
         requires round { (u : Rollout) × (k : ℕ) × IsRoundOf net.now mixes.now u k }
         requires entry { numbered.class.entry.switch.0 < switch_count net.now }
