@@ -4,15 +4,20 @@ _planner() {
     local files=0
     COMPREPLY=()
     if [ "$COMP_CWORD" -eq 1 ]; then
-        mapfile -t COMPREPLY < <(compgen -W "config check plan upgrade emit import replay simulate explain drive sample --help" -- "${COMP_WORDS[1]}")
+        mapfile -t COMPREPLY < <(compgen -W "config paths trace plan check explain simulate replay tables upgrade import emit drive sample collect apply show page --help --version" -- "${COMP_WORDS[1]}")
+        return
+    fi
+    if [[ ${COMP_WORDS[COMP_CWORD]} == -* ]]; then
+        mapfile -t COMPREPLY < <(compgen -W "--help -o --strict --quiet" -- "${COMP_WORDS[COMP_CWORD]}")
         return
     fi
     case ${COMP_WORDS[1]} in
-        config) files=3 ;;
-        check | simulate | explain) files=5 ;;
-        plan | replay) files=4 ;;
-        upgrade | emit | import) files=2 ;;
-        drive) files=6 ;;
+        collect) files=1 ;;
+        trace | upgrade | import | emit) files=2 ;;
+        config | paths | show) files=3 ;;
+        plan | replay | tables) files=4 ;;
+        check | explain | simulate | page) files=5 ;;
+        drive | apply) files=6 ;;
     esac
     # Names of files are completed by bash itself, which does so where there is no answer; behind the last file there is nothing to complete.
     if [ "$COMP_CWORD" -gt $((files + 1)) ]; then

@@ -1,43 +1,48 @@
-"""Tests that docs/planner.1 and docs/planner.bash have the commands that `./planner --help` has, with the same words behind them."""
+"""Tests that the manual, the completion, the README and the help are made of the words of planner_tools/words.py, and that the program has them."""
 import os
-import re
 import subprocess
+import sys
 import unittest
 
 ROOT = os.path.dirname(os.path.dirname(os.path.realpath(__file__)))
+sys.path.insert(0, ROOT)
+
+from planner_tools import words  # noqa: E402
+import manual  # noqa: E402
 
 
-def commands():
-    """Returns each command of the help text, with the words behind it."""
-    text = subprocess.run([os.path.join(ROOT, "planner"), "--help"], capture_output=True, text=True, check=True, timeout=20).stdout
-    return dict(re.findall(r"^planner (\S+) ?(.*)$", text, re.M))
+def said(*more):
+    return subprocess.run([os.path.join(ROOT, "planner"), *more], capture_output=True, text=True, check=True, timeout=20).stdout
 
 
-def read(name):
-    with open(os.path.join(ROOT, "docs", name), encoding="utf-8") as file:
-        return file.read()
-
-
-def completed(*words):
+def completed(*more):
     """Returns what bash offers for the last of these words."""
     script = '. "$0"; COMP_WORDS=(planner "$@"); COMP_CWORD=$#; _planner; printf "%s\\n" "${COMPREPLY[@]}"'
-    done = subprocess.run(["bash", "-c", script, os.path.join(ROOT, "docs", "planner.bash"), *words], capture_output=True, text=True, check=False, timeout=20)
+    done = subprocess.run(["bash", "-c", script, os.path.join(ROOT, "docs", "planner.bash"), *more], capture_output=True, text=True, check=False, timeout=20)
     return done.stdout.split(), done.stderr
 
 
 class Words(unittest.TestCase):
-    def test_the_manual_has_each_command(self):
-        plain = re.sub(r"\\f[RP]|[\"\\]", "", read("planner.1"))
-        entries = [" ".join(line.split()) for line in re.findall(r"^\.TP\n\.BI? (.*)$", plain, re.M)]
-        for command, words in commands().items():
-            with self.subTest(command):
-                self.assertIn(" ".join(f"{command} {words}".split()), entries)
+    def test_the_files_are_made_of_the_words(self):
+        for path, text in manual.wanted().items():
+            with self.subTest(path):
+                self.assertEqual(text, manual.read(path), "tools/manual.py writes it anew")
+
+    def test_the_readme_has_the_table(self):
+        self.assertIn(manual.manual.table(), manual.read("README.md"))
+
+    def test_help_has_each_command(self):
+        for command in words.COMMANDS:
+            with self.subTest(command.name):
+                self.assertIn(f"  {command.name} {command.usage}".rstrip() + "\n", said("--help"))
+                self.assertIn(f"planner {command.name}", said(command.name, "--help"))
 
     def test_each_command_is_completed(self):
-        offered, said = completed("")
-        self.assertEqual("", said)
-        self.assertLessEqual(set(commands()), set(offered))
+        offered, fault = completed("")
+        self.assertEqual("", fault)
+        self.assertEqual([*(command.name for command in words.COMMANDS), "--help", "--version"], offered)
         self.assertEqual((["check"], ""), completed("ch"))
+        self.assertEqual((["--strict"], ""), completed("check", "--s"))
 
     def test_nothing_is_offered_where_files_or_numbers_stand(self):
         self.assertEqual(([], ""), completed("check", ""))

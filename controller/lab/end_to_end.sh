@@ -1,12 +1,12 @@
 #!/usr/bin/env bash
-# An update of Open vSwitch bridges under traffic: once by a plan, carried out by apply.py, and then the same changes at once, for comparison.
+# An update of Open vSwitch bridges under traffic: once by a plan, carried out by `planner apply`, and then the same changes at once, for comparison.
 #
 #   controller/lab/end_to_end.sh FOLDER [WAIT [MILLISECONDS]]
 #   controller/lab/end_to_end.sh ring N [WAIT [MILLISECONDS]]
 #
 # FOLDER has topology.json, old.json, new.json and policy.json, as examples/square has; `ring N` makes the files of a ring of N switches. WAIT is that
-# of apply.py (1 s). With MILLISECONDS each link takes so long. The changes are made at once SHOTS times (5), each time within SPREAD seconds (0.2) in
-# another order. PLANNER names another program than ./planner; PAUSE is the time between two packets (0.002 s), FIRST_PORT
+# of `planner apply` (1 s). With MILLISECONDS each link takes so long. The changes are made at once SHOTS times (5), each time within SPREAD seconds (0.2) in
+# another order. PLANNER names another program than the built one; PAUSE is the time between two packets (0.002 s), FIRST_PORT
 # the port of the first bridge (17100). Everything is on this machine: bridges of a userspace datapath that listen on the
 # loopback, with ports that no interface of the machine has. What is started here is ended here.
 #
@@ -14,7 +14,7 @@
 set -u
 here=$(cd "$(dirname "$0")" && pwd)
 root=$here/../..
-planner=${PLANNER:-$root/planner}
+planner=$root/planner
 dir=$(mktemp -d -t controller-lab-XXXXXX)
 traffic= update=
 end() {
@@ -53,15 +53,15 @@ sums() { awk '{ sent += $1; broken += $2 } END { print sent " packets sent, " br
 "$here/bridges.sh" start "$dir" "$files/topology.json" "$delay" || fail "the bridges"
 python3 -B "$here/traffic.py" load "$dir" "${files_of_update[@]:0:2}"
 echo "== $name: the tables are read, and a plan is made from them"
-python3 -B "$here/../collect.py" "$files/topology.json" --switches "$dir/switches" >"$dir/replies" || fail collect
+"$planner" collect "$files/topology.json" --switches "$dir/switches" >"$dir/replies" || fail collect
 "$planner" import "$files/topology.json" "$dir/replies" >"$dir/read.json" || fail import
 by_plan=("$files/topology.json" "$dir/read.json" "$files/new.json" "$files/policy.json" "$dir/made.json")
 "$planner" plan "${by_plan[@]:0:4}" >"$dir/made.json" || fail plan
 "$planner" check "${by_plan[@]}"
 echo "== $name: by the plan"
 pour "$dir/planned"
-PLANNER=$planner python3 -B "$here/../apply.py" "${by_plan[@]}" "$dir/input" --switches "$dir/switches" --wait "$wait" 2>&1 & update=$!
-wait "$update" || fail "apply.py"
+"$planner" apply "${by_plan[@]}" "$dir/input" --switches "$dir/switches" --wait "$wait" 2>&1 & update=$!
+wait "$update" || fail "planner apply"
 update=
 drain
 judge "$dir/planned" "$dir/by-plan"

@@ -24,9 +24,9 @@ import subprocess
 import sys
 import time
 
-sys.path[:0] = [str(pathlib.Path(__file__).resolve().parents[1]), str(pathlib.Path(__file__).resolve().parents[1] / "tests")]
+sys.path[:0] = [str(pathlib.Path(__file__).resolve().parents[2]), str(pathlib.Path(__file__).resolve().parents[2] / "planner_tools" / "switches" / "tests")]
 import fake_switch
-import openflow
+from planner_tools.switches import openflow
 
 FIRST_PORT = int(os.environ.get("FIRST_PORT", "17100"))
 PAUSE = float(os.environ.get("PAUSE", "0.002"))

@@ -1,0 +1,1 @@
+"""Configurations, topologies and commands of other programs, into the planner's files and out of them."""

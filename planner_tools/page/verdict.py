@@ -1,0 +1,49 @@
+"""Asks the planner for what it says of an update."""
+import subprocess
+
+from planner_tools.reasons import sentence_of
+
+# The statuses with which the planner says yes or no; with any other one there is no page.
+YES, NO, NO_RUN = 0, 1, 8
+
+
+class Refused(Exception):
+    """The planner gave no verdict: what it said instead, and its status."""
+
+    def __init__(self, text, status):
+        super().__init__(text)
+        self.status = status
+
+
+def ask(planner, *words):
+    """Returns the status and the lines with which the planner answers."""
+    try:
+        done = subprocess.run([planner, *words], stdout=subprocess.PIPE, text=True, check=False)
+    except OSError as fault:
+        raise Refused(f"the planner can't be run: {fault}", 125) from fault
+    return done.returncode, done.stdout.splitlines()
+
+
+def verdict(planner, files):
+    """Returns the planner's line on an update, with a sentence and the parts of the line."""
+    status, lines = ask(planner, "check", *files)
+    if status not in (YES, NO):
+        raise Refused("\n".join(lines) or f"planner check ended with status {status}", status)
+    sentence, reason = sentence_of(lines[0])
+    return {"accepted": status == YES, "line": lines[0], "sentence": sentence, "reason": reason}
+
+
+def driven(planner, update, record):
+    """Returns the events of the record of an update, as a schedule."""
+    status, lines = ask(planner, "drive", *update, record)
+    if status != YES:
+        raise Refused("\n".join(lines) or f"planner drive ended with status {status}", status)
+    return "".join(f"{line}\n" for line in lines if not line.startswith("# sent "))
+
+
+def traces(planner, topology, old, plan, schedule):
+    """Returns what the planner says of a recorded run: a line for each packet and one for the whole, or the line of the first event that can't be."""
+    status, lines = ask(planner, "replay", topology, old, plan, schedule)
+    if status not in (YES, NO_RUN):
+        raise Refused("\n".join(lines) or f"planner replay ended with status {status}", status)
+    return {"run": status == YES, "answers": lines}

@@ -1,0 +1,192 @@
+"""The words of the planner: its commands, what stands behind each, and what each does. Help, manual, completion and the table of the README are made of
+them; `tools/manual.py` writes those files, and the tests of tools/ compare them."""
+
+# What the words behind a command name. In the usage of a command a word in brackets may be left out.
+FILES = {
+    "TOPO": "the network: switches with the number of rules that each can hold, links, host ports, the VLANs that hosts use, and the VLAN ids that the "
+            "planner may use as tags",
+    "CONFIG": "the rules of all switches",
+    "OLD": "the rules of all switches now",
+    "NEW": "the rules of all switches as wanted",
+    "POLICY": "demands: which packets must meet which waypoints in which order, and which must arrive",
+    "PLAN": "rounds of changes, with the evidence by which they can be checked; format 1 or 2",
+    "SCHEDULE": "a run, one event a line: rounds start, changes are made, rounds are settled, packets enter, hop and are lost",
+    "REPLIES": "what switches answered when they were asked for their flow statistics: the name of a switch and the bytes of one message, a line each",
+    "INPUT": "what a controller was given, one line each: `start`, or `feed` with the name of a switch and bytes that it sent",
+}
+# The name that a file has in a folder that stands in place of names.
+IN_FOLDER = {"TOPO": "topology.json", "CONFIG": "old.json", "OLD": "old.json", "NEW": "new.json", "POLICY": "policy.json", "PLAN": "plan.json",
+             "SCHEDULE": "schedule", "REPLIES": "replies", "INPUT": "update"}
+
+
+class Command:
+    """A command: its name, the words behind it, what it answers in a line, and in more words."""
+
+    def __init__(self, name, usage, answer, text, is_proved=True):
+        self.name, self.usage, self.answer, self.text, self.is_proved = name, usage, answer, text, is_proved
+
+    def words(self):
+        """The words behind the command, without brackets, and how many of them must be there."""
+        found = self.usage.replace("]", "").split()
+        least = next((at for at, word in enumerate(found) if word.startswith("[")), len(found))
+        return [word.lstrip("[") for word in found], least
+
+
+# The commands of the proved program.
+PROVED = [
+    Command("config", "TOPO CONFIG [POLICY]",
+            "whether every packet has a good path under a configuration: no switch twice, and with a policy its waypoints met in order, and no drop where "
+            "it must arrive",
+            "Says whether each class of packets has a good path in the configuration: no switch twice, the waypoints of the policy in their order, and no "
+            "drop where the policy says that packets must arrive. Without POLICY nothing is demanded but that no packet comes to a switch twice. The answer "
+            "is `holds` with the number of classes, or `breaks` with the first class that has no good path, and why."),
+    Command("paths", "TOPO CONFIG [POLICY]",
+            "the path of every class of packets under a configuration, and whether a demand covers it",
+            "Writes the path of each class of packets in the configuration: where it enters, each stop, and where it leaves, is dropped or comes to a switch "
+            "again; and whether its path is good, breaks a demand, or is free since no demand covers it. The last line counts them."),
+    Command("trace", "TOPO CONFIG ENTRY VLAN ADDRESS",
+            "the way of one packet through a configuration, with the rule that it meets at each switch",
+            "Writes the way of one packet through the configuration, a line a stop with the rule that counts there, and where it ends. ENTRY is a host port as "
+            "`s1:1`, VLAN `untagged` or 1 to 4094, ADDRESS the packet's destination."),
+    Command("plan", "TOPO OLD NEW POLICY",
+            "a certified plan: rounds of one change each where a search for safe changes finds them, otherwise a two-phase plan, otherwise which tags or table "
+            "entries are wanting",
+            "Writes a certified plan in format 2: one change a round where a search for safe changes finds them, otherwise a two-phase plan, which marks "
+            "packets with tags. Where neither can be had it says which tags or table entries are wanting, and which rounds were tried."),
+    Command("check", "TOPO OLD NEW POLICY PLAN",
+            "whether a plan, from any source, is certified; otherwise the first reason why it isn't",
+            "Says whether the plan is certified. Then in every run of it, in any order of the changes of a round and any interleaving with the packets, no "
+            "packet comes to a switch twice, each that leaves has met its waypoints, none that must arrive is dropped, and under a two-phase plan each packet "
+            "takes the old or the new path. The answer is `accepted` with the kind of the plan and the numbers of rounds and classes, or `refused` with the "
+            "first reason. A reason says what the plan's evidence lacks, and not that the plan is unsafe."),
+    Command("explain", "TOPO OLD NEW POLICY PLAN",
+            "of an ordered plan a run in which a packet breaks the policy, event by event, where there is one; otherwise that there is none",
+            "Writes the schedule of a run in which a packet comes to a switch twice, leaves without having met its waypoints, or is dropped though it must "
+            "arrive: in the first round in which a packet can, and for the first class of packets there. It ends with the event by which the packet breaks "
+            "the policy, and `replay` carries it out. Where every mixed walk is good, in whatever mixture of old and new rules a packet finds the switches of "
+            "a round, it says so. The plan's evidence isn't looked at, and neither are the capacities of the switches. Where a configuration isn't good, or a "
+            "change of a round can't be made or leaves two rules of equal priority for one packet, it answers `refused` with that reason, and it refuses "
+            "two-phase plans."),
+    Command("simulate", "TOPO OLD NEW POLICY PLAN START COUNT",
+            "a whole run of a certified plan in which COUNT packets enter, event by event, and where each packet went; START picks the events",
+            "Makes a run of a certified plan to its end, in which COUNT packets enter, from 0 to 1000, and START, a number of 64 bits, picks the events. It "
+            "writes them as a schedule, and the traces as comments. Where the plan isn't certified it answers as `check` does."),
+    Command("replay", "TOPO OLD PLAN SCHEDULE",
+            "where each packet went in a recorded run of a plan, or the first line that can't have happened",
+            "Carries out the events of the schedule in turn, from the old tables on and over the rounds of the plan, and writes the trace of each packet: where "
+            "it entered, each stop, and whether it left, was dropped, was lost or is under way. Where an event can't happen it names the line of the first one "
+            "that can't."),
+    Command("tables", "TOPO OLD PLAN SCHEDULE",
+            "the rules that each switch has after the events of a recorded run of a plan",
+            "Carries out the events of the schedule as `replay` does, and writes the rules that each switch has then, in one line of JSON."),
+    Command("upgrade", "TOPO PLAN",
+            "the plan in the newer of its two formats",
+            "Writes the plan in format 2, whichever format it has."),
+    Command("import", "TOPO REPLIES",
+            "the configuration that the switches have, made from the flow statistics that they answered",
+            "Writes the configuration that the switches have, from the flow statistics that they answered. It names the first line or entry that can't be read "
+            "as a rule: such an entry is never read as another one."),
+    Command("emit", "TOPO PLAN",
+            "the OpenFlow 1.0 messages that carry the plan out, one a line, for any controller to send",
+            "Writes the OpenFlow 1.0 messages that carry the plan out, one a line: the round, the name of the switch, and the bytes in hexadecimal. In each "
+            "round come the changes, and then a barrier request for each switch that has one."),
+    Command("drive", "TOPO OLD NEW POLICY PLAN INPUT",
+            "what the core of a controller sends, given the starts of rounds and the bytes that came from the switches: the messages, the failed sessions, and "
+            "the events so far as a schedule",
+            "Works out what a controller that carries the plan out sends to each switch, when it is given the calls and bytes of INPUT. It writes, as comments, "
+            "the bytes sent to each switch and the sessions that failed, then the events as a schedule, and last how many rounds are settled. Where a round is "
+            "started when it can't be, it names the line. Where the plan isn't certified it answers as `check` does."),
+    Command("sample", "N",
+            "one line on an update of its own making, a ring of N switches, 4 to 128, that it plans and checks: rounds, classes, numberings and picks",
+            "Makes the update of a ring of N switches, from 4 to 128, plans it, checks the plan, and writes one line: the kind of the plan, and the numbers of "
+            "its rounds, classes, numberings and picks. It reads no file."),
+]
+# The commands of the front end: tested, and not proved.
+FRONT = [
+    Command("collect", "TOPO --switches FILE",
+            "what the switches answer when they are asked for their tables: the REPLIES that `import` reads",
+            "Asks each switch for its flow table, and writes what `planner import` reads. What a configuration can't say is refused, in words.", False),
+    Command("apply", "TOPO OLD NEW POLICY PLAN INPUT --switches FILE",
+            "carries a plan out on the switches, round by round; INPUT is the record of it",
+            "Carries out a plan on the switches. When it begins, before each round, after each lost connection and at the end it compares what they have with what "
+            "`planner tables` says they must have, and stops where that differs; `--repair` puts it right. Every message of the plan is decided by `planner drive`; "
+            "INPUT records what came and what was started, and `--resume` goes on with it. A mark on the switches tells other controllers of the update.", False),
+    Command("show", "TOPO [OLD] [PLAN] FILE",
+            "a plan, a configuration or a schedule in words: of a plan round by round what is changed, from where to where, and the time that it takes",
+            "Shows FILE in words: of a plan round by round the switch, the entry, and from which neighbour to which; of a configuration the rules of each switch; "
+            "of a schedule its events. OLD says what was there before, and a schedule is shown whole behind OLD and PLAN. `--wait SECONDS` is the wait before each "
+            "round, for the time that a plan takes; `--json` writes it for machines.", False),
+    Command("page", "TOPO OLD NEW POLICY PLAN",
+            "one HTML file that shows what a plan does, round by round",
+            "Writes a page for the browser: of each round the changes, and the steps that packets may take; of a plan that is refused a walk that goes wrong, "
+            "where it finds one; of a run its events one by one.", False),
+]
+COMMANDS = PROVED + FRONT
+BY_NAME = {command.name: command for command in COMMANDS}
+# Commands of the program that are newer than some builds of it.
+NEW = ("paths", "trace", "tables")
+
+DESCRIPTION = (
+    "plans and checks updates of OpenFlow 1.0 flow tables while packets flow. From a network, the rules now, the rules wanted and what packets must do, it "
+    "plans the rounds in which the switches are to be changed. It checks such plans, whoever made them. Under a plan that it accepts no packet comes to a "
+    "switch twice, none leaves the network without having met its waypoints, and none that must arrive is dropped by a switch, in whatever order the changes "
+    "of a round and the hops of packets fall.")
+FRONT_END = (
+    "Each command reads the files that it names, and writes its answer to the standard output. The standard output and the exit status of the commands of the "
+    "proved program are exactly the program's. What the front end says beside it goes to the error stream. In a checkout of the repository it proves and "
+    "builds the program first, where it is missing or older than a source, and says how long that takes.")
+OPTIONS = [
+    ("--help", "Prints the commands in short; behind a command, more of it."),
+    ("--version", "Prints the version."),
+    ("-o FILE", "Writes the answer into FILE, which is there only where the exit status is 0. Another answer goes to the standard output."),
+    ("--strict", "Makes warnings exit status 3, with nothing written."),
+    ("--quiet", "Says nothing on the error stream but refusals."),
+]
+SHORT_HANDS = (
+    "A folder in place of TOPO stands for the files of it that are left out: topology.json, old.json (also for CONFIG), new.json, policy.json, plan.json, "
+    "schedule, replies and update. `planner plan examples/square` takes the first four of them. The name `-` is the standard input. The error stream has colour "
+    "only on a terminal, and none where the variable NO_COLOR is set. The variable PLANNER names another program than the one that is built or installed.")
+
+STATUSES = [
+    (0, "done; the answer is yes"),
+    (1, "refused; the answer is no"),
+    (2, "an unknown command, or wrong words"),
+    (3, "a bad file, or more classes of packets than the planner takes"),
+    (4, "too few tags for a two-phase plan"),
+    (5, "too small a table for a two-phase plan"),
+    (6, "a file couldn't be read"),
+    (7, "the output couldn't all be written"),
+    (8, "the schedule or the input is no run"),
+    (9, "memory was wanting"),
+    (125, "the program isn't there or can't be built"),
+]
+
+
+def help_text():
+    """The text of `planner --help`."""
+    import textwrap
+
+    lines = ["planner COMMAND WORD.. : plans and checks updates of OpenFlow 1.0 networks, and carries them out."]
+    for title, commands in (("Commands of the proved program:", PROVED), ("Commands of the front end, which are tested and not proved:", FRONT)):
+        lines += ["", title]
+        for command in commands:
+            lines += [f"  {command.name} {command.usage}"]
+            lines += textwrap.wrap(command.answer, 112, initial_indent="      ", subsequent_indent="      ")
+    lines += ["", "Options:"]
+    lines += [line for flag, text in OPTIONS for line in textwrap.wrap(f"{flag:<12}{text}", 112, initial_indent="  ", subsequent_indent=" " * 14)]
+    lines += ["", *textwrap.wrap(SHORT_HANDS.replace("`", ""), 112, break_on_hyphens=False), "", "Exit status:"]
+    lines += [f"  {number:<4} {meaning}" for number, meaning in STATUSES]
+    return "\n".join(lines) + "\n"
+
+
+def command_help(command):
+    """The text of `planner COMMAND --help`, for a command of the program."""
+    import textwrap
+
+    lines = [f"planner {command.name} {command.usage}", "", *textwrap.wrap(command.text, 112)]
+    files = [word for word in command.words()[0] if word in FILES]
+    for word in files:
+        lines += [""] if word == files[0] else []
+        lines += textwrap.wrap(f"{word:<10}{FILES[word]}", 112, initial_indent="  ", subsequent_indent=" " * 12)
+    lines += ["", "planner --help has the options, and what a folder in place of TOPO stands for."]
+    return "\n".join(lines) + "\n"
