@@ -110,7 +110,8 @@ fn round_reason(case: &Case, k: usize, room: &mut CheckRoom) -> Option<Reason>
     requires ready { IsReady case.now k room.old }
     requires ends { EndsAreGood case.now.task }
     requires before { RoundsPass case.now.task case.now.evidence k }
-    ensures none { IfNone result (RoundsPass case.now.task case.now.evidence (suc k) × IsReady case.now (suc k) room.new) }
+    ensures none { IfNone result (RoundsPass case.now.task case.now.evidence (suc k)
+        × IsReady case.now (suc k) room.new) }
     ensures some { IfSome result (IsFirstReason case.now.task case.now.evidence) }
     ensures fits { Fits case.now.task room.new }
 {

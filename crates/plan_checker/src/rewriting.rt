@@ -35,7 +35,8 @@ fn lower_switch(best: Option<SwitchId>, switch: SwitchId) -> SwitchId
 
 /// The first switch at which a change sets or strips, with one more change.
 fn with_rewrite(best: Option<SwitchId>, change: &Change) -> Option<SwitchId>
-    ensures { (round : List ChangeOf) → IsRewriteFound round best → IsRewriteFound (round ++ change.now ∷ []) result }
+    ensures { (round : List ChangeOf) → IsRewriteFound round best
+        → IsRewriteFound (round ++ change.now ∷ []) result }
 {
     if keeps_vlan(change.rule().action) {
         return best;

@@ -119,7 +119,8 @@ pub(crate) fn load_round(case: &Case, k: usize, tables: &mut PreparedTables) -> 
     requires room { HasRoom case.now.task.update.net case.now.task.rounds tables.old }
     requires stands { StandsBefore (rollout case.now.task) k tables.old }
     ensures none { IfNone result (ChangesPass case.now.task case.now.evidence k
-        × AreLoaded (rollout case.now.task) k tables.new.mixes × ArePrepared (rollout case.now.task) k tables.new) }
+        × AreLoaded (rollout case.now.task) k tables.new.mixes
+        × ArePrepared (rollout case.now.task) k tables.new) }
     ensures some { IfSome result (IsFirstFrom case.now.task case.now.evidence (round_start k)) }
     ensures room { HasRoom case.now.task.update.net case.now.task.rounds tables.new }
 {
@@ -147,8 +148,9 @@ pub(crate) fn apply_round(case: &Case, k: usize, tables: &mut PreparedTables)
 pub(crate) fn wrong_end(case: &Case, tables: &PreparedTables) -> Option<Reason>
     requires { StandsBefore (rollout case.now.task) (length case.now.task.rounds) tables.now }
     ensures none { IfNone result ((s : Switch)
-        → IsSameSet (rules_at (tables_before (rollout case.now.task) (length case.now.task.rounds)) s)
-            (rules_at case.now.task.update.new s)) }
+        → IsSameSet
+        (rules_at (tables_before (rollout case.now.task) (length case.now.task.rounds)) s)
+        (rules_at case.now.task.update.new s)) }
     ensures some { IfSome result (IsFirstFrom case.now.task case.now.evidence end_start) }
 {
     case.net.keeps_rules();

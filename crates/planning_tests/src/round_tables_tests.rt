@@ -124,7 +124,10 @@ fn has_rules(rt: &impl Abort, tables: &Config) {
 fn a_change_is_made_only_where_it_is_clear_and_has_room(rt: HostRuntime) {
     let net = read_net(rt.alloc(), PAIR).expect(&rt, "a network");
     let config = no_rules(rt.alloc(), &net).expect(&rt, "tables");
-    let mut trial = PreparedTables::for_trials(rt.alloc(), &net, &config).expect(&rt, "trial tables");
+    let mut trial = PreparedTables::for_trials(rt.alloc(), &net, &config).expect(
+        &rt,
+        "trial tables",
+    );
     assert_eq!(rt; first_wrong(&rt, &mut trial, &net, &steps()), None);
     assert!(rt; trial.mixes().len() == 2);
     has_rules(&rt, trial.tables());

@@ -79,12 +79,12 @@ module _ (tables : List TableState) (lists : List ChangesState) (s : SwitchId) (
           → MatchOption unclear (AreMet tables lists (s.0 + 1) next new) (λ a. (a.0 < s.0 + 1) × IsUnclearAt tables lists a)
       rest None all = λ t less. elim (cases_lt t.0 s.0) [
         | inl below ↦ (let had = all t below in (
-            subst (λ (m : MixedState). IsMixed (rules_there tables t) (list_at lists t).changes m) (sym (others t (omega arith))) had.0,
-            λ off. had.1 (sym (flags t (omega arith)) ∙ off),
-          ))
+          subst (λ (m : MixedState). IsMixed (rules_there tables t) (list_at lists t).changes m) (sym (others t (omega arith))) had.0,
+          λ off. had.1 (sym (flags t (omega arith)) ∙ off),
+        ))
         | inr more ↦ (let e : s.0 ≡ t.0 = omega arith in
             subst (λ (n : ℕ). IsMixed (rules_there tables (switch_n n)) (list_at lists (switch_n n)).changes (mix_at new (switch_n n))
-                × (is_touched next (switch_n n) ≡ false → length (list_at lists (switch_n n)).changes ≤ 1)) e (here, few))
+            × (is_touched next (switch_n n) ≡ false → length (list_at lists (switch_n n)).changes ≤ 1)) e (here, few))
       ]
       rest (Some a) h = (omega (arith, h.0), h.1)
 
@@ -95,11 +95,14 @@ module _ (tables : List TableState) (lists : List ChangesState) (s : SwitchId) (
     where
       rest : (unclear : Option SwitchId) → MatchOption unclear (AreMet tables lists s.0 touched mixes) (λ a. (a.0 < s.0) × IsUnclearAt tables lists a)
           → ((unwrap_or unclear s).0 < s.0 + 1) × IsUnclearAt tables lists (unwrap_or unclear s)
-      rest None all = (omega arith, record {
-        i = i;
-        j = j;
-        table = table;
-        ambiguous = ambiguous;
-        below = λ t less. clear_mixed (rules_there tables t) (list_at lists t).changes (mix_at mixes t) (all t less).0;
-      })
+      rest None all = (
+        omega arith,
+        record {
+          i = i;
+          j = j;
+          table = table;
+          ambiguous = ambiguous;
+          below = λ t less. clear_mixed (rules_there tables t) (list_at lists t).changes (mix_at mixes t) (all t less).0;
+        },
+      )
       rest (Some a) h = (omega (arith, h.0), h.1)

@@ -112,12 +112,7 @@ fn change_rules(table: &mut Table, changes: &[Change], rules: &mut Vec<Rule>)
 }
 
 /// Makes its changes at one of the switches.
-fn change_switch(
-    tables: &mut Config,
-    switch: SwitchId,
-    changes: &[Change],
-    rules: &mut Vec<Rule>,
-)
+fn change_switch(tables: &mut Config, switch: SwitchId, changes: &[Change], rules: &mut Vec<Rule>)
     requires within { switch.0 < length tables.old }
     requires good { AreGood (rules_there tables.old switch) changes.now }
     requires fits { insert_count changes.now ≤ (table_at tables.old switch).spare }

@@ -97,9 +97,7 @@ fn roomy_tables(alloc: Global, net: &Net, limits: &[usize]) -> Result<Config, Me
 {
     let mut tables = Config::make(alloc, net.switches())?;
     for i in 0..net.switches() {
-        tables
-            .table_mut(SwitchId(i))
-            .reserve(limits[i as usize])?;
+        tables.table_mut(SwitchId(i)).reserve(limits[i as usize])?;
     }
     Ok(tables)
 }
