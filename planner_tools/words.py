@@ -114,6 +114,27 @@ FRONT = [
             "one HTML file that shows what a plan does, round by round",
             "Writes a page for the browser: of each round the changes, and the steps that packets may take; of a plan that is refused a walk that goes wrong, "
             "where it finds one; of a run its events one by one.", False),
+    Command("from-ofctl", "TOPO BRIDGE=FILE..",
+            "the configuration that the text of `ovs-ofctl dump-flows` says",
+            "Makes a configuration of the text of `ovs-ofctl dump-flows` of each bridge. Each entry that a configuration can't say is named with its line, and "
+            "nothing is written then. With --drop-unsayable entries for other packets than IPv4, and entries of priority 0 that do what a miss does, are left out.",
+            False),
+    Command("from-mininet", "FILE",
+            "the topology that Mininet's `net`, `links` and `ports` print",
+            "Makes a topology of what Mininet's commands `net`, `links` and `ports` print. The interface `s1-eth2` is port 2 of s1, where `ports` doesn't say "
+            "otherwise.", False),
+    Command("from-graphml", "FILE --hosts NAME,.. --vlans VLAN,.. --tags FIRST-LAST --capacity N",
+            "a topology made of a graph of the Internet Topology Zoo, and of what a graph lacks",
+            "Makes a topology of a graph in GraphML, as the Internet Topology Zoo has them. Ports are numbered in the order of the edges; which switches have a "
+            "host port, which VLANs and tags there are, and how many rules a switch can hold, is asked for.", False),
+    Command("to-ofctl", "PLAN",
+            "the rounds of a plan as commands of `ovs-ofctl`, a script for each round",
+            "Writes a script of strict commands of `ovs-ofctl` for each round of a plan, for networks without a controller, and prints their names. Between two "
+            "rounds it is on the operator to wait until the packets that entered before have left.", False),
+    Command("install", "[PREFIX]",
+            "the program, the front end, manual pages, completions and examples, in their places under a prefix",
+            "Puts the program, the front end, a manual page for each command, completions for bash, zsh and fish, and examples in their places under PREFIX, "
+            "/usr/local by default. It is done from a checkout.", False),
 ]
 COMMANDS = PROVED + FRONT
 BY_NAME = {command.name: command for command in COMMANDS}

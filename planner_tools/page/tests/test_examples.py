@@ -1,6 +1,5 @@
 """The pages of the examples and of a ring: what they show in each round."""
 import os
-import time
 import unittest
 
 import networks
