@@ -26,7 +26,7 @@ class Toolchain(unittest.TestCase):
     def test_the_documents_name_the_same(self):
         for path in ("README.md", "docs/PROVED.md"):
             self.assertEqual({toolchain.versions()["rattle"]}, set(re.findall(r"rattle-kit-\S+ logic [0-9a-f]+", read(path))), path)
-        self.assertIn(f"Python {toolchain.versions()['python']}", read("README.md"))
+        self.assertTrue(f"Python {toolchain.versions()['python']}" in read("README.md"))
 
     def test_this_python_is_no_older(self):
         self.assertGreaterEqual(sys.version_info[:2], tuple(map(int, toolchain.versions()["python"].split("."))))
