@@ -14,6 +14,7 @@ MODULES = {
     "install": "planner_tools.install.install",
     "page": "planner_tools.page.page",
     "to-ofctl": "planner_tools.convert.to_ofctl",
+    "update": "planner_tools.update.update",
 }
 
 

@@ -110,10 +110,14 @@ FRONT = [
             "carries a plan out on the switches, round by round; INPUT is the record of it",
             "Carries out a plan on the switches: compares their tables with the old ones, starts round after round, and compares the tables with the new ones. "
             "Every byte that changes a table is decided by `planner drive`, and INPUT records what came and what was started.", False),
+    Command("update", "DIR --switches FILE",
+            "all of it by one command: from the tables that the switches have to those of DIR/new.json, after a question",
+            "Reads the tables of the switches, makes a plan from them to DIR/new.json under DIR/policy.json, says what it is in words, asks whether it may be "
+            "carried out, and does so. What each step made stays in a new folder in DIR. With --dry-run it ends before the question, with --yes it doesn't ask.", False),
     Command("page", "TOPO OLD NEW POLICY PLAN",
-            "one HTML file that shows what a plan does, round by round",
-            "Writes a page for the browser: of each round the changes, and the steps that packets may take; of a plan that is refused a walk that goes wrong, "
-            "where it finds one; of a run its events one by one.", False),
+            "one HTML file that shows what a plan does, round by round; `planner page TOPO CONFIG [POLICY]` shows where packets go under a configuration",
+            "Writes a page for the browser: of each round the changes, and the steps that packets may take; of a plan that is refused the walks that go wrong, "
+            "of all classes of packets; of a run its events one by one. Of TOPO CONFIG [POLICY] it shows where packets go under that configuration.", False),
     Command("from-ofctl", "TOPO BRIDGE=FILE..",
             "the configuration that the text of `ovs-ofctl dump-flows` says",
             "Makes a configuration of the text of `ovs-ofctl dump-flows` of each bridge. Each entry that a configuration can't say is named with its line, and "

@@ -224,12 +224,13 @@ class FlowText:
     """A whole text: its entries, the lines that are none, and what is to be said of it."""
 
     def __init__(self, text):
-        self.entries, self.bad, self.is_version_1_0, more = [], [], False, False
+        self.entries, self.bad, self.is_version_1_0, self.is_newer, more = [], [], False, False, False
         for number, line in enumerate(text.splitlines(), 1):
             header = HEADER.fullmatch(line)
             if header:
                 more = bool(header["more"])
                 self.is_version_1_0 |= line.startswith("OFPST") and not header["version"]
+                self.is_newer |= bool(header["version"])
             elif line.strip() and not line.lstrip().startswith("#"):
                 try:
                     entry = TextEntry(line)

@@ -16,6 +16,9 @@ from planner_tools.switches.entries import Entry
 
 # How many entries a message of statistics has here: its length is a number of 16 bits.
 ENTRIES_PER_MESSAGE = 500
+# Open vSwitch has two entries for untagged packets: with this test, which no command of OpenFlow 1.0 reaches, and with `vlan_tci=0x0000`. Newer versions of
+# OpenFlow show both alike.
+MASKED_UNTAGGED = "vlan_tci=0x0000/0x1fff"
 WITHOUT_EFFECT = {"of other types": "it is for no IPv4 packet", "for a miss": "it does what a miss does"}
 IMPORT_WORDS = {
     "BadPort": "its ingress port or its output port is neither a host port nor a link's end of {switch} in the topology",
@@ -39,10 +42,12 @@ class Table:
         if not text.entries and not text.bad:
             say(f"{path}: note: there is no entry in it; the table of {switch} is taken to be empty")
         for entry in text.entries:
-            self.take(entry, may_drop)
+            self.take(entry, may_drop, text.is_newer)
 
-    def take(self, entry, may_drop):
+    def take(self, entry, may_drop, is_newer):
         why, fault = entry.without_effect(), entry.fault()
+        if fault and MASKED_UNTAGGED in fault and is_newer:
+            fault += "; untagged entries look so in an answer by a newer version: ask again without -O"
         if why and may_drop:
             self.left_out[why] = self.left_out.get(why, 0) + 1
         elif why or fault:

@@ -42,6 +42,8 @@ ENDS = {
 ACCEPTED = ("In whatever order the changes of a round and the hops of packets fall, no packet comes to a switch twice, each that leaves has met its "
             "waypoints in their order, and none that must arrive is dropped by a switch")
 ORDERED, TWO_PHASE = ".", "; and each packet goes by the old rules or by the new ones all the way."
+HOLDS = "No packet comes to a switch twice, each that leaves has met its waypoints in their order, and none that must arrive is dropped by a switch."
+BREAKS = rf"at {ENTRY} (?P<how>Loop|Dropped|Missed) (?P<switch>\S+)"
 # The statuses with which the planner says yes or no; with any other one there is no page.
 YES, NO, NO_RUN = 0, 1, 8
 
@@ -70,13 +72,30 @@ def sentence_of(line):
         return ACCEPTED + (TWO_PHASE if words[1].startswith("two-phase") else ORDERED), {}
     number, tail = int(words[1]), " ".join(words[3:])
     _, shape, sentence = REASONS[number]
-    parts = re.fullmatch(shape, tail).groupdict()
+    parts = with_packets(re.fullmatch(shape, tail).groupdict())
+    sentence = sentence or ENDS[parts["how"]]
+    return sentence.format(**parts), {"number": number, **{name: int(it) if name in ("round", "change", "need") else it for name, it in parts.items()}}
+
+
+def with_packets(parts):
+    """The parts of a line, and where there is a class the words for its packets."""
     if "host" in parts:
         vlan = "untagged" if parts["vlan"] == "untagged" else f"with VLAN {parts['vlan']}"
         for one, verb in (("packet", "enters"), ("packets", "enter")):
             parts[one] = f"that {verb} at {parts['host']} {vlan} for {parts['address']}"
-    sentence = sentence or ENDS[parts["how"]]
-    return sentence.format(**parts), {"number": number, **{name: int(it) if name in ("round", "change", "need") else it for name, it in parts.items()}}
+    return parts
+
+
+def verdict_of_configuration(planner, files):
+    """Returns the planner's line on a configuration, with a sentence and the parts of the line."""
+    status, lines = ask(planner, "config", *files)
+    if status not in (YES, NO):
+        raise Refused("\n".join(lines) or f"planner config ended with status {status}", status)
+    if status == YES:
+        return {"accepted": True, "line": lines[0], "sentence": HOLDS, "reason": {}}
+    parts = with_packets({**re.fullmatch(BREAKS, lines[0].partition(": ")[2]).groupdict(), "end": "old"})
+    sentence = ENDS[parts["how"]].replace("the {end} configuration", "this configuration").format(**parts)
+    return {"accepted": False, "line": lines[0], "sentence": sentence, "reason": {"number": 1, **parts}}
 
 
 def verdict(planner, files):

@@ -11,13 +11,27 @@ function matchText(rule) {
   return [prefixText(rule), ...port, ...vlan].join(", ");
 }
 
-function actionText(rule) {
-  if (!rule.out) return "drop";
-  const rewrite = rule.rewrite === STRIP ? "strip the tag, " : rule.rewrite ? `set VLAN ${rule.rewrite}, ` : "";
-  return `${rewrite}port ${rule.out}`;
+// What is at a port: the switch that its link leads to, hosts, or nothing.
+function neighbourText(update, at, port) {
+  const end = update.ends[at].get(port);
+  return !end ? "nothing" : end.host !== undefined ? "hosts" : update.names[end.to];
 }
 
-function changeText(change) { return `${change.what} ${matchText(change.rule)} -> ${actionText(change.rule)}`; }
+function actionText(update, rule) {
+  if (!rule.out) return "drop";
+  const rewrite = rule.rewrite === STRIP ? "strip the tag, " : rule.rewrite ? `set VLAN ${rule.rewrite}, ` : "";
+  return `${rewrite}port ${rule.out} to ${neighbourText(update, rule.at, rule.out)}`;
+}
+
+function changeText(update, change) { return `${change.what} ${matchText(change.rule)} -> ${actionText(update, change.rule)}`; }
+
+// The changes of a round in few words: what is done where.
+function roundText(update, changes) {
+  if (!changes.length) return "waits";
+  const where = new Map();
+  for (const { what, rule } of changes) where.set(what, [...(where.get(what) || []), update.names[rule.at]]);
+  return [...where].map(([what, names]) => `${what} ${names.length > 1 ? `${names.length} entries ` : ""}at ${shortened([...new Set(names)], 6)}`).join("; ");
+}
 
 // The addresses of an atom: as a prefix where they are one.
 function atomText({ first, last }) {
@@ -31,6 +45,7 @@ function hostText(update, host) { const [at, port] = update.hosts[host]; return 
 function classText(update, it) { return `${hostText(update, it.host)} ${it.vlan === 0 ? "untagged" : it.vlan} to ${atomText(it.atom)}`; }
 
 function positionText(update, position) {
+  if (update.alone) return "this configuration";
   if (position === 0) return "before the update";
   return position === update.last ? "after the update" : `round ${position} of ${update.rounds.length}`;
 }

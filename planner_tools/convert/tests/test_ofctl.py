@@ -44,7 +44,7 @@ class FromOfctl(unittest.TestCase):
             "priority=113,": "its actions are neither none nor one output to a port",
             "mod_vlan_vid": "its actions are neither none nor one output to a port",
             "strip_vlan": "its actions are neither none nor one output to a port",
-            "idle_timeout": "it goes away by itself (idle timeout 600 s, hard timeout 700 s)",
+            "idle_timeout=600": "it goes away by itself (idle timeout 600 s, hard timeout 700 s)",
             "priority=121,": "its actions are neither none nor one output to a port",
             "FLOOD": "its actions are neither none nor one output to a port",
             "resubmit": "its actions are neither none nor one output to a port",
@@ -86,10 +86,12 @@ class FromOfctl(unittest.TestCase):
             self.assertTrue(left.pop(numbers[0], "").endswith(f": {words}"), (part, faults.get(numbers[0])))
         self.assertEqual(left, {})
 
-    def test_every_version_is_read_alike(self):
-        newer = {words.split(": ", 1)[1] for words in self.faults((DATA / "mixed-13.flows").read_text()).values()}
-        older = {words.split(": ", 1)[1] for words in self.faults((DATA / "mixed.flows").read_text()).values()}
-        self.assertEqual(newer, older)
+    def test_every_version_is_read_alike_but_for_untagged_entries(self):
+        """OpenFlow 1.3 shows `vlan_tci=0x0000` as it shows `vlan_tci=0x0000/0x1fff`, which is another entry for strict commands."""
+        newer, older = ({words.split(": ", 1)[1] for words in self.faults((DATA / name).read_text()).values()} for name in ("mixed-13.flows", "mixed.flows"))
+        self.assertEqual(newer - older, {"it tests vlan_tci=0x0000/0x1fff, which OpenFlow 1.0 can't say; untagged entries look so in an answer by a newer version: ask again "
+                                         "without -O"})
+        self.assertEqual(older - newer, set())
 
     def test_openflow_1_0_is_taken_at_its_word(self):
         _, _, said = self.converted((DATA / "mixed-10.flows").read_text())
@@ -156,7 +158,7 @@ class FromOfctl(unittest.TestCase):
         self.assertIn("there are 2049 entries", self.converted("".join(COUNTS + f"priority=100,ip,nw_dst=10.{n // 256}.{n % 256}.0/24 actions=output:2\n" for n in range(2049)))[2])
 
     def test_bridges_and_files(self):
-        for words, status, part in ((("s9=-",), 2, "has no switch s9 (did you mean s"), (("s1",), 2, "'s1' isn't BRIDGE=FILE"), (("s1=-", "s1=-"), 2, "s1 is given twice"),
+        for words, status, part in ((("s11=-",), 2, "has no switch s11 (did you mean s1?)"), (("s1",), 2, "'s1' isn't BRIDGE=FILE"), (("s1=-", "s1=-"), 2, "s1 is given twice"),
                                     (("s1=/none",), 6, "/none: it can't be read: No such file or directory")):
             with self.subTest(words):
                 found, made, said = planner("from-ofctl", SQUARE, *words, given="")
