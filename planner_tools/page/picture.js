@@ -177,7 +177,8 @@ class Picture {
     const high = LABEL / scale, boxes = this.places.map(([x, y], at) => this.boxOf(x, y, this.half(Object.assign([x, y], { at })), 15 * this.unit)), taken = [], lines = [];
     for (const at of new Set([...this.first, ...this.places.keys()])) {
       const isFirst = this.first.includes(at), wide = 0.64 * high * this.update.names[at].length;
-      const room = this.besides(at, wide, high).find((it) => !taken.some((other) => isOver(it, other)) && !boxes.some((other, one) => one !== at && isOver(it, other)));
+      const sides = this.besides(at, wide, high), isFree = (it) => !taken.some((other) => isOver(it, other)) && !boxes.some((other, one) => one !== at && isOver(it, other));
+      const room = sides.find(isFree) || (at === this.first[0] ? sides[0] : null);
       if (!room) continue;
       taken.push(room);
       lines.push(`<text class="label" data-label="${this.update.names[at]}" x="${(room.left + wide / 2).toFixed(1)}" y="${(room.top + 0.8 * high).toFixed(1)}"`
