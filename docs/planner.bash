@@ -4,13 +4,13 @@ _planner() {
     local files=0
     COMPREPLY=()
     if [ "$COMP_CWORD" -eq 1 ]; then
-        mapfile -t COMPREPLY < <(compgen -W "config paths trace plan check explain simulate replay tables upgrade import emit drive sample collect apply update page from-ofctl from-mininet from-graphml to-ofctl install --help --version" -- "${COMP_WORDS[1]}")
+        mapfile -t COMPREPLY < <(compgen -W "config paths trace plan check explain simulate replay tables upgrade import emit drive sample collect apply update show page from-ofctl from-mininet from-graphml to-ofctl install --help --version" -- "${COMP_WORDS[1]}")
         return
     fi
     case ${COMP_WORDS[1]} in
         collect | from-ofctl | to-ofctl) files=1 ;;
         trace | upgrade | import | emit) files=2 ;;
-        config | paths) files=3 ;;
+        config | paths | show) files=3 ;;
         plan | replay | tables) files=4 ;;
         check | explain | simulate | page) files=5 ;;
         drive | apply) files=6 ;;

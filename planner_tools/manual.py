@@ -49,6 +49,7 @@ def manual():
     lines += [".SH OPTIONS"]
     for flag, text in words.OPTIONS:
         lines += [".TP", ".B " + flag.replace("-", "\\-"), escaped(text)]
+    lines += [".PP", escaped(words.SHORT_HANDS)]
     lines += [".SH EXIT STATUS"]
     for number, text in words.STATUSES:
         lines += [".TP", f".B {number}", escaped(text)]

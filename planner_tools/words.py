@@ -114,6 +114,11 @@ FRONT = [
             "all of it by one command: from the tables that the switches have to those of DIR/new.json, after a question",
             "Reads the tables of the switches, makes a plan from them to DIR/new.json under DIR/policy.json, says what it is in words, asks whether it may be "
             "carried out, and does so. What each step made stays in a new folder in DIR. With --dry-run it ends before the question, with --yes it doesn't ask.", False),
+    Command("show", "TOPO [OLD] [PLAN] FILE",
+            "a plan, a configuration or a schedule in words: of a plan round by round what is changed, from where to where, and the time that it takes",
+            "Shows FILE in words: of a plan round by round the switch, the entry, and from which neighbour to which; of a configuration the rules of each switch; "
+            "of a schedule its events. OLD says what was there before, and a schedule is shown whole behind OLD and PLAN. `--wait SECONDS` is the wait before each "
+            "round, for the time that a plan takes; `--json` writes it for machines.", False),
     Command("page", "TOPO OLD NEW POLICY PLAN",
             "one HTML file that shows what a plan does, round by round; `planner page TOPO CONFIG [POLICY]` shows where packets go under a configuration",
             "Writes a page for the browser: of each round the changes, and the steps that packets may take; of a plan that is refused the walks that go wrong, "
@@ -131,9 +136,9 @@ FRONT = [
             "a topology made of a graph of the Internet Topology Zoo, and of what a graph lacks",
             "Makes a topology of a graph in GraphML, as the Internet Topology Zoo has them. Ports are numbered in the order of the edges; which switches have a "
             "host port, which VLANs and tags there are, and how many rules a switch can hold, is asked for.", False),
-    Command("to-ofctl", "PLAN",
+    Command("to-ofctl", "PLAN [FOLDER]",
             "the rounds of a plan as commands of `ovs-ofctl`, a script for each round",
-            "Writes a script of strict commands of `ovs-ofctl` for each round of a plan, for networks without a controller, and prints their names. Between two "
+            "Writes a script of strict commands of `ovs-ofctl` for each round of a plan, for networks without a controller, into FOLDER, and prints their names. Between two "
             "rounds it is on the operator to wait until the packets that entered before have left.", False),
     Command("install", "[PREFIX]",
             "the program, the front end, manual pages, completions and examples, in their places under a prefix",
@@ -157,7 +162,14 @@ FRONT_END = (
 OPTIONS = [
     ("--help", "Prints the commands in short; behind a command, more of it."),
     ("--version", "Prints the version."),
+    ("-o FILE", "Writes the answer into FILE, which is there only where the exit status is 0. Another answer goes to the standard output."),
+    ("--strict", "Makes warnings exit status 3, with nothing written."),
+    ("--quiet", "Says nothing on the error stream but refusals."),
 ]
+SHORT_HANDS = (
+    "A folder in place of TOPO stands for the files of it that are left out: topology.json, old.json (also for CONFIG), new.json, policy.json, plan.json, "
+    "schedule, replies and update. `planner plan examples/square` takes the first four of them. The name `-` is the standard input. The error stream has colour "
+    "only on a terminal, and none where the variable NO_COLOR is set. The variable PLANNER names another program than the one that is built or installed.")
 
 STATUSES = [
     (0, "done; the answer is yes"),
@@ -184,7 +196,9 @@ def help_text():
         for command in commands:
             lines += [f"  {command.name} {command.usage}"]
             lines += textwrap.wrap(command.answer, 112, initial_indent="      ", subsequent_indent="      ")
-    lines += ["", "planner COMMAND --help says more of a command, planner --version the version.", "", "Exit status:"]
+    lines += ["", "Options:"]
+    lines += [line for flag, text in OPTIONS for line in textwrap.wrap(f"{flag:<12}{text}", 112, initial_indent="  ", subsequent_indent=" " * 14)]
+    lines += ["", *textwrap.wrap(SHORT_HANDS.replace("`", ""), 112, break_on_hyphens=False), "", "Exit status:"]
     lines += [f"  {number:<4} {meaning}" for number, meaning in STATUSES]
     return "\n".join(lines) + "\n"
 
@@ -196,5 +210,7 @@ def command_help(command):
     lines = [f"planner {command.name} {command.usage}", "", *textwrap.wrap(command.text, 112)]
     files = [word for word in command.words()[0] if word in FILES]
     for word in files:
-        lines += ["", *textwrap.wrap(f"{word:<10}{FILES[word]}", 112, initial_indent="  ", subsequent_indent=" " * 12)]
+        lines += [""] if word == files[0] else []
+        lines += textwrap.wrap(f"{word:<10}{FILES[word]}", 112, initial_indent="  ", subsequent_indent=" " * 12)
+    lines += ["", "planner --help has the options, and what a folder in place of TOPO stands for."]
     return "\n".join(lines) + "\n"

@@ -26,7 +26,7 @@ def scripts():
         folders[:] = sorted(name for name in folders if name not in (".git", "__pycache__", "out", "src", "specs", "proofs", "must-fail"))
         for name in sorted(names):
             path = os.path.join(at, name)
-            if name.endswith(".py") or first_line(path).startswith("#!/usr/bin/env python3"):
+            if name.endswith(".py") or first_line(path).startswith("#!") and "python3" in first_line(path):
                 python.append(path)
             elif first_line(path) in SHELLS or name == "planner.bash":
                 shell.append(path)

@@ -36,11 +36,6 @@ class Order(unittest.TestCase):
         self.assertEqual(measured, {"base": 100, "left": 7})
         self.assertEqual(build.expected(measured, {"base": 5, "right": 500}), {"base": 100, "right": 500 * build.SECONDS_FOR_A_LINE})
 
-    def test_each_crate_of_the_program_was_measured(self):
-        root = os.path.dirname(os.path.dirname(os.path.realpath(__file__)))
-        with open(f"{root}/crates.txt") as listed, open(f"{root}/tools/{build.MEASURED}") as measured:
-            self.assertLessEqual({*build.needed(build.read_crates(listed.read()), "planner_cli")}, {*build.read_seconds(measured.read())})
-
     def test_chains_count_the_seconds_above(self):
         self.assertEqual(build.chains(CRATES, ["base", "left", "right", "top"], SECONDS), {"top": 50, "left": 60, "right": 90, "base": 190})
 

@@ -72,7 +72,7 @@ def write_scripts(folder, scripts):
     try:
         os.makedirs(folder, exist_ok=True)
         if os.listdir(folder):
-            raise Refused(f"{folder}: it has files already", "name another folder with -o", UNWRITABLE)
+            raise Refused(f"{folder}: it has files already", "name another folder", UNWRITABLE)
         for name, text in scripts:
             with open(os.path.join(folder, name), "x", encoding="utf-8") as file:
                 file.write(text)
@@ -84,7 +84,7 @@ def write_scripts(folder, scripts):
 def convert(words):
     parser = argparse.ArgumentParser(prog="planner to-ofctl", description="Writes the rounds of a plan as commands of `ovs-ofctl`, a script for each round.")
     parser.add_argument("plan", metavar="PLAN")
-    parser.add_argument("-o", "--output", metavar="FOLDER", help="where the scripts are written, a new or an empty folder; PLAN without its ending, and `-rounds`")
+    parser.add_argument("folder", metavar="FOLDER", nargs="?", help="where the scripts are written, a new or an empty folder; PLAN without its ending, and `-rounds`")
     parser.add_argument("--switches", metavar="FILE", help="lines `NAME DATAPATH HOST:PORT`, as for `planner apply`: a switch is reached there; otherwise it is a bridge of "
                         "its name on this machine")
     options = parser.parse_args(words)
@@ -94,7 +94,7 @@ def convert(words):
         scripts = [(f"round-{number:0{wide}}.sh", script_of(number, rounds, options.plan, targets)) for number in range(1, len(rounds) + 1)]
     except (KeyError, TypeError, AttributeError) as fault:
         raise Refused(f"{options.plan}: a change of it can't be read", "`planner check` says what of it can't be read") from fault
-    folder = options.output or f"{os.path.splitext(os.path.basename(options.plan))[0]}-rounds"
+    folder = options.folder or f"{os.path.splitext(os.path.basename(options.plan))[0]}-rounds"
     write_scripts(folder, scripts)
     return "".join(f"{os.path.join(folder, name)}\n" for name, _ in scripts)
 

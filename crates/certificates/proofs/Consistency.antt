@@ -310,7 +310,7 @@ module _ (t : Task) (old_user : IsUserConfig t.update.net t.update.old) (new_use
   ordered_packet p good = record { good = good_meets t.update.demands p.entry p.dst (trace_of p) good; version = λ two. absurd (false≢true two); vlan = λ two. absurd (false≢true two) }
 
   -- a packet of a certified plan
-  packet_consistent : (evidence : Evidence) → IsCertified t evidence → (p : Packet) → WalkedOneRound (rollout t) p → IsAdmitted (rollout t) p → IsConsistentPacket t.update (is_two_phase evidence) p
+  pub packet_consistent : (evidence : Evidence) → IsCertified t evidence → (p : Packet) → WalkedOneRound (rollout t) p → IsAdmitted (rollout t) p → IsConsistentPacket t.update (is_two_phase evidence) p
   packet_consistent (Ordered evidence) certified p walked admitted =
       let (n, first, is, same) = class_of (blocks_of t.update.old t.update.new t.update.demands t.rounds) p.dst admitted.dst t.update.net p.entry admitted.entry in
       elim (cases_lt p.born (length t.rounds)) [

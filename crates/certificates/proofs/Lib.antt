@@ -1,4 +1,5 @@
 pub mod Falling
+pub mod Fewer
 pub mod Guarded
 pub mod SameClass
 pub mod Labelled

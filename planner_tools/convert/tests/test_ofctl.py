@@ -189,7 +189,7 @@ def words_of_message(data):
 class ToOfctl(unittest.TestCase):
     def scripts(self, *words):
         folder = pathlib.Path(tempfile.mkdtemp()) / "rounds"
-        status, listed, said = planner("to-ofctl", *words, "-o", folder)
+        status, listed, said = planner("to-ofctl", words[0], folder, *words[1:])
         self.assertEqual((status, said), (0, ""))
         return [pathlib.Path(line) for line in listed.splitlines()]
 
@@ -220,7 +220,7 @@ class ToOfctl(unittest.TestCase):
     def test_a_folder_with_files_isn_t_touched(self):
         with tempfile.TemporaryDirectory() as folder:
             pathlib.Path(folder, "mine").write_text("mine")
-            status, made, said = planner("to-ofctl", EXAMPLES / "square" / "plan.json", "-o", folder)
+            status, made, said = planner("to-ofctl", EXAMPLES / "square" / "plan.json", folder)
             self.assertEqual((status, made, os.listdir(folder)), (7, "", ["mine"]))
             self.assertIn("it has files already", said)
 

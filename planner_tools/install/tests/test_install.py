@@ -54,7 +54,7 @@ class Installed(unittest.TestCase):
         self.assertEqual(run(planner, "sample", "64", env=away()).stdout, "sample 64: ordered, 252 rounds, 384 classes, 501 numberings, 632 picks, accepted\n")
         page = run(planner, "page", *[square / f"{name}.json" for name in ("topology", "old", "new", "policy", "plan")], env=away())
         self.assertEqual((page.returncode, page.stdout[:15]), (0, "<!DOCTYPE html>"), page.stderr)
-        rounds = run(planner, "to-ofctl", square / "plan.json", "-o", folder / "rounds", env=away())
+        rounds = run(planner, "to-ofctl", square / "plan.json", folder / "rounds", env=away())
         self.assertEqual((rounds.returncode, len(list((folder / "rounds").iterdir()))), (0, 2), rounds.stderr)
         again = run(planner, "install", folder / "elsewhere", env=away())
         self.assertEqual((again.returncode, (folder / "elsewhere").exists()), (1, False))

@@ -1,0 +1,6 @@
+pub mod Flags
+pub mod Undone
+pub mod Turning
+pub mod NeverBack
+pub mod Inverses
+pub mod Consistent

@@ -1,0 +1,383 @@
+"""What the program's answers mean, in sentences: which member of which file, which packet on which path, what the policy wanted, and what to do next.
+
+The sentences are made from the program's own text, its status, and the files. What the program says counts.
+"""
+import os
+import re
+
+from planner_tools import network as nets
+from planner_tools.files import NotJson, did_you_mean, like, member_path, read_json, short
+
+# Which word of a command a kind of file is, as the program names the kinds.
+WORD_OF_KIND = {"topology": "TOPO", "config": "CONFIG", "old": "OLD", "new": "NEW", "policy": "POLICY", "plan": "PLAN", "schedule": "SCHEDULE",
+                "replies": "REPLIES", "input": "INPUT"}
+LIMITS = {"plan": "512 MiB", "schedule": "64 MiB", "input": "64 MiB"}
+# Files longer than this aren't looked at for the place of a fault.
+LONGEST = 16 << 20
+BAD = re.compile(r"bad (\w+): (\d+) (\w+)(?: (\S+))? at (\d+)")
+CLASS = re.compile(r"(\S+) (\S+) ([\d.]+)")
+
+
+class Explainer:
+    """Explains one run of the program: its command, its files by their words, its status and the beginning of its text."""
+
+    def __init__(self, run):
+        self.run = run
+        self.voice = run.voice
+        self.first = run.text.split("\n", 1)[0]
+
+    def explain(self):
+        """Says what there is to say."""
+        status = self.run.status
+        if status == 0:
+            self.explain_done()
+        elif status in self.BY_STATUS:
+            self.BY_STATUS[status](self)
+        elif status < 0 or status > 128:
+            self.voice.refuse(f"the program was ended by signal {status - 128 if status > 0 else -status}; its answer isn't whole")
+
+    def shown(self, word):
+        return self.run.files[word].shown if word in self.run.files else word
+
+    def json(self, word):
+        """A file of the run as JSON, or None where it isn't read."""
+        found = self.run.files.get(word)
+        try:
+            return None if found is None or os.path.getsize(found.real) > LONGEST else read_json(found.real, found.shown)
+        except (OSError, NotJson, ValueError):
+            return None
+
+    def network(self):
+        json = self.json("TOPO")
+        return nets.Network(json) if json is not None else None
+
+    def command(self, name, *words):
+        """A command line for files of this run, as it can be typed: with the folder where they were taken from one."""
+        found = [self.run.files[word] for word in words if word in self.run.files]
+        folder = [one.folder for one in found if one.folder][:1]
+        return " ".join(["planner", name, *folder, *(one.shown for one in found if not one.folder)])
+
+    # ---- yes
+
+    def explain_done(self):
+        if self.run.command.name == "explain" and not self.voice.is_quiet:
+            from planner_tools.story import tell
+            if self.first.startswith("no run"):
+                self.voice.note("in whatever order the changes of each round are made, no packet breaks the policy; the evidence of the plan wasn't looked at: "
+                                f"`{self.command('check', 'TOPO', 'OLD', 'NEW', 'POLICY', 'PLAN')}` does")
+            else:
+                self.voice.note("a run in which a packet breaks the policy, in words:", tell(self))
+
+    # ---- no
+
+    def explain_refused(self):
+        name, line = self.run.command.name, self.first
+        if line.startswith("breaks: "):
+            self.explain_end("CONFIG", line.split(" at ", 1)[1])
+        elif line.startswith("no run: two-phase"):
+            self.voice.refuse("a two-phase plan has no mixed walks to look through: `explain` is for ordered plans",
+                              [f"`{self.command('check', 'TOPO', 'OLD', 'NEW', 'POLICY', 'PLAN')}` says whether it is certified"])
+        elif line.startswith("no entry: "):
+            self.explain_no_entry()
+        elif line.startswith("refused: 1 "):
+            end, rest = line.split(" ", 3)[3].split(" at ", 1)
+            self.explain_end(end.upper(), rest)
+        elif line.startswith("refused: "):
+            self.explain_reason()
+        elif name == "paths":
+            self.explain_paths()
+
+    def explain_end(self, word, rest):
+        """A configuration has no good path for a class."""
+        from planner_tools.reasons import ENDS
+
+        host, vlan, address, how, switch = rest.split(" ")
+        packet = f"that enters at {host} {nets.vlan_words(vlan)} for {address}"
+        sentence = ENDS[how].format(end={"CONFIG": "", "OLD": "old", "NEW": "new"}[word], packet=packet, switch=switch).replace("the  config", "the config")
+        more = self.path_lines(word, host, vlan, address)
+        more += self.wanted_lines(host, vlan, address)
+        more += [{"Loop": f"Next: change the rules of {self.shown(word)} so that this packet leaves, or is dropped",
+                  "Dropped": f"Next: give {switch} a rule for it in {self.shown(word)}, or ask for no `deliver` of it",
+                  "Missed": f"Next: lead it by {switch} in {self.shown(word)}, or take {switch} out of `through` of that demand"}[how]]
+        self.voice.refuse(f"{self.shown(word)}: {sentence}", more)
+
+    def path_lines(self, word, host, vlan, address):
+        """The path of a packet in a configuration, with the rule that it meets at each switch, as `trace` of the program has it."""
+        status, text = self.run.ask("trace", self.run.files["TOPO"].real, self.run.files[word].real, host, vlan, address)
+        if status != 0:
+            return []
+        return [f"its path in {self.shown(word)}:"] + ["  " + line for line in trace_words(text, self.network())]
+
+    def wanted_lines(self, host, vlan, address):
+        """What the demands say that cover a class."""
+        policy = self.json("POLICY")
+        if policy is None:
+            return ["no policy is given: demanded is only that no packet comes to a switch twice"] if "POLICY" not in self.run.files else []
+        lines = []
+        for number, demand in enumerate(policy.root.member("demands").items()):
+            values = nets.plain(demand)
+            if values.get("from", "any") in ("any", host) and str(values.get("vlan", "any")) in ("any", vlan) and nets.covers(values["dst"], address):
+                lines.append(f"{policy.where(demand.start)}, demands[{number}] wants of it: {demand_words(values)}")
+        return lines or [f"no demand of {self.shown('POLICY')} covers it: wanted is only that it comes to no switch twice"]
+
+    def explain_no_entry(self):
+        _, _, entry, vlan = self.first.split(" ", 3)
+        net = self.network()
+        if net is None:
+            return
+        if entry not in net.hosts:
+            name = entry.rpartition(":")[0]
+            what = f"{entry} is no host port" if name in net.numbers else f"no switch is named `{name}`"
+            right = [f"the host ports are {', '.join(net.hosts[:12])}"]
+            self.voice.refuse(f"{what}{did_you_mean(entry, net.hosts)}", right)
+        else:
+            self.voice.refuse(f"the VLAN {vlan} isn't declared in `vlans` of {self.shown('TOPO')}", [f"the VLANs are {', '.join(map(str, net.vlans))}"])
+
+    def explain_paths(self):
+        bad = [line for line in self.run.text.splitlines() if re.search(r" (Loop|Missed|Dropped) \S+$", line)]
+        if bad:
+            what, _, how = bad[0].partition(": ")
+            self.explain_end("CONFIG", f"{what} {' '.join(how.split(' ')[-2:])}")
+
+    def explain_reason(self):
+        """A reason of the checker other than that an end breaks."""
+        from planner_tools.reasons import sentence_of
+
+        sentence, parts = sentence_of(self.first)
+        number, more = parts["number"], []
+        if number == 2:
+            more += self.change_lines(parts["round"], parts["change"])
+        if number == 4:
+            more += self.capacity_lines(parts["switch"])
+        if "host" in parts:
+            for word in ("OLD", "NEW"):
+                more += self.path_lines(word, parts["host"], parts["vlan"], parts["address"])
+            more += self.wanted_lines(parts["host"], parts["vlan"], parts["address"])
+        update = ("TOPO", "OLD", "NEW", "POLICY", "PLAN")
+        if number in (6, 7, 8, 9, 10):
+            more.append(f"Next: `{self.command('explain', *update)}` looks for a run in which a packet breaks the policy; a refusal alone doesn't say that there is one")
+        if self.run.command.name != "plan":
+            more.append(f"Next: `{self.command('plan', *update[:4])}` makes a plan of its own")
+        self.voice.refuse(sentence, more)
+
+    def change_lines(self, round_, change):
+        """A change of a plan in words."""
+        plan, net = self.json("PLAN"), self.network()
+        if plan is None or net is None:
+            return []
+        item = plan.at(("rounds", round_ - 1, change))
+        if plan.root.member("format").whole() == 1:
+            what, rule, at = item.member("do").held, nets.plain(item), item
+        else:
+            what, at = item.held[0].held, plan.at(("rules", item.held[1].whole()))
+            rule = nets.plain(at)
+        return [f"the change, {plan.where(item.start)}: {what} {plan.shown(at)}: at {rule['switch']}, {nets.match_words(rule)}, priority {rule['priority']}, "
+                f"{nets.action_words(rule, net)}"]
+
+    def capacity_lines(self, switch):
+        net = self.network()
+        if net is None or switch not in net.numbers:
+            return []
+        way = ("switches", net.numbers[switch], "capacity")
+        return [f"{net.json.where(net.json.at(way).start)}: {member_path(way)} is {net.capacities[net.numbers[switch]]}"]
+
+    # ---- wrong words
+
+    def explain_words(self):
+        """The words are wrong: which, and what would be right."""
+        from planner_tools import words as all_words
+
+        given, command = self.run.given, self.run.command
+        if not given:
+            self.voice.refuse("no command is given", ["`planner --help` has the commands"])
+            return
+        if command.name not in all_words.BY_NAME:
+            names = [*all_words.BY_NAME, "--help", "--version"]
+            self.voice.refuse(f"no command is named `{given[0]}`{did_you_mean(given[0], names)}", ["`planner --help` has the commands"])
+            return
+        wanted, least = command.words()
+        usage = f"planner {command.name} {command.usage}"
+        have = len(given) - 1
+        if have < least:
+            self.voice.refuse(f"{', '.join(wanted[have:least])} {'is' if least - have == 1 else 'are'} missing", [usage])
+        elif have > len(wanted):
+            self.voice.refuse(f"{counted(have, 'word')} stand behind `{command.name}`, and it takes {counted(len(wanted), 'word')}", [usage, *option_lines(given)])
+        else:
+            lines = [line for word, text in zip(wanted, given[1:]) for line in spelling(word, text)]
+            if not lines and command.name in all_words.NEW:
+                lines = [f"this program has no command `{command.name}`: it is older than the front end"]
+            self.voice.refuse("; ".join(lines) or "the words are wrong", [usage])
+
+    # ---- a bad file
+
+    def explain_bad(self):
+        found = BAD.fullmatch(self.first)
+        if self.first.startswith("too many classes: "):
+            self.voice.refuse(f"the files make {self.first.split(': ')[1]} classes of packets, and the planner takes 8192",
+                              ["a class is a host port, a VLAN and a range of addresses between the ends of prefixes",
+                               "Next: fewer different prefixes (one for several that are treated alike), VLANs or host ports"])
+        elif found:
+            kind, _, name, field, place = found.groups()
+            self.explain_bad_file(kind, name, field or "", int(place))
+
+    def explain_bad_file(self, kind, name, field, place):
+        from planner_tools import lines as of_lines
+
+        word = WORD_OF_KIND[kind]
+        path = self.shown(word)
+        if name == "TooLong":
+            self.voice.refuse(f"{path} is longer than {LIMITS.get(kind, '16 MiB')}, and so isn't read")
+        elif kind in of_lines.KINDS:
+            of_lines.explain(self, kind, name, field, place)
+        elif os.path.getsize(self.run.files[word].real) > LONGEST:
+            self.voice.refuse(f"{path}: {self.first.split(': ', 1)[1]}", ["docs/FORMATS.md has what each word means"])
+        elif name == "NotJson":
+            self.explain_not_json(word)
+        else:
+            self.explain_member(word, kind, name, field, place)
+
+    def explain_not_json(self, word):
+        from planner_tools.files import Text, read_bytes
+
+        path = self.shown(word)
+        try:
+            read_json(self.run.files[word].real, path)
+        except NotJson as fault:
+            text = Text(path, read_bytes(self.run.files[word].real))
+            more = [f"right: {fault.right}"] if fault.right else []
+            self.voice.refuse(f"{text.where(fault.at)}: {fault.what}", source_lines(text, fault.at) + more)
+            return
+        self.voice.refuse(f"{path} is no JSON that the program reads")
+
+    def explain_member(self, word, kind, name, field, place):
+        from planner_tools.faults import faults_of
+
+        json = self.json(word)
+        net = None if kind == "topology" else self.network()
+        fault = None
+        if json is not None and (net is not None or kind == "topology"):
+            for one in faults_of(kind, json, net):
+                if (one.name, one.field, one.place) == (name, field, place):
+                    fault = one
+                    break
+        if fault is None:
+            self.voice.refuse(f"{self.shown(word)}: {name} {field} at {place}".replace("  ", " "), ["docs/FORMATS.md has what these words mean"])
+            return
+        value = json.at(fault.way)
+        way = member_path(fault.way)
+        is_short = value.kind not in ("object", "list") or value.end - value.start <= 60
+        subject = f"{way} is {json.shown(value)}: " if way and is_short and not fault.what.startswith("the member ") else f"{way}: " if way else ""
+        more = [f"{words}: {json.where(json.at(other).start)}, {member_path(other)} is {json.shown(json.at(other))}" for other, words in fault.others]
+        more += [f"right: {fault.right}"] if fault.right else []
+        self.voice.refuse(f"{json.where(value.start)}: {subject}{fault.what}", more)
+
+    # ---- two phases, files that can't be read, no run, memory
+
+    def explain_tags(self):
+        need, has = map(int, re.findall(r"\d+", self.first)[:2])
+        net = self.network()
+        more = []
+        if net is not None:
+            tags = net.json.root.member("tags")
+            more.append(f"{net.json.where(tags.start)}: tags is {net.json.shown(tags)}, of which {has} {'is' if has == 1 else 'are'} no declared VLAN")
+        self.voice.refuse(f"no order of single changes was found, and a two-phase plan needs a tag for each of the {need} declared VLANs; there {'is' if has == 1 else 'are'} {has}",
+                          [*more, f"Next: widen `tags` of {self.shown('TOPO')} to at least {need} ids from 1 to 4094 that the network uses for nothing else, or declare fewer `vlans`"])
+
+    def explain_small(self):
+        found = re.match(r"too small: switch (\S+) need (\d+) capacity (\d+)", self.first)
+        switch, need, capacity = found.groups()
+        self.voice.refuse(f"no order of single changes was found, and a two-phase plan needs room for {need} entries at {switch}, which has {capacity}",
+                          [*self.capacity_lines(switch), f"Next: where the table of {switch} has that room, say so by `capacity` {need}; otherwise fewer rules there, "
+                           "fewer VLANs or fewer host ports, or an update in two steps with a configuration in between"])
+
+    def explain_unread(self):
+        for found in self.run.files.values():
+            try:
+                with open(found.real, "rb") as file:
+                    file.read(1)
+            except OSError as fault:
+                more = [f"the folder {found.folder} stands for the names that are left out, and has to have this file"] if found.folder else []
+                self.voice.refuse(f"{found.shown}: {fault.strerror}{like(found.real) if fault.errno == 2 else ''}", more)
+                return
+        self.voice.refuse("a file couldn't be read to its end: " + ", ".join(one.shown for one in self.run.files.values()))
+
+    def explain_unwritten(self):
+        reason = self.run.fault.strerror if self.run.fault else "the program says no more"
+        self.voice.refuse(f"{self.run.target}: the output couldn't all be written: {reason}; what is there isn't whole")
+
+    def explain_no_run(self):
+        from planner_tools.story import why_no_run
+        why_no_run(self)
+
+    def explain_memory(self):
+        self.voice.refuse("memory ran out, and nothing was written", ["Next: `ulimit -v` shows the limit of this shell; docs/RELIABILITY.md says how much a run takes"])
+
+    BY_STATUS = {1: explain_refused, 2: explain_words, 3: explain_bad, 4: explain_tags, 5: explain_small, 6: explain_unread, 7: explain_unwritten,
+                 8: explain_no_run, 9: explain_memory}
+
+
+def counted(number, word):
+    return f"{number} {word}{'' if number == 1 else 's'}"
+
+
+def demand_words(demand):
+    """What a demand wants, in words."""
+    through, wants = list(dict.fromkeys(demand.get("through", []))), []
+    if through:
+        wants.append(f"to go by {', then '.join(through)}")
+    if demand.get("deliver"):
+        wants.append("to arrive")
+    return " and ".join(wants) or "to come to no switch twice"
+
+
+def trace_words(text, net):
+    """The lines of `trace` in words."""
+    lines = []
+    for line in text.splitlines():
+        found = re.fullmatch(r"(\S+):(\d+) (\S+): (?:no rule|(\d+) (\S+) (\S+) (\S+) -> (?:drop|port (\d+)))", line)
+        if not found:
+            lines.append({"left": "leaves at {1}", "dropped": "dropped by {1}", "again": "comes to {1} again"}.get(line.split(" ")[0], line).format(*line.split(" ")))
+            continue
+        switch, port, vlan, priority, in_port, test, dst, out = found.groups()
+        if priority is None:
+            lines.append(f"{switch}, port {port}: no rule matches it")
+            continue
+        rule = {"switch": switch, "in_port": in_port, "vlan": test, "dst": dst, "out": int(out) if out else "drop"}
+        action = nets.action_words(rule, net) if net is not None else f"port {out}" if out else "is dropped"
+        lines.append(f"{switch}, port {port}: {nets.match_words(rule)}, priority {priority}, {action}")
+    return lines
+
+
+def source_lines(text, at):
+    """The line of a text around a character, with a mark below it."""
+    line, column = text.place(at)
+    source = text.text.split("\n")[line - 1]
+    start = max(0, column - 50)
+    piece = "".join(one if one.isprintable() else " " for one in source[start:start + 90])
+    return [piece, "~" * (column - 1 - start) + "^"] if piece.strip() else []
+
+
+def spelling(word, text):
+    """What is wrong with the spelling of a word that is no name of a file."""
+    number = r"0|[1-9][0-9]*"
+    if word == "N" and not (re.fullmatch(number, text) and 4 <= int(text) <= 128):
+        return [f"N is {short(text)}, and has to be a number from 4 to 128, without leading zeros"]
+    if word == "COUNT" and not (re.fullmatch(number, text) and len(text) < 9 and int(text) <= 1000):
+        return [f"COUNT is {short(text)}, and has to be a number from 0 to 1000, without leading zeros"]
+    if word == "START" and not (re.fullmatch(number, text) and len(text) <= 20 and int(text) < 1 << 64):
+        return [f"START is {short(text)}, and has to be a number from 0 to 18446744073709551615, without leading zeros"]
+    if word == "ENTRY":
+        found = nets.port_reference(text)
+        if not found or not nets.NAME.fullmatch(found[0]) or not 1 <= found[1] <= nets.LAST_PORT:
+            return [f'ENTRY is {short(text)}, and has to be a host port, as s1:1']
+    if word == "VLAN" and text != "untagged" and not (re.fullmatch(number, text) and len(text) < 5 and 1 <= int(text) <= nets.LAST_VLAN):
+        return [f"VLAN is {short(text)}, and has to be `untagged` or a number from 1 to {nets.LAST_VLAN}"]
+    if word == "ADDRESS" and nets.prefix(f"{text}/32") is None:
+        return [f"ADDRESS is {short(text)}, and has to be an address, as 10.0.0.1"]
+    return []
+
+
+def option_lines(given):
+    """Words about options that the planner doesn't have."""
+    options = [one for one in given[1:] if one.startswith("--")]
+    return [f"there is no option {one}{did_you_mean(one, ['--help', '--version', '--quiet', '--strict'])}" for one in options]

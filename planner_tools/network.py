@@ -1,0 +1,105 @@
+"""A network, its rules and its demands as the files have them, in words. What is read here was read by the program before, or is judged by it next."""
+import re
+
+PORT = re.compile(r"0|[1-9][0-9]{0,4}")
+PREFIX = re.compile(r"(0|[1-9][0-9]{0,2})\.(0|[1-9][0-9]{0,2})\.(0|[1-9][0-9]{0,2})\.(0|[1-9][0-9]{0,2})/(0|[1-9][0-9]?)")
+NAME = re.compile(r"[A-Za-z0-9_-]{1,32}")
+LAST_PORT, LAST_VLAN = 65279, 4094
+
+
+def port_reference(text):
+    """The switch and the port number of a port reference, or None where the text is none."""
+    name, colon, port = text.rpartition(":")
+    return (name, int(port)) if colon and PORT.fullmatch(port) else None
+
+
+def prefix(text):
+    """The first address and the length of a prefix, or None where the text is none."""
+    found = PREFIX.fullmatch(text)
+    if not found:
+        return None
+    *parts, length = map(int, found.groups())
+    if max(parts) > 255 or length > 32:
+        return None
+    first = int.from_bytes(bytes(parts), "big")
+    return (first, length) if first & ((1 << 32 - length) - 1) == 0 else None
+
+
+def address(number):
+    return ".".join(str(one) for one in number.to_bytes(4, "big"))
+
+
+def covers(text, other):
+    """Whether a prefix covers an address that is given as text."""
+    first, length = prefix(text)
+    parts = bytes(map(int, other.split(".")))
+    return (int.from_bytes(parts, "big") ^ first) >> (32 - length) == 0 if length else True
+
+
+class Network:
+    """A topology that was read."""
+
+    def __init__(self, json):
+        self.json, root = json, json.root
+        self.names, self.capacities, self.peers, self.ports = [], [], {}, {}
+        for one in self.items(root, "switches"):
+            name, capacity = one.member("name"), one.member("capacity")
+            self.names.append(name.held if name is not None and name.kind == "text" else None)
+            self.capacities.append(capacity.whole() if capacity is not None else None)
+        self.numbers = {name: number for number, name in reversed(list(enumerate(self.names)))}
+        for link in self.items(root, "links"):
+            ends = [one.held for one in link.items() if one.kind == "text"]
+            if len(ends) == 2:
+                self.peers[ends[0]], self.peers[ends[1]] = ends[1], ends[0]
+        self.hosts = [one.held for one in self.items(root, "hosts") if one.kind == "text"]
+        for end in [*self.peers, *self.hosts]:
+            found = port_reference(end)
+            if found:
+                self.ports.setdefault(found[0], set()).add(found[1])
+        self.vlans = [one.held for one in self.items(root, "vlans")]
+        tags = [one.whole() for one in self.items(root, "tags")]
+        self.tags = range(tags[0], tags[1] + 1) if len(tags) == 2 and None not in tags else range(0)
+
+    @staticmethod
+    def items(root, name):
+        value = root.member(name)
+        return value.items() if value is not None else []
+
+    def available_tags(self):
+        """The ids of the tag range that are no declared VLAN."""
+        return [tag for tag in self.tags if tag not in self.vlans]
+
+    def to(self, switch, port):
+        """Words for where a port leads."""
+        end = f"{switch}:{port}"
+        if end in self.peers:
+            return f"{self.peers[end].rpartition(':')[0]} (port {port})"
+        return f"the host at {end}" if end in self.hosts else f"port {port}, which nothing is known to be behind"
+
+
+def match_words(rule):
+    """What a rule matches, in words: the prefix, and the ingress port and the VLAN where they count."""
+    words = rule["dst"]
+    if rule.get("in_port", "any") != "any":
+        words += f" from port {rule['in_port']}"
+    vlan = rule.get("vlan", "any")
+    return words + ("" if vlan == "any" else f" {vlan_words(vlan)}")
+
+
+def vlan_words(vlan):
+    return "untagged" if vlan == "untagged" else f"with VLAN {vlan}"
+
+
+def action_words(rule, network):
+    """What a rule does, in words."""
+    words = "is dropped" if rule["out"] == "drop" else f"to {network.to(rule['switch'], rule['out'])}"
+    if rule.get("strip"):
+        return words + ", the tag taken off"
+    return words + (f", tagged {rule['set']}" if "set" in rule else "")
+
+
+def plain(value):
+    """A value of files.py as Python's own. Of members with one name the last counts."""
+    if value.kind == "object":
+        return {name: plain(one) for name, _, one in value.held}
+    return [plain(one) for one in value.held] if value.kind == "list" else value.held

@@ -1,0 +1,199 @@
+"""One run of a proved command: the files that its words name, warnings before it, its text and status, which are handed on as they are, and what is
+said beside them."""
+import os
+import subprocess
+import sys
+import tempfile
+
+from planner_tools import program, words
+from planner_tools.voice import Voice
+
+# So much of the text is kept for what is said of it.
+KEPT = 4 << 20
+WRONG_WORDS, BAD_FILE, UNWRITTEN, INTERRUPTED = 2, 3, 7, 130
+
+
+class Stop(Exception):
+    """The front end can't do what is asked: why, and the exit status."""
+
+    def __init__(self, why, status, more=()):
+        super().__init__(why)
+        self.status, self.more = status, more
+
+
+class Given:
+    """A file of a run: the path that the program gets, its name as it was typed, and the folder that it was taken from, or None."""
+
+    def __init__(self, real, shown, folder=None):
+        self.real, self.shown, self.folder = real, shown, folder
+
+
+class Run:
+    """A run of a command of the program."""
+
+    def __init__(self, given, options):
+        self.given, self.options = given, options
+        self.voice = Voice(is_quiet=options.is_quiet)
+        self.command = words.BY_NAME.get(given[0]) if given else None
+        if self.command is None or not self.command.is_proved:
+            self.command = words.Command(given[0] if given else "", "", "", "")
+        self.program, self.files, self.spooled = None, {}, None
+        self.status, self.text, self.fault, self.target = None, "", None, options.output or "the standard output"
+        self.passed = list(given)
+
+    def ask(self, *more):
+        """The status and the text of another run of the program."""
+        return program.run(*more, program=self.program)
+
+    # ---- the words
+
+    def resolve(self):
+        """Finds the files behind the words: a folder stands for the names that are left out, `-` for the standard input."""
+        if not self.command.usage:
+            return
+        wanted, least = self.command.words()
+        rest = self.given[1:]
+        folder = rest[0] if rest and wanted and wanted[0] == "TOPO" and os.path.isdir(rest[0]) else None
+        if folder is not None:
+            rest = self.unfolded(folder, wanted, least, rest[1:])
+        if not least <= len(rest) <= len(wanted):
+            return
+        for word, text in zip(wanted, rest):
+            if word in words.FILES:
+                self.files[word] = text if isinstance(text, Given) else self.file(text)
+        self.passed = [self.given[0], *(self.files[word].real if word in self.files else text for word, text in zip(wanted, rest))]
+
+    @staticmethod
+    def unfolded(folder, wanted, least, behind):
+        """The words of a command whose first names are in a folder: as many as are left out stand for files of it."""
+        count = max(1, least - len(behind))
+        inside = [Given(path, path, folder) for path in (os.path.join(folder, words.IN_FOLDER.get(word, "")) for word in wanted[:count])]
+        rest = [*inside, *behind]
+        for word in wanted[len(rest):]:
+            path = os.path.join(folder, words.IN_FOLDER.get(word, ""))
+            if os.path.isfile(path):
+                rest.append(Given(path, path, folder))
+        return rest
+
+    def file(self, text):
+        if text != "-":
+            return Given(text, text)
+        if self.spooled is not None:
+            raise Stop("`-` stands twice among the words, and the standard input can be read only once", WRONG_WORDS)
+        import shutil
+        self.spooled = tempfile.NamedTemporaryFile(prefix="planner-")
+        shutil.copyfileobj(sys.stdin.buffer, self.spooled)
+        self.spooled.flush()
+        return Given(self.spooled.name, "the standard input")
+
+    # ---- the run
+
+    def run(self):
+        """Runs the program, says what is to be said, and returns the exit status."""
+        self.resolve()
+        self.program = program.built()
+        if self.files and (not self.options.is_quiet or self.options.is_strict) and self.has_warnings() and self.options.is_strict:
+            self.voice.refuse("nothing is written, as there are warnings and --strict is given")
+            return BAD_FILE
+        self.hand_on()
+        self.safely(self.explain)
+        return self.status if self.status >= 0 else 128 - self.status
+
+    def has_warnings(self):
+        from planner_tools.cautions import cautions
+        found = self.safely(lambda: cautions(self)) or []
+        voice = Voice() if self.options.is_strict else self.voice
+        for one in found:
+            (voice.warn if one.is_warning else voice.note)(one.what, one.more)
+        return any(one.is_warning for one in found)
+
+    def explain(self):
+        from planner_tools.explanations import Explainer
+        Explainer(self).explain()
+
+    def safely(self, work):
+        """Does what isn't needed for the answer. Where it fails the answer stands all the same."""
+        try:
+            return work()
+        except Exception as fault:       # whatever it is: the program has the last word
+            if os.environ.get("PLANNER_TOOLS_TEST"):
+                raise
+            self.voice.note(f"no more can be said of this: {type(fault).__name__}: {fault}")
+            return None
+
+    def capture(self):
+        """Runs the program, and keeps its text, which isn't handed on."""
+        self.resolve()
+        self.program = program.path()
+        self.status, self.text = self.ask(*self.passed)
+
+    def hand_on(self):
+        """Runs the program, and hands on what it writes as it comes."""
+        output, kept = Output(self.options.output), []
+        with subprocess.Popen([self.program, *self.passed], stdout=subprocess.PIPE) as process:
+            size, source = 0, process.stdout.fileno()
+            try:
+                while piece := os.read(source, 1 << 16):
+                    if size < KEPT:
+                        kept.append(piece)
+                        size += len(piece)
+                    output.write(piece)
+            except OSError as fault:
+                self.fault = fault
+                process.stdout.close()
+            self.status = process.wait()
+        self.text = b"".join(kept).decode("utf-8", "replace")
+        if self.fault is None:
+            try:
+                output.end(self.status)
+            except OSError as fault:
+                self.fault = fault
+        if self.fault is not None:
+            output.drop()
+            self.status = self.status if self.status not in (0, 1) else UNWRITTEN
+
+
+class Output:
+    """Where the text goes: to the standard output, or with `-o` into a file, which is there only where the answer is yes."""
+
+    def __init__(self, path):
+        self.path, self.handle, self.name = path, sys.stdout.fileno(), None
+        if path is not None and (not os.path.exists(path) or os.path.isfile(path)):
+            self.open_beside()
+        elif path is not None:
+            self.handle = os.open(path, os.O_WRONLY)
+
+    def open_beside(self):
+        """Opens a new file beside the one that is to be written."""
+        try:
+            self.handle, self.name = tempfile.mkstemp(prefix=f".{os.path.basename(self.path)}.", dir=os.path.dirname(self.path) or ".")
+        except OSError as fault:
+            raise Stop(f"{self.path}: {fault.strerror}", UNWRITTEN) from fault
+
+    def write(self, piece):
+        while piece:
+            piece = piece[os.write(self.handle, piece):]
+
+    def end(self, status):
+        """The text is whole: it is kept where the answer is yes. Another answer goes to the standard output."""
+        if self.name is None:
+            return
+        if status == 0:
+            mask = os.umask(0)
+            os.umask(mask)
+            os.fchmod(self.handle, 0o666 & ~mask)
+            os.close(self.handle)
+            os.replace(self.name, self.path)
+        else:
+            with open(self.name, "rb") as file:
+                text = file.read()
+            self.drop()
+            while text:
+                text = text[os.write(sys.stdout.fileno(), text):]
+        self.name = None
+
+    def drop(self):
+        if self.name is not None:
+            os.close(self.handle)
+            os.unlink(self.name)
+            self.name = None

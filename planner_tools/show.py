@@ -1,0 +1,233 @@
+"""`planner show`: a plan, a configuration or a schedule in words, or as JSON for machines.
+
+What a file holds is what the program reads of it: a plan is read through `upgrade`, a configuration is looked at by `config`, a schedule is carried out
+by `replay`. Where the program refuses one, that is said, and nothing is shown.
+"""
+import argparse
+import json
+import os
+import sys
+
+from planner_tools import network as nets
+from planner_tools import story
+from planner_tools.files import NotJson, read_json
+from planner_tools.proved import Run, Stop
+
+WAIT = 2.0
+BAD_FILE = 3
+
+
+class Quiet:
+    """The options of a run whose text isn't handed on."""
+
+    is_quiet, is_strict, output = True, False, None
+
+
+def kind_of(path):
+    """What a file holds, as far as its form tells: a topology, a plan, a configuration, or a schedule."""
+    try:
+        root = read_json(path).root
+    except NotJson as fault:
+        with open(path, "rb") as file:
+            begins = file.read(200).lstrip(b" \t\r\n\xef\xbb\xbf")[:1]
+        if begins in (b"{", b"["):
+            raise Stop(f"{path}: it is no JSON that can be shown: {fault.what}", BAD_FILE) from fault
+        return "schedule"
+    for member, kind in (("rounds", "plan"), ("switches", "topology"), ("rules", "configuration"), ("demands", "policy")):
+        if root.member(member) is not None:
+            return kind
+    raise Stop(f"{path}: it is neither a plan nor a configuration", BAD_FILE, ["a plan has `rounds`, a configuration `rules`"])
+
+
+class Shown:
+    """The files that are to be shown, by their kinds, with the last one as what is shown."""
+
+    def __init__(self, names):
+        self.files = {}
+        names = self.unfolded(names)
+        for name in names[1:]:
+            kind = kind_of(name)
+            if kind in ("topology", "policy") or kind in self.files:
+                raise Stop(f"{name}: a {kind} isn't shown" if kind not in self.files else f"{name}: a {kind} stands among the words already", BAD_FILE,
+                           ["planner show TOPO [OLD] [PLAN] FILE"])
+            self.files[kind] = name
+        self.topology, self.last = names[0], kind_of(names[-1])
+
+    @staticmethod
+    def unfolded(names):
+        """The names, where a folder in place of the topology stands for the files of it that are left out."""
+        folder = names[0]
+        if not os.path.isdir(folder):
+            if len(names) < 2:
+                raise Stop("the file that is to be shown is missing", 2, ["planner show TOPO [OLD] [PLAN] FILE"])
+            return names
+        inside = {kind: os.path.join(folder, name) for kind, name in (("topology", "topology.json"), ("configuration", "old.json"), ("plan", "plan.json"))}
+        given = names[1:] or [inside["plan"]]
+        before = {"plan": ["configuration"], "schedule": ["configuration", "plan"]}.get(kind_of(given[-1]), [])
+        have = {kind_of(name) for name in given}
+        return [inside["topology"], *(inside[kind] for kind in before if kind not in have and os.path.isfile(inside[kind])), *given]
+
+    def ask(self, *given):
+        """The text of a run of the program over files. Where it refuses them, it is said why, and it is Stop."""
+        run = Run(list(given), Quiet)
+        run.capture()
+        if run.status not in (0, 1):
+            run.explain()
+            raise Stop(None, run.status)
+        return run.text
+
+    def network(self):
+        return nets.Network(read_json(self.topology))
+
+    def rules(self):
+        """The rules of the configuration, or None where none is given."""
+        name = self.files.get("configuration")
+        if name is None:
+            return None
+        self.ask("config", self.topology, name)
+        return nets.plain(read_json(name).root)["rules"]
+
+    def plan(self):
+        name = self.files.get("plan")
+        return json.loads(self.ask("upgrade", self.topology, name)) if name is not None else None
+
+
+# ---- a plan
+
+def plan_values(plan, rules, network, wait):
+    """A plan as values: round by round the changes, each with what was there before."""
+    tables, rounds, counts, tags = story.Tables(rules or []), [], {"insert": 0, "delete": 0, "replace": 0}, set()
+    for number, changes in enumerate(plan["rounds"], 1):
+        made = []
+        for do, at in changes:
+            rule = plan["rules"][at]
+            before = tables.make(do, rule)
+            counts[do] += 1
+            tags |= {rule["set"]} if "set" in rule else set()
+            made.append({"do": do, "rule": rule, "before": before if do != "insert" else None, "to": next_of(rule, network),
+                         "was": next_of(before, network) if before is not None and do != "insert" else None})
+        rounds.append({"round": number, "changes": made})
+    return {"kind": plan["kind"], "rounds": rounds, "counts": counts, "switches": sorted({one["rule"]["switch"] for it in rounds for one in it["changes"]}),
+            "tags": sorted(tags), "wait": wait, "seconds": wait * len(rounds)}
+
+
+def next_of(rule, network):
+    """The switch or the host port to which a rule sends, or None where it drops."""
+    if rule["out"] == "drop":
+        return None
+    end = f"{rule['switch']}:{rule['out']}"
+    return network.peers[end].rpartition(":")[0] if end in network.peers else end
+
+
+def change_line(change, network, has_priorities):
+    """A change in words, as `s1: 10.0.0.0/24 to s4 (port 4), was s2 (port 2)`."""
+    rule, before = change["rule"], change["before"]
+    priority = f", priority {rule['priority']}," if has_priorities else ""
+    words = f"{rule['switch']}: {nets.match_words(rule)}{priority}"
+    if change["do"] == "delete":
+        return f"{words} deleted" + (f", was {target_words(before, network)}" if before else "")
+    if change["do"] == "insert":
+        return f"{words} {nets.action_words(rule, network)}, new"
+    return f"{words} {nets.action_words(rule, network)}" + (f", was {target_words(before, network)}" if before else "")
+
+
+def target_words(rule, network):
+    """What a rule did, in words: where it sent, or that it dropped."""
+    return nets.action_words(rule, network).removeprefix("to ").replace("is dropped", "dropped")
+
+
+def plan_lines(name, values, network, rules):
+    counts, rounds = values["counts"], values["rounds"]
+    changes = sum(counts.values())
+    priorities = {one["rule"]["priority"] for it in rounds for one in it["changes"]} | {one["priority"] for one in rules or []}
+    lines = [f"{name}: {values['kind']}, {counted(len(rounds), 'round')}, {counted(changes, 'change')} at {counted(len(values['switches']), 'switch', 'switches')}: "
+             f"{counts['insert']} new, {counts['replace']} changed, {counts['delete']} deleted"]
+    lines += [f"tags: {', '.join(map(str, values['tags']))}"] if values["tags"] else ["no tags: packets keep the VLANs with which they come"] if values["kind"] == "ordered" else []
+    lines += [f"time: with a wait of {values['wait']:g} s before each round {duration(values['seconds'])}, and what the switches take"]
+    for it in rounds:
+        lines += ["", f"round {it['round']}: {counted(len(it['changes']), 'change')}"]
+        lines += ["  " + change_line(one, network, len(priorities) > 1) for one in it["changes"]]
+    return lines
+
+
+def counted(number, word, words=None):
+    return f"{number} {word if number == 1 else words or word + 's'}"
+
+
+def duration(seconds):
+    if seconds < 120:
+        return f"{seconds:g} s"
+    minutes = round(seconds / 60)
+    return f"{seconds:g} s, about {minutes} minutes" if minutes < 120 else f"{seconds:g} s, about {minutes / 60:.1f} hours"
+
+
+# ---- a configuration, a schedule
+
+def configuration_values(rules, network):
+    by_switch = []
+    for name, capacity in zip(network.names, network.capacities):
+        mine = sorted((one for one in rules if one["switch"] == name), key=lambda one: (-one["priority"], nets.prefix(one["dst"]), str(one.get("in_port", ""))))
+        by_switch.append({"switch": name, "capacity": capacity, "rules": [{**one, "to": next_of(one, network)} for one in mine]})
+    return {"rules": len(rules), "switches": by_switch}
+
+
+def configuration_lines(name, values, network):
+    lines = [f"{name}: {counted(values['rules'], 'rule')} at {counted(sum(bool(one['rules']) for one in values['switches']), 'switch', 'switches')}"]
+    for one in values["switches"]:
+        lines += ["", f"{one['switch']}: {len(one['rules'])} of {one['capacity']} entries"]
+        lines += [f"  {nets.match_words(rule)} {nets.action_words(rule, network)}, priority {rule['priority']}" for rule in one["rules"]]
+    return lines
+
+
+def schedule_lines(shown, network):
+    """The events of a schedule in words: whole where the old configuration and the plan are given."""
+    name = shown.files["schedule"]
+    with open(name, encoding="utf-8", errors="replace") as file:
+        text = file.read()
+    rules, plan = shown.rules(), shown.plan()
+    if rules is None or plan is None:
+        events = [line for line in text.splitlines() if line and not line.startswith("#")]
+        return [f"{name}: {counted(len(events), 'event')}; with OLD and PLAN before it, what each one does is shown", "", *events]
+    replay = shown.ask("replay", shown.topology, shown.files["configuration"], shown.files["plan"], name)
+    rounds = story.Changes(plan)
+    lines = story.events_in_words(text, network, rules, rounds, story.traces(replay))
+    return [f"{name}: {counted(len(lines), 'event')}, {replay.splitlines()[-1]} rounds", "", *lines]
+
+
+def parser_of():
+    parser = argparse.ArgumentParser(prog="planner show", description="Shows a plan, a configuration or a schedule in words.")
+    parser.add_argument("files", metavar="FILE", nargs="+", help="the topology, or a folder; and behind it the file that is shown: before a plan the old configuration, "
+                        "and before a schedule both, where they are there")
+    parser.add_argument("--json", action="store_true", help="writes JSON, for machines")
+    parser.add_argument("--wait", metavar="SECONDS", type=float, default=WAIT, help=f"the wait before each round, for the time that a plan takes ({WAIT:g} s)")
+    return parser
+
+
+def main(words):
+    asked = parser_of().parse_args(words)
+    try:
+        for name in asked.files:
+            if not os.path.exists(name):
+                from planner_tools.files import like
+                raise Stop(f"{name}: No such file or directory{like(name)}", 6)
+        shown = Shown(asked.files)
+        network, name = None, shown.files[shown.last]
+        if shown.last == "plan":
+            plan, rules = shown.plan(), shown.rules()
+            network = shown.network()
+            values = plan_values(plan, rules, network, asked.wait)
+            lines = plan_lines(name, values, network, rules)
+        elif shown.last == "configuration":
+            rules = shown.rules()
+            network = shown.network()
+            values = configuration_values(rules, network)
+            lines = configuration_lines(name, values, network)
+        else:
+            lines = schedule_lines(shown, shown.network())
+            values = {"events": lines[2:]}
+    except Stop as stop:
+        if stop.args[0] is None:
+            return stop.status       # what the program refused is said already
+        raise
+    sys.stdout.write(json.dumps(values, indent=1) + "\n" if asked.json else "\n".join(lines) + "\n")
+    return 0

@@ -1,0 +1,191 @@
+"""Runs of a plan in words: what `explain` found, and why an event of a schedule can't happen. Where packets go is what `replay` of the program says."""
+import re
+import tempfile
+
+from planner_tools import network as nets
+from planner_tools.files import Text, read_bytes
+
+TRACE = re.compile(r"packet (\d+) (\S+) (\S+) (\S+) born (\d+):((?: \S+:\d+)*) (left|dropped|lost|under way)(.*)")
+
+
+class Changes:
+    """The changes of each round of a plan, as (do, rule)."""
+
+    def __init__(self, plan):
+        if plan["format"] == 1:
+            self.rounds = [[(one["do"], one) for one in round_] for round_ in plan["rounds"]]
+        else:
+            self.rounds = [[(do, plan["rules"][number]) for do, number in round_] for round_ in plan["rounds"]]
+
+
+def key_of(rule):
+    return rule["switch"], rule["priority"], rule.get("in_port", "any"), rule.get("vlan", "any"), rule["dst"]
+
+
+class Tables:
+    """The entries of all switches by their keys, as changes are made."""
+
+    def __init__(self, rules):
+        self.rules = {key_of(rule): rule for rule in rules}
+
+    def make(self, do, rule):
+        """Makes a change, and returns the entry that was there before, or None."""
+        before = self.rules.pop(key_of(rule), None)
+        if do != "delete":
+            self.rules[key_of(rule)] = rule
+        return before
+
+
+def change_words(do, rule, before, net):
+    """A change in words: the entry, and from where to where."""
+    words = f"{nets.match_words(rule)}, priority {rule['priority']}"
+    if do == "delete":
+        was = f", which was {nets.action_words(before, net)}" if before else ""
+        return f"delete {words}{was}".replace("was is dropped", "dropped it").replace("was to", "sent it to")
+    was = f", was {nets.action_words(before, net)}" if before and do == "replace" else ", new" if do == "insert" else ""
+    return f"{words} {nets.action_words(rule, net)}{was}".replace("was is dropped", "was dropped")
+
+
+def replayed(explainer, schedule):
+    """What `replay` of the program says of a text of events: its status and text."""
+    with tempfile.NamedTemporaryFile("w", suffix=".schedule") as file:
+        file.write(schedule)
+        file.flush()
+        return explainer.run.ask("replay", explainer.run.files["TOPO"].real, explainer.run.files["OLD"].real, explainer.run.files["PLAN"].real, file.name)
+
+
+def traces(text):
+    """The packets of an answer of `replay`: for each the stops, the word for its end, and what stands behind it."""
+    return [(found[6].split(), found[7], found[8].strip(), int(found[5])) for found in map(TRACE.fullmatch, text.splitlines()) if found]
+
+
+def tell(explainer):
+    """The run that `explain` wrote, in sentences."""
+    net, old, plan = explainer.network(), explainer.json("OLD"), explainer.json("PLAN")
+    status, text = replayed(explainer, explainer.run.text)
+    if status != 0 or net is None or old is None or plan is None:
+        return []
+    packets = traces(text)
+    lines = events_in_words(explainer.run.text, net, nets.plain(old.root)["rules"], Changes(nets.plain(plan.root)), packets)
+    entry = re.findall(r"^enter (\S+) (\S+) (\S+)$", explainer.run.text, re.M)
+    if packets and entry:
+        if packets[0][1] in ("left", "dropped"):
+            lines[-1] += ", and has broken the policy"
+        lines += explainer.wanted_lines(*entry[0])
+    return lines
+
+
+def events_in_words(schedule, net, rules, changes, packets):
+    """The events of a schedule, a line each. `packets` are the traces of the packets."""
+    tables, lines, round_, at, entered = Tables(rules), [], 0, {}, 0
+    for line in schedule.splitlines():
+        words = line.split()
+        if not words or line.startswith("#"):
+            continue
+        if words[0] == "start":
+            round_ += 1
+            count = len(changes.rounds[round_ - 1])
+            lines.append(f"round {round_} starts: its {f'{count} changes' if count != 1 else 'change'} may be made at any time{', in any order' if count > 1 else ''}")
+        elif words[0] == "change":
+            do, rule = changes.rounds[round_ - 1][int(words[1])]
+            lines.append(f"change {words[1]}, at {rule['switch']}: {change_words(do, rule, tables.make(do, rule), net)}")
+        elif words[0] == "settle":
+            lines.append(f"round {round_} is settled")
+        elif words[0] == "enter":
+            lines.append(f"packet {entered} enters at {words[1]}, {nets.vlan_words(words[2])}, for {words[3]}")
+            at[entered], entered = 0, entered + 1
+        elif words[0] == "lose":
+            lines.append(f"packet {words[1]} is lost")
+        else:
+            lines.append(hop_words(int(words[1]), packets, at))
+    return lines
+
+
+def hop_words(number, packets, at):
+    """A hop of a packet, whose stops are known."""
+    stops, end, where, _ = packets[number]
+    here = stops[at[number]]
+    at[number] += 1
+    if at[number] == len(stops):
+        return f"packet {number} " + (f"leaves the network at {where}" if end == "left" else f"is dropped by {where or here.rpartition(':')[0]}")
+    switch = stops[at[number]].rpartition(":")[0]
+    been = [one.rpartition(":")[0] for one in stops[:at[number]]]
+    again = ", where it has been before: it has come to a switch twice" if switch in been else ""
+    return f"packet {number} goes from {here.rpartition(':')[0]} to {switch}{again}"
+
+
+# ---- an event that can't happen
+
+def why_no_run(explainer):
+    """Says why the event of a line can't happen: what stood before it, as the program says, and what would be right."""
+    number = int(explainer.first.rpartition(" ")[2])
+    name = "INPUT" if explainer.run.command.name == "drive" else "SCHEDULE"
+    found = explainer.run.files[name]
+    lines = Text(found.shown, read_bytes(found.real)).text.split("\n")
+    line, before = lines[number - 1], "".join(f"{one}\n" for one in lines[:number - 1])
+    why = (start_refused if name == "INPUT" else event_refused)(explainer, line, before)
+    explainer.voice.refuse(f"{found.shown}, line {number}: `{line}` can't happen here{': ' + why if why else ''}",
+                           ["the lines before it are a run: `replay` says how far it came" if name == "SCHEDULE" else
+                            "a line `start` may stand only where no round runs, one is left, and each switch with changes in it has said HELLO"])
+
+
+def event_refused(explainer, line, before):
+    """Why an event of a schedule can't happen, or none."""
+    status, text = replayed(explainer, before)
+    net, plan = explainer.network(), explainer.json("PLAN")
+    if status != 0 or net is None or plan is None:
+        return ""
+    packets, state = traces(text), re.fullmatch(r"(settled|running) (\d+) of (\d+)", text.splitlines()[-1])
+    is_running, number, count = state[1] == "running", int(state[2]), int(state[3])
+    changes = Changes(nets.plain(plan.root)).rounds[number - 1] if is_running else []
+    made = [int(one.split()[1]) for one in before.rpartition("start\n")[2].splitlines() if one.startswith("change ")]
+    words = line.split()
+    if words[0] == "start":
+        if is_running:
+            return f"round {number} is running, and has to be settled first"
+        if number == count:
+            return f"all {count} rounds are settled"
+        late = [str(one) for one, it in enumerate(packets) if it[1] == "under way" and it[3] < number]
+        return f"packet{'s' if len(late) > 1 else ''} {', '.join(late[:8])} entered before round {number} was settled, and {'are' if len(late) > 1 else 'is'} still under way"
+    if words[0] == "change" and is_running:
+        one = int(words[1])
+        if one >= len(changes):
+            return f"round {number} has {len(changes)} changes, numbered from 0"
+        return "this change is made already" if one in made else f"it doesn't fit the table that {changes[one][1]['switch']} has then"
+    if words[0] == "settle" and is_running:
+        left = [str(one) for one in range(len(changes)) if one not in made]
+        return f"change{'s' if len(left) > 1 else ''} {', '.join(left[:8])} of round {number} {'are' if len(left) > 1 else 'is'} pending"
+    if words[0] in ("change", "settle"):
+        return "no round is running"
+    if words[0] == "enter":
+        vlans = [str(one) for one in net.vlans]
+        return f"{words[1]} is no host port" if words[1] not in net.hosts else f"the VLAN {words[2]} isn't declared" if words[2] not in vlans else ""
+    one = int(words[1])
+    if one >= len(packets):
+        return f"{len(packets)} packets have entered, and they are numbered from 0"
+    return f"packet {one} {'is lost' if packets[one][1] == 'lost' else 'has left' if packets[one][1] == 'left' else 'was dropped'} already"
+
+
+def start_refused(explainer, _, before):
+    """Why a start is refused by the driver, or none."""
+    files = [explainer.run.files[word].real for word in ("TOPO", "OLD", "NEW", "POLICY", "PLAN")]
+    with tempfile.NamedTemporaryFile("w", suffix=".input", encoding="utf-8", errors="surrogateescape") as file:
+        file.write(before)
+        file.flush()
+        status, text = explainer.run.ask("drive", *files, file.name)
+    state = re.search(r"# (settled|running) (\d+) of (\d+)\n$", text)
+    plan = explainer.json("PLAN")
+    if status != 0 or not state or plan is None:
+        return ""
+    if state[1] == "running":
+        return f"round {state[2]} is running: not all of its switches have answered"
+    if state[2] == state[3]:
+        return f"all {state[3]} rounds are settled"
+    failed = re.findall(r"^# failed (\S+) (.*)$", text, re.M)
+    switches = sorted({rule["switch"] for _, rule in Changes(nets.plain(plan.root)).rounds[int(state[2])]})
+    hello = [name for name in switches if not re.search(rf"^feed {re.escape(name)} ", before, re.M)]
+    gone = [f"{name} ({cause})" for name, cause in failed if name in switches]
+    if gone:
+        return f"the session with {', '.join(gone)} has failed, and it has changes in round {int(state[2]) + 1}"
+    return f"{', '.join(hello or switches)} {'has' if len(hello or switches) == 1 else 'have'} changes in round {int(state[2]) + 1} and no open session: no HELLO came"
+
