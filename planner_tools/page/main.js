@@ -198,7 +198,7 @@ class View {
   drawPicture(places) {
     const { steps, bad, oldPath, newPath, evidence, duties } = this.shown, changes = this.update.changesIn(this.position);
     const pending = this.playing ? new Set([...this.pendingNow()].map((at) => changes[at].rule.at)) : null;
-    this.picture.draw({ steps, bad, oldPath, newPath, numbers: evidence && evidence.numbers, changing: new Set(changes.map((change) => change.rule.at)), pending,
+    this.picture.draw({ steps, bad, oldPath: this.update.alone ? { places: [], end: { what: "drop", from: 0 } } : oldPath, newPath, numbers: evidence && evidence.numbers, changing: new Set(changes.map((change) => change.rule.at)), pending,
       visited: new Set(places.map((place) => place.at)), waypoints: this.waypoints, own: new Set(duties.chains.flat()), chosen: this.chosen,
       tagged: this.update.kind === "two-phase", entry: this.class >= 0 ? this.update.classOf(this.class).host : null,
       drops: new Set(steps.filter(({ one }) => one.what === "drop").map(({ place }) => place.at)), packets: this.playing ? this.player.state.packets.filter((packet) => packet.end === null) : [] });
@@ -224,7 +224,7 @@ class View {
     const box = element("bad");
     box.hidden = !bad;
     if (!bad) return;
-    box.replaceChildren(make("h2", "What can go wrong here"), make("p", badText(this.update, it, bad)),
+    box.replaceChildren(make("h2", this.update.alone ? "What goes wrong here" : "What can go wrong here"), make("p", badText(this.update, it, bad)),
       make("ol", badSteps(this.update, bad).map((text) => make("li", text))));
   }
 
@@ -358,7 +358,7 @@ class View {
       : update.isRound(this.position) ? "in this round" : "after the update";
     const others = search.positions().filter((position) => position !== this.position), isReady = search.jobs.length === 0;
     const looking = isReady ? [] : [make("p", `Looked at ${search.done} of ${search.total} ${search.total > 1 ? "rounds" : "tables"} in all classes so far ..`, { class: "grey" })];
-    const parts = here.length ? [make("p", `${this.shown.bad ? "Other" : "These"} packets can go wrong ${place}: ${here.length}`), this.named(here.map((number) =>
+    const parts = here.length ? [make("p", `${this.shown.bad ? "Other" : "These"} packets ${update.alone ? "" : "can "}go wrong ${place}: ${here.length}`), this.named(here.map((number) =>
       [classText(update, update.classOf(number)), { class: number }]))] : [];
     if (!here.length && !search.isLooking(this.position)) parts.push(make("p", this.shown.bad ? `No other packets go wrong ${place}.` : `No packets go wrong ${place}.`));
     if (others.length) parts.push(make("p", "They can also go wrong elsewhere:"), this.named(others.map((position) => [`${positionText(update, position)}: ${search.at(position).length}`,

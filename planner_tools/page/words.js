@@ -89,11 +89,19 @@ function tagText(update, position, vlan) {
 function badText(update, it, walk) {
   const names = walk.steps.map(({ place }) => update.names[place.at]), last = names[names.length - 1];
   const packet = `A packet that enters at ${hostText(update, it.host)} ${vlanText(it.vlan)} for ${addressText(it.address)}`;
+  if (update.alone) return sureText(update, packet, walk, last, names);
   if (walk.kind === "loop") return `${packet} can come back to ${last}, where it has been: ${shortened(names)}.`;
   if (walk.kind === "drop") return `${packet} can be dropped by ${last}, though it must arrive: ${shortened(names)}.`;
   if (walk.kind === "missed") return `${packet} can leave the network without having met ${update.names[walk.missed]} in its place: ${shortened(names)}.`;
   const end = walk.steps[walk.steps.length - 1].one, way = end.what === "go" ? [...names, update.names[end.at]] : names;
   return `${packet} can go neither the old path nor the new one: ${shortened(way)}.`;
+}
+
+// The same of a configuration alone, in which each packet has one way.
+function sureText(update, packet, walk, last, names) {
+  if (walk.kind === "loop") return `${packet} comes back to ${last}, where it has been: ${shortened(names)}.`;
+  if (walk.kind === "drop") return `${packet} is dropped by ${last}, though it must arrive: ${shortened(names)}.`;
+  return `${packet} leaves the network without having met ${update.names[walk.missed]} in its place: ${shortened(names)}.`;
 }
 
 // What each switch of a bad walk does, one sentence a switch.

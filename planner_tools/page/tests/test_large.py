@@ -162,7 +162,7 @@ class Configurations(PagesInBrowser):
         self.assertEqual("breaks: at s:1 untagged 10.0.0.0 Missed y", self.ask("config", *files)[1].strip())
         self.assertTrue(self.seen("#verdict").startswith("breaks: at s:1 untagged 10.0.0.0 Missed y"))
         self.assertIn("In this configuration a packet that enters at s:1 untagged for 10.0.0.0 leaves the network without having met waypoint y", self.seen("#sentence"))
-        self.assertIn("can leave the network without having met y in its place", self.seen("#bad p"))
+        self.assertIn("leaves the network without having met y in its place", self.seen("#bad p"))
         self.tab.value("view.choose({ class: 0 }); view.search.finish()")
         self.assertIn("s:1 untagged to 10.0.0.0/24", self.text("#elsewhere button"))
 
@@ -171,7 +171,7 @@ class Configurations(PagesInBrowser):
         update.old["rules"][3]["out"] = 2       # s4 sends back to s1
         files = self.files(update)
         self.open(files[0], files[1])
-        self.assertIn("can come back to", self.seen("#bad p"))
+        self.assertIn("comes back to", self.seen("#bad p"))
 
     def test_words_that_are_wrong(self):
         for words in (paths("square", "topology"), paths("square", "topology", "old", "new", "policy")):
