@@ -1,8 +1,8 @@
 #!/usr/bin/env python3
 """Holds docs/PROVED.md against the crates: prints what the ledger lacks, and what it names that isn't there, and fails where it prints something.
 
-Each crate of crates.txt has a row, but for those of tests alone (NAME_tests). Each name that a row has in backticks stands in src/ or specs/ of its
-crate. And each clause of `run` is named in the ledger.
+Each crate of crates.txt has a row, but for those of tests alone (NAME_tests), and stands in the picture of docs/MAP.md. Each name that a row has in
+backticks stands in src/ or specs/ of its crate. And each clause of `run` is named in the ledger.
 """
 import os
 import re
@@ -46,6 +46,8 @@ def main():
     rows = rows_in(ledger)
     faults += [f"{it} has no row" for it in crates if it not in rows and not it.endswith("_tests")]
     faults += [f"{it} has a row and is no crate" for it in rows if it not in crates]
+    drawn = re.findall(r"\w+", read(f"{ROOT}/docs/MAP.md").split("```")[1])
+    faults += [f"{it} isn't in the picture of docs/MAP.md" for it in crates if it not in drawn and not it.endswith("_tests")]
     for crate in filter(rows.get, crates):
         text = text_of(crate)
         faults += [f"the row of {crate} names {it}, which isn't in its src or specs" for it in names_in(rows[crate]) if not re.search(rf"\b{it}\b", text)]
