@@ -146,6 +146,20 @@ FRONT = [
             "/usr/local by default. It is done from a checkout.", False),
 ]
 COMMANDS = PROVED + FRONT
+# What people want who run a command, for the table in the README: what it is about, and the commands in the order of that table. A command may stand twice.
+WISHES = [
+    ("whether each packet has a good path under my rules", ["config"]),
+    ("where each class of packets goes, and by which rules one packet", ["paths", "trace"]),
+    ("a plan from the old rules to the new ones", ["plan"]),
+    ("whether a plan is safe, whoever made it", ["check"]),
+    ("what goes wrong under a plan that isn't", ["explain"]),
+    ("a plan, rules or a run in words, or in the browser", ["show", "page"]),
+    ("to try a plan: a run of it, where its packets went, and the tables then", ["simulate", "replay", "tables"]),
+    ("to change the switches", ["update", "collect", "apply"]),
+    ("the bytes, and what a controller sends", ["import", "emit", "drive"]),
+    ("my files from what I have, and back", ["from-ofctl", "from-mininet", "from-graphml", "to-ofctl"]),
+    ("the rest", ["upgrade", "sample", "install"]),
+]
 BY_NAME = {command.name: command for command in COMMANDS}
 # Commands of the program that are newer than some builds of it.
 NEW = ("paths", "trace", "tables")

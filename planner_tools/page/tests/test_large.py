@@ -65,45 +65,42 @@ class Large(PagesInBrowser):
         return self.tab.value("""[...document.querySelectorAll('#labels .label')].map((it) => {
             const box = it.getBoundingClientRect(); return [it.dataset.label, box.left, box.top, box.right, box.bottom]; })""")
 
-    def test_networks_open_whole(self):
-        for count in (12, 20, 128):
-            with self.subTest(count):
-                self.of_update(networks.ring(count))
-                box = self.tab.value("(() => { const box = document.getElementById('picture').getBoundingClientRect(); return [box.left, box.top, box.right, box.bottom]; })()")
-                places = self.places()
-                self.assertEqual(count, len(places))
-                for x, y in places.values():
-                    self.assertTrue(box[0] <= x <= box[2] and box[1] <= y <= box[3], (x, y))
-                self.assertLessEqual(self.tab.value("document.documentElement.scrollWidth"), 1280)
-
-    def test_names_are_readable_in_each_network(self):
-        """In a small network they stand in the boxes; in a large one beside them, where none covers another one, and that of the chosen switch always."""
+    def test_networks_open_whole_with_names_that_can_be_read(self):
+        """In a small network names stand in the boxes; in a large one beside them, where none covers another one, and that of the chosen switch always."""
         for count in (12, 20, 128):
             with self.subTest(count):
                 self.of_update(networks.ring(count), hash="#switch=r7")
-                labels = self.labels()
-                high = self.tab.value("Math.min(...[...document.querySelectorAll('#nodes text.inside[font-weight=bold]')].map((it) => it.getBoundingClientRect().height).filter((it) => it > 0), 99)")
-                if not labels:
-                    self.assertGreaterEqual(high, 8.5)
-                    continue
-                self.assertGreaterEqual(len(labels), 0.6 * count)
-                self.assertIn("r7", [name for name, *_ in labels])
-                for at, (name, left, top, right, low) in enumerate(labels):
-                    self.assertGreaterEqual(low - top, 10)
-                    for other, left2, top2, right2, low2 in labels[:at]:
-                        self.assertFalse(left + 1 < right2 and left2 + 1 < right and top + 3 < low2 and top2 + 3 < low, (name, other))
+                self.is_whole(count)
+                self.has_readable_names(count)
 
-    def test_a_switch_is_picked_from_the_list(self):
+    def is_whole(self, count):
+        box = self.tab.value("(() => { const box = document.getElementById('picture').getBoundingClientRect(); return [box.left, box.top, box.right, box.bottom]; })()")
+        places = self.places()
+        self.assertEqual(count, len(places))
+        for x, y in places.values():
+            self.assertTrue(box[0] <= x <= box[2] and box[1] <= y <= box[3], (x, y))
+        self.assertLessEqual(self.tab.value("document.documentElement.scrollWidth"), 1280)
+
+    def has_readable_names(self, count):
+        labels = self.labels()
+        high = self.tab.value("Math.min(...[...document.querySelectorAll('#nodes text.inside[font-weight=bold]')].map((it) => it.getBoundingClientRect().height).filter((it) => it > 0), 99)")
+        if not labels:
+            self.assertGreaterEqual(high, 8.5)
+            return
+        self.assertGreaterEqual(len(labels), 0.6 * count)
+        self.assertIn("r7", [name for name, *_ in labels])
+        for at, (name, left, top, right, low) in enumerate(labels):
+            self.assertGreaterEqual(low - top, 10)
+            for other, left2, top2, right2, low2 in labels[:at]:
+                self.assertFalse(left + 1 < right2 and left2 + 1 < right and top + 3 < low2 and top2 + 3 < low, (name, other))
+
+    def test_a_switch_is_picked_from_the_list_and_names_come_back_where_the_picture_is_enlarged(self):
         self.of_update(networks.ring(128))
         self.assertEqual([f"r{at}" for at in range(128)], self.text("#switch option"))
         for name in ("r56", "r57", "r58"):
             self.tab.value("(() => { const list = document.getElementById('switch'); list.value = %d; list.dispatchEvent(new Event('change')); })()" % int(name[1:]))
             self.assertIn(f"Rules of {name} ", self.seen("#table h2"))
             self.assertIn(name, [label[0] for label in self.labels()])
-
-    def test_names_come_back_into_the_boxes_where_the_picture_is_enlarged(self):
-        self.of_update(networks.ring(128))
-        self.assertTrue(self.labels())
         self.tab.value("document.getElementById('near').click()")
         self.assertEqual([], self.labels())
         self.tab.value("document.getElementById('whole').click()")
