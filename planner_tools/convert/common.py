@@ -44,16 +44,20 @@ def run(work, words):
     return DONE
 
 
-def read_text(path):
-    """The text of a file, or of the standard input for `-`."""
+def read_bytes(path):
+    """The bytes of a file, or of the standard input for `-`."""
     try:
         if path == "-":
-            data = sys.stdin.buffer.read()
-        else:
-            with open(path, "rb") as file:
-                data = file.read()
+            return sys.stdin.buffer.read()
+        with open(path, "rb") as file:
+            return file.read()
     except OSError as fault:
         raise Refused(f"{path}: it can't be read: {fault.strerror}", status=UNREADABLE) from fault
+
+
+def read_text(path):
+    """The text of a file, or of the standard input for `-`."""
+    data = read_bytes(path)
     try:
         return data.decode("utf-8-sig")
     except UnicodeDecodeError as fault:

@@ -19,6 +19,8 @@ DEFAULT_PRIORITY = 32768
 OTHERS = {"dl_src": 2, "dl_dst": 3, "nw_proto": 5, "tp_src": 6, "tp_dst": 7, "icmp_type": 6, "icmp_code": 7, "nw_tos": 21}
 TOKEN = re.compile(r'\s*,?\s*([A-Za-z_][\w.\[\]]*)(?:=("(?:[^"\\]|\\.)*"|\([^()]*\)|[^\s,]*))?')
 HEADER = re.compile(r"(?:NXST|OFPST)_FLOW reply(?P<version> \(OF[\d.]+\))? \(xid=0x[0-9a-fA-F]+\):(?P<more> flags=\[more\])?\s*")
+# What Mininet writes above the answer of each bridge.
+TITLE = re.compile(r"\*\*\* (\S+) -+\s*")
 # An action that no entry of a configuration has: its type is that of a vendor's.
 VENDOR = bytes.fromhex("ffff000800000000")
 
@@ -221,13 +223,22 @@ def split_top(text):
 
 
 class FlowText:
-    """A whole text: its entries, the lines that are none, and what is to be said of it."""
+    """A whole text: its entries, the lines that are none, and what is to be said of it. Of a text of several bridges, as Mininet's `dpctl dump-flows` prints
+    it, only the part of one bridge counts."""
 
-    def __init__(self, text):
+    def __init__(self, text, bridge):
         self.entries, self.bad, self.is_version_1_0, self.is_newer, more = [], [], False, False, False
+        titles = [found[1] for found in map(TITLE.fullmatch, text.splitlines()) if found]
+        if titles and bridge not in titles:
+            self.bad.append((1, f"begins a text of the bridges {', '.join(titles)}, of which none is {bridge}"))
+        is_here = not titles
         for number, line in enumerate(text.splitlines(), 1):
-            header = HEADER.fullmatch(line)
-            if header:
+            header, title = HEADER.fullmatch(line), TITLE.fullmatch(line)
+            if title:
+                is_here = title[1] == bridge
+            elif not is_here:
+                continue
+            elif header:
                 more = bool(header["more"])
                 self.is_version_1_0 |= line.startswith("OFPST") and not header["version"]
                 self.is_newer |= bool(header["version"])

@@ -8,7 +8,7 @@ import re
 import unicodedata
 import xml.etree.ElementTree as xml
 
-from planner_tools.convert.common import NAME, Refused, Topology, capacity, checked, name_list, nearest, read_text, run, say, tag_range, vlan_list
+from planner_tools.convert.common import NAME, Refused, Topology, capacity, checked, name_list, nearest, read_bytes, run, say, tag_range, vlan_list
 
 LONGEST_NAME = 32
 # Switches without a host port, for `--hosts`.
@@ -20,7 +20,7 @@ class Graph:
 
     def __init__(self, path):
         try:
-            root = xml.fromstring(read_text(path).encode())
+            root = xml.fromstring(read_bytes(path))
         except xml.ParseError as fault:
             raise Refused(f"{path}:{fault.position[0]}:{fault.position[1] + 1}: it is no XML: {str(fault).split(':')[0]}") from fault
         graphs = children(root, "graph")

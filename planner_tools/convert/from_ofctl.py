@@ -34,7 +34,7 @@ class Table:
     def __init__(self, switch, path, may_drop):
         self.switch, self.path = switch, path
         self.kept, self.faults, self.droppable, self.left_out = [], [], 0, {}
-        text = FlowText(read_text(path))
+        text = FlowText(read_text(path), switch)
         self.faults += [f"{path}:{number}: {switch}: the line {why}" for number, why in text.bad]
         if text.is_version_1_0:
             say(f"{path}: note: this is an answer by OpenFlow 1.0, which shows some matches wider than they are, as masks, registers and connection states; it is "

@@ -9,11 +9,12 @@ import json
 import os
 import re
 import sys
+import tempfile
 
 from planner_tools import program
 from planner_tools.page.layout import layout
 from planner_tools.page.values import Files
-from planner_tools.page.verdict import Refused, traces, verdict, verdict_of_configuration
+from planner_tools.page.verdict import Refused, ask, traces, verdict, verdict_of_configuration
 
 HERE = os.path.dirname(os.path.realpath(__file__))
 
@@ -27,7 +28,7 @@ def asked_by(words):
                                      description="Writes a page that shows what a plan does; or, without a plan, where packets go under a configuration.")
     parser.add_argument("files", metavar="FILE", nargs="+", help="the network, the rules now, the rules wanted, what packets must do, and the plan, from any source; "
                         "or the network, the rules, and what packets must do")
-    parser.add_argument("--schedule", metavar="FILE", help="a run of the plan, to be played: what `planner simulate` or `planner explain` wrote, or a record")
+    parser.add_argument("--schedule", metavar="FILE", help="a run of the plan, to be played: what `planner simulate` or `planner explain` wrote, or the record of an update")
     parser.add_argument("--planner", metavar="PATH", help="the program; else the variable PLANNER, else the one that is built or installed")
     parser.add_argument("--layout", choices=("graphviz", "own"), default="graphviz", help="own: Graphviz isn't used, even where it is there")
     asked = parser.parse_args(words)
@@ -51,6 +52,27 @@ def page(values):
     return re.sub("@([A-Z]+)@", lambda place: filled[place[1]], part("page.html"))
 
 
+def schedule_of(planner, paths, path):
+    """The lines of a schedule, and what the planner says of its run. Of the record of an update it is what `planner drive` says of it: rounds and changes,
+    without packets."""
+    with open(path, encoding="utf-8", errors="replace", newline="") as file:
+        text = file.read()
+    if not re.search(r"(?m)^feed ", text):
+        return lines_of(text), traces(planner, paths[0], paths[1], paths[4], path)
+    status, lines = ask(planner, "drive", *paths, path)
+    if status != 0:
+        raise Refused("\n".join(lines) or f"planner drive ended with status {status}", status)
+    lines = [line for line in lines if not line.startswith("# sent ")]
+    with tempfile.NamedTemporaryFile("w", encoding="utf-8") as file:
+        file.writelines(f"{line}\n" for line in lines)
+        file.flush()
+        return lines, traces(planner, paths[0], paths[1], paths[4], file.name)
+
+
+def lines_of(text):
+    return text.removesuffix("\n").split("\n") if text else []
+
+
 def values_of(asked):
     planner, paths = asked.planner or program.path(), asked.files
     if len(paths) == UPDATE:
@@ -62,10 +84,8 @@ def values_of(asked):
     values = {"title": title, "files": paths, "command": "check" if len(paths) == UPDATE else "config", "verdict": said, **files.values(),
               "layout": layout(len(files.names), files.links, files.hosts, asked.layout == "graphviz")}
     if asked.schedule:
-        with open(asked.schedule, encoding="utf-8", errors="replace", newline="") as file:
-            text = file.read()
-        values["schedule"] = {"name": asked.schedule, "lines": text.removesuffix("\n").split("\n") if text else [],
-                              **traces(planner, paths[0], paths[1], paths[4], asked.schedule)}
+        lines, said = schedule_of(planner, paths, asked.schedule)
+        values["schedule"] = {"name": asked.schedule, "lines": lines, **said}
     return values
 
 

@@ -117,6 +117,16 @@ class FromOfctl(unittest.TestCase):
             {"switch": "s1", "priority": 103, "dst": "0.0.0.0/0", "out": 1},
             {"switch": "s1", "priority": 104, "dst": "10.2.0.0/16", "out": 4}])
 
+    def test_a_text_of_several_bridges_as_mininet_prints_it(self):
+        def part(name, port):
+            return f"*** {name} {'-' * 72}\nNXST_FLOW reply (xid=0x4):\n{COUNTS}priority=100,ip,nw_dst=10.0.0.0/24 actions=output:{port}\n"
+
+        text = part("s1", 2) + part("s2", 1)
+        self.assertEqual(self.rules(text), [{"switch": "s1", "priority": 100, "dst": "10.0.0.0/24", "out": 2}])
+        _, made, _ = self.converted(text, bridge="s2")
+        self.assertEqual(json.loads(made)["rules"], [{"switch": "s2", "priority": 100, "dst": "10.0.0.0/24", "out": 1}])
+        self.assertIn("of which none is s3", self.converted(text, bridge="s3")[2])
+
     def test_drop_unsayable_leaves_out_what_no_ipv4_packet_misses(self):
         good = COUNTS + "priority=100,ip,nw_dst=10.0.0.0/24 actions=output:2\n"
         droppable = COUNTS + "arp actions=FLOOD\n" + COUNTS + "priority=7,ipv6 actions=NORMAL\n" + COUNTS + "priority=0 actions=drop\n" + COUNTS + "priority=0 actions=CONTROLLER:65535\n"

@@ -122,6 +122,14 @@ class GraphML(unittest.TestCase):
                 self.assertEqual((status, made), (3, ""))
                 self.assertIn(words, said)
 
+    def test_another_encoding(self):
+        text = '<?xml version="1.0" encoding="ISO-8859-1"?><graphml><key id="a" for="node" attr.name="label"/><graph><node id="0"><data key="a">Z\u00fcrich</data></node></graph></graphml>'
+        with tempfile.NamedTemporaryFile("wb", suffix=".graphml") as file:
+            file.write(text.encode("iso-8859-1"))
+            file.flush()
+            status, made, _ = planner("from-graphml", file.name, *ASKED)
+        self.assertEqual((status, json.loads(made)["switches"][0]["name"]), (0, "Zurich"))
+
     def test_a_name_that_isn_t_there(self):
         status, _, said = planner("from-graphml", DATA / "backbone.graphml", "--hosts", "Denvr", *ASKED[2:])
         self.assertEqual(status, 2)
