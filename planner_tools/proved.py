@@ -141,6 +141,8 @@ class Run:
         return bool(warnings)
 
     def explain(self):
+        if self.status == 0 and self.command.name != "explain":
+            return
         from planner_tools.explanations import Explainer
         Explainer(self).explain()
 
