@@ -7,6 +7,10 @@ _planner() {
         mapfile -t COMPREPLY < <(compgen -W "config paths trace plan check explain simulate replay tables upgrade import emit drive sample collect apply update show page from-ofctl from-mininet from-graphml to-ofctl install --help --version" -- "${COMP_WORDS[1]}")
         return
     fi
+    if [[ ${COMP_WORDS[COMP_CWORD]} == -* ]]; then
+        mapfile -t COMPREPLY < <(compgen -W "--help -o --strict --quiet" -- "${COMP_WORDS[COMP_CWORD]}")
+        return
+    fi
     case ${COMP_WORDS[1]} in
         collect | from-ofctl | to-ofctl) files=1 ;;
         trace | upgrade | import | emit) files=2 ;;

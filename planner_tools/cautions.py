@@ -14,7 +14,7 @@ LONGEST_OTHER = 1 << 20
 # Files up to this length are looked through member by member; longer ones where some object has a member that no object of the file has.
 SMALL = 1 << 14
 # The commands that speak of what packets a policy covers, and the configuration that is looked at.
-JUDGING = {"config": "CONFIG", "plan": "NEW", "check": "NEW"}
+JUDGING = {"config": "CONFIG", "plan": "NEW", "check": "NEW", "pack": "NEW", "certify": "NEW"}
 KIND_OF_WORD = {"TOPO": "topology", "CONFIG": "configuration", "OLD": "configuration", "NEW": "configuration", "POLICY": "policy", "PLAN": "plan"}
 # The members of the objects in the lists of a file.
 INNER = {"topology": {"switches": "switch"}, "configuration": {"rules": "rule"}, "policy": {"demands": "demand"},
@@ -150,7 +150,8 @@ def undeclared_cautions(policy, network):
 
 
 def is_undeclared(demand, network):
-    return demand.get("vlan", "any") != "any" and demand["vlan"] not in network.vlans
+    vlan = demand.get("vlan", "any")
+    return vlan not in network.vlans and (vlan == "untagged" or isinstance(vlan, int))
 
 
 def undeclared(number, demand, where, network):
@@ -181,10 +182,18 @@ def free_cautions(run, lines, policy, config):
     if policy is None or not free:
         return []
     leaving = [one for one in free if one.end.startswith("left ")]
-    more = [f"`planner paths {' '.join(run.files[word].shown for word in ('TOPO', config, 'POLICY'))}` lists them: they are marked `free`"]
+    more = [f"`{paths_words(run, config)}` lists them: they are marked `free`"]
     if leaving:
         return [Caution(f"{len(leaving)} of {len(lines)} classes of packets leave the network though no demand covers them: {listed(leaving)}", more)]
-    return [Caution(f"no demand covers {len(free)} of {len(lines)} classes of packets; in {run.files[config].shown} none of them leaves the network: {listed(free)}", more, False)]
+    return [Caution(f"no demand covers {len(free)} of {len(lines)} classes of packets, and {run.files[config].shown} lets none of them leave the network", more, False)]
+
+
+def paths_words(run, config):
+    """The command that lists the paths of all classes, as it can be typed."""
+    found = [run.files[word] for word in ("TOPO", config, "POLICY")]
+    if all(one.folder for one in found):
+        return f"planner paths {found[0].folder} {os.path.basename(found[1].shown)}"
+    return f"planner paths {' '.join(one.shown for one in found)}"
 
 
 def listed(lines):
@@ -193,14 +202,15 @@ def listed(lines):
 
 
 def unserved_cautions(lines, network, shown):
-    """Warnings about host ports and VLANs whose packets are all dropped where they enter."""
+    """Warnings about host ports and VLANs whose packets are all dropped where they enter; of a port also that none leaves there."""
     found, dead = [], set()
+    ends = {one.end.split(" ")[1] for one in lines if one.end.startswith("left ")}
     for number, host in enumerate(network.hosts):
         mine = [one for one in lines if one.host == host]
-        if mine and all(one.is_dropped_at_once() for one in mine):
+        if mine and host not in ends and all(one.is_dropped_at_once() for one in mine):
             dead.add(host)
             where = network.json.where(network.json.at(("hosts", number)).start)
-            found.append(Caution(f"{where}: no rule of {shown} serves the host port {host}: every packet that enters there is dropped at once"))
+            found.append(Caution(f"{where}: no rule of {shown} serves the host port {host}: every packet that enters there is dropped at once, and none leaves there"))
     for number, vlan in enumerate(network.vlans):
         mine = [one for one in lines if one.vlan == str(vlan) and one.host not in dead]
         if mine and all(one.is_dropped_at_once() for one in mine):

@@ -6,7 +6,7 @@ import os
 import re
 
 from planner_tools import network as nets
-from planner_tools.files import NotJson, did_you_mean, like, member_path, read_json, short
+from planner_tools.files import NotJson, counted, did_you_mean, like, member_path, read_json, short
 
 # Which word of a command a kind of file is, as the program names the kinds.
 WORD_OF_KIND = {"topology": "TOPO", "config": "CONFIG", "old": "OLD", "new": "NEW", "policy": "POLICY", "plan": "PLAN", "schedule": "SCHEDULE",
@@ -31,6 +31,8 @@ class Explainer:
         status = self.run.status
         if status == 0:
             self.explain_done()
+        elif self.run.command.usage == "" and status not in (2, 7, 9):
+            pass                 # a command that stands in no list: its answer has to do
         elif status in self.BY_STATUS:
             self.BY_STATUS[status](self)
         elif status < 0 or status > 128:
@@ -127,9 +129,8 @@ class Explainer:
             return
         if entry not in net.hosts:
             name = entry.rpartition(":")[0]
-            what = f"{entry} is no host port" if name in net.numbers else f"no switch is named `{name}`"
-            right = [f"the host ports are {', '.join(net.hosts[:12])}"]
-            self.voice.refuse(f"{what}{did_you_mean(entry, net.hosts)}", right)
+            what = f"{entry} is no host port{did_you_mean(entry, net.hosts)}" if name in net.numbers else f"no switch is named `{name}`{did_you_mean(name, net.names)}"
+            self.voice.refuse(what, [f"the host ports are {', '.join(net.hosts[:12])}"])
         else:
             self.voice.refuse(f"the VLAN {vlan} isn't declared in `vlans` of {self.shown('TOPO')}", [f"the VLANs are {', '.join(map(str, net.vlans))}"])
 
@@ -145,10 +146,8 @@ class Explainer:
 
         sentence, parts = sentence_of(self.first)
         number, more = parts["number"], []
-        if number == 2:
-            more += self.change_lines(parts["round"], parts["change"])
-        if number == 4:
-            more += self.capacity_lines(parts["switch"])
+        if number in (2, 3, 4, 5, 13):
+            more += self.round_lines(number, parts)
         if "host" in parts:
             for word in ("OLD", "NEW"):
                 more += self.path_lines(word, parts["host"], parts["vlan"], parts["address"])
@@ -160,6 +159,23 @@ class Explainer:
             more.append(f"Next: `{self.command('plan', *update[:4])}` makes a plan of its own")
         self.voice.refuse(sentence, more)
 
+    def round_lines(self, number, parts):
+        """What there is to say of a reason that names no packet."""
+        from planner_tools.story import Story
+
+        story, switch = Story(self), parts["switch"]
+        if number == 2:
+            return self.change_lines(parts["round"], parts["change"]) + [story.why_change_is_bad(parts["round"], parts["change"])]
+        if number == 3:
+            return [f"one of them: {entry}" for entry in story.twins(parts["round"], switch)]
+        if number == 4:
+            held = sum(rule["switch"] == switch for rule in story.before(parts["round"]).rules.values())
+            return [f"before the round it has {counted(held, 'entry', 'entries')}, and the round inserts {parts['need'] - held}", *self.capacity_lines(switch)]
+        if number == 5:
+            at = next(at for at, (_, rule) in enumerate(story.rounds[parts["round"] - 1]) if rule["switch"] == switch and ("set" in rule or "strip" in rule))
+            return self.change_lines(parts["round"], at)
+        return story.differences(switch)[:8]
+
     def change_lines(self, round_, change):
         """A change of a plan in words."""
         plan, net = self.json("PLAN"), self.network()
@@ -167,12 +183,10 @@ class Explainer:
             return []
         item = plan.at(("rounds", round_ - 1, change))
         if plan.root.member("format").whole() == 1:
-            what, rule, at = item.member("do").held, nets.plain(item), item
+            what, rule = item.member("do").held, nets.plain(item)
         else:
-            what, at = item.held[0].held, plan.at(("rules", item.held[1].whole()))
-            rule = nets.plain(at)
-        return [f"the change, {plan.where(item.start)}: {what} {plan.shown(at)}: at {rule['switch']}, {nets.match_words(rule)}, priority {rule['priority']}, "
-                f"{nets.action_words(rule, net)}"]
+            what, rule = item.held[0].held, nets.plain(plan.at(("rules", item.held[1].whole())))
+        return [f"the change, {plan.where(item.start)}: {what} at {rule['switch']}: {nets.match_words(rule)}, priority {rule['priority']}, {nets.action_words(rule, net)}"]
 
     def capacity_lines(self, switch):
         net = self.network()
@@ -268,6 +282,7 @@ class Explainer:
         is_short = value.kind not in ("object", "list") or value.end - value.start <= 60
         subject = f"{way} is {json.shown(value)}: " if way and is_short and not fault.what.startswith("the member ") else f"{way}: " if way else ""
         more = [f"{words}: {json.where(json.at(other).start)}, {member_path(other)} is {json.shown(json.at(other))}" for other, words in fault.others]
+        more += fault.more
         more += [f"right: {fault.right}"] if fault.right else []
         self.voice.refuse(f"{json.where(value.start)}: {subject}{fault.what}", more)
 
@@ -280,8 +295,8 @@ class Explainer:
         if net is not None:
             tags = net.json.root.member("tags")
             more.append(f"{net.json.where(tags.start)}: tags is {net.json.shown(tags)}, of which {has} {'is' if has == 1 else 'are'} no declared VLAN")
-        self.voice.refuse(f"no order of single changes was found, and a two-phase plan needs a tag for each of the {need} declared VLANs; there {'is' if has == 1 else 'are'} {has}",
-                          [*more, f"Next: widen `tags` of {self.shown('TOPO')} to at least {need} ids from 1 to 4094 that the network uses for nothing else, or declare fewer `vlans`"])
+        self.voice.refuse(f"no order of single changes was found, and a two-phase plan needs {counted(need, 'tag')}, one for each declared VLAN; there {'is' if has == 1 else 'are'} {has}",
+                          [*more, f"Next: widen `tags` of {self.shown('TOPO')} to at least {counted(need, 'id')} from 1 to 4094 that the network uses for nothing else, or declare fewer `vlans`"])
 
     def explain_small(self):
         found = re.match(r"too small: switch (\S+) need (\d+) capacity (\d+)", self.first)
@@ -296,8 +311,11 @@ class Explainer:
                 with open(found.real, "rb") as file:
                     file.read(1)
             except OSError as fault:
+                if found.shown.startswith("--"):
+                    self.voice.refuse(option_lines([found.shown])[0], ["`planner --help` has the options"])
+                    return
                 more = [f"the folder {found.folder} stands for the names that are left out, and has to have this file"] if found.folder else []
-                self.voice.refuse(f"{found.shown}: {fault.strerror}{like(found.real) if fault.errno == 2 else ''}", more)
+                self.voice.refuse(f"{found.shown}: {fault.strerror}{like(found.real, bool(found.folder)) if fault.errno == 2 else ''}", more)
                 return
         self.voice.refuse("a file couldn't be read to its end: " + ", ".join(one.shown for one in self.run.files.values()))
 
@@ -314,10 +332,6 @@ class Explainer:
 
     BY_STATUS = {1: explain_refused, 2: explain_words, 3: explain_bad, 4: explain_tags, 5: explain_small, 6: explain_unread, 7: explain_unwritten,
                  8: explain_no_run, 9: explain_memory}
-
-
-def counted(number, word):
-    return f"{number} {word}{'' if number == 1 else 's'}"
 
 
 def demand_words(demand):
@@ -379,5 +393,5 @@ def spelling(word, text):
 
 def option_lines(given):
     """Words about options that the planner doesn't have."""
-    options = [one for one in given[1:] if one.startswith("--")]
+    options = [one for one in given if one.startswith("--")]
     return [f"there is no option {one}{did_you_mean(one, ['--help', '--version', '--quiet', '--strict'])}" for one in options]

@@ -1,7 +1,7 @@
 """Where a refused file goes wrong. The program says which check fails first: `bad FILE: NUMBER NAME FIELD at PLACE`. Here the checks of docs/FORMATS.md
 are gone through in their order, and the first that bears that name, field and place tells the member, and what would be right. Nothing is refused here.
 """
-from planner_tools.files import did_you_mean, nearest
+from planner_tools.files import did_you_mean, member_path, nearest
 from planner_tools.network import LAST_PORT, LAST_VLAN, NAME, port_reference, prefix
 
 PORT_WORDS = "a port is written SWITCH:PORT, as \"s1:2\""
@@ -20,15 +20,17 @@ MEMBERS = {
     "plan rule": ("switch", "priority", "in_port", "vlan", "dst", "out", "set", "strip"),
     "change": ("do", "switch", "priority", "in_port", "vlan", "dst", "out", "set", "strip"),
 }
+# The members by which files of the kinds are known.
+OF_OTHERS = {"topology": "switches", "policy": "demands", "plan": "rounds", "configuration": "rules"}
 PLACES_END = 4294967295
 
 
 class Fault:
     """A failed check: its name, field and place as the program prints them, the way to the value at fault, what is wrong with it, what would be right,
-    and further values that have a part in it, each with words for it."""
+    further values that have a part in it, each with words for it, and more lines on it."""
 
-    def __init__(self, name, field, place, way, what, right="", others=()):
-        self.name, self.field, self.place, self.way, self.what, self.right, self.others = name, field, place, way, what, right, others
+    def __init__(self, name, field, place, way, what, right="", others=(), more=()):
+        self.name, self.field, self.place, self.way, self.what, self.right, self.others, self.more = name, field, place, way, what, right, others, list(more)
 
 
 def faults_of(kind, json, network):
@@ -65,7 +67,11 @@ class Checks:
         held = self.json.at(way)
         here = [one for one, _, _ in held.held] if held.kind == "object" else []
         guess = nearest(name, [one for one in here if one not in known])
-        return Fault("Shape", field, place, way, f"the member `{name}` is missing" + (f"; is `{guess}` meant for it?" if guess else ""), known_words(name, known))
+        what = f"the member `{name}` is missing" + (f"; is `{guess}` meant for it?" if guess else "")
+        other = next((kind for kind, member in OF_OTHERS.items() if member in here and member not in known), None)
+        if not way and not guess and other:
+            what += f": the file looks like a {other}; are the words in the right order?"
+        return Fault("Shape", field, place, way, what, known_words(name, known))
 
     def of_kind(self, item, way, place, name, kinds, right, known, default=False):
         """The fault of a member that has to be of one of some kinds, or None."""
@@ -74,7 +80,7 @@ class Checks:
             return None if default else self.missing(way, name, name, place, known)
         if any(fits(value, kind) for kind in kinds):
             return None
-        return Fault("Shape", name, place, (*way, name), "the value is of the wrong kind", right)
+        return Fault("Shape", name, place, (*way, name), kind_fault(value, kinds), right)
 
     def switch_fault(self, name, place, way, what=""):
         return Fault("UnknownSwitch", "", place, way, f"{what}no switch is named `{name}`{did_you_mean(name, self.switch_names())}", self.names_words())
@@ -96,6 +102,20 @@ def fits(value, kind):
     if kind == "whole":
         return value.whole() is not None
     return value.kind == kind if kind in KIND_WORDS else value.kind == "text" and value.held == kind
+
+
+def kind_fault(value, kinds):
+    """What is wrong with a value that is of none of some kinds."""
+    words = [kind for kind in kinds if kind not in KIND_WORDS and kind != "whole"]
+    if value.kind == "number":
+        return "it is no whole number, from 0 on and without a point" if "whole" in kinds else "it is a number"
+    if value.kind == "text" and "whole" in kinds and value.held.isdigit():
+        return f"it is a text; did you mean {int(value.held)}, without quotes?"
+    if value.kind == "text" and "truth" in kinds and value.held in ("true", "false"):
+        return f"it is a text; did you mean {value.held}, without quotes?"
+    if value.kind == "text" and words:
+        return f"it isn't one of the words that may stand here{did_you_mean(value.held, words)}"
+    return f"it is {KIND_WORDS[value.kind]}"
 
 
 def vlan_fault(value, place, way, right):
@@ -262,11 +282,12 @@ class Configuration(Rules):
             yield from self.parts(item, way, number, known)
             yield from self.compared(item, way, number, seen)
         for number, name in enumerate(self.network.names):
-            held = sum(1 for switch, _ in seen if switch == name for _ in seen[switch, _])
+            mine = sorted(rule for (switch, _), rules in seen.items() if switch == name for rule, _ in rules)
             capacity = self.network.capacities[number]
-            if capacity is not None and held > capacity:
-                yield Fault("OverCapacity", "", number, ("rules",), f"the file has {held} rules for {name}, which can hold {capacity}",
-                            f"fewer rules for {name}, or its true `capacity` in the topology")
+            if capacity is not None and len(mine) > capacity:
+                net, way = self.network.json, ("switches", number, "capacity")
+                yield Fault("OverCapacity", "", number, ("rules", mine[capacity]), f"it is one too many: there are {len(mine)} rules for {name}, which can hold {capacity}",
+                            f"fewer rules for {name}, or its true capacity", more=[f"{net.where(net.at(way).start)}: {member_path(way)} is {net.shown(net.at(way))}"])
 
     def parts(self, item, way, number, known):
         bad = self.of_kind(item, way, number, "priority", ["whole"], "a whole number from 1 to 16383", known)
@@ -334,9 +355,10 @@ class Configuration(Rules):
 def rule_parts(item):
     """The switch, the priority and the match of a rule of a configuration, or None where they can't be told."""
     switch, priority, dst = item.member("switch"), item.member("priority"), item.member("dst")
-    if switch is None or priority is None or dst is None or dst.kind != "text" or prefix(dst.held) is None:
-        return None
     in_port, vlan = item.member("in_port"), item.member("vlan")
+    is_whole = all(one is not None and one.kind not in ("object", "list") for one in (switch, priority, dst)) and dst.kind == "text"
+    if not is_whole or prefix(dst.held) is None or any(one is not None and one.kind in ("object", "list") for one in (in_port, vlan)):
+        return None
     return switch.held, priority.held, ("any" if in_port is None else in_port.held, "any" if vlan is None else vlan.held, prefix(dst.held))
 
 
@@ -439,8 +461,6 @@ class Plan(Rules):
             return
         bad = self.of_kind(root, (), 0, "kind", ["ordered", "two-phase"], "`ordered` or `two-phase`", known)
         if bad:
-            guess = root.member("kind")
-            bad.what += did_you_mean(guess.held, ["ordered", "two-phase"]) if guess is not None and guess.kind == "text" else ""
             yield bad
             return
         self.kind, self.change = root.member("kind").held, 0
@@ -473,7 +493,7 @@ class Plan(Rules):
                 yield bad
         strip = item.member("strip")
         if strip is not None and strip.held is not True:
-            yield Fault("Shape", "strip", place, (*way, "strip"), "the value is of the wrong kind", "true, or no member `strip`")
+            yield Fault("Shape", "strip", place, (*way, "strip"), "it isn't true", "true, or no member `strip`")
         yield from self.ranges(item, way, place)
 
     def ranges(self, item, way, place):
@@ -519,8 +539,6 @@ class Plan(Rules):
                 return
             bad = self.of_kind(change, way, place, "do", ["insert", "delete", "replace"], "`insert`, `delete` or `replace`", MEMBERS["change"])
             if bad:
-                word = change.member("do")
-                bad.what += did_you_mean(word.held, ["insert", "delete", "replace"]) if word is not None and word.kind == "text" else ""
                 yield bad
             yield from self.plan_rule(change, way, place, MEMBERS["change"])
             return

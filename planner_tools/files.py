@@ -24,6 +24,8 @@ CURLY_QUOTES = "\u2018\u2019\u201c\u201d\u00ab\u00bb\u201e"
 OPEN_WORDS = {"object": "the object", "list": "the list"}
 # A whole number of more characters is beyond all that are taken.
 LONGEST_WHOLE = 30
+# How much of two names has to be the same for a guess.
+LIKE = 0.7
 # The longest piece of a text that is shown.
 SHOWN = 40
 
@@ -254,7 +256,9 @@ class Reading:
                           "}" if kind == "object" else "]")
         self.raise_comment(at)
         if one == ":" and kind == "list":
-            raise NotJson("a colon stands in a list", at, "a comma; or { } around members")
+            raise NotJson(f"a colon stands in the list that begins in line {self.source.place(start)[0]}", at, "] before this member, or { } around it")
+        if value.kind == "text" and one.isalpha():
+            raise NotJson(f"a quote is missing, or a comma: a text ends here, {short(self.text[value.start:value.end])}", value.end - 1, 'a quote " at the end of each text')
         if one == '"' or one in "{[-" or one.isalnum():
             raise NotJson(f"a comma is missing behind {short(self.text[value.start:value.end])}", value.end, "a comma")
         raise NotJson(f"{short(self.text[at:at + 1])} stands where a comma or the end of {OPEN_WORDS[kind]} is due", at)
@@ -359,18 +363,23 @@ class Reading:
         raise NotJson(f"{short(self.text[at:at + 20])} stands behind the end of the first value", at, "one value alone")
 
 
-# ---- names
+# ---- names, numbers and words
+
+def counted(number, word, words=None):
+    """A number with its word, as in `1 change` and `2 changes`."""
+    return f"{number} {word if number == 1 else words or word + 's'}"
+
 
 def nearest(name, known):
     """The known name that is most like a name, or None where none is."""
     import difflib
 
-    known = [str(one) for one in known]
+    name, known = str(name), [str(one) for one in known]
     folded = {one.casefold().replace("-", "_"): one for one in reversed(known)}
-    same = folded.get(str(name).casefold().replace("-", "_"))
+    same = folded.get(name.casefold().replace("-", "_"))
     if same is not None:
         return same
-    found = difflib.get_close_matches(str(name), known, 1, 0.6)
+    found = difflib.get_close_matches(name, known, 1, LIKE)
     if found:
         return found[0]
     starts = [one for one in known if len(name) >= 3 and (one.startswith(name) or name.startswith(one) and len(one) >= 3)]
@@ -383,11 +392,12 @@ def did_you_mean(name, known):
     return f"; did you mean `{guess}`?" if guess is not None else ""
 
 
-def like(path):
-    """Words for a file beside a path that isn't there and has a similar name, or none."""
+def like(path, is_fixed=False):
+    """Words for a file beside a path that isn't there and has a similar name, or none. A name that is fixed is no likely one for another such name."""
+    from planner_tools.words import IN_FOLDER
     folder, name = os.path.split(path)
     try:
-        names = sorted(os.listdir(folder or "."))
+        names = sorted(one for one in os.listdir(folder or ".") if not is_fixed or one not in IN_FOLDER.values())
     except OSError:
         return ""
     guess = nearest(name, names)

@@ -159,7 +159,7 @@ def explain_entry(explainer, path, lines, net, name, field, place):
         voice.refuse(f"{path}: {name} {field} at {place}".replace("  ", " "))
         return
     line, switch, entry, earlier = found
-    what = {"BadPort": "no link and no host is at a port of it", "ReservedVlan": "its VLAN is one of the tags that the planner may use",
+    what = {"BadPort": bad_port(entry, switch, net), "ReservedVlan": "its VLAN is one of the tags that the planner may use",
             "KeyTwice": "an earlier entry of the switch has the same priority and match",
             "Overlap": "an earlier entry of the switch has the same priority, and some packet matches both",
             "Profile": entry.fault() or f"its field {field} can't be said in a configuration"}.get(name, name)
@@ -170,6 +170,14 @@ def explain_entry(explainer, path, lines, net, name, field, place):
     if name == "BadPort" and net is not None:
         more += [f"the ports of {switch} are {', '.join(map(str, sorted(net.ports.get(switch, ())))) or 'none'}"]
     voice.refuse(f"{path}, line {line}: {switch}: {entry}: {what}", [*more, "docs/CONTROLLER.md says what to do about entries that can't be said"])
+
+
+def bad_port(entry, switch, net):
+    """Which port of an entry isn't there."""
+    ports = net.ports.get(switch, set()) if net is not None else set()
+    out = int.from_bytes(entry.actions[4:6], "big") if entry.actions else None
+    port = entry.in_port if entry.is_exact(0) and entry.in_port not in ports else out
+    return f"no link and no host is at port {port} of {switch}"
 
 
 def alike(one, other, is_key):

@@ -1,4 +1,5 @@
 """The words of the command line: the front end's options, and which command is named."""
+import signal
 import sys
 
 from planner_tools import program
@@ -16,6 +17,10 @@ MODULES = {
     "update": "planner_tools.update.update",
     "show": "planner_tools.show",
 }
+# Those of them whose answer `-o FILE` takes.
+WITH_OUTPUT = ("collect", "from-graphml", "from-mininet", "from-ofctl", "page", "show")
+# Those of them in which a folder stands for names.
+UNFOLDING = ("apply", "collect", "page")
 WRONG_WORDS, UNWRITTEN, INTERRUPTED = 2, 7, 130
 
 
@@ -43,7 +48,31 @@ def take_options(words):
     return options, rest
 
 
+def ended(number, _):
+    """Ends the front end at a signal, by way of all that is to be put in order."""
+    raise SystemExit(128 + number)
+
+
 def main(words):
+    """Does what the words say, and returns the exit status."""
+    status = answer(words)
+    try:
+        sys.stdout.flush()
+    except OSError as fault:
+        return unwritten(fault)
+    return status
+
+
+def unwritten(fault):
+    """Says that the standard output couldn't be written, and sees that it isn't tried again."""
+    import os
+    from planner_tools.voice import Voice
+    os.dup2(os.open(os.devnull, os.O_WRONLY), 1)
+    Voice().refuse(f"the standard output: the output couldn't all be written: {fault.strerror}; what is there isn't whole")
+    return UNWRITTEN
+
+
+def answer(words):
     if words[:1] == ["--version"]:
         from planner_tools.version import VERSION
         print(f"planner {VERSION}")
@@ -53,10 +82,11 @@ def main(words):
     from planner_tools.proved import Run, Stop
     from planner_tools.voice import Voice
     try:
-        options, rest = take_options(words) if words[:1] != ["apply"] else (Options(), words)
-        if rest and rest[0] in MODULES:
-            return run_module(rest, options)
-        return Run(rest, options).run()
+        if words and words[0] in MODULES and words[0] not in WITH_OUTPUT:
+            return run_module(words, Options())
+        options, rest = take_options(words)
+        signal.signal(signal.SIGTERM, ended)
+        return run_module(rest, options) if rest and rest[0] in MODULES else Run(rest, options).run()
     except Stop as stop:
         Voice().refuse(str(stop), stop.more)
         return stop.status
@@ -70,22 +100,37 @@ def main(words):
         return INTERRUPTED
 
 
+def unfolded(words):
+    """The words of a command of the front end, where a folder stands for the names of files that are left out before its options."""
+    import os
+    if words[0] not in UNFOLDING or len(words) < 2 or not os.path.isdir(words[1]):
+        return words
+    from planner_tools.proved import Run
+    from planner_tools.words import BY_NAME
+    end = next((at for at, word in enumerate(words) if word.startswith("-")), len(words))
+    wanted = [word for word in BY_NAME[words[0]].usage.partition(" -")[0].split() if not word.startswith("[")]
+    return [words[0], *(getattr(one, "shown", one) for one in Run.unfolded(words[1], wanted, len(wanted), words[2:end])), *words[end:]]
+
+
 def run_module(words, options):
     """Runs a command of the front end itself; with `-o` its output goes into a file, which is there only where the status is 0."""
     import importlib
-    command = importlib.import_module(MODULES[words[0]]).main
+    command, words = importlib.import_module(MODULES[words[0]]).main, unfolded(words)
     if options.output is None:
-        return command(words[1:])
+        try:
+            return command(words[1:])
+        except OSError as fault:
+            return unwritten(fault)
     from planner_tools.proved import Output
     output, before = Output(options.output), sys.stdout
-    with open(output.handle, "w", encoding="utf-8", closefd=False) as sys.stdout:
-        try:
+    try:
+        with open(output.handle, "w", encoding="utf-8", closefd=False) as sys.stdout:
             status = command(words[1:])
-        finally:
-            sys.stdout.flush()
-            sys.stdout = before
-    output.end(status)
-    return status
+        output.end(status)
+        return status
+    finally:
+        sys.stdout = before
+        output.drop()
 
 
 def print_help(words):

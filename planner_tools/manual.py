@@ -67,6 +67,7 @@ def completion():
         files = [word for word in command.words()[0] if word in words.FILES]
         counts.setdefault(len(files), []).append(command.name)
     cases = "".join(f"        {' | '.join(names)}) files={count} ;;\n" for count, names in sorted(counts.items()) if count)
+    options = " ".join(flag.split()[0] for flag, _ in words.OPTIONS if flag != "--version")
     names = " ".join([*(command.name for command in words.COMMANDS), "--help", "--version"])
     return f"""# Completes the words of the planner in bash:  . docs/planner.bash
 
@@ -75,6 +76,10 @@ _planner() {{
     COMPREPLY=()
     if [ "$COMP_CWORD" -eq 1 ]; then
         mapfile -t COMPREPLY < <(compgen -W "{names}" -- "${{COMP_WORDS[1]}}")
+        return
+    fi
+    if [[ ${{COMP_WORDS[COMP_CWORD]}} == -* ]]; then
+        mapfile -t COMPREPLY < <(compgen -W "{options}" -- "${{COMP_WORDS[COMP_CWORD]}}")
         return
     fi
     case ${{COMP_WORDS[1]}} in

@@ -98,6 +98,20 @@ def action_words(rule, network):
     return words + (f", tagged {rule['set']}" if "set" in rule else "")
 
 
+def target_words(rule, network):
+    """What a rule did, in words: where it sent, or that it dropped."""
+    return action_words(rule, network).removeprefix("to ").replace("is dropped", "dropped")
+
+
+def change_words(do, rule, before, network, has_priority=True):
+    """A change in words, as `10.0.0.0/24 to s4 (port 4), was s2 (port 2)`; `before` is the entry that was there, or None where it isn't known."""
+    words = match_words(rule) + (f", priority {rule['priority']}," if has_priority else "")
+    if do == "insert":
+        return f"{words} {action_words(rule, network)}, new"
+    was = f", was {target_words(before, network)}" if before is not None else ""
+    return f"{words} deleted{was}" if do == "delete" else f"{words} {action_words(rule, network)}{was}"
+
+
 def plain(value):
     """A value of files.py as Python's own. Of members with one name the last counts."""
     if value.kind == "object":

@@ -35,6 +35,8 @@ def named():
 def path():
     """The path of the program. Builds nothing: where there is none it is NoProgram."""
     name = named()
+    if name and os.sep in name and not os.access(name, os.X_OK):
+        raise NoProgram(f"the variable PLANNER names {name}, which isn't there or can't be run")
     if name:
         return name
     for one in (BUILT,) if is_checkout() else (INSTALLED,):

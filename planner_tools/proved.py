@@ -10,7 +10,23 @@ from planner_tools.voice import Voice
 
 # So much of the text is kept for what is said of it.
 KEPT = 4 << 20
-WRONG_WORDS, BAD_FILE, UNWRITTEN, INTERRUPTED = 2, 3, 7, 130
+WRONG_WORDS, BAD_FILE, UNREAD, UNWRITTEN = 2, 3, 6, 7
+STANDARD_OUTPUT = 1
+
+
+class Refusals:
+    """The options of a run of which only refusals are told."""
+
+    is_quiet, is_strict, output = True, False, None
+
+
+def say_why(*given):
+    """Runs the program, and says why it refuses what it is given, where it does. Returns its status and its text."""
+    run = Run(list(given), Refusals)
+    run.capture()
+    if run.status not in (0, 1):
+        run.safely(run.explain)
+    return run.status, run.text
 
 
 class Stop(Exception):
@@ -22,10 +38,20 @@ class Stop(Exception):
 
 
 class Given:
-    """A file of a run: the path that the program gets, its name as it was typed, and the folder that it was taken from, or None."""
+    """A file of a run: the path that the program gets, its name as it is told, the folder for which it stands, or None, and the word that was typed."""
 
-    def __init__(self, real, shown, folder=None):
-        self.real, self.shown, self.folder = real, shown, folder
+    def __init__(self, real, shown, folder=None, typed=None):
+        self.real, self.shown, self.folder, self.typed = real, shown, folder, typed or shown
+
+
+def joined(folder, name):
+    return name if folder == "." else os.path.join(folder, name)
+
+
+def inside(folder, name):
+    """A word behind a folder: where it names no file, but one of the folder, it is that one."""
+    path = joined(folder, name)
+    return Given(path, path, typed=name) if not os.path.exists(name) and os.path.isfile(path) else name
 
 
 class Run:
@@ -39,7 +65,7 @@ class Run:
             self.command = words.Command(given[0] if given else "", "", "", "")
         self.program, self.files, self.spooled = None, {}, None
         self.status, self.text, self.fault, self.target = None, "", None, options.output or "the standard output"
-        self.passed = list(given)
+        self.passed, self.notes = list(given), []
 
     def ask(self, *more):
         """The status and the text of another run of the program."""
@@ -61,16 +87,17 @@ class Run:
         for word, text in zip(wanted, rest):
             if word in words.FILES:
                 self.files[word] = text if isinstance(text, Given) else self.file(text)
-        self.passed = [self.given[0], *(self.files[word].real if word in self.files else text for word, text in zip(wanted, rest))]
+        self.passed = [self.given[0], *(self.files[word].real if word in self.files else getattr(text, "typed", text) for word, text in zip(wanted, rest))]
 
     @staticmethod
     def unfolded(folder, wanted, least, behind):
         """The words of a command whose first names are in a folder: as many as are left out stand for files of it."""
+        behind = [inside(folder, word) for word in behind]
         count = max(1, least - len(behind))
-        inside = [Given(path, path, folder) for path in (os.path.join(folder, words.IN_FOLDER.get(word, "")) for word in wanted[:count])]
-        rest = [*inside, *behind]
+        taken = [Given(path, path, folder) for path in (joined(folder, words.IN_FOLDER.get(word, "")) for word in wanted[:count])]
+        rest = [*taken, *behind]
         for word in wanted[len(rest):]:
-            path = os.path.join(folder, words.IN_FOLDER.get(word, ""))
+            path = joined(folder, words.IN_FOLDER.get(word, ""))
             if os.path.isfile(path):
                 rest.append(Given(path, path, folder))
         return rest
@@ -80,6 +107,8 @@ class Run:
             return Given(text, text)
         if self.spooled is not None:
             raise Stop("`-` stands twice among the words, and the standard input can be read only once", WRONG_WORDS)
+        if sys.stdin is None:
+            raise Stop("the standard input is closed", UNREAD)
         import shutil
         self.spooled = tempfile.NamedTemporaryFile(prefix="planner-")
         shutil.copyfileobj(sys.stdin.buffer, self.spooled)
@@ -97,17 +126,23 @@ class Run:
             return BAD_FILE
         self.hand_on()
         self.safely(self.explain)
+        for one in self.notes if self.status == 0 else []:
+            self.voice.note(one.what, one.more)
         return self.status if self.status >= 0 else 128 - self.status
 
     def has_warnings(self):
         from planner_tools.cautions import cautions
         found = self.safely(lambda: cautions(self)) or []
         voice = Voice() if self.options.is_strict else self.voice
-        for one in found:
-            (voice.warn if one.is_warning else voice.note)(one.what, one.more)
-        return any(one.is_warning for one in found)
+        warnings = [one for one in found if one.is_warning]
+        self.notes = [one for one in found if not one.is_warning]
+        for one in warnings:
+            voice.warn(one.what, one.more)
+        return bool(warnings)
 
     def explain(self):
+        if self.status == 0 and self.command.name != "explain":
+            return
         from planner_tools.explanations import Explainer
         Explainer(self).explain()
 
@@ -127,37 +162,55 @@ class Run:
         self.program = program.path()
         self.status, self.text = self.ask(*self.passed)
 
+    def begun(self):
+        try:
+            return subprocess.Popen([self.program, *self.passed], stdout=subprocess.PIPE)
+        except OSError as fault:
+            raise program.NoProgram(f"the program can't be run: {fault}") from fault
+
     def hand_on(self):
         """Runs the program, and hands on what it writes as it comes."""
-        output, kept = Output(self.options.output), []
-        with subprocess.Popen([self.program, *self.passed], stdout=subprocess.PIPE) as process:
-            size, source = 0, process.stdout.fileno()
-            try:
-                while piece := os.read(source, 1 << 16):
-                    if size < KEPT:
-                        kept.append(piece)
-                        size += len(piece)
-                    output.write(piece)
-            except OSError as fault:
-                self.fault = fault
-                process.stdout.close()
-            self.status = process.wait()
-        self.text = b"".join(kept).decode("utf-8", "replace")
-        if self.fault is None:
-            try:
-                output.end(self.status)
-            except OSError as fault:
-                self.fault = fault
-        if self.fault is not None:
+        output = Output(self.options.output)
+        try:
+            with self.begun() as process:
+                try:
+                    self.hand_on_from(process, output)
+                except OSError as fault:
+                    self.fault = fault
+                    process.stdout.close()
+                except BaseException:
+                    process.terminate()
+                    raise
+                self.status = process.wait()
+            if self.fault is None:
+                self.end(output)
+        finally:
             output.drop()
-            self.status = self.status if self.status not in (0, 1) else UNWRITTEN
+        if self.fault is not None:
+            self.status = UNWRITTEN
+
+    def hand_on_from(self, process, output):
+        """Hands on what a process writes, and keeps the beginning of it."""
+        kept, size = [], 0
+        while piece := os.read(process.stdout.fileno(), 1 << 16):
+            if size < KEPT:
+                kept.append(piece)
+                size += len(piece)
+            output.write(piece)
+        self.text = b"".join(kept).decode("utf-8", "replace")
+
+    def end(self, output):
+        try:
+            output.end(self.status)
+        except OSError as fault:
+            self.fault = fault
 
 
 class Output:
     """Where the text goes: to the standard output, or with `-o` into a file, which is there only where the answer is yes."""
 
     def __init__(self, path):
-        self.path, self.handle, self.name = path, sys.stdout.fileno(), None
+        self.path, self.handle, self.name = path, STANDARD_OUTPUT, None
         if path is not None and (not os.path.exists(path) or os.path.isfile(path)):
             self.open_beside()
         elif path is not None:
@@ -189,7 +242,7 @@ class Output:
                 text = file.read()
             self.drop()
             while text:
-                text = text[os.write(sys.stdout.fileno(), text):]
+                text = text[os.write(STANDARD_OUTPUT, text):]
         self.name = None
 
     def drop(self):

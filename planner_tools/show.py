@@ -10,17 +10,11 @@ import sys
 
 from planner_tools import network as nets
 from planner_tools import story
-from planner_tools.files import NotJson, read_json
-from planner_tools.proved import Run, Stop
+from planner_tools.files import NotJson, counted, like, read_json
+from planner_tools.proved import Stop, joined, say_why
 
 WAIT = 2.0
 BAD_FILE = 3
-
-
-class Quiet:
-    """The options of a run whose text isn't handed on."""
-
-    is_quiet, is_strict, output = True, False, None
 
 
 def kind_of(path):
@@ -39,12 +33,21 @@ def kind_of(path):
     raise Stop(f"{path}: it is neither a plan nor a configuration", BAD_FILE, ["a plan has `rounds`, a configuration `rules`"])
 
 
+def at_folder(folder, name):
+    """A name behind a folder: where it is no file, but one of the folder, it is that one."""
+    path = joined(folder, name)
+    return path if not os.path.exists(name) and os.path.isfile(path) else name
+
+
 class Shown:
     """The files that are to be shown, by their kinds, with the last one as what is shown."""
 
     def __init__(self, names):
         self.files = {}
         names = self.unfolded(names)
+        for name in names:
+            if not os.path.exists(name):
+                raise Stop(f"{name}: No such file or directory{like(name)}", 6)
         for name in names[1:]:
             kind = kind_of(name)
             if kind in ("topology", "policy") or kind in self.files:
@@ -61,20 +64,18 @@ class Shown:
             if len(names) < 2:
                 raise Stop("the file that is to be shown is missing", 2, ["planner show TOPO [OLD] [PLAN] FILE"])
             return names
-        inside = {kind: os.path.join(folder, name) for kind, name in (("topology", "topology.json"), ("configuration", "old.json"), ("plan", "plan.json"))}
-        given = names[1:] or [inside["plan"]]
-        before = {"plan": ["configuration"], "schedule": ["configuration", "plan"]}.get(kind_of(given[-1]), [])
-        have = {kind_of(name) for name in given}
+        inside = {kind: joined(folder, name) for kind, name in (("topology", "topology.json"), ("configuration", "old.json"), ("plan", "plan.json"))}
+        given = [at_folder(folder, name) for name in names[1:]] or [inside["plan"]]
+        before = {"plan": ["configuration"], "schedule": ["configuration", "plan"]}.get(kind_of(given[-1]) if os.path.exists(given[-1]) else "", [])
+        have = {kind_of(name) for name in given if os.path.exists(name)}
         return [inside["topology"], *(inside[kind] for kind in before if kind not in have and os.path.isfile(inside[kind])), *given]
 
     def ask(self, *given):
         """The text of a run of the program over files. Where it refuses them, it is said why, and it is Stop."""
-        run = Run(list(given), Quiet)
-        run.capture()
-        if run.status not in (0, 1):
-            run.explain()
-            raise Stop(None, run.status)
-        return run.text
+        status, text = say_why(*given)
+        if status not in (0, 1):
+            raise Stop(None, status)
+        return text
 
     def network(self):
         return nets.Network(read_json(self.topology))
@@ -108,7 +109,7 @@ def plan_values(plan, rules, network, wait):
                          "was": next_of(before, network) if before is not None and do != "insert" else None})
         rounds.append({"round": number, "changes": made})
     return {"kind": plan["kind"], "rounds": rounds, "counts": counts, "switches": sorted({one["rule"]["switch"] for it in rounds for one in it["changes"]}),
-            "tags": sorted(tags), "wait": wait, "seconds": wait * len(rounds)}
+            "tags": sorted(tags), "labels": {str(vlan): user for table in plan.get("labels", []) for vlan, _, user in table if vlan in tags}, "wait": wait, "seconds": wait * len(rounds)}
 
 
 def next_of(rule, network):
@@ -119,21 +120,9 @@ def next_of(rule, network):
     return network.peers[end].rpartition(":")[0] if end in network.peers else end
 
 
-def change_line(change, network, has_priorities):
+def change_line(change, network, has_priority):
     """A change in words, as `s1: 10.0.0.0/24 to s4 (port 4), was s2 (port 2)`."""
-    rule, before = change["rule"], change["before"]
-    priority = f", priority {rule['priority']}," if has_priorities else ""
-    words = f"{rule['switch']}: {nets.match_words(rule)}{priority}"
-    if change["do"] == "delete":
-        return f"{words} deleted" + (f", was {target_words(before, network)}" if before else "")
-    if change["do"] == "insert":
-        return f"{words} {nets.action_words(rule, network)}, new"
-    return f"{words} {nets.action_words(rule, network)}" + (f", was {target_words(before, network)}" if before else "")
-
-
-def target_words(rule, network):
-    """What a rule did, in words: where it sent, or that it dropped."""
-    return nets.action_words(rule, network).removeprefix("to ").replace("is dropped", "dropped")
+    return f"{change['rule']['switch']}: {nets.change_words(change['do'], change['rule'], change['before'], network, has_priority)}"
 
 
 def plan_lines(name, values, network, rules):
@@ -142,7 +131,7 @@ def plan_lines(name, values, network, rules):
     priorities = {one["rule"]["priority"] for it in rounds for one in it["changes"]} | {one["priority"] for one in rules or []}
     lines = [f"{name}: {values['kind']}, {counted(len(rounds), 'round')}, {counted(changes, 'change')} at {counted(len(values['switches']), 'switch', 'switches')}: "
              f"{counts['insert']} new, {counts['replace']} changed, {counts['delete']} deleted"]
-    lines += [f"tags: {', '.join(map(str, values['tags']))}"] if values["tags"] else ["no tags: packets keep the VLANs with which they come"] if values["kind"] == "ordered" else []
+    lines += [f"tags: {', '.join(tag_words(tag, values['labels']) for tag in values['tags'])}"] if values["tags"] else ["no tags: packets keep the VLANs with which they come"] if values["kind"] == "ordered" else []
     lines += [f"time: with a wait of {values['wait']:g} s before each round {duration(values['seconds'])}, and what the switches take"]
     for it in rounds:
         lines += ["", f"round {it['round']}: {counted(len(it['changes']), 'change')}"]
@@ -150,8 +139,10 @@ def plan_lines(name, values, network, rules):
     return lines
 
 
-def counted(number, word, words=None):
-    return f"{number} {word if number == 1 else words or word + 's'}"
+def tag_words(tag, labels):
+    """A tag, and which packets carry it."""
+    user = labels.get(str(tag))
+    return f"{tag}" if user is None else f"{tag} for {'untagged packets' if user == 'untagged' else f'packets with VLAN {user}'}"
 
 
 def duration(seconds):
@@ -206,10 +197,6 @@ def parser_of():
 def main(words):
     asked = parser_of().parse_args(words)
     try:
-        for name in asked.files:
-            if not os.path.exists(name):
-                from planner_tools.files import like
-                raise Stop(f"{name}: No such file or directory{like(name)}", 6)
         shown = Shown(asked.files)
         network, name = None, shown.files[shown.last]
         if shown.last == "plan":

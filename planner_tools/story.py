@@ -3,7 +3,7 @@ import re
 import tempfile
 
 from planner_tools import network as nets
-from planner_tools.files import Text, read_bytes
+from planner_tools.files import Text, counted, read_bytes
 
 TRACE = re.compile(r"packet (\d+) (\S+) (\S+) (\S+) born (\d+):((?: \S+:\d+)*) (left|dropped|lost|under way)(.*)")
 
@@ -36,14 +36,63 @@ class Tables:
         return before
 
 
-def change_words(do, rule, before, net):
-    """A change in words: the entry, and from where to where."""
-    words = f"{nets.match_words(rule)}, priority {rule['priority']}"
-    if do == "delete":
-        was = f", which was {nets.action_words(before, net)}" if before else ""
-        return f"delete {words}{was}".replace("was is dropped", "dropped it").replace("was to", "sent it to")
-    was = f", was {nets.action_words(before, net)}" if before and do == "replace" else ", new" if do == "insert" else ""
-    return f"{words} {nets.action_words(rule, net)}{was}".replace("was is dropped", "was dropped")
+class Story:
+    """The tables of an update round by round, for the sentences about a reason of the checker."""
+
+    def __init__(self, explainer):
+        self.network = explainer.network()
+        old, new, plan = (explainer.json(word) for word in ("OLD", "NEW", "PLAN"))
+        self.old, self.new = nets.plain(old.root)["rules"], nets.plain(new.root)["rules"]
+        self.rounds = Changes(nets.plain(plan.root)).rounds
+
+    def before(self, round_):
+        """The tables before a round, from 1; behind the last round those at the end."""
+        tables = Tables(self.old)
+        for changes in self.rounds[:round_ - 1]:
+            for do, rule in changes:
+                tables.make(do, rule)
+        return tables
+
+    def entry(self, rule):
+        """A rule in words."""
+        return f"{nets.match_words(rule)}, priority {rule['priority']}, {nets.action_words(rule, self.network)}"
+
+    def why_change_is_bad(self, round_, number):
+        """Why a change doesn't fit the table before its round."""
+        changes = self.rounds[round_ - 1]
+        do, rule = changes[number]
+        twin = next((at for at, (_, other) in enumerate(changes[:number]) if key_of(other) == key_of(rule)), None)
+        there = self.before(round_).rules.get(key_of(rule))
+        if twin is not None:
+            return f"change {twin} of the round is for the same entry"
+        if there is None:
+            return f"{rule['switch']} has no entry of this priority and match then"
+        return f"the entry that is there{' already' if do == 'insert' else ' does otherwise'}: {self.entry(there)}"
+
+    def twins(self, round_, switch):
+        """Two entries of equal priority that a packet may match both while a round is carried out."""
+        from planner_tools.faults import overlap
+        held = [rule for rule in self.before(round_).rules.values() if rule["switch"] == switch]
+        held += [rule for do, rule in self.rounds[round_ - 1] if do == "insert" and rule["switch"] == switch]
+        tests = [(rule.get("in_port", "any"), rule.get("vlan", "any"), nets.prefix(rule["dst"])) for rule in held]
+        for at, one in enumerate(held):
+            for other in range(at):
+                if one["priority"] == held[other]["priority"] and tests[at] != tests[other] and overlap(tests[at], tests[other]):
+                    return [self.entry(held[other]), self.entry(one)]
+        return []
+
+    def differences(self, switch):
+        """How the last table of a switch differs from the new one."""
+        last = {key: rule for key, rule in self.before(len(self.rounds) + 1).rules.items() if rule["switch"] == switch}
+        new = {key_of(rule): rule for rule in self.new if rule["switch"] == switch}
+        words = [f"it has no entry for {self.entry(new[key])}" for key in new if key not in last]
+        words += [f"it still has {self.entry(last[key])}" for key in last if key not in new]
+        return words + [f"it has {self.entry(last[key])}, and wanted is {nets.action_words(new[key], self.network)}" for key in new
+                        if key in last and action_of(new[key]) != action_of(last[key])]
+
+
+def action_of(rule):
+    return rule["out"], rule.get("set"), rule.get("strip", False)
 
 
 def replayed(explainer, schedule):
@@ -88,7 +137,7 @@ def events_in_words(schedule, net, rules, changes, packets):
             lines.append(f"round {round_} starts: its {f'{count} changes' if count != 1 else 'change'} may be made at any time{', in any order' if count > 1 else ''}")
         elif words[0] == "change":
             do, rule = changes.rounds[round_ - 1][int(words[1])]
-            lines.append(f"change {words[1]}, at {rule['switch']}: {change_words(do, rule, tables.make(do, rule), net)}")
+            lines.append(f"change {words[1]}, at {rule['switch']}: {nets.change_words(do, rule, tables.make(do, rule), net)}")
         elif words[0] == "settle":
             lines.append(f"round {round_} is settled")
         elif words[0] == "enter":
@@ -150,7 +199,7 @@ def event_refused(explainer, line, before):
     if words[0] == "change" and is_running:
         one = int(words[1])
         if one >= len(changes):
-            return f"round {number} has {len(changes)} changes, numbered from 0"
+            return f"round {number} has {counted(len(changes), 'change')}, numbered from 0"
         return "this change is made already" if one in made else f"it doesn't fit the table that {changes[one][1]['switch']} has then"
     if words[0] == "settle" and is_running:
         left = [str(one) for one in range(len(changes)) if one not in made]
@@ -162,7 +211,7 @@ def event_refused(explainer, line, before):
         return f"{words[1]} is no host port" if words[1] not in net.hosts else f"the VLAN {words[2]} isn't declared" if words[2] not in vlans else ""
     one = int(words[1])
     if one >= len(packets):
-        return f"{len(packets)} packets have entered, and they are numbered from 0"
+        return f"so far {counted(len(packets), 'packet')} entered, numbered from 0"
     return f"packet {one} {'is lost' if packets[one][1] == 'lost' else 'has left' if packets[one][1] == 'left' else 'was dropped'} already"
 
 

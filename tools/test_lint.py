@@ -17,7 +17,7 @@ class Lint(unittest.TestCase):
 
     def test_what_is_found(self):
         for text, words in (("import os\n", "os is imported and not used"), ("def f():\n    a = 1\n", "a is given a value that nothing reads"), ("x = f'a'\n", "nothing to fill in"),
-                            ("x = 1 \n", "white space at its end"), ("if x is 1: pass\n", '"is" with'), ("def f(:\n", "it isn't Python"), ("x = 1" + " " * 200 + "# y\n", "more than 200 signs")):
+                            ("x = 1 \n", "white space at its end"), ("if x is 1: pass\n", '"is" with'), ("def f(:\n", "it isn't Python"), ("x = 1" + " " * 240 + "# y\n", "more than 240 signs")):
             with self.subTest(words), tempfile.TemporaryDirectory() as folder:
                 path = os.path.join(folder, "one.py")
                 with open(path, "w", encoding="utf-8") as file:

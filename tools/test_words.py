@@ -49,6 +49,7 @@ class Words(unittest.TestCase):
         self.assertEqual("", fault)
         self.assertEqual([*(command.name for command in words.COMMANDS), "--help", "--version"], offered)
         self.assertEqual((["check"], ""), completed("ch"))
+        self.assertEqual((["--strict"], ""), completed("check", "--s"))
 
     def test_nothing_is_offered_where_files_or_numbers_stand(self):
         self.assertEqual(([], ""), completed("check", ""))

@@ -15,6 +15,7 @@ from planner_tools import program
 from planner_tools.page.layout import layout
 from planner_tools.page.values import Files
 from planner_tools.page.verdict import Refused, ask, traces, verdict, verdict_of_configuration
+from planner_tools.proved import say_why
 
 HERE = os.path.dirname(os.path.realpath(__file__))
 
@@ -89,11 +90,22 @@ def values_of(asked):
     return values
 
 
+def words_of_refused(asked, line):
+    """The words of the command that refused a file of the page."""
+    if asked.schedule and line.startswith(("bad schedule", "planner replay")):
+        return "replay", asked.files[0], asked.files[1], asked.files[4], asked.schedule
+    if asked.schedule and line.startswith(("bad input", "not a run", "planner drive")):
+        return "drive", *asked.files, asked.schedule
+    return "check" if len(asked.files) == UPDATE else "config", *asked.files
+
+
 def main(words):
+    asked = asked_by(words)
     try:
-        text = page(values_of(asked_by(words)))
+        text = page(values_of(asked))
     except Refused as fault:
         print(fault, file=sys.stderr)
+        say_why(*words_of_refused(asked, str(fault)))
         return fault.status
     except program.NoProgram as fault:
         print(fault, file=sys.stderr)

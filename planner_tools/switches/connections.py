@@ -3,12 +3,13 @@
 The file of switches has a line for each switch, `NAME DATAPATH` or `NAME DATAPATH HOST:PORT`: its name in the topology, its datapath id in 16
 hexadecimal digits, and where it listens. A switch without an address connects to us. `#` begins a comment.
 """
-import json
 import selectors
 import socket
 import sys
 import time
 
+from planner_tools.files import NotJson, read_json
+from planner_tools.network import Network
 from planner_tools.switches import openflow
 
 # The upper half of all xids of these scripts' own questions. Those of `planner drive` count from 1 and are far below.
@@ -32,8 +33,7 @@ def say(words):
 
 def read_switches(path, topology):
     """The datapath id and the address, or None, of each switch of a file of switches, in the topology's order."""
-    with open(topology, "rb") as file:
-        declared = [one["name"] for one in json.load(file)["switches"]]
+    declared = declared_switches(topology)
     listed = {}
     with open(path, encoding="ascii") as file:
         for number, line in enumerate(file, 1):
@@ -53,6 +53,18 @@ def read_switches(path, topology):
     if missing:
         raise Stop(f"{path} has no line for {', '.join(missing)}", "add the lines: every switch of the topology is asked for its table")
     return {name: listed[name] for name in declared}
+
+
+def declared_switches(topology):
+    """The names of the switches of a topology. The program says more of a file that is none."""
+    more = "correct the file; `planner config TOPOLOGY CONFIG` says more of it"
+    try:
+        names = Network(read_json(topology)).names
+    except NotJson as fault:
+        raise Stop(f"{topology}: {fault}", more) from fault
+    if not names or None in names:
+        raise Stop(f"{topology} is no topology with names of switches", more)
+    return names
 
 
 def host_and_port(text):
