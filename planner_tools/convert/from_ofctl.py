@@ -163,6 +163,8 @@ def convert(words):
     parser.add_argument("--drop-unsayable", action="store_true", help="leave out entries for other packets than IPv4, and entries of priority 0 that do what a miss "
                         "does; everything else that can't be said is refused all the same")
     options = parser.parse_args(words)
+    if os.path.isdir(options.topology):
+        options.topology = os.path.join(options.topology, "topology.json")
     tables = read_tables(options.topology, options.tables, options.drop_unsayable)
     refuse_faults(tables)
     text = configuration(options.topology, tables)

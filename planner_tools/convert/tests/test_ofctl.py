@@ -174,6 +174,7 @@ class FromOfctl(unittest.TestCase):
                 found, made, said = planner("from-ofctl", SQUARE, *words, given="")
                 self.assertEqual((found, made), (status, ""))
                 self.assertIn(part, said)
+        self.assertEqual(planner("from-ofctl", SQUARE.parent, "s1=-", given="")[:2], (0, '{"rules":[]}\n'))
         _, _, said = self.converted("NXST_FLOW reply (xid=0x4):\n")
         self.assertIn("note: no file for s2, s3, s4: their tables are taken to be empty", said)
         self.assertIn("there is no entry in it", said)
