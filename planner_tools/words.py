@@ -108,8 +108,9 @@ FRONT = [
             "Asks each switch for its flow table, and writes what `planner import` reads. What a configuration can't say is refused, in words.", False),
     Command("apply", "TOPO OLD NEW POLICY PLAN INPUT --switches FILE",
             "carries a plan out on the switches, round by round; INPUT is the record of it",
-            "Carries out a plan on the switches: compares their tables with the old ones, starts round after round, and compares the tables with the new ones. "
-            "Every byte that changes a table is decided by `planner drive`, and INPUT records what came and what was started.", False),
+            "Carries out a plan on the switches. When it begins, before each round, after each lost connection and at the end it compares what they have with what "
+            "`planner tables` says they must have, and stops where that differs; `--repair` puts it right. Every message of the plan is decided by `planner drive`; "
+            "INPUT records what came and what was started, and `--resume` goes on with it. A mark on the switches tells other controllers of the update.", False),
     Command("update", "DIR --switches FILE",
             "all of it by one command: from the tables that the switches have to those of DIR/new.json, after a question",
             "Reads the tables of the switches, makes a plan from them to DIR/new.json under DIR/policy.json, says what it is in words, asks whether it may be "

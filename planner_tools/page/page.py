@@ -14,7 +14,7 @@ import tempfile
 from planner_tools import program
 from planner_tools.page.layout import layout
 from planner_tools.page.values import Files
-from planner_tools.page.verdict import Refused, ask, traces, verdict, verdict_of_configuration
+from planner_tools.page.verdict import Refused, driven, traces, verdict, verdict_of_configuration
 from planner_tools.proved import say_why
 
 HERE = os.path.dirname(os.path.realpath(__file__))
@@ -53,27 +53,6 @@ def page(values):
     return re.sub("@([A-Z]+)@", lambda place: filled[place[1]], part("page.html"))
 
 
-def schedule_of(planner, paths, path):
-    """The lines of a schedule, and what the planner says of its run. Of the record of an update it is what `planner drive` says of it: rounds and changes,
-    without packets."""
-    with open(path, encoding="utf-8", errors="replace", newline="") as file:
-        text = file.read()
-    if not re.search(r"(?m)^feed ", text):
-        return lines_of(text), traces(planner, paths[0], paths[1], paths[4], path)
-    status, lines = ask(planner, "drive", *paths, path)
-    if status != 0:
-        raise Refused("\n".join(lines) or f"planner drive ended with status {status}", status)
-    lines = [line for line in lines if not line.startswith("# sent ")]
-    with tempfile.NamedTemporaryFile("w", encoding="utf-8") as file:
-        file.writelines(f"{line}\n" for line in lines)
-        file.flush()
-        return lines, traces(planner, paths[0], paths[1], paths[4], file.name)
-
-
-def lines_of(text):
-    return text.removesuffix("\n").split("\n") if text else []
-
-
 def values_of(asked):
     planner, paths = asked.planner or program.path(), asked.files
     if len(paths) == UPDATE:
@@ -85,9 +64,27 @@ def values_of(asked):
     values = {"title": title, "files": paths, "command": "check" if len(paths) == UPDATE else "config", "verdict": said, **files.values(),
               "layout": layout(len(files.names), files.links, files.hosts, asked.layout == "graphviz")}
     if asked.schedule:
-        lines, said = schedule_of(planner, paths, asked.schedule)
-        values["schedule"] = {"name": asked.schedule, "lines": lines, **said}
+        values["schedule"] = schedule_values(planner, paths, asked.schedule)
     return values
+
+
+def schedule_values(planner, update, name):
+    """The lines of a schedule, and what `planner replay` says of it. A record of an update, which has what switches sent, is no schedule: what
+    `planner drive` says of it is one."""
+    topology, old, _, _, plan = update
+    with open(name, encoding="utf-8", errors="replace", newline="") as file:
+        text = file.read()
+    if not any(line.startswith("feed ") for line in text.split("\n")):
+        return {"name": name, "lines": lines_of(text), **traces(planner, topology, old, plan, name)}
+    text = driven(planner, update, name)
+    with tempfile.NamedTemporaryFile("w", encoding="utf-8", prefix="planner-", suffix=".schedule") as file:
+        file.write(text)
+        file.flush()
+        return {"name": name, "lines": lines_of(text), **traces(planner, topology, old, plan, file.name)}
+
+
+def lines_of(text):
+    return text.removesuffix("\n").split("\n") if text else []
 
 
 def words_of_refused(asked, line):
