@@ -96,7 +96,7 @@ complete -o default -F _planner planner ./planner
 
 def table():
     """Returns the table of the README: what people want, and the commands for it."""
-    rows = "".join(f"| {wish} | {', '.join(f'`{name}`' for name in names)} |\n" for wish, names in words.WISHES)
+    rows = "".join(f"| {wish} | {', '.join(f'`{name}`' for name in names if name in words.BY_NAME)} |\n" for wish, names in words.WISHES)
     return f"| You want | Commands |\n|---|---|\n{rows}"
 
 

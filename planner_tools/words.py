@@ -147,7 +147,7 @@ FRONT = [
             "/usr/local by default. It is done from a checkout.", False),
 ]
 COMMANDS = PROVED + FRONT
-# What people want who run a command, for the table in the README: what it is about, and the commands in the order of that table. A command may stand twice.
+# What people want who run a command, for the table in the README: what it is about, and the commands in the order of that table.
 WISHES = [
     ("whether each packet has a good path under my rules", ["config"]),
     ("where each class of packets goes, and by which rules one packet", ["paths", "trace"]),
