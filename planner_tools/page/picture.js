@@ -5,6 +5,8 @@ const COLOURS = Object.fromEntries(["old", "new", "ink", "bad", "mark", "paper",
 Object.assign(COLOURS, { paleOld: "var(--pale-old)", paleNew: "var(--pale-new)" });
 // How high names beside the switches are on the screen, and how high those in the boxes must be to be read, in pixels.
 const LABEL = 11.5, READABLE = 8.5;
+// The radius of the dot for a switch whose box is too small to be seen, in pixels.
+const DOT = 3.5;
 
 class Picture {
   constructor(svg, update, layout) {
@@ -157,6 +159,7 @@ class Picture {
     this.fill("walk", shown.bad ? this.bad(shown.bad) : "");
     this.update.names.forEach((name, at) => this.fill(`node${at}`, this.node(name, at, shown)));
     this.fill("riders", this.riders(shown.packets || []));
+    this.changing = shown.changing;
     this.first = [shown.chosen, ...shown.changing, ...(shown.bad ? shown.bad.steps.map(({ place }) => place.at) : []), ...shown.newPath.places.map((place) => place.at),
       ...shown.waypoints];
     this.drawLabels();
@@ -185,7 +188,15 @@ class Picture {
         + ` font-size="${high.toFixed(2)}" text-anchor="middle" fill="${COLOURS.ink}" stroke="${COLOURS.paper}" stroke-width="${(high / 4).toFixed(2)}" paint-order="stroke"`
         + ` font-weight="${isFirst ? "bold" : "normal"}">${this.update.names[at]}</text>`);
     }
-    this.fill("labels", lines.join(""));
+    this.fill("labels", this.dots(scale) + lines.join(""));
+  }
+
+  // Where the boxes are too small to be seen and to be clicked: a dot for each switch.
+  dots(scale) {
+    if (30 * this.unit * scale > 2 * DOT) return "";
+    return this.places.map(([x, y], at) => `<circle class="switch dot" data-switch="${this.update.names[at]}" cx="${x}" cy="${y}" r="${(DOT / scale).toFixed(2)}"`
+      + ` fill="${this.changing.has(at) ? COLOURS.mark : COLOURS.node}" stroke="${COLOURS.ink}" stroke-width="${((at === this.first[0] ? 2.2 : 1) / scale).toFixed(2)}">`
+      + `<title>${this.update.names[at]}</title></circle>`).join("");
   }
 
   boxOf(x, y, half, halfHigh) { return { left: x - half, right: x + half, top: y - halfHigh, low: y + halfHigh }; }

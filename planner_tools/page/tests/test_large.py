@@ -101,6 +101,8 @@ class Large(PagesInBrowser):
             self.tab.value("(() => { const list = document.getElementById('switch'); list.value = %d; list.dispatchEvent(new Event('change')); })()" % int(name[1:]))
             self.assertIn(f"Rules of {name} ", self.seen("#table h2"))
             self.assertIn(name, [label[0] for label in self.labels()])
+        self.tab.value("document.querySelector('#labels .dot[data-switch=r9]').dispatchEvent(new MouseEvent('click', { bubbles: true }))")
+        self.assertIn("Rules of r9 ", self.seen("#table h2"))
         self.tab.value("document.getElementById('near').click()")
         self.assertEqual([], self.labels())
         self.tab.value("document.getElementById('whole').click()")
