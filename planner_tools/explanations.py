@@ -114,7 +114,7 @@ class Explainer:
         """What the demands say that cover a class."""
         policy = self.json("POLICY")
         if policy is None:
-            return [f"no policy is given: demanded is only that no packet comes to a switch twice"] if "POLICY" not in self.run.files else []
+            return ["no policy is given: demanded is only that no packet comes to a switch twice"] if "POLICY" not in self.run.files else []
         lines = []
         for number, demand in enumerate(policy.root.member("demands").items()):
             values = nets.plain(demand)
