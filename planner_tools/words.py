@@ -108,8 +108,9 @@ FRONT = [
             "Asks each switch for its flow table, and writes what `planner import` reads. What a configuration can't say is refused, in words.", False),
     Command("apply", "TOPO OLD NEW POLICY PLAN INPUT --switches FILE",
             "carries a plan out on the switches, round by round; INPUT is the record of it",
-            "Carries out a plan on the switches: compares their tables with the old ones, starts round after round, and compares the tables with the new ones. "
-            "Every byte that changes a table is decided by `planner drive`, and INPUT records what came and what was started.", False),
+            "Carries out a plan on the switches. When it begins, before each round, after each lost connection and at the end it compares what they have with what "
+            "`planner tables` says they must have, and stops where that differs; `--repair` puts it right. Every message of the plan is decided by `planner drive`; "
+            "INPUT records what came and what was started, and `--resume` goes on with it. A mark on the switches tells other controllers of the update.", False),
     Command("show", "TOPO [OLD] [PLAN] FILE",
             "a plan, a configuration or a schedule in words: of a plan round by round what is changed, from where to where, and the time that it takes",
             "Shows FILE in words: of a plan round by round the switch, the entry, and from which neighbour to which; of a configuration the rules of each switch; "

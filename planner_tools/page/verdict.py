@@ -33,6 +33,14 @@ def verdict(planner, files):
     return {"accepted": status == YES, "line": lines[0], "sentence": sentence, "reason": reason}
 
 
+def driven(planner, update, record):
+    """Returns the events of the record of an update, as a schedule."""
+    status, lines = ask(planner, "drive", *update, record)
+    if status != YES:
+        raise Refused("\n".join(lines) or f"planner drive ended with status {status}", status)
+    return "".join(f"{line}\n" for line in lines if not line.startswith("# sent "))
+
+
 def traces(planner, topology, old, plan, schedule):
     """Returns what the planner says of a recorded run: a line for each packet and one for the whole, or the line of the first event that can't be."""
     status, lines = ask(planner, "replay", topology, old, plan, schedule)

@@ -1,6 +1,7 @@
-"""Carries out a plan on the switches of a network. Every byte that changes a table is decided by `planner drive`; this script carries bytes.
+"""Carries out a plan on the switches of a network. Every byte that changes what becomes of a packet is decided by the program; this script carries bytes.
 
-    planner apply TOPOLOGY OLD NEW POLICY PLAN INPUT --switches FILE [--listen HOST:PORT] [--wait SECONDS | --ask] [--patience SECONDS] [--resume]
+    planner apply TOPOLOGY OLD NEW POLICY PLAN INPUT --switches FILE [--listen HOST:PORT] [--wait SECONDS | --ask] [--patience SECONDS]
+                  [--resume] [--repair] [--take-over] [--no-mark]
 
 FILE and --listen are those of `planner collect`. INPUT is the record of the update, a new file. What the switches send is appended to it, and a line `start`
 for each round; then `planner drive` reads it, and what it says is to be sent beyond the last time is sent. So `planner drive TOPOLOGY OLD NEW POLICY
@@ -9,116 +10,65 @@ PLAN INPUT` tells anyone later what was sent, what was answered, and how far the
     --wait SECONDS      a round begins so long after the one before was settled, the first one so long after the tables were read (2 s). It has to be
                         longer than any packet is on its way: this no message shows
     --ask               instead, a round begins when the operator presses Enter
-    --patience SECONDS  how long a switch may be away, or may take to answer (60 s)
+    --patience SECONDS  how long a switch may be away, or may take for anything it is asked (60 s)
     --resume            go on with an INPUT that an earlier run left
+    --repair            where a switch doesn't have what it must have, give it that, by messages of `planner emit`, in place of stopping
+    --take-over         take away the marks of other updates from the switches: their controllers are to stop
+    --no-mark           put no mark on the switches: another controller isn't told of this update, and its mark isn't minded
 
-Before the first round the tables are read and compared with OLD by the planner, after the last one with NEW. INPUT.before and INPUT.after keep what
-the switches answered, and INPUT.before.json and INPUT.after.json the configurations.
+What the switches have is read when a run begins, before each round, after each lost connection and at the end, and compared with what `planner tables`
+says they must have. At the beginning and at the end the program itself compares it with OLD and NEW: INPUT.before and INPUT.after keep what the switches
+answered, and INPUT.before.json and INPUT.after.json the configurations.
 
 Exit status: 0 all rounds are settled, and the switches have NEW; 1 stopped, a line says why, how far it came, and what to do next; 2 wrong words.
 """
 import argparse
-import hashlib
-import json
 import os
 import pathlib
 import select
 import signal
 import sys
-import tempfile
 import time
 
-from planner_tools import program
 from planner_tools.switches import openflow
-from planner_tools.switches.collect import Tables
-from planner_tools.switches.connections import OWN, Stop, Switches, host_and_port, read_switches, say
+from planner_tools.switches.comparison import Comparison
+from planner_tools.switches.connections import Stop, Switches, host_and_port, say
+from planner_tools.switches.conversation import temporary
 from planner_tools.switches.driven import Driven
-from planner_tools.switches.record import Record
 
-# `check` accepts it exactly where the two configurations have the same tables and good paths.
-NO_ROUNDS = {"format": 2, "kind": "ordered", "rules": [], "rounds": [], "numberings": [], "befores": [], "uses": [], "picks": []}
-# What of a session is fed: all on which `drive` acts. It passes over the rest, and the record would only grow by it.
-FED = (openflow.HELLO, openflow.ERROR, openflow.ECHO_REQUEST, openflow.BARRIER_REPLY)
-# Who hasn't answered yet is said so often while the patience lasts.
-TOLD = 12
-# What to do after a refusal of `drive`, by its exit status.
-AFTER_REFUSAL = {1: "make a plan that `planner check` accepts", 3: "correct that file; docs/FORMATS.md has every refusal",
-                 8: "the record can't be gone on with: plan anew, docs/CONTROLLER.md, 'After a failed session'"}
-# From so many seconds on for a run of `drive` a switch that asks for an echo may not get it in time.
-SLOW = 2.0
+# What to do after an error of a switch, by its type and code; then the update is taken up.
+AFTER_ERROR = {(3, 0): "make room in its table (entries for other traffic; the capacity in the topology has to leave them room)",
+               (3, 2): "let this controller change its table", (1, 5): "let this controller change its table: has another one made itself its master?"}
 
 
-def is_own(message):
-    """Whether a message answers a question of these scripts, of which `drive` knows nothing."""
-    return openflow.type_of(message) in (openflow.ERROR, openflow.BARRIER_REPLY) and openflow.xid_of(message) >> 16 == OWN >> 16
-
-
-class Update:
-    def __init__(self, options):
-        self.options = options
-        self.files = [options.topology, options.old, options.new, options.policy, options.plan]
-        self.listed = read_switches(options.switches, options.topology)
-        sums = [hashlib.sha256(pathlib.Path(one).read_bytes()).hexdigest() for one in self.files]
-        self.record = Record(options.input, options.resume, f"the files have the sums {' '.join(one[:16] for one in sums)}")
-        self.switches = None         # made when `drive` has accepted the plan
-        self.driven = None           # what `drive` said last
-        self.tables = None           # the tables that are being read
-        self.good_lines = 0          # how many lines of the record `drive` has read without a failed session
-        self.runs, self.seconds, self.is_slow = 0, 0.0, False
-        self.settled_at = self.started_at = None
-        self.since = self.told = time.monotonic()       # since when it is waited for switches, and when that was said last
-        self.asked = False
+class Update(Comparison):
+    """An update, round by round."""
 
     def run(self):
         begun = time.monotonic()
         self.drive()
         say(f"the plan is accepted; {self.state()}")
-        self.switches = Switches(self.listed, self.options.listen)
+        self.switches = Switches(self.listed, self.options.listen, self.options.patience)
+        self.is_marked = self.driven.begun and self.driven.settled < self.driven.rounds and self.record.is_marked and not self.options.no_mark
+        self.compare()
         if not self.driven.begun:
-            self.compare("before", self.options.old)
+            self.compare_as_configuration("before", self.options.old)
+            self.put_marks()
         self.settled_at = time.monotonic()
         while self.driven.settled < self.driven.rounds:
             self.pump()
+            if self.suspects:
+                self.compare()
             if self.may_start():
-                self.start()
-        self.compare("after", self.options.new)
+                self.asked = False
+                if self.compare() and not self.awaited():
+                    self.start()
+        self.compare()
+        self.compare_as_configuration("after", self.options.new)
+        self.take_marks_away()
         self.record.keep()
         say(f"done: all {self.driven.rounds} rounds are settled, and the switches have the tables of {self.options.new}; {time.monotonic() - begun:.1f} s, "
             f"{self.seconds:.1f} s of them in {self.runs} runs of `planner drive`; the record is {self.options.input}")
-
-    # ---- the program decides
-
-    def drive(self):
-        """Has the record on the disk, and asks `planner drive` what follows from it."""
-        self.record.keep()
-        self.record.is_fresh = False
-        before, last = time.monotonic(), self.driven
-        status, text = program.run("drive", *self.files, self.options.input)
-        took = time.monotonic() - before
-        if took > SLOW and not self.is_slow:
-            self.is_slow = True
-            say(f"a run of `planner drive` takes {took:.1f} s: a switch that asks for an echo may close its connection; docs/CONTROLLER.md says what to do")
-        self.runs, self.seconds = self.runs + 1, self.seconds + took
-        if status != 0:
-            raise Stop(f"`planner drive` ended with status {status}{f' and said: {text.strip()}' if text else ''}",
-                       AFTER_REFUSAL.get(status, f"see that the program can run; then {'go on with --resume' if last else 'begin again'}"))
-        self.driven = Driven(text)
-        if last is not None and self.driven.settled > last.settled:
-            self.settled_at = time.monotonic()
-            seconds = f", {self.settled_at - self.started_at:.3f} s after its start" if self.started_at else ""
-            say(f"round {self.driven.settled} of {self.driven.rounds} is settled{seconds}")
-        for name, cause in self.driven.failed.items():
-            words = f" ({openflow.error_words(int(cause[1]), int(cause[2]))})" if cause[0] == "Error" else ""
-            before_it = f"; the first {self.good_lines} lines of {self.options.input} are the record before it" if self.good_lines else ""
-            raise Stop(f"the session with {name} failed: {' '.join(cause)}{words}", f"docs/CONTROLLER.md, 'After a failed session'{before_it}")
-        self.good_lines = self.record.lines
-
-    def send(self):
-        """Sends what `drive` said beyond the last time."""
-        for name, one in list(self.switches.named.items()):
-            if one.given < len(self.driven.sent[name]):
-                one.send(self.driven.sent[name][one.given:])
-                one.given = len(self.driven.sent[name])
 
     def start(self):
         number, waited = self.driven.settled + 1, time.monotonic() - self.settled_at
@@ -126,6 +76,7 @@ class Update:
         self.record.start()
         self.started_at, self.asked = time.monotonic(), False
         self.drive()
+        self.sent_rounds += 1
         self.send()
 
     def may_start(self):
@@ -144,113 +95,105 @@ class Update:
             raise Stop("the input with the operator's answers ended", "go on with --resume")
         return True
 
-    # ---- the switches
+    def tell_progress(self):
+        now = time.monotonic()
+        left = self.driven.rounds - self.driven.settled
+        if self.sent_rounds > 1:
+            self.cycles.append(now - self.settled_at)
+        self.settled_at = now
+        seconds = f", {now - self.started_at:.3f} s after its start" if self.started_at else ""
+        least = self.options.wait + (now - self.started_at if self.started_at else 0.0)
+        each = sum(self.cycles[-20:]) / len(self.cycles[-20:]) if self.cycles else least
+        time_left = "" if self.options.ask or not left else f"; {left} left, some {duration(each * left)}"
+        say(f"round {self.driven.settled} of {self.driven.rounds} is settled{seconds}{time_left}")
 
-    def pump(self):
-        """Notes what the switches sent, and sends what follows from it."""
-        for what, connection, message in self.switches.poll(0.02):
-            self.take(what, connection, message)
-        if self.record.is_fresh:
-            self.drive()
-            self.send()
-        now, names = time.monotonic(), self.awaited()
-        if not names:
-            self.since = self.told = now
-        elif now - self.since > self.options.patience:
-            raise Stop(f"the patience of {self.options.patience:g} s is at its end", f"see that {names[0]} is connected and answers; then go on with --resume")
-        elif now - self.told > self.options.patience / TOLD:
-            self.told = now
-            say(f"{now - self.since:.0f} s: {self.state()}")
+    def after_refusal(self, status, text):
+        go_on = "go on with --resume" if self.options.resume or self.record.starts else "begin again"
+        line = text.rpartition(" ")[2].strip()
+        if status == 1 and text.startswith("refused: "):
+            return f"make a plan that `planner check` accepts; nothing can be done with {self.options.plan}"
+        if status == 3:
+            return f"correct that file, docs/FORMATS.md has every refusal; then {go_on}"
+        if status == 8 and line.isdigit():
+            good = (int(line) - 1) // 2 * 2
+            return f"`head -n {good} {self.options.input} > {self.options.input}-2` keeps the lines before that start; go on with that record by --resume"
+        return f"see that the program can run: `{' '.join(['planner drive', *self.files, self.options.input])}`; then {go_on}"
 
-    def take(self, what, connection, message):
-        name = connection.name
-        if what == "up":
-            self.up(connection)
-        elif what == "down":
-            self.record.remark(f"{name} closed its connection")
-            say(f"{name} closed its connection; {self.state()}")
-        elif self.tables is not None and self.tables.take(connection, message):
+    def failed_session(self, name, cause):
+        """The end after a failed session: its cause in words, what was refused, and how the update is taken up."""
+        words, then = "", f"see what is at the other end of the connection with {name}"
+        error = self.record.errors.get(name)
+        if cause[0] == "Error":
+            kind, code = int(cause[1]), int(cause[2])
+            words = f" ({openflow.error_words(kind, code)})"
+            then = AFTER_ERROR.get((kind, code), f"see why {name} can't do that")
+            xid = openflow.xid_of(error) if error else 0
+            words += "".join(f"; it is about: {openflow.change_words(one)}" for one in openflow.cut(self.driven.sent[name])[0]
+                             if openflow.type_of(one) == openflow.FLOW_MOD and openflow.xid_of(one) == xid)
+        good = self.good_lines or self.lines_before_failure()
+        return Stop(f"the session with {name} failed: {' '.join(cause)}{words}",
+                    f"{then}; `head -n {good} {self.options.input} > {self.options.input}-2` makes the record before it; go on with that one by --resume: "
+                    f"the messages of the running round are sent again to each switch that hasn't answered them")
+
+    def lines_before_failure(self):
+        """How many lines of a record that was taken up stand before the one by which a session failed."""
+        lines = pathlib.Path(self.options.input).read_bytes().splitlines(keepends=True)
+        good, bad = 0, self.record.lines // 2
+        while bad - good > 1:
+            middle = (good + bad) // 2
+            with temporary("record", b"".join(lines[:2 * middle])) as name:
+                text = self.ask("drive", *self.files, name)[1]
+            good, bad = (good, middle) if Driven(text).failed else (middle, bad)
+        return 2 * good
+
+    def leave(self):
+        """Takes the mark away where nothing of the update was begun, and closes the connections."""
+        if self.switches is None:
+            return
+        if self.is_marked and not self.driven.begun and not self.record.starts:
+            for one in self.switches.named.values():
+                one.send(self.mark.take_away())
+        try:
+            self.switches.flush(2.0)
+        except Stop:
             pass
-        elif not openflow.is_message(message) or (openflow.type_of(message) in FED and not is_own(message)):
-            self.record.feed(name, message)
-
-    def up(self, connection):
-        """A switch has connected. Where it hasn't answered the last request to it, which was sent on another connection, it is sent again."""
-        name, words = connection.name, f"{connection.name} is connected: {connection.peer}, datapath id {connection.datapath:016x}"
-        if name in self.unanswered():
-            words += f"; the messages of round {self.driven.settled + 1} to it are sent again"
-            connection.send(self.driven.requests[name][0])
-        self.record.remark(words)
-        say(words)
-        connection.given = len(self.driven.sent[name])
-        if self.tables is not None:
-            self.tables.ask(connection)
-
-    def unanswered(self):
-        """The switches that haven't answered the barrier request of the running round."""
-        return {name for name, (_, xid) in self.driven.requests.items() if (name, xid) not in self.record.answered}
-
-    def awaited(self):
-        """The switches for which the update waits: they are away, or owe an answer."""
-        away = {name for name in self.listed if name not in self.switches.named or name not in self.record.opened}
-        return sorted(away | self.unanswered() | (self.tables.missing if self.tables is not None else set()))
-
-    def state(self):
-        """How far the update is."""
-        words = f"{self.driven.settled} of {self.driven.rounds} rounds are settled"
-        words += f", round {self.driven.settled + 1} is running" if self.driven.running else ""
-        names = self.awaited() if self.switches is not None else []
-        return words + (f", no answer yet from {', '.join(names)}" if names else "")
-
-    def compare(self, word, path):
-        """Reads the tables, and has the planner compare them with a configuration."""
-        self.tables = Tables(list(self.listed))
-        for one in list(self.switches.named.values()):
-            self.tables.ask(one)
-        while self.awaited():
-            self.pump()
-        replies, config = f"{self.options.input}.{word}", f"{self.options.input}.{word}.json"
-        pathlib.Path(replies).write_text(self.tables.replies(), encoding="ascii")
-        self.tables = None
-        status, text = program.run("import", self.options.topology, replies)
-        if status != 0:
-            raise Stop(f"`planner import` refuses the tables of the switches: {text.strip()}", f"see docs/FORMATS.md for what it said of {replies}")
-        pathlib.Path(config).write_text(text, encoding="ascii")
-        with tempfile.NamedTemporaryFile("w", suffix=".json") as plan:
-            json.dump(NO_ROUNDS, plan)
-            plan.flush()
-            status, text = program.run("check", self.options.topology, config, path, self.options.policy, plan.name)
-        if status != 0:
-            raise Stop(f"the switches don't have the tables of {path}: {text.strip()}",
-                       f"make a plan from {config}, which has those that they have, and begin it with a record of its own")
-        self.record.remark(f"the switches have the tables of {path}")
-        say(f"the switches have the tables of {path}")
+        self.switches.close()
 
 
-def stopped(update, why):
+def duration(seconds):
+    return f"{seconds:.0f} s" if seconds < 120 else f"{seconds / 60:.0f} min" if seconds < 7200 else f"{seconds / 3600:.1f} h"
+
+
+def stopped(update, options, why):
     """Says in one line why it stopped, how far it came, and what to do next."""
-    go_on = "go on with --resume" if update and (update.driven or update.options.resume) else "begin again"
+    is_begun = options.resume or update is not None and update.record.starts
+    go_on = "go on with --resume" if is_begun or update and update.driven else "begin again"
     if isinstance(why, Stop):
         what, then = why.what, why.then
     elif isinstance(why, KeyboardInterrupt):
         what, then = "the operator ended it", go_on
     else:
-        what, then = str(why), f"see to it; then {go_on}"
-    far = update.state() if update and update.driven else "nothing was sent"
+        what, then = f"{why.filename}: {why.strerror}" if getattr(why, "filename", None) else str(why), f"see to it; then {go_on}"
+    if update and update.driven:
+        far = update.state()
+    elif update and options.resume:
+        far = f"{update.record.starts} rounds were started by the record, and nothing was sent in this run"
+    else:
+        far = "nothing was sent in this run" if options.resume else "nothing was sent"
     say(f"stopped: {what}; {far}. Next: {then}")
     if update is None:
         return
-    if update.driven is None and not update.options.resume:
-        os.unlink(update.options.input)      # nothing was begun
+    if update.driven is None and not options.resume:
+        update.record.remove()       # nothing was begun
         return
     try:
         update.record.remark(f"stopped: {what}; {far}. Next: {then}")
         update.record.keep()
-    except OSError as fault:
-        say(f"that line isn't in the record: {fault}")
+    except Stop:
+        pass
 
 
-def main(words):
+def parser_of_words():
     parser = argparse.ArgumentParser(prog="planner apply", description=__doc__, formatter_class=argparse.RawDescriptionHelpFormatter)
     for name in ("topology", "old", "new", "policy", "plan", "input"):
         parser.add_argument(name, metavar=name.upper())
@@ -260,17 +203,27 @@ def main(words):
     parser.add_argument("--ask", action="store_true")
     parser.add_argument("--patience", metavar="SECONDS", type=float, default=60.0)
     parser.add_argument("--resume", action="store_true")
-    options = parser.parse_args(words)
+    parser.add_argument("--repair", action="store_true")
+    parser.add_argument("--take-over", action="store_true")
+    parser.add_argument("--no-mark", action="store_true")
+    return parser
+
+
+def main(words):
+    options = parser_of_words().parse_args(words)
     signal.signal(signal.SIGTERM, signal.default_int_handler)
     update = None
     try:
         update = Update(options)
         update.run()
         return 0
-    except (Stop, OSError, program.NoProgram, KeyboardInterrupt) as why:
-        stopped(update, why)
+    except (Stop, OSError, KeyboardInterrupt) as why:
+        stopped(update, options, why)
         return 1
     finally:
-        if update is not None and update.switches is not None:
-            update.switches.close()
+        if update is not None:
+            update.leave()
 
+
+if __name__ == "__main__":
+    sys.exit(main(sys.argv[1:]))

@@ -17,6 +17,7 @@ asked for too: an entry that they show with a match that OpenFlow 1.0 can't say 
 Exit status: 0 written; 1 refused, or a switch didn't answer; 2 wrong words.
 """
 import argparse
+import re
 import struct
 import sys
 import time
@@ -24,54 +25,74 @@ import time
 from planner_tools.switches import openflow
 from planner_tools.switches.connections import OWN, Stop, Switches, host_and_port, read_switches, say
 from planner_tools.switches.entries import Entry, ExtendedEntry, cut_entries
+from planner_tools.switches.expected import Answers
 
-FLOW_XID, EXTENDED_XID, BARRIER_XID = OWN + 1, OWN + 2, OWN + 3
+# The xids of a run of questions: these, over a number of its own.
+FLOW_XID, EXTENDED_XID, BARRIER_XID = 1, 2, 3
+FIRST_RUN, RUNS = OWN + 0x1000, 0x3000
 EVERY_PACKET = struct.pack("!I", 0x003FFFFF) + bytes(36)
 NICIRA = 0x2320
-QUESTIONS = (openflow.message(openflow.STATS_REQUEST, FLOW_XID, struct.pack("!HH", 1, 0) + EVERY_PACKET + struct.pack("!BxH", 0xFF, 0xFFFF))
-             + openflow.message(openflow.STATS_REQUEST, EXTENDED_XID, struct.pack("!HHII4xHHB3x", 0xFFFF, 0, NICIRA, 0, 0xFFFF, 0, 0xFF))
-             + openflow.message(openflow.BARRIER_REQUEST, BARRIER_XID))
+
+
+def questions(base):
+    """The questions for the table of a switch, with xids over this number."""
+    return (openflow.message(openflow.STATS_REQUEST, base + FLOW_XID, struct.pack("!HH", 1, 0) + EVERY_PACKET + struct.pack("!BxH", 0xFF, 0xFFFF))
+            + openflow.message(openflow.STATS_REQUEST, base + EXTENDED_XID, struct.pack("!HHII4xHHB3x", 0xFFFF, 0, NICIRA, 0, 0xFFFF, 0, 0xFF))
+            + openflow.message(openflow.BARRIER_REQUEST, base + BARRIER_XID))
 
 
 class Tables:
     """What the switches answered, and what is to be written of it."""
 
     def __init__(self, names):
-        self.names = names
-        self.flow, self.extended = {}, {}
-        self.missing = set(names)
+        self.names, self.runs = names, 0
+        self.answers = {name: Answers() for name in names}
+
+    def missing(self):
+        """The switches that haven't answered."""
+        return {name for name, answers in self.answers.items() if not answers.is_whole}
+
+    def forget(self, name):
+        """A switch has to answer anew."""
+        self.answers[name] = Answers()
 
     def ask(self, connection):
-        """Asks a switch, from the beginning."""
-        self.flow[connection.name], self.extended[connection.name] = [], []
-        self.missing.add(connection.name)
-        connection.send(QUESTIONS)
+        """Asks a switch, from the beginning. What it still answers to earlier questions is passed over, by its xid."""
+        self.runs += 1
+        base = FIRST_RUN + 4 * (self.runs % RUNS)
+        self.answers[connection.name] = Answers(base)
+        connection.send(questions(base))
 
     def take(self, connection, message):
         """Takes a message where it answers a question."""
-        name, kind, xid = connection.name, openflow.type_of(message), openflow.xid_of(message)
-        if not openflow.is_message(message) or name not in self.flow or xid not in (FLOW_XID, EXTENDED_XID, BARRIER_XID):
+        answers, kind = self.answers[connection.name], openflow.type_of(message)
+        xid = openflow.xid_of(message)
+        if not openflow.is_message(message) or not FIRST_RUN <= xid < FIRST_RUN + 4 * RUNS:
             return False
+        xid -= answers.base
         if kind == openflow.STATS_REPLY and xid == FLOW_XID:
-            self.flow[name].append(message)
-        elif kind == openflow.STATS_REPLY and self.extended[name] is not None:
-            self.extended[name].append(message)
+            answers.flow.append(message)
+        elif kind == openflow.STATS_REPLY and xid == EXTENDED_XID and answers.extended is not None:
+            answers.extended.append(message)
         elif kind == openflow.ERROR and xid == EXTENDED_XID:
-            self.extended[name] = None       # the switch has no such statistics
-        elif kind == openflow.ERROR:
+            answers.extended = None       # the switch has no such statistics
+        elif kind == openflow.ERROR and xid in (FLOW_XID, BARRIER_XID):
             words = openflow.error_words(int.from_bytes(message[8:10], "big"), int.from_bytes(message[10:12], "big"))
-            raise Stop(f"{name} refused the question for its table: {words}", "see that it speaks OpenFlow 1.0, and ask again")
-        elif kind == openflow.BARRIER_REPLY:
-            self.missing.discard(name)
+            raise Stop(f"{connection.name} refused the question for its table: {words}", "see that it speaks OpenFlow 1.0, and ask again")
+        elif kind == openflow.BARRIER_REPLY and xid == BARRIER_XID:
+            answers.is_whole = True
         return True
 
     def replies(self):
         """The text of the file REPLIES. Where an entry must be refused, all such are said, and then it is Stop."""
         lines, faults = [], []
         for name in self.names:
-            reading = Reading(name, self.flow[name], self.extended[name])
+            reading = Reading(name, self.answers[name].flow, self.answers[name].extended)
             lines += reading.lines
             faults += reading.faults
+        for name, answers in self.answers.items():
+            for mark in answers.marks() if not faults else ():
+                lines.append(f"# {name}: has the mark of an update at work, {mark}")
         for fault in faults:
             say(fault)
         if faults:
@@ -88,7 +109,7 @@ class Reading:
         try:
             for reply in flow:
                 kept = b"".join(self.keep(Entry(data)) for data in cut_entries(reply[12:], 88))
-                self.lines.append(f"{name} {openflow.message(openflow.STATS_REPLY, FLOW_XID, reply[8:12] + kept).hex()}")
+                self.lines.append(f"{name} {openflow.message(openflow.STATS_REPLY, OWN + FLOW_XID, reply[8:12] + kept).hex()}")
             if extended is not None:
                 self.compare([ExtendedEntry(data) for reply in extended for data in cut_entries(reply[24:], 48)])
         except (ValueError, struct.error):
@@ -123,6 +144,29 @@ class Reading:
         self.faults += faults
 
 
+def entry_at(path, refusal):
+    """The switch and the entry of which a refusal of `planner import` speaks, in words, or None. `path` has the statistics; of entries it names the
+    number, counted from 0 over the file."""
+    shown = re.fullmatch(r"bad replies: \d+ (\w+)(?: \w+)? at (\d+)\n?", refusal)
+    if shown is None or shown[1] in ("TooLong", "TooMany", "Incomplete", "OverCapacity"):
+        return None
+    place, count = int(shown[2]), 0
+    with open(path, encoding="ascii") as file:
+        for number, line in enumerate(file, 1):
+            if shown[1] in ("BadLine", "BadMessage"):
+                if number == place:
+                    return f"line {number}, of the switch {line.split(' ')[0]}"
+                continue
+            if line.startswith("#") or not line.strip():
+                continue
+            name, data = line.split()
+            for entry in cut_entries(bytes.fromhex(data)[12:], 88):
+                if count == place:
+                    return f"an entry of the switch {name}: {Entry(entry)}"
+                count += 1
+    return None
+
+
 def main(words):
     parser = argparse.ArgumentParser(prog="planner collect", description=__doc__, formatter_class=argparse.RawDescriptionHelpFormatter)
     parser.add_argument("topology", metavar="TOPOLOGY")
@@ -133,16 +177,17 @@ def main(words):
     switches = None
     try:
         listed = read_switches(options.switches, options.topology)
-        switches = Switches(listed, options.listen)
+        switches = Switches(listed, options.listen, options.patience)
         tables, until = Tables(list(listed)), time.monotonic() + options.patience
-        while tables.missing:
+        while tables.missing():
             if time.monotonic() > until:
-                raise Stop(f"no answer from {', '.join(sorted(tables.missing))} within {options.patience:g} s", "see that they are connected, and ask again")
+                names = ", ".join(f"{name}{switches.why_away(name)}" for name in sorted(tables.missing()))
+                raise Stop(f"no answer from {names} within {options.patience:g} s", "see that they are connected, and ask again")
             for what, connection, message in switches.poll(0.05):
                 if what == "up":
                     tables.ask(connection)
-                elif what == "message" and not tables.take(connection, message) and openflow.type_of(message) == openflow.ECHO_REQUEST:
-                    connection.send(message[:1] + bytes([openflow.ECHO_REPLY]) + message[2:])
+                elif what == "message":
+                    tables.take(connection, message)
         sys.stdout.write(tables.replies())
         return 0
     except (Stop, OSError) as stop:

@@ -2,7 +2,12 @@
 
 The file of switches has a line for each switch, `NAME DATAPATH` or `NAME DATAPATH HOST:PORT`: its name in the topology, its datapath id in 16
 hexadecimal digits, and where it listens. A switch without an address connects to us. `#` begins a comment.
+
+Nothing here waits for one switch while another one has something to say: connections are made, bytes sent and taken as far as that goes at once.
 """
+import errno
+import fcntl
+import os
 import selectors
 import socket
 import sys
@@ -12,11 +17,11 @@ from planner_tools.files import NotJson, read_json
 from planner_tools.network import Network
 from planner_tools.switches import openflow
 
-# The upper half of all xids of these scripts' own questions. Those of `planner drive` count from 1 and are far below.
+# The upper half of all xids of these scripts' own messages. Those of `planner drive` count from 1 and are far below.
 OWN = 0xFEA70000
 FEATURES_XID = OWN
-# How long a connection may take to say which switch it is, and how long it may take no bytes, in seconds.
-PATIENCE = 10.0
+# How often a switch that can't be reached is tried, in seconds.
+AGAIN = 1.0
 
 
 class Stop(Exception):
@@ -35,7 +40,7 @@ def read_switches(path, topology):
     """The datapath id and the address, or None, of each switch of a file of switches, in the topology's order."""
     declared = declared_switches(topology)
     listed = {}
-    with open(path, encoding="ascii") as file:
+    with open(path, encoding="ascii", errors="replace") as file:
         for number, line in enumerate(file, 1):
             words = line.split("#")[0].split()
             if not words:
@@ -53,6 +58,16 @@ def read_switches(path, topology):
     if missing:
         raise Stop(f"{path} has no line for {', '.join(missing)}", "add the lines: every switch of the topology is asked for its table")
     return {name: listed[name] for name in declared}
+
+
+def lock(path):
+    """Locks the file of switches for this run: of the runs on one machine one at a time is at work with it. The file, which has to stay open."""
+    file = open(path, "rb")
+    try:
+        fcntl.flock(file, fcntl.LOCK_EX | fcntl.LOCK_NB)
+    except BlockingIOError:
+        raise Stop(f"another run is at work with the switches of {path}", "wait for its end: two controllers at once break what each of them keeps") from None
+    return file
 
 
 def declared_switches(topology):
@@ -73,25 +88,41 @@ def host_and_port(text):
 
 
 class Connection:
-    """A connection: first it says which switch it is, then it hands on whole messages."""
+    """A connection: first it says which switch it is, then it hands on whole messages. Requests for an echo are answered here."""
 
-    def __init__(self, sock, peer, expected=None):
-        self.sock, self.peer, self.expected = sock, peer, expected
+    def __init__(self, sock, peer, expected=None, is_made=True):
+        self.sock, self.peer, self.expected, self.is_made = sock, peer, expected, is_made
         self.name, self.datapath = None, None
         self.since = time.monotonic()
-        self.rest = b""
+        self.rest, self.unsent, self.awaited = b"", b"", 0
         self.early = []          # messages that came before the name was known
+        self.why = None          # why it is of no use, where it said so
+        self.is_open = False     # whether its HELLO came
         self.given = 0           # how many of the bytes of `drive` to this switch are done with
-        sock.settimeout(PATIENCE)
+        self.is_good = False     # whether its switch was found to have what it must have
+        sock.setblocking(False)
         sock.setsockopt(socket.IPPROTO_TCP, socket.TCP_NODELAY, 1)
         self.send(openflow.HELLO_BYTES)
 
     def send(self, data):
-        """Sends bytes. Where that fails the connection is over, and `receive` says so next."""
+        """Sends bytes, or keeps them until they can be sent. Where that fails the connection is over, and `receive` says so next."""
+        self.unsent += data
+        if self.is_made:
+            self.flush()
+
+    def flush(self):
         try:
-            self.sock.sendall(data)
+            while self.unsent:
+                self.unsent = self.unsent[self.sock.send(self.unsent):]
+        except BlockingIOError:
+            pass
         except OSError:
+            self.unsent = b""
             self.cut_off()
+
+    def events(self):
+        """What it waits for."""
+        return selectors.EVENT_READ | (selectors.EVENT_WRITE if self.unsent or not self.is_made else 0)
 
     def cut_off(self):
         try:
@@ -103,17 +134,29 @@ class Connection:
         """The whole messages that came, or None at the end of the connection."""
         try:
             data = self.sock.recv(1 << 16)
+        except BlockingIOError:
+            return []
         except OSError:
             data = b""
         if not data:
             return None
         pieces, self.rest = openflow.cut(self.rest + data)
+        pieces = [piece for piece in pieces if not self.is_echo(piece)]
         return pieces if self.datapath is not None else self.introduce(pieces)
+
+    def is_echo(self, piece):
+        """Whether it is a request for an echo behind the HELLO: it is answered at once, by its own bytes."""
+        self.is_open = self.is_open or piece[0] != 0 and openflow.type_of(piece) == openflow.HELLO
+        if not self.is_open or piece[0] != 1 or openflow.type_of(piece) != openflow.ECHO_REQUEST or not openflow.is_message(piece):
+            return False
+        self.send(piece[:1] + bytes([openflow.ECHO_REPLY]) + piece[2:])
+        return True
 
     def introduce(self, pieces):
         """Asks for the features behind the first message, and keeps the messages that came beside the reply."""
         for number, piece in enumerate(pieces):
-            if not openflow.is_message(piece):
+            self.why = openflow.other_version(piece)
+            if self.why or not openflow.is_message(piece):
                 return None
             if not self.early:
                 self.send(openflow.message(openflow.FEATURES_REQUEST, FEATURES_XID))
@@ -126,48 +169,76 @@ class Connection:
 
 
 class Switches:
-    """All connections. New ones are made or taken, and each gets its name."""
+    """All connections. New ones are made or taken, and each gets its name. A connection may take `patience` seconds to say which switch it is."""
 
-    def __init__(self, listed, listen=None):
-        self.listed = listed
+    def __init__(self, listed, listen=None, patience=10.0):
+        self.listed, self.patience = listed, patience
         self.named = {}          # the connection of each switch that has one
         self.selector = selectors.DefaultSelector()
         self.due = {name: 0.0 for name, (_, address) in listed.items() if address is not None}
+        self.tried = {}          # how the last try to reach a switch failed
+        self.strangers = {}      # by host: why a connection from there was closed that didn't say which switch it is
         if listen is not None:
-            self.selector.register(socket.create_server(listen), selectors.EVENT_READ, None)
+            try:
+                listener = socket.create_server(listen)
+            except OSError as fault:
+                raise Stop(f"can't listen at {listen[0]}:{listen[1]}: {fault.strerror or fault}",
+                           "see whether another run is at work there, or give --listen another port, and the switches too") from None
+            listener.setblocking(False)
+            self.selector.register(listener, selectors.EVENT_READ, None)
 
     def connections(self):
         return [key.data for key in self.selector.get_map().values() if key.data is not None]
 
     def connect_missing(self):
-        """Tries to reach each switch that listens and has no connection, once a second. A try that fails ends the turn, so that the others wait no longer."""
+        """Tries to reach each switch that listens and has no connection, as often as AGAIN says."""
         reached = {one.expected for one in self.connections()}
         for name, due in self.due.items():
-            if name in reached or time.monotonic() < due:
-                continue
-            self.due[name] = time.monotonic() + 1.0
-            address = self.listed[name][1]
-            try:
-                sock = socket.create_connection(address, timeout=1.0)
-            except OSError:
-                return
-            self.selector.register(sock, selectors.EVENT_READ, Connection(sock, "%s:%d" % address, name))
+            if name not in reached and time.monotonic() >= due:
+                self.due[name] = time.monotonic() + AGAIN
+                self.reach(name, self.listed[name][1])
+
+    def reach(self, name, address):
+        try:
+            family, _, _, _, where = socket.getaddrinfo(*address, type=socket.SOCK_STREAM)[0]
+            sock = socket.socket(family, socket.SOCK_STREAM)
+        except OSError as fault:
+            self.tried[name] = str(fault)
+            return
+        sock.setblocking(False)
+        state = sock.connect_ex(where)
+        if state not in (0, errno.EINPROGRESS):
+            self.tried[name] = os.strerror(state)
+            sock.close()
+            return
+        self.add(Connection(sock, "%s:%d" % address, name, is_made=state == 0))
+
+    def add(self, connection):
+        connection.awaited = connection.events()
+        self.selector.register(connection.sock, connection.awaited, connection)
+
+    def wait_for(self, connection):
+        if connection.events() != connection.awaited:
+            connection.awaited = connection.events()
+            self.selector.modify(connection.sock, connection.awaited, connection)
 
     def poll(self, seconds, quiet=0.005, longest=0.5):
         """Takes what comes until the connections are quiet, after at most `seconds` for the first sign: a list of ("up", connection, None),
         ("message", connection, bytes), ("down", connection, None)."""
         self.connect_missing()
         for one in self.connections():
-            if one.name is None and time.monotonic() - one.since > PATIENCE:
-                self.turn_away(one, "didn't say which switch it is")
+            if one.name is None and time.monotonic() - one.since > self.patience:
+                self.turn_away(one, f"didn't say which switch it is within {self.patience:g} s")
+            else:
+                self.wait_for(one)
         found, until = [], time.monotonic() + longest
         signs = self.selector.select(seconds)
         while signs:
-            for key, _ in signs:
+            for key, events in signs:
                 if key.data is None:
                     self.accept(key.fileobj)
                 elif key.data in self.connections():     # it isn't where its switch has connected anew meanwhile
-                    found += self.look(key.data)
+                    found += self.look(key.data, events)
             signs = self.selector.select(quiet) if time.monotonic() < until else []
         return found
 
@@ -176,12 +247,24 @@ class Switches:
             sock, peer = listener.accept()
         except OSError:
             return           # it went away before it was taken
-        self.selector.register(sock, selectors.EVENT_READ, Connection(sock, "%s:%d" % peer[:2]))
+        self.add(Connection(sock, "%s:%d" % peer[:2]))
 
-    def look(self, one):
+    def look(self, one, events):
+        if events & selectors.EVENT_WRITE:
+            state = 0 if one.is_made else one.sock.getsockopt(socket.SOL_SOCKET, socket.SO_ERROR)
+            if state:
+                self.tried[one.expected] = os.strerror(state)
+                self.drop(one)
+                return []
+            one.is_made = True
+            one.flush()
+            self.wait_for(one)
+        return self.take(one) if events & selectors.EVENT_READ else []
+
+    def take(self, one):
         pieces = one.receive()
         if pieces is None and one.name is None:
-            self.turn_away(one, "ended, or sent what is no OpenFlow 1.0, before it said which switch it is")
+            self.turn_away(one, one.why or "ended, or sent what is no OpenFlow 1.0, before it said which switch it is")
         elif pieces is None:
             self.drop(one)
             return [("down", one, None)]
@@ -204,17 +287,37 @@ class Switches:
             self.drop(self.named[name])
         one.name = name
         self.named[name] = one
+        self.tried.pop(name, None)
         return True
 
     def turn_away(self, one, why):
-        say(f"the connection with {one.peer}{f' ({one.expected})' if one.expected else ''} {why}; it is closed")
+        """Closes a connection that is of no use. Of a host that comes again and again for the same reason it is said once."""
         self.drop(one)
+        if one.expected and one.why:
+            raise Stop(f"{one.expected} ({one.peer}) {why}", f"let it speak OpenFlow 1.0 too (Open vSwitch: `ovs-vsctl set bridge {one.expected} protocols=OpenFlow10,OpenFlow13`)")
+        known, who = (self.tried, one.expected) if one.expected else (self.strangers, one.peer.rpartition(":")[0])
+        if known.get(who) != why:
+            say(f"the connection with {one.peer}{f' ({one.expected})' if one.expected else ''} {why}; it is closed")
+        known[who] = why
 
     def drop(self, one):
         self.selector.unregister(one.sock)
         one.sock.close()
         if self.named.get(one.name) is one:
             del self.named[one.name]
+
+    def why_away(self, name):
+        """How the last try to reach a switch failed, in words behind its name. Of one that connects to us: which connections were closed."""
+        if name in self.tried:
+            return f" ({self.tried[name]})"
+        words = "; ".join(f"a connection from {host} {why}" for host, why in self.strangers.items())
+        return f" ({words})" if words and name not in self.due else ""
+
+    def flush(self, seconds):
+        """Sends what is still to be sent, for so long at most."""
+        until = time.monotonic() + seconds
+        while any(one.unsent for one in self.named.values()) and time.monotonic() < until:
+            self.poll(0.05)
 
     def close(self):
         for key in list(self.selector.get_map().values()):

@@ -11,7 +11,7 @@ IPV4 = 0x0800
 TAGGED = (0x8100, 0x88A8)
 UNTAGGED = 0xFFFF
 SPECIAL_PORTS = {0xFFF8: "IN_PORT", 0xFFF9: "TABLE", 0xFFFA: "NORMAL", 0xFFFB: "FLOOD", 0xFFFC: "ALL", 0xFFFD: "CONTROLLER", 0xFFFE: "LOCAL"}
-ACTIONS = {1: "set VLAN", 3: "strip VLAN", 11: "enqueue", 0xFFFF: "vendor action"}
+ACTIONS = {3: "strip VLAN", 11: "enqueue", 0xFFFF: "vendor action"}
 OTHER_FIELDS = {2: "dl_src", 3: "dl_dst", 5: "nw_proto", 6: "tp_src", 7: "tp_dst", 21: "nw_tos"}     # by their bit of `wildcards`
 TO_CONTROLLER = bytes.fromhex("00000008fffd")
 TO_NORMAL = bytes.fromhex("00000008fffa")
@@ -34,6 +34,15 @@ def is_miss(priority, actions):
     return priority == 0 and (not actions or actions[:6] == TO_CONTROLLER and len(actions) == 8)
 
 
+def entry_words(test, kind, actions):
+    priority, in_port, vlan, base, length = test
+    words = f"priority {priority} {kind}"
+    words += f" in_port {in_port}" if in_port != "any" else ""
+    words += f" VLAN {vlan}" if vlan != "any" else ""
+    words += f" {socket.inet_ntoa(struct.pack('!I', base))}/{length}" if length else ""
+    return words + " -> " + (", ".join(action_words(actions)) or "drop")
+
+
 class Entry:
     """An entry of statistics of OpenFlow 1.0.0."""
 
@@ -42,6 +51,7 @@ class Entry:
         self.table = data[2]
         self.wildcards, self.in_port = struct.unpack("!IH", data[4:10])
         self.vlan, self.type = struct.unpack("!H2xH", data[22:28])
+        self.source, self.cookie = data[10:16], int.from_bytes(data[64:72], "big")
         self.priority, self.idle, self.hard = struct.unpack("!HHH", data[52:58])
         self.actions = data[88:]
         self.length = 32 - min(32, self.wildcards >> 14 & 63)
@@ -56,12 +66,7 @@ class Entry:
         return self.priority, self.in_port if self.is_exact(0) else "any", vlan, self.base & 0xFFFFFFFF, self.length
 
     def __str__(self):
-        priority, in_port, vlan, base, length = self.test()
-        words = f"priority {priority} {f'type {self.type:04x}' if self.is_exact(4) else 'any type'}"
-        words += f" in_port {in_port}" if in_port != "any" else ""
-        words += f" VLAN {vlan}" if vlan != "any" else ""
-        words += f" {socket.inet_ntoa(struct.pack('!I', base))}/{length}" if length else ""
-        return words + " -> " + (", ".join(action_words(self.actions)) or "drop")
+        return entry_words(self.test(), f"type {self.type:04x}" if self.is_exact(4) else "any type", self.actions)
 
     def without_effect(self):
         """Why no IPv4 packet of the model fares otherwise without the entry, or None. An entry without any wildcard comes before all others."""
@@ -83,11 +88,23 @@ class Entry:
 
     def fault(self):
         """What of it a configuration can't say, in words, or None."""
+        if self.table == 0 and not self.is_exact(4) and self.priority == 0 and self.actions[:6] == TO_NORMAL:
+            return "it is the default entry of a switch in standalone mode: set the fail mode to secure, and delete it"
+        if self.oddity():
+            return self.oddity()
+        if not 1 <= self.priority <= 16383:
+            return "its priority isn't 1 to 16383"
+        if self.time_words():
+            return self.time_words()
+        if self.actions and not (len(self.actions) == 8 and self.actions[:4] == bytes.fromhex("00000008") and 1 <= int.from_bytes(self.actions[4:6], "big") <= 65279):
+            return "its actions are neither none nor one output to a port"
+        return None
+
+    def oddity(self):
+        """What of its place and its match no rule of a plan can say, in words, or None."""
         others = [name for bit, name in OTHER_FIELDS.items() if self.is_exact(bit)] + (["nw_src"] if self.wildcards >> 8 & 63 < 32 else [])
         if self.table != 0:
             return f"it stands in table {self.table}"
-        if not self.is_exact(4) and self.priority == 0 and self.actions[:6] == TO_NORMAL:
-            return "it is the default entry of a switch in standalone mode: set the fail mode to secure, and delete it"
         if not self.is_exact(4):
             return "it is for packets of any type, and no command of a plan would reach it"
         if self.type != IPV4:
@@ -100,21 +117,26 @@ class Entry:
             return f"its ingress port is {SPECIAL_PORTS.get(self.in_port, self.in_port)}"
         if self.is_exact(1) and self.vlan != UNTAGGED and not 1 <= self.vlan <= 4094:
             return f"its VLAN is {self.vlan}"
-        if not 1 <= self.priority <= 16383:
-            return "its priority isn't 1 to 16383"
-        if self.idle or self.hard:
-            return f"it goes away by itself (idle timeout {self.idle} s, hard timeout {self.hard} s)"
-        if self.actions and not (len(self.actions) == 8 and self.actions[:4] == bytes.fromhex("00000008") and 1 <= int.from_bytes(self.actions[4:6], "big") <= 65279):
-            return "its actions are neither none nor one output to a port"
         return None
+
+    def time_words(self):
+        return time_words(self.idle, self.hard)
+
+
+def time_words(idle, hard):
+    """That an entry has timeouts, in words, or None."""
+    return f"it goes away by itself (idle timeout {idle} s, hard timeout {hard} s)" if idle or hard else None
 
 
 def action_words(actions):
+    """Each action of an entry in words, by which actions differ where rules can say them."""
     while len(actions) >= 4:
         kind, length = struct.unpack("!HH", actions[:4])
+        argument = int.from_bytes(actions[4:6], "big")
         if kind == 0 and len(actions) >= 6:
-            port = int.from_bytes(actions[4:6], "big")
-            yield f"output {SPECIAL_PORTS.get(port, port)}"
+            yield f"output {SPECIAL_PORTS.get(argument, argument)}"
+        elif kind == 1:
+            yield f"set VLAN {argument}"
         else:
             yield ACTIONS.get(kind, f"action {kind}")
         actions = actions[max(length, 8):]
@@ -132,10 +154,11 @@ class ExtendedEntry:
 
     def __init__(self, data):
         self.table = data[2]
-        self.priority, size = struct.unpack("!H4xH", data[12:20])
+        self.priority, self.idle, self.hard, size = struct.unpack("!HHHH", data[12:20])
         self.actions = data[48 + (size + 7) // 8 * 8:]
         self.in_port, self.vlan, self.base, self.length, self.type = "any", "any", 0, 0, None
         self.widened = []        # what OpenFlow 1.0 can't say of its match
+        self.others = []         # what OpenFlow 1.0 can say of its match, but no rule
         at, end = 48, 48 + size
         if end > len(data):
             raise ValueError
@@ -159,7 +182,9 @@ class ExtendedEntry:
             self.base, self.length = number, 32
         elif header == DESTINATION_MASKED and number & 0xFFFFFFFF in PREFIX_MASKS:
             self.base, self.length = number >> 32, (number & 0xFFFFFFFF).bit_count()
-        elif header not in SHOWN and not (header == TAG and number & 0x1000):     # this one has a tag priority, which is shown too
+        elif header in SHOWN or header == TAG and number & 0x1000:     # this one has a tag priority
+            self.others.append(f"{field_name(header)} {value.hex()}")
+        else:
             self.widened.append(f"{field_name(header)} {value.hex()}")
 
     def without_effect(self):
@@ -168,11 +193,27 @@ class ExtendedEntry:
     def test(self):
         return self.priority, self.in_port, self.vlan, self.base, self.length
 
+    def oddity(self):
+        """What of its place and its match no rule of a plan can say, in words, or None."""
+        if self.table != 0:
+            return f"it stands in table {self.table}"
+        if self.widened:
+            return f"it tests {', '.join(self.widened)}, which OpenFlow 1.0 can't say"
+        if self.type != IPV4:
+            return "it is for packets of any type" if self.type is None else f"it is for packets of type {self.type:04x}"
+        return f"it tests {', '.join(self.others)}" if self.others else None
+
+    def time_words(self):
+        return time_words(self.idle, self.hard)
+
+    def __str__(self):
+        return entry_words(self.test(), f"type {self.type:04x}" if self.type is not None else "any type", self.actions)
+
 
 def field_name(header):
     """A field of an extended match by its Open vSwitch name, as far as it may be met in ordinary tables."""
     vendor, field = header >> 16, header >> 9 & 127
-    names = {(0, 4): "vlan_tci", (0, 7): "nw_src", (0, 8): "nw_dst", (1, 16): "tun_id", (1, 26): "ip_frag", (1, 28): "nw_ecn", (1, 29): "nw_ttl", (1, 33): "pkt_mark",
+    names = {(0, 1): "dl_dst", (0, 2): "dl_src", (0, 5): "nw_tos", (0, 6): "nw_proto", (0, 4): "vlan_tci", (0, 7): "nw_src", (0, 8): "nw_dst", (1, 16): "tun_id", (1, 26): "ip_frag", (1, 28): "nw_ecn", (1, 29): "nw_ttl", (1, 33): "pkt_mark",
              (1, 105): "ct_state"}
     name = f"reg{field}" if vendor == 1 and field < 16 else names.get((vendor, field), f"field {vendor:04x}:{field}")
     return name + (" with a mask" if header >> 8 & 1 else "")

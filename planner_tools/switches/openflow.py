@@ -1,10 +1,11 @@
 """The little of OpenFlow 1.0.0 (section 5) that these scripts need: where messages end, their types, the words for errors. No message that
-changes a table is made here."""
+changes a table for an IP packet is made here."""
 import struct
 
 HELLO, ERROR, ECHO_REQUEST, ECHO_REPLY, FEATURES_REQUEST, FEATURES_REPLY = 0, 1, 2, 3, 5, 6
 FLOW_MOD, STATS_REQUEST, STATS_REPLY, BARRIER_REQUEST, BARRIER_REPLY = 14, 16, 17, 18, 19
 HELLO_BYTES = bytes.fromhex("0100000800000000")
+VERSIONS = {1: "1.0", 2: "1.1", 3: "1.2", 4: "1.3", 5: "1.4", 6: "1.5"}
 
 # Section 5.4.4: the types of errors, and their codes as far as flow messages and questions can meet them.
 ERROR_TYPES = ["hello failed", "bad request", "bad action", "flow message failed", "port message failed", "queue operation failed"]
@@ -51,3 +52,43 @@ def cut(data):
         pieces.append(data[at:end])
         at = end
     return pieces, data[at:]
+
+
+def version_words(number):
+    return f"OpenFlow {VERSIONS[number]}" if number in VERSIONS else f"an unknown version ({number}) of OpenFlow"
+
+
+def other_version(piece):
+    """By what a first message shows that the switch doesn't speak OpenFlow 1.0, in words behind its name; or None."""
+    version, kind = piece[0], piece[1]
+    if kind == HELLO and version > 1:
+        offered = offered_versions(piece)
+        if offered and 1 not in offered:
+            return f"offers {', '.join(version_words(one) for one in offered)}, and not OpenFlow 1.0"
+    elif kind == ERROR and piece[8:10] == b"\0\0":
+        return f"refuses OpenFlow 1.0: its highest version is {version_words(version)}"
+    elif kind != HELLO and version in VERSIONS and version > 1:
+        return f"answers in {version_words(version)}, and not in OpenFlow 1.0"
+    return None
+
+
+def offered_versions(hello):
+    """The versions that the bitmap of a HELLO lists (OpenFlow 1.3.1, section 7.5.1), ascending; none where it has no bitmap."""
+    at = 8
+    while at + 8 <= len(hello):
+        kind, length = struct.unpack("!HH", hello[at:at + 4])
+        if kind == 1:
+            return [bit for bit in range(32) if int.from_bytes(hello[at + 4:at + 8], "big") >> bit & 1]
+        at += max(8, (length + 7) // 8 * 8)
+    return []
+
+
+def change_words(piece):
+    """What a flow message of `planner drive` does, in words."""
+    wildcards, in_port = struct.unpack("!IH", piece[8:14])
+    vlan, command, priority = int.from_bytes(piece[26:28], "big"), int.from_bytes(piece[56:58], "big"), int.from_bytes(piece[62:64], "big")
+    length = 32 - min(32, wildcards >> 14 & 63)
+    words = f"{ {0: 'insert', 2: 'replace', 4: 'delete'}.get(command, 'change')} priority {priority} {'.'.join(map(str, piece[40:44]))}/{length}"
+    words += f" in_port {in_port}" if not wildcards & 1 else ""
+    words += "" if wildcards & 2 else " untagged" if vlan == 0xFFFF else f" VLAN {vlan}"
+    return words

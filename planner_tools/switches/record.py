@@ -1,76 +1,184 @@
-"""The record of an update: the file INPUT of `planner drive`. Lines are only ever appended, and are on the disk before anything follows from them."""
+"""The record of an update: the file INPUT of `planner drive`. Lines are only ever appended, and are on the disk before anything follows from them.
+
+Before each line stands a line `#N SUM`, which `drive` passes over: N counts the lines from 1, and SUM is the first 16 digits of the SHA-256 of the SUM
+before it and the line. So a line that was changed, taken out or added later is found, and named.
+"""
 import datetime
 import fcntl
+import hashlib
 import os
 import re
+import time
 
 from planner_tools.switches import openflow
 from planner_tools.switches.connections import Stop
 
+SUM = re.compile("#([1-9][0-9]*) ([0-9a-f]{16})")
+HEAD = re.compile("# update ([0-9a-f]{12}) begun ([0-9]+) (.*)")
+FEED = re.compile("feed ([^ ]+) (([0-9a-fA-F]{2}){8,})")
+# Remarks that are made right after the tables were found to be as they must be.
+COMPARED = re.compile("# (....-..-..T..:..:..)[^ ]* (?:round [0-9]+ starts|the switches have the tables of) ")
+MARKED = " the mark of the update is put on the switches"
+# What comes and goes with one switch is noted once in so many seconds, so that a switch that comes and goes for a week fills no disk.
+SELDOM = 600.0
+
+
+def sum_of(before, line):
+    return hashlib.sha256(before.encode() + line.encode("ascii", "replace")).hexdigest()[:16]
+
 
 class Record:
     def __init__(self, path, resume, head):
-        """Opens a new record, whose first line is a comment with this head, or with `resume` one that was begun with the same head."""
+        """Opens a new record, whose first line has this head, or with `resume` one that was begun with the same head."""
+        self.path, self.head = path, head
         if os.path.exists(path) != resume:
             raise Stop(*((f"there is no record {path}", "leave out --resume to begin an update") if resume else
                          (f"{path} is there already: an update was begun with it", "go on with --resume, or give the record another name")))
-        self.file = open(path, "a+b")
         try:
+            self.file = open(path, "r+b" if resume else "x+b", buffering=0)
             fcntl.flock(self.file, fcntl.LOCK_EX | fcntl.LOCK_NB)
-        except OSError:
+        except BlockingIOError:
             raise Stop(f"another run is at work with {path}", "wait for its end") from None
+        except OSError as fault:
+            raise Stop(f"{path}: {fault.strerror}", f"see to it; then {'go on with --resume' if resume else 'begin again'}") from None
+        self.is_broken = False        # whether a line couldn't be written: then no further one is
         self.is_fresh = True          # whether it has lines that `drive` hasn't seen
         self.opened = set()           # the switches from which a HELLO was fed
         self.answered = set()         # (switch, xid) of the barrier replies that were fed
-        self.lines = 0                # those that are on the disk
+        self.errors = {}              # the first error that was fed of each switch
+        self.starts = 0               # how many rounds were started by it
+        self.is_marked = False        # whether the mark was put on the switches
+        self.lines, self.count, self.sum, self.size = 0, 0, "", 0       # lines of the file, those with a sum, the last sum, bytes of the file
+        self.last_compared = None     # when the tables were last found to be as they must be
+        self.quiet = {}               # by switch: when it was noted last that it came or went, and how often since
         if resume:
-            self.take_up(head)
+            try:
+                self.take_up()
+            except Stop:
+                self.file.close()
+                raise
         else:
-            self.add(f"# {head}")
+            self.token, self.begun = os.urandom(6), int(time.time())
+            self.token = bytes([self.token[0] & 0xFC | 2]) + self.token[1:]        # an address of one station, of nobody's assignment
+            self.add(f"# update {self.token.hex()} begun {self.begun} {head}")
             self.keep()
             folder = os.open(os.path.dirname(os.path.abspath(path)), os.O_RDONLY)
             os.fsync(folder)         # so that the file is found again, too
             os.close(folder)
 
-    def take_up(self, head):
-        """Reads the lines that are there. A last line without its end was being written when the update was cut off: nothing followed from it, and it
-        goes."""
-        self.file.seek(0)
-        whole = self.file.read().rpartition(b"\n")[0] + b"\n"
+    # ---- what is there
+
+    def take_up(self):
+        """Reads the lines that are there. What was being written when the update was cut off is a last line without its end, or a sum without its
+        line: nothing followed from it, and it goes."""
+        whole = self.file.read()
+        if not whole:
+            raise Stop(f"the record {self.path} is empty: nothing was begun with it", f"remove {self.path}, and begin the update without --resume")
         lines = whole.decode("ascii", "replace").split("\n")[:-1]
-        if lines[0] != f"# {head}":
-            raise Stop("it isn't the record of an update with these files, as they are now", "give the files with which the update was begun")
-        self.file.truncate(len(whole))
-        self.lines = len(lines)
-        for line in lines:
-            feed = re.fullmatch("feed ([^ ]+) (([0-9a-fA-F]{2}){8,})", line)     # other lines are for `drive` to judge
-            if feed:
-                self.note(feed[1], bytes.fromhex(feed[2]))
+        first = HEAD.fullmatch(lines[1]) if len(lines) > 1 and SUM.fullmatch(lines[0]) else None
+        if first is None:
+            raise Stop(f"{self.path} isn't the record of an update: it has no first line of one", "give the file that `planner apply` wrote")
+        for at in range(0, len(lines) - len(lines) % 2, 2):
+            self.check(lines, at)
+        if len(lines) % 2 and not SUM.fullmatch(lines[-1]):
+            raise self.not_as_written(len(lines), "was added", len(lines) - 1)
+        if first[3] != self.head:
+            raise Stop(f"{self.path} was begun with other files, or they were changed since: its first line has their sums",
+                       "give the files with which the update was begun, as they were")
+        self.token, self.begun = bytes.fromhex(first[1]), int(first[2])
+        self.file.truncate(self.size)
+        self.file.seek(0, os.SEEK_END)
+
+    def check(self, lines, at):
+        """Takes a sum and its line."""
+        mark, line = SUM.fullmatch(lines[at]), lines[at + 1]
+        if mark is None:
+            raise self.not_as_written(at + 1, "was added, or the checksum that stood there was changed", at)
+        if int(mark[1]) != self.count + 1:
+            what = (f"follows what isn't there any more: {int(mark[1]) - self.count - 1} lines of the record are missing before it"
+                    if int(mark[1]) > self.count + 1 else "was added: the record has had one of its number")
+            raise self.not_as_written(at + 2, what, at)
+        if mark[2] != sum_of(self.sum, line):
+            raise self.not_as_written(at + 2, "was changed", at)
+        self.count, self.sum, self.lines, self.size = self.count + 1, mark[2], at + 2, self.size + len(lines[at]) + len(line) + 2
+        self.starts += line == "start"
+        self.is_marked = self.is_marked or line.endswith(MARKED)
+        feed, compared = FEED.fullmatch(line), COMPARED.match(line)
+        if feed:
+            self.note(feed[1], bytes.fromhex(feed[2]))
+        elif compared:
+            self.last_compared = compared[1]
+
+    def not_as_written(self, number, what, good):
+        """The first line that isn't as it was written, and how many are good before it."""
+        next_step = f"`head -n {good} {self.path} > {self.path}-2` keeps the lines before it" if good else "find a copy of the record"
+        return Stop(f"line {number} of the record {self.path} isn't as it was written: it {what}",
+                    f"{next_step}; go on with that record by --resume: before anything is sent it says what the switches have beyond it")
+
+    # ---- what is added
 
     def add(self, line):
-        self.file.write(line.encode("ascii", "replace") + b"\n")
-        self.file.flush()
-        self.lines += 1
+        line = line.encode("ascii", "replace").decode()
+        total = sum_of(self.sum, line)
+        rest = data = f"#{self.count + 1} {total}\n{line}\n".encode()
+        try:
+            while rest and not self.is_broken:
+                rest = rest[self.file.write(rest):]
+        except OSError as fault:
+            raise self.cannot(fault) from None
+        if not rest:
+            self.count, self.sum, self.lines, self.size = self.count + 1, total, self.lines + 2, self.size + len(data)
+
+    def cannot(self, fault):
+        """Takes what was written of a line away again, as far as that goes."""
+        self.is_broken = True
+        try:
+            os.ftruncate(self.file.fileno(), self.size)
+        except OSError:
+            pass
+        return Stop(f"the record {self.path} can't be written: {fault.strerror or fault}. What came last isn't in it, and nothing was sent that follows from it",
+                    f"make room on the disk of {self.path}; then go on with --resume")
 
     def remark(self, words):
         now = datetime.datetime.now(datetime.timezone.utc).isoformat(timespec="milliseconds")
         self.add(f"# {now} {words}".replace("\n", " "))
 
+    def remark_seldom(self, switch, words):
+        """A remark on a switch that came or went: one in SELDOM seconds, with how many were left out."""
+        last, left_out = self.quiet.get(switch, (None, 0))
+        if last is not None and time.monotonic() - last < SELDOM:
+            self.quiet[switch] = last, left_out + 1
+            return
+        self.quiet[switch] = time.monotonic(), 0
+        self.remark(words + (f" (and {left_out} times more since the last remark on it)" if left_out else ""))
+
     def feed(self, switch, piece):
+        if openflow.is_message(piece) and openflow.type_of(piece) == openflow.HELLO and switch in self.opened:
+            return               # `drive` passes over a further one, and a switch that comes and goes would fill the record
         self.add(f"feed {switch} {piece.hex()}")
         self.note(switch, piece)
         self.is_fresh = True
 
     def start(self):
         self.add("start")
+        self.starts += 1
         self.is_fresh = True
 
     def note(self, switch, piece):
         if openflow.type_of(piece) == openflow.HELLO:
             self.opened.add(switch)
+        elif openflow.type_of(piece) == openflow.ERROR:
+            self.errors.setdefault(switch, piece)
         elif openflow.type_of(piece) == openflow.BARRIER_REPLY:
             self.answered.add((switch, openflow.xid_of(piece)))
 
     def keep(self):
         """Has the disk take what was appended."""
-        os.fsync(self.file.fileno())
+        try:
+            os.fsync(self.file.fileno())
+        except OSError as fault:
+            raise self.cannot(fault) from None
+
+    def remove(self):
+        """Takes the file away: nothing was begun with it."""
+        os.unlink(self.path)

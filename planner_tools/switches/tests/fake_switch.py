@@ -12,6 +12,7 @@ from planner_tools.switches import openflow
 
 DELETE_STRICT = 4
 TAG_PRIORITY = 1 << 20      # the bit of `wildcards`
+MARK_TYPE = 0x88B5          # the type of the packets of a mark
 
 
 def match_of(rule):
@@ -28,43 +29,62 @@ def actions_of(rule):
     return b"" if rule["out"] == "drop" else struct.pack("!HHHH", 0, 8, rule["out"], 0)
 
 
-def entry_of(match, priority, actions):
+def entry_of(match, priority, actions, cookie=0, idle=0):
     """An entry of flow statistics."""
-    return struct.pack("!HBx", 88 + len(actions), 0) + match + struct.pack("!IIHHH6x24x", 1, 0, priority, 0, 0) + actions
+    return struct.pack("!HBx", 88 + len(actions), 0) + match + struct.pack("!IIHHH6xQ16x", 1, 0, priority, idle, 0, cookie) + actions
+
+
+def extended_of(match, priority, actions, cookie=0, idle=0):
+    """The same entry of extended statistics."""
+    wildcards, in_port, source, vlan, kind = struct.unpack("!IH6s6xH2xH", match[:24])
+    length = 32 - min(32, wildcards >> 14 & 63)
+    fields = struct.pack("!IH", 0x002, in_port) if not wildcards & 1 else b""
+    fields += struct.pack("!I6s", 0x406, source) if not wildcards & 4 else b""
+    fields += struct.pack("!IH", 0x602, kind)
+    fields += b"" if wildcards & 2 else struct.pack("!IH", 0x802, 0) if vlan == 0xFFFF else struct.pack("!IHH", 0x904, 0x1000 | vlan, 0x1FFF)
+    mask = struct.pack("!I", 0xFFFFFFFF << 32 - length & 0xFFFFFFFF)
+    fields += b"" if length == 0 else struct.pack("!I4s", 0x1004, match[32:36]) if length == 32 else struct.pack("!I4s4s", 0x1108, match[32:36], mask)
+    body = struct.pack("!BxIIHHHH4xQ16x", 0, 1, 0, priority, idle, 0, len(fields), cookie) + fields + bytes(-len(fields) % 8) + actions
+    return struct.pack("!H", 2 + len(body)) + body
 
 
 def key_of(match, priority):
     """What two entries of one place in the table have in common: strict commands go by it."""
     wildcards, port, tag, kind = struct.unpack("!IH12xH2xH", match[:24])
     wildcards &= ~TAG_PRIORITY if not wildcards & 2 and tag == 0xFFFF else -1
-    return wildcards, port, tag, kind, match[32:36], priority
+    return wildcards, port, tag, kind, match[32:36], priority, match[6:12] if kind == MARK_TYPE else b""
 
 
 class FakeSwitch(threading.Thread):
-    """A switch that connects to `address`, again and again until `stop`; or, with `listen`, waits there.
+    """A switch that connects to `address`, again and again until `stop`; or, with `listen`, waits there, for any number of controllers.
 
     rules       what its table has at the beginning
     error_at    the number, from 1, of the flow message that is answered by the error `error`
-    close_at    the number, from 1, of the barrier request at which it closes the connection and answers nothing
+    close_at    the number, from 1, of the barrier request of a round at which it closes the connection and answers nothing
+    empty_at    the same, and its table is empty after that
     piece       how many bytes it sends at a time
     delay       seconds before each barrier reply of a round
+    late        seconds before it begins to speak on a connection
     is_silent   whether it leaves the barrier requests of rounds unanswered
     noise       what it sends behind each such reply
     echo        seconds between its echo requests; it closes the connection where three in a row aren't answered
     hello       its HELLO
     largest     the greatest length of a statistics reply
+    has_extended  whether it has extended statistics of its table
+    refuses     whether it refuses each flow message that the controller makes of its own
     """
 
     def __init__(self, datapath, address, rules=(), listen=False, error_at=None, error=(3, 0), close_at=None, piece=None, delay=0.0, is_silent=False, noise=b"",
-                 echo=None, hello=bytes.fromhex("0100000800000001"), largest=65535):
+                 echo=None, hello=bytes.fromhex("0100000800000001"), largest=65535, empty_at=None, late=0.0, has_extended=False, refuses=False):
         super().__init__(daemon=True)
         self.datapath, self.address, self.listen = datapath, address, listen
         self.table = {key_of(match_of(rule), rule["priority"]): [match_of(rule), rule["priority"], actions_of(rule)] for rule in rules}
         self.error_at, self.error, self.close_at, self.piece, self.delay, self.is_silent = error_at, error, close_at, piece, delay, is_silent
         self.noise, self.echo, self.hello, self.largest = noise, echo, hello, largest
+        self.empty_at, self.late, self.has_extended, self.refuses = empty_at, late, has_extended, refuses
         self.entries = None         # entries to report in place of its table
         self.extended = None        # entries of its extended statistics, where it has such
-        self.flow_messages = self.barriers = self.connections = self.echoes = 0
+        self.own_messages = self.flow_messages = self.barriers = self.connections = self.echoes = 0
         self.received = b""
         self.ended = threading.Event()
         self.server = socket.create_server(address) if listen else None
@@ -80,11 +100,17 @@ class FakeSwitch(threading.Thread):
                 self.ended.wait(0.02)
                 continue
             self.connections += 1
-            with sock:
-                try:
-                    self.serve(sock)
-                except OSError:
-                    pass
+            if self.listen:
+                threading.Thread(target=self.attend, args=(sock,), daemon=True).start()
+            else:
+                self.attend(sock)
+
+    def attend(self, sock):
+        with sock:
+            try:
+                self.serve(sock)
+            except OSError:
+                pass
 
     def stop(self):
         self.ended.set()
@@ -101,6 +127,7 @@ class FakeSwitch(threading.Thread):
     def serve(self, sock):
         sock.setsockopt(socket.IPPROTO_TCP, socket.TCP_NODELAY, 1)
         sock.settimeout(0.02)
+        self.ended.wait(self.late)
         self.send(sock, self.hello)
         rest, due, owed = b"", time.monotonic() + (self.echo or 1e9), 0
         while not self.ended.is_set():
@@ -128,6 +155,12 @@ class FakeSwitch(threading.Thread):
         kind, xid = openflow.type_of(piece), openflow.xid_of(piece)
         if kind == openflow.FEATURES_REQUEST:
             self.send(sock, openflow.message(openflow.FEATURES_REPLY, xid, struct.pack("!QIB3xII", self.datapath, 0, 1, 0, 0xFFF)))
+        elif kind == openflow.FLOW_MOD and xid >= 0xFEA70000:
+            self.own_messages += 1
+            if self.refuses:
+                self.send(sock, openflow.message(openflow.ERROR, xid, struct.pack("!HH", 3, 0) + piece[:64]))
+            else:
+                self.change(piece)
         elif kind == openflow.FLOW_MOD:
             self.flow_messages += 1
             if self.flow_messages == self.error_at:
@@ -136,7 +169,9 @@ class FakeSwitch(threading.Thread):
                 self.change(piece)
         elif kind == openflow.BARRIER_REQUEST and xid < 0xFEA70000:
             self.barriers += 1
-            if self.barriers == self.close_at:
+            if self.barriers == self.empty_at:
+                self.table.clear()
+            if self.barriers in (self.close_at, self.empty_at):
                 return False
             if not self.is_silent:
                 self.ended.wait(self.delay)
@@ -145,8 +180,9 @@ class FakeSwitch(threading.Thread):
             self.send(sock, openflow.message(openflow.BARRIER_REPLY, xid))
         elif kind == openflow.STATS_REQUEST and piece[8:10] == b"\0\1":
             self.tell_table(sock, xid)
-        elif kind == openflow.STATS_REQUEST and self.extended is not None:
-            self.send(sock, openflow.message(openflow.STATS_REPLY, xid, piece[8:16] + bytes(8) + b"".join(self.extended)))
+        elif kind == openflow.STATS_REQUEST and (self.extended is not None or self.has_extended):
+            shown = [extended_of(*one) for one in list(self.table.values())] if self.extended is None else self.extended
+            self.send(sock, openflow.message(openflow.STATS_REPLY, xid, piece[8:16] + bytes(8) + b"".join(shown)))
         elif kind == openflow.STATS_REQUEST:
             self.send(sock, openflow.message(openflow.ERROR, xid, struct.pack("!HH", 1, 2) + piece[:64]))
         return True
@@ -157,10 +193,10 @@ class FakeSwitch(threading.Thread):
         if command == DELETE_STRICT:
             self.table.pop(key, None)
         else:
-            self.table[key] = [self.table.get(key, [match])[0], priority, piece[72:]]
+            self.table[key] = [self.table.get(key, [match])[0], priority, piece[72:], int.from_bytes(piece[48:56], "big")]
 
     def tell_table(self, sock, xid):
-        entries = [entry_of(*one) for one in self.table.values()] if self.entries is None else list(self.entries)
+        entries = [entry_of(*one) for one in list(self.table.values())] if self.entries is None else list(self.entries)
         while True:
             body = b""
             while entries and 12 + len(body) + len(entries[0]) <= self.largest:

@@ -1,6 +1,7 @@
 """What the tests share: the fake switches of an example, a folder for one update of it, and the program PLANNER."""
 import os
 import pathlib
+import re
 import shutil
 import signal
 import socket
@@ -8,9 +9,11 @@ import subprocess
 import sys
 import tempfile
 import time
+import unittest
 
 import fake_switch
 from planner_tools import program
+from planner_tools.switches.marks import Mark
 
 ROOT = pathlib.Path(__file__).resolve().parents[3]
 EXAMPLES = ROOT / "examples"
@@ -25,9 +28,19 @@ def planner(*words):
     return subprocess.run([PLANNER, *map(str, words)], capture_output=True, text=True, timeout=LONGEST, check=False).stdout
 
 
+def end(run):
+    """Ends a run, where it isn't at its end."""
+    run.kill()
+    run.wait()
+    run.stdin.close()
+    run.stderr.close()
+
+
 class Network:
+    """Fake switches with the tables of an example, and an update of them."""
+
     def __init__(self, test, name, listen=False, config="old.json", **more):
-        self.folder = pathlib.Path(tempfile.mkdtemp(prefix="controller-test-"))
+        self.test, self.folder = test, pathlib.Path(tempfile.mkdtemp(prefix="controller-test-"))
         test.addCleanup(shutil.rmtree, self.folder)
         self.files = [EXAMPLES / name / f"{word}.json" for word in ("topology", "old", "new", "policy", "plan")]
         self.record, self.listed = self.folder / "input", self.folder / "switches"
@@ -41,15 +54,17 @@ class Network:
             one.start()
         test.addCleanup(lambda: [one.stop() for one in self.switches.values()])
 
-    def begin(self, *more):
-        """A run of `planner apply`, begun."""
-        words = [sys.executable, FRONT_END, "apply", *self.files, self.record, "--switches", self.listed, *self.where, *more]
-        return subprocess.Popen([*map(str, words), *([] if {"--wait", "--ask"} & set(more) else ["--wait", "0.05"])], stdin=subprocess.PIPE, stderr=subprocess.PIPE, text=True,
-                                env={**os.environ, "PLANNER": PLANNER})
+    def begin(self, *more, before=(), program=PLANNER):
+        """A run of `planner apply`, begun behind these words, with this program."""
+        words = [*before, sys.executable, FRONT_END, "apply", *self.files, self.record, "--switches", self.listed, *self.where, *more]
+        run = subprocess.Popen([*map(str, words), *([] if {"--wait", "--ask"} & set(more) else ["--wait", "0.05"])], stdin=subprocess.PIPE, stderr=subprocess.PIPE, text=True,
+                               env={**os.environ, "PLANNER": program})
+        self.test.addCleanup(end, run)
+        return run
 
-    def apply(self, *more):
+    def apply(self, *more, **how):
         """A run of `planner apply`: its status and what it said."""
-        run = self.begin(*more)
+        run = self.begin(*more, **how)
         try:
             said = run.communicate(timeout=LONGEST)[1]
         except subprocess.TimeoutExpired:
@@ -65,6 +80,22 @@ class Network:
         run.send_signal(signal.SIGKILL)
         return run.communicate()[1]
 
+    def do_next(self, said):
+        """Does what the last line says to do with the record, so that the next run goes on with what that makes."""
+        words = re.search(r"`(head -n [^`]*)`", said)[1]
+        subprocess.run(["sh", "-c", words], check=True)
+        self.record = pathlib.Path(words.split()[-1])
+
+    def mark(self):
+        """The mark of the update, by its record."""
+        words = self.record.read_text().splitlines()[1].split()
+        return Mark(bytes.fromhex(words[2]), int(words[4]))
+
+    def add(self, name, rule):
+        """Changes the table of a switch by hand."""
+        match = fake_switch.match_of(rule)
+        self.switches[name].table[fake_switch.key_of(match, rule["priority"])] = [match, rule["priority"], fake_switch.actions_of(rule), 0]
+
     def collect(self, *more):
         words = [sys.executable, FRONT_END, "collect", self.files[0], "--switches", self.listed, *self.where, *more]
         return subprocess.run(list(map(str, words)), capture_output=True, text=True, timeout=LONGEST, check=False)
@@ -76,3 +107,26 @@ class Network:
         """Whether the switches have exactly the rules of a configuration."""
         wanted = fake_switch.switches_of(DATAPATHS[self.files[0].parent.name], config, None)
         return all({key: it[2] for key, it in one.table.items()} == {key: it[2] for key, it in wanted[name].table.items()} for name, one in self.switches.items())
+
+
+class UpdateTest(unittest.TestCase):
+    """Tests of whole updates."""
+
+    def settles(self, net, run):
+        """The record of an update that came to its end, as `drive` tells it."""
+        status, said = run
+        self.assertEqual(status, 0, said)
+        text = net.drive()
+        self.assertRegex(text, r"# settled (\d+) of \1\n$")
+        self.assertTrue(net.has(net.files[2]))
+        return text
+
+    def stops(self, run, what, then):
+        """Checks that the last line, and it alone, says what happened, how far it came, and what to do next."""
+        status, said = run
+        self.assertEqual(status, 1, said)
+        self.assertIn(what, said)
+        last = said.splitlines()[-1]
+        self.assertRegex(last, r"^stopped: .*(rounds are settled|nothing was sent).* Next: .")
+        self.assertIn(what, last)
+        self.assertIn(then, last)

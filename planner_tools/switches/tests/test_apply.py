@@ -4,47 +4,38 @@ import socket
 import time
 import unittest
 
-from network import EXAMPLES, Network
+from network import EXAMPLES, Network, UpdateTest, planner
 import fake_switch
 from planner_tools.switches import collect, openflow
+from planner_tools.switches.connections import OWN
 
 
 def sent(text):
     return {line.split()[2]: bytes.fromhex(line.split()[3]) for line in text.splitlines() if line.startswith("# sent ")}
 
 
-class Applying(unittest.TestCase):
-    def settles(self, net, run):
-        """The record of an update that came to its end, as `drive` tells it."""
-        status, said = run
-        self.assertEqual(status, 0, said)
-        text = net.drive()
-        self.assertRegex(text, r"# settled (\d+) of \1\n$")
-        self.assertTrue(net.has(net.files[2]))
-        return text
-
-    def stops(self, run, what, then):
-        """Checks that the last line, and it alone, says what happened, how far it came, and what to do next."""
-        status, said = run
-        self.assertEqual(status, 1, said)
-        self.assertIn(what, said)
-        last = said.splitlines()[-1]
-        self.assertRegex(last, r"^stopped: .*(rounds are settled|nothing was sent).* Next: .")
-        self.assertIn(what, last)
-        self.assertIn(then, last)
-
+class Applying(UpdateTest):
     def test_carries_out_both_examples(self):
         for name, wait in (("square", "0.05"), ("detour", "0")):
             with self.subTest(name):
                 net = Network(self, name)
-                self.settles(net, net.apply("--wait", wait))
+                run = net.apply("--wait", wait)
+                rounds = int(re.search(r"# settled \d+ of (\d+)", self.settles(net, run))[1])
+                told = re.findall(r"round (\d+) of \d+ is settled, [0-9.]+ s after its start; (\d+) left, some \d+ s", run[1])
+                self.assertEqual(told, [(str(it), str(rounds - it)) for it in range(1, rounds)])
 
     def test_what_a_switch_receives_is_what_drive_says_and_questions_that_change_nothing(self):
         net = Network(self, "square")
         text = self.settles(net, net.apply())
-        features = openflow.message(openflow.FEATURES_REQUEST, 0xFEA70000)
+        def without_xid(data):
+            return {piece[:4] + piece[8:] for piece in openflow.cut(data)[0]}
+
+        own = {openflow.HELLO_BYTES[:4], *without_xid(openflow.message(openflow.FEATURES_REQUEST, 0) + collect.questions(0) + net.mark().put() + net.mark().take_away())}
         for name, data in sent(text).items():
-            self.assertEqual(net.switches[name].received, data[:8] + features + collect.QUESTIONS + data[8:] + collect.QUESTIONS)
+            pieces = openflow.cut(net.switches[name].received)[0]
+            self.assertEqual(b"".join(it for it in pieces if openflow.xid_of(it) < OWN), data)
+            self.assertLessEqual(without_xid(b"".join(it for it in pieces if openflow.xid_of(it) >= OWN)), own)
+            self.assertEqual([it[8:10] for it in pieces if openflow.type_of(it) == openflow.STATS_REQUEST].count(b"\0\1"), 4)     # at first, before each round, at last
 
     def test_each_line_of_the_record_is_followed_by_what_drive_says_of_it(self):
         net = Network(self, "square")
@@ -68,41 +59,47 @@ class Applying(unittest.TestCase):
 
     def test_a_switch_that_answers_late_is_named_and_waited_for(self):
         net = Network(self, "square", only={"s3": {"delay": 1.0}})
-        run = net.apply("--patience", "6")
+        run = net.apply("--patience", "10")
         self.settles(net, run)
         self.assertIn("1 of 2 rounds are settled, round 2 is running, no answer yet from s3", run[1])
 
     def test_a_switch_that_never_answers_ends_the_patience(self):
         net = Network(self, "square", only={"s3": {"is_silent": True}})
-        self.stops(net.apply("--patience", "2"), "1 of 2 rounds are settled, round 2 is running, no answer yet from s3", "see that s3 is connected and answers; then go on with")
+        run = net.apply("--patience", "4")
+        self.stops(run, "1 of 2 rounds are settled, round 2 is running, no answer yet from s3", "see that s3 is connected and answers; then go on with")
+        self.assertIn("the patience of 4 s is at its end: s3 hasn't answered the messages of the round", run[1])
         net.switches["s3"].is_silent = False
         self.settles(net, net.apply("--resume"))
 
     def test_a_switch_that_isn_t_there_ends_the_patience(self):
         net = Network(self, "square")
         net.switches["s2"].stop()
-        self.stops(net.apply("--patience", "1"), "no answer yet from s2", "--resume")
+        self.stops(net.apply("--patience", "4"), "no answer yet from s2", "--resume")
         self.assertEqual(sum(one.flow_messages for one in net.switches.values()), 0)
 
     def test_an_error_stops_the_update_with_its_cause(self):
         net = Network(self, "detour", only={"w": {"error_at": 2}})
-        self.stops(net.apply(), "the session with w failed: Error 3 0 (flow message failed: all tables full); 0 of 8 rounds are settled, round 1 is running", "After a failed session")
+        run = net.apply()
+        self.stops(run, "the session with w failed: Error 3 0 (flow message failed: all tables full); it is about: insert priority 16384 0.0.0.0/0 VLAN 3000; "
+                   "0 of 8 rounds are settled, round 1 is running", "make room in its table")
         self.assertIn("# failed w Error 3 0\n", net.drive())
-        self.stops(net.apply("--resume"), "the session with w failed: Error 3 0", "After a failed session")
+        again = net.apply("--resume")
+        self.stops(again, "the session with w failed: Error 3 0 (flow message failed: all tables full); it is about: insert priority 16384", "make room in its table")
+        self.assertRegex(again[1], r"`head -n \d+ [^`]*` makes the record before it")
 
     def test_after_a_failed_session_the_lines_before_it_are_a_record_to_go_on_with(self):
-        net = Network(self, "square", only={"s3": {"error_at": 1}})
-        said = net.apply()[1]
-        count = int(re.search(r"the first (\d+) lines of", said)[1])
-        net.record.write_text("".join(net.record.read_text().splitlines(keepends=True)[:count]))
-        self.settles(net, net.apply("--resume"))
+        for name, more in (("square", {"s3": {"error_at": 1}}), ("detour", {"d": {"error_at": 3}})):
+            with self.subTest(name):
+                net = Network(self, name, only=more)
+                net.do_next(net.apply()[1])
+                self.settles(net, net.apply("--resume"))
 
     def test_a_switch_that_goes_and_comes_back_gets_the_messages_of_the_round_again(self):
         net = Network(self, "square", only={"s3": {"close_at": 1}})
         run = net.apply()
         text = self.settles(net, run)
         self.assertIn("s3 closed its connection; 1 of 2 rounds are settled, round 2 is running", run[1])
-        self.assertIn("the messages of round 2 to it are sent again", run[1])
+        self.assertIn("s3 has what it must have; the messages of round 2 to it are sent again", run[1])
         self.assertEqual((net.switches["s3"].connections, text.count("# failed")), (2, 0))
 
     def test_a_killed_update_is_resumed(self):
@@ -126,51 +123,65 @@ class Applying(unittest.TestCase):
         net = Network(self, "square")
         net.apply_until("round 1 starts")
         net.files[4] = EXAMPLES / "square" / "plan-at-once.json"
-        self.stops(net.apply("--resume"), "isn't the record of an update with these files", "the files with which the update was begun")
+        self.stops(net.apply("--resume"), "was begun with other files, or they were changed since", "the files with which the update was begun")
 
     def test_a_file_that_is_no_record_stays_as_it_is(self):
         net = Network(self, "square")
         net.record.write_text("what the operator wrote, without a line end")
-        self.stops(net.apply("--resume"), "isn't the record", "the files with which")
+        self.stops(net.apply("--resume"), "isn't the record", "that `planner apply` wrote")
         self.stops(net.apply(), "is there already", "another name")
         self.assertEqual(net.record.read_text(), "what the operator wrote, without a line end")
 
     def test_an_operator_who_ends_it_is_told_how_to_go_on(self):
         net = Network(self, "square")
         run = net.begin("--wait", "20")
-        while "the switches have the tables" not in (net.record.read_text() if net.record.exists() else "") and run.poll() is None:
+        while "the mark of the update" not in (net.record.read_text() if net.record.exists() else "") and run.poll() is None:
             time.sleep(0.01)
         run.terminate()
         said = run.communicate(timeout=10)[1]
         self.stops((run.returncode, said), "the operator ended it; 0 of 2 rounds are settled", "--resume")
 
-    def test_two_runs_don_t_share_a_record(self):
+    def test_two_runs_don_t_share_switches_or_a_record(self):
         net = Network(self, "square")
         run = net.begin("--wait", "20")
         while not net.record.exists() and run.poll() is None:
             time.sleep(0.01)
         time.sleep(0.2)
-        self.stops(net.apply("--resume"), "another run is at work", "wait")
+        self.stops(net.apply("--resume"), f"another run is at work with the switches of {net.listed}", "wait")
+        net.listed = net.folder / "other"
+        net.listed.write_text((net.folder / "switches").read_text())
+        self.stops(net.apply("--resume"), f"another run is at work with {net.record}", "wait")
         run.kill()
         run.communicate(timeout=10)
 
     def test_other_tables_than_the_old_ones_stop_the_update_before_it_begins(self):
         net = Network(self, "square", config="new.json")
-        self.stops(net.apply(), "refused: 13 WrongEnd switch s1; 0 of 2 rounds are settled", "make a plan from")
-        self.assertEqual(sum(one.flow_messages for one in net.switches.values()), 0)
-
-    def test_entries_that_a_configuration_can_t_say_stop_the_update_before_it_begins(self):
-        net = Network(self, "square")
-        rule = {"dst": "10.0.0.0/24", "priority": 32768, "out": 2}
-        net.switches["s2"].entries = [fake_switch.entry_of(fake_switch.match_of(rule), 32768, fake_switch.actions_of(rule))]
         run = net.apply()
-        self.stops(run, "1 of the entries can't be said", "CONTROLLER.md")
-        self.assertIn("s2: priority 32768 type 0800 10.0.0.0/24 -> output 2: its priority isn't 1 to 16383", run[1])
+        self.stops(run, "not as they must be, and said above. So the switches don't have the tables of", f"make a plan from {net.record}.before.json, which has those")
+        self.assertIn("s1: not as it must be: priority 100 10.0.0.0/24 -> output 4: must be output 2\n", run[1])
+        self.assertEqual(sum(one.flow_messages + one.own_messages for one in net.switches.values()), 0)
+        old = net.files[1]
+        net.files[1], net.files[4], net.record = f"{net.record}.before.json", net.folder / "plan.json", net.folder / "second"
+        net.files[4].write_text(planner("plan", *net.files[:4]))
+        self.settles(net, net.apply())
+        net.files[1] = old
+
+    def test_old_tables_that_no_plan_can_start_from_are_repaired(self):
+        for rule, word in (({"dst": "10.0.0.0/24", "priority": 32768, "out": 2}, "a configuration can't say it"), (None, "breaks: at")):
+            with self.subTest(word):
+                net = Network(self, "square")
+                net.add("s2", rule) if rule else net.switches["s2"].table.clear()
+                run = net.apply()
+                self.stops(run, "So the switches don't have the tables of", "go on with --resume --repair, which gives the switches the tables of")
+                self.assertIn(word, run[1])
+                self.assertIn("s2: too much: priority 32768 type 0800 10.0.0.0/24 -> output 2\n" if rule else "s2: missing: priority 100 10.0.0.0/24", run[1])
+                self.assertEqual(sum(one.flow_messages + one.own_messages for one in net.switches.values()), 0)
+                self.settles(net, net.apply("--resume", "--repair"))
 
     def test_a_refused_plan_connects_nowhere_and_leaves_no_record(self):
         net = Network(self, "square")
         net.files[4] = EXAMPLES / "square" / "plan-at-once.json"
-        self.stops(net.apply(), "refused: 7 NotLower", "")
+        self.stops(net.apply(), "refused: 7 NotLower", "make a plan that `planner check` accepts")
         self.assertEqual(sum(one.connections for one in net.switches.values()), 0)
         self.assertFalse(net.record.exists())
 
@@ -180,7 +191,7 @@ class Applying(unittest.TestCase):
         for cause, noise in noises:
             with self.subTest(cause):
                 net = Network(self, "square", only={"s1": {"noise": noise}})
-                self.stops(net.apply("--wait", "0.3"), f"the session with s1 failed: {cause}; 1 of 2 rounds are settled", "After a failed session")
+                self.stops(net.apply("--wait", "0.3"), f"the session with s1 failed: {cause}; 1 of 2 rounds are settled", "see what is at the other end of the connection with s1")
 
     def test_hostile_connections_change_nothing(self):
         net = Network(self, "square")
@@ -203,6 +214,7 @@ class Applying(unittest.TestCase):
         net = Network(self, "square", echo=0.3)
         self.settles(net, net.apply("--wait", "1"))
         self.assertTrue(all(one.connections == 1 and one.echoes >= 2 for one in net.switches.values()))
+        self.assertNotRegex(net.record.read_text(), r"\nfeed s\d 0102")
 
     def test_a_round_begins_no_sooner_than_the_wait(self):
         net = Network(self, "square")

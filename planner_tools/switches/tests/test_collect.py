@@ -88,7 +88,7 @@ class Collecting(unittest.TestCase):
             ("its ingress port is LOCAL", entry(wildcards=0x003220EE, in_port=0xFFFE)),
             ("its VLAN is 0", entry(wildcards=0x003220ED)),
             ("output NORMAL: its actions are neither", entry(actions="00000008fffa0000")),
-            ("set VLAN, output 3: its actions are neither", entry(actions="0001000800140000" "0000000800030000")),
+            ("set VLAN 20, output 3: its actions are neither", entry(actions="0001000800140000" "0000000800030000")),
             ("the switch's choice", entry(kind=0x8100)),
         ]
         run, _ = self.reading([one for _, one in bad])
