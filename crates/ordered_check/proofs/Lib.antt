@@ -7,6 +7,5 @@ pub mod JudgeLaws
 pub mod RoundLaws
 pub mod StandLaws
 pub mod KeptLaws
-pub mod TouchedLaws
 pub mod TogetherLaws
 pub mod LookedLaws

@@ -1,10 +1,10 @@
 -- The atoms that are looked at in a round, and the classes that are passed over.
-use Rattle.std.proofs.Common.{◌≡◌, ℕ, zero, suc, ◌+◌, ◌-◌, ◌*◌, ◌/◌, ◌%◌, ◌<◌, ◌≤◌, Bool, true, false, List, [], ◌∷◌, ◌++◌, length, replicate, get_or, set, take, drop, Option, Some, None, refl, sym, ap, ◌∙◌, subst, inl, inr, arith, get_or-set_same, get_or-set_other, suc-mul, div-add-mod', drop-drop}
+use Rattle.std.proofs.Common.{◌≡◌, ℕ, zero, suc, ◌+◌, ◌-◌, ◌%◌, ◌<◌, ◌≤◌, Bool, true, false, List, length, replicate, get_or, set, take, drop, Option, Some, None, refl, sym, ap, ◌∙◌, subst, inl, inr, arith, drop-drop}
 use Rattle.std.specs.Prelude.{slice_get}
 use Rattle.std.specs.List.{AllByRecursion}
-use Rattle.std.proofs.lemmas.Bool.{false≢true, cases_eq, cases_lt, cases_Bool}
-use Rattle.std.proofs.lemmas.List.{length-set, length-replicate, get_or-replicate, take-append-drop}
-use Rattle.std.proofs.lemmas.Nat.{mod-mul-add, mod_below}
+use Rattle.std.proofs.lemmas.Bool.{false≢true, cases_lt, cases_Bool}
+use Rattle.std.proofs.lemmas.List.{length-replicate, get_or-replicate, take-append-drop}
+use Rattle.std.proofs.lemmas.Nat.{mod_below}
 use Rattle.std.proofs.lemmas.Option.{slice_get_within}
 use Rattle.net_base.specs.Members.{IsIn}
 use Rattle.net_base.proofs.MemberLaws.{each_at, in_append_cases}
@@ -29,121 +29,13 @@ use Rattle.check_reasons.specs.Touched.{touches}
 use Rattle.check_reasons.specs.declared.reason.Reason.{Reason}
 use Rattle.ordered_check.specs.Cases.{IsRound}
 use Rattle.ordered_check.specs.Firsts.{first_of}
-use Rattle.ordered_check.specs.Kept.{OrderedState, HasClassRoom, HoldsWalks, IsSettled, AreSettled}
-use Rattle.ordered_check.specs.Looked.{IsNext, AreNext, MayBePassed, AreLookedAt}
-use Rattle.ordered_check.proofs.KeptLaws.{AreJudged, judged_more, some_at}
-use Rattle.ordered_check.proofs.PickLaws.{get_set_same, get_set_other}
+use Rattle.class_watch.specs.Walks.{HoldsWalks}
+use Rattle.class_watch.proofs.ListLaws.{some_at}
+use Rattle.class_watch.proofs.StandLaws.{untouched_walk}
+use Rattle.ordered_check.specs.Kept.{OrderedState, HasClassRoom, IsSettled, AreSettled}
+use Rattle.ordered_check.specs.Looked.{MayBePassed, AreLookedAt}
+use Rattle.ordered_check.proofs.KeptLaws.{AreJudged, judged_more}
 use Rattle.ordered_check.proofs.StandLaws.{certificate_stands}
-use Rattle.ordered_check.proofs.TouchedLaws.{untouched_walk}
-
--- ---- marks
-
--- a mark stays where one more is set
-pub still_marked : (marks : List Bool) (b a : ℕ) → b < length marks → get_or marks a false ≡ true → get_or (set marks b true) a false ≡ true
-still_marked marks b a lt on =
-    elim (cases_eq a b) [
-      | inl e ↦ ap (λ (n : ℕ). get_or (set marks b true) n false) e ∙ get_or-set_same marks b true false lt
-      | inr ne ↦ get_or-set_other marks b a true false ne ∙ on
-    ]
-
--- the atoms of the classes of some picks are marked, and that of one more
-pub picked_more : (marks : List Bool) (count : ℕ) (front : List OrderedPick) (p : OrderedPick) → count ≡ length marks → 0 < length marks
-    → ((q : OrderedPick) → IsIn q front → get_or marks (q.class % length marks) false ≡ true) → (q : OrderedPick) → IsIn q (front ++ p ∷ [])
-    → get_or (set marks (p.class % count) true) (q.class % length (set marks (p.class % count) true)) false ≡ true
-picked_more marks count front p same some so q i =
-    let at = p.class % count in
-    let within : at < length marks = subst (λ (n : ℕ). p.class % n < length marks) (sym same) (mod_below p.class (length marks) some) in
-    subst (λ (n : ℕ). get_or (set marks at true) (q.class % n) false ≡ true) (sym (length-set marks at true))
-    (elim (in_append_cases q front (p ∷ []) i) [
-      | inl before ↦ still_marked marks at (q.class % length marks) within (so q before)
-      | inr here ↦ elim here [
-        | inl is ↦
-            ap (λ (x : OrderedPick). get_or (set marks at true) (x.class % length marks) false) is
-            ∙ ap (λ (n : ℕ). get_or (set marks at true) (p.class % n) false) (sym same)
-            ∙ get_or-set_same marks at true false within
-        | inr none ↦ absurd none
-      ]
-    ])
-
--- ---- the next marked atom
-
-pub next_here : (marks : List Bool) (atom : ℕ) → IsNext marks atom atom
-next_here marks atom = record { from = omega arith; passed = λ a ge lt. absurd (omega arith) }
-
-pub next_later : (marks : List Bool) (atom next : ℕ) → get_or marks atom false ≡ false → IsNext marks (atom + 1) next → IsNext marks atom next
-next_later marks atom next off h = record {
-  from = (let f = h.from in omega arith);
-  passed = λ a ge lt.
-      elim (cases_lt atom a) [
-        | inl more ↦ h.passed a (omega arith) lt
-        | inr less ↦ let e : a ≡ atom = omega arith in ap (λ (n : ℕ). get_or marks n false) e ∙ off
-      ];
-}
-
--- the atoms from one on know the next marked one, and so does this one
-pub record AreLinked (marks : List Bool) (atom first : ℕ) (next : List ℕ) : Type 0 where
-  pub within : first ≤ length marks
-  pub first_is : IsNext marks atom first
-  pub count : length next ≡ length marks
-  pub each : (a n : ℕ) → atom ≤ a → slice_get next a ≡ Some n → (n ≤ length marks) × IsNext marks a n
-
-pub linked_none : (marks : List Bool) (next : List ℕ) → length next ≡ length marks → AreLinked marks (length marks) (length marks) next
-linked_none marks next count = record {
-  within = omega arith;
-  first_is = next_here marks (length marks);
-  count = count;
-  each = λ a n ge at. (let lt = slice_get_within next a n at in absurd (omega arith));
-}
-
-pub linked_more : (marks : List Bool) (atom after first : ℕ) (next : List ℕ) → AreLinked marks (atom + 1) after next → first ≤ length marks → IsNext marks atom first → AreLinked marks atom first (set next atom first)
-linked_more marks atom after first next linked within is = record {
-  within = within;
-  first_is = is;
-  count = length-set next atom first ∙ linked.count;
-  each = λ a n ge at.
-      elim (cases_eq a atom) [
-        | inl e ↦ (
-            let here : slice_get (set next atom first) atom ≡ Some n = sym (ap (slice_get (set next atom first)) e) ∙ at in
-            let same : first ≡ n = get_set_same next atom first n here in
-            subst (λ (m : ℕ). (m ≤ length marks) × IsNext marks a m) same (within, subst (λ (b : ℕ). IsNext marks b first) (sym e) is))
-        | inr ne ↦ elim (cases_lt atom a) [
-          | inl more ↦ linked.each a n (omega arith) (sym (get_set_other next atom a first ne) ∙ at)
-          | inr less ↦ absurd (ne (omega arith))
-        ]
-      ];
-}
-
--- ---- numbers of classes
-
-module _ (marks : List Bool) (nexts : List ℕ) (are : AreNext marks nexts) (number in_row : ℕ) (at : slice_get nexts (number % length marks) ≡ Some in_row) where
-  -- up to the next marked atom in the row of a number
-  pub passed_in_row : (n : ℕ) → number ≤ n → n < number - number % length marks + in_row → get_or marks (n % length marks) false ≡ false
-  passed_in_row n ge lt =
-      let atoms = length marks in
-      let (within, next) = are.each (number % atoms) in_row at in
-      let split = div-add-mod' number atoms in
-      let b = n - number / atoms * atoms in
-      let here : number / atoms * atoms + b ≡ n = omega arith in
-      let low : b < atoms = omega arith in
-      let place : n % atoms ≡ b = ap (λ (x : ℕ). x % atoms) (sym here) ∙ mod-mul-add (number / atoms) atoms b low in
-      ap (λ (x : ℕ). get_or marks x false) place ∙ next.passed b (omega arith) (omega arith)
-
-  -- up to the first one in the next row
-  pub passed_in_next : (first : ℕ) → slice_get nexts 0 ≡ Some first → length marks ≤ in_row → (n : ℕ) → number ≤ n → n < number - number % length marks + length marks + first → get_or marks (n % length marks) false ≡ false
-  passed_in_next first at_first past n ge lt =
-      elim (cases_lt n (number - number % length marks + in_row)) [
-        | inl less ↦ passed_in_row n ge less
-        | inr more ↦
-            let atoms = length marks in
-            let (within, next) = are.each 0 first at_first in
-            let split = div-add-mod' number atoms in
-            let row = suc-mul (number / atoms) atoms in
-            let b = n - suc (number / atoms) * atoms in
-            let here : suc (number / atoms) * atoms + b ≡ n = omega arith in
-            let low : b < atoms = omega arith in
-            let place : n % atoms ≡ b = ap (λ (x : ℕ). x % atoms) (sym here) ∙ mod-mul-add (suc (number / atoms)) atoms b low in
-            ap (λ (x : ℕ). get_or marks x false) place ∙ next.passed b (omega arith) (omega arith)
-      ]
 
 -- ---- the atoms that are looked at
 
@@ -209,16 +101,16 @@ force_later picks k n pick force none = record {
       ];
 }
 
--- a class that may be passed over has its certificate, and its marks hold its walks
-certified : (t : Task) (e : OrderedEvidence) (k n : ℕ) (class : Class) (marks : List Bool) (settled : Bool) → IsUserConfig t.update.net t.update.old → IsValidOrdered t.update.net (length t.rounds) e → k < length t.rounds
-    → RoundsPass t (Ordered e) k → ChangesPass t (Ordered e) k → IsClass (classes_for t) n class → MayBePassed t e k n → IsSettled t e k n class marks settled
-    → OrderedCertificate (rollout t) e k n class.first class.entry (class_duties t class) × HoldsWalks (rollout t) k class marks
-certified t e k n class marks true user valid within before pass is over held = held
-certified t e zero n class marks false user valid within before pass is over held = absurd (let h = over.later in omega arith)
-certified t e (suc k) n class marks false user valid within before pass is over held =
+-- a class that may be passed over has its certificate, and its switches hold its walks
+certified : (t : Task) (e : OrderedEvidence) (k n : ℕ) (class : Class) (set : ℕ) (settled : Bool) → IsUserConfig t.update.net t.update.old → IsValidOrdered t.update.net (length t.rounds) e → k < length t.rounds
+    → RoundsPass t (Ordered e) k → ChangesPass t (Ordered e) k → IsClass (classes_for t) n class → MayBePassed t e k n → IsSettled t e k n class set settled
+    → OrderedCertificate (rollout t) e k n class.first class.entry (class_duties t class) × HoldsWalks (rollout t) k class set
+certified t e k n class set true user valid within before pass is over held = held
+certified t e zero n class set false user valid within before pass is over held = absurd (let h = over.later in omega arith)
+certified t e (suc k) n class set false user valid within before pass is over held =
     let cert = (before k (omega arith)).1 n class is in
-    certificate_stands t e (suc k) n class cert.pick marks user valid within before pass is (force_later e.picks (suc k) n cert.pick cert.in_force over.no_pick) cert.in_force.begun held
-    (untouched_walk (round_after (suc k) t.rounds) class marks (over.untouched class is))
+    certificate_stands t e (suc k) n class cert.pick set user valid within before pass is (force_later e.picks (suc k) n cert.pick cert.in_force over.no_pick) cert.in_force.begun held
+    (untouched_walk (round_after (suc k) t.rounds) class set (over.untouched class is))
 
 first_none : (found : Option Reason) → first_of found None ≡ found
 first_none None = refl
@@ -226,26 +118,25 @@ first_none (Some reason) = refl
 
 module _ (t : Task) (e : OrderedEvidence) (k : ℕ) (changes : List Change) (mixes : List MixedState) (user : IsUserConfig t.update.net t.update.old) (valid : IsValidOrdered t.update.net (length t.rounds) e) (round : IsRound t e k changes mixes)
     (old : OrderedState) (room : HasClassRoom (classes_for t) old) (settled : AreSettled t e k old) (looked : AreLookedAt t e k old.looked) where
-  stands_over : (n : ℕ) (class : Class) (marks : List Bool) → get_or old.looked (n % length old.looked) false ≡ false → slice_get old.classes n ≡ Some class → slice_get old.came n ≡ Some marks
-      → OrderedCertificate (rollout t) e k n class.first class.entry (class_duties t class) × HoldsWalks (rollout t) k class marks
-  stands_over n class marks off is came =
+  stands_over : (n : ℕ) (class : Class) (set : ℕ) → get_or old.looked (n % length old.looked) false ≡ false → slice_get old.classes n ≡ Some class → slice_get old.came n ≡ Some set
+      → OrderedCertificate (rollout t) e k n class.first class.entry (class_duties t class) × HoldsWalks (rollout t) k class set
+  stands_over n class set off is came =
       let within : n < class_count (classes_for t) = (let lt = slice_get_within old.classes n class is in let count = room.classes_are.count in omega arith) in
       let (flag, at) = some_at old.settled n (let count = room.settled in omega arith) in
       let over = looked n within (subst (λ (c : ℕ). get_or old.looked (n % c) false ≡ false) (room.looked (omega arith)) off) in
-      certified t e k n class marks flag user valid round.within round.before round.pass (room.classes_are.each n class is) over (settled n class marks flag is came at)
+      certified t e k n class set flag user valid round.within round.before round.pass (room.classes_are.each n class is) over (settled n class set flag is came at)
 
   over_one : (n : ℕ) (found : Option Reason) (mid : OrderedState) → n < class_count (classes_for t) → get_or old.looked (n % length old.looked) false ≡ false → AreJudged t e k n found old mid → AreJudged t e k (n + 1) found old mid
   over_one n found mid within off judged =
-      let (marks, came) = some_at old.came n (let count = room.came in omega arith) in
+      let (set, came) = some_at old.came n (let count = room.came in omega arith) in
       let class_was = λ (class : Class) (at : slice_get mid.classes n ≡ Some class). ap (λ (cs : List Class). slice_get cs n) (sym judged.classes) ∙ at in
       subst (λ (f : Option Reason). AreJudged t e k (n + 1) f old mid) (first_none found)
       (judged_more t e k n found None old mid mid valid.ascending room.classes_are within judged (record {
-        none = λ class at. (stands_over n class marks off (class_was class at) came).0;
+        none = λ class at. (stands_over n class set off (class_was class at) came).0;
         some = tt;
         guarded = judged.guarded;
         picks = refl;
         classes = refl;
-        atoms = refl;
         touched = refl;
         looked = refl;
         settled = refl;

@@ -11,6 +11,7 @@ use Rattle.certificates.proofs.Chains.{all_at}
 use Rattle.certificates.specs.Valid.{IsChain, IsPickBefore}
 use Rattle.certificates.specs.declared.OrderedPick.{OrderedPick}
 use Rattle.certificates.proofs.PickLaws.{chain_rest}
+use Rattle.class_watch.proofs.ListLaws.{get_set_same, get_set_other}
 use Rattle.ordered_check.specs.Picks.{PicksState, PicksStand, IsKeptPick}
 
 -- ---- picks in order
@@ -53,18 +54,6 @@ IsLatestPick picks n (Some pick) = IsLatest picks n pick
 -- each class has its own
 abbrev pub AreKept : List OrderedPick → List (Option OrderedPick) → Type 0
 AreKept picks of_class = (n : ℕ) (kept : Option OrderedPick) → slice_get of_class n ≡ Some kept → IsLatestPick picks n kept
-
-pub get_set_same : {A : Type 0} (xs : List A) (i : ℕ) (x y : A) → slice_get (set xs i x) i ≡ Some y → x ≡ y
-get_set_same [] i x y e = absurd (none-some y e)
-get_set_same (z ∷ xs) zero x y e = same_Some x y e
-get_set_same (z ∷ xs) (suc i) x y e = get_set_same xs i x y e
-
-pub get_set_other : {A : Type 0} (xs : List A) (i j : ℕ) (x : A) → ¬ (j ≡ i) → slice_get (set xs i x) j ≡ slice_get xs j
-get_set_other [] i j x ne = refl
-get_set_other (z ∷ xs) zero zero x ne = absurd (ne refl)
-get_set_other (z ∷ xs) zero (suc j) x ne = refl
-get_set_other (z ∷ xs) (suc i) zero x ne = refl
-get_set_other (z ∷ xs) (suc i) (suc j) x ne = get_set_other xs i j x (λ e. ne (ap suc e))
 
 module _ (front : List OrderedPick) (p : OrderedPick) where
   here_latest : AllByRecursion (λ q. q.round ≤ p.round) front → IsLatest (front ++ p ∷ []) p.class p

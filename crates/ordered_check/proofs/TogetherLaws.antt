@@ -1,13 +1,12 @@
 -- Classes that are walked together: each has its certificate where all that was walked is safe.
-use Rattle.std.proofs.Common.{◌≡◌, ◌≢◌, ◌↔◌, ℕ, zero, suc, ◌<◌, Bool, true, IsTrue, List, [], ◌∷◌, ◌++◌, length, set, Option, Some, None, refl, sym, ap, ◌∙◌, subst, inl, inr, arith}
+use Rattle.std.proofs.Common.{◌≡◌, ◌≢◌, ℕ, zero, suc, ◌<◌, Bool, true, List, [], ◌∷◌, ◌++◌, length, set, Option, Some, None, refl, sym, ap, ◌∙◌, subst, inl, inr, arith}
 use Rattle.std.specs.Prelude.{slice_get, ◌==◌, IfSome}
 use Rattle.std.specs.List.{AllByRecursion, AllZip}
 use Rattle.std.proofs.lemmas.Bool.{cases_lt, cases_eq, eqb-true}
 use Rattle.std.proofs.lemmas.Option.{same_Some}
 use Rattle.net_base.specs.Members.{IsIn}
 use Rattle.net_base.specs.declared.ids.SwitchId.{SwitchId}
-use Rattle.net_base.specs.declared.ids.Place.{Place}
-use Rattle.net_base.proofs.MemberLaws.{each_at, in_map, in_append_left, in_append_right, in_append_cases}
+use Rattle.net_base.proofs.MemberLaws.{each_at, in_append_left, in_append_right, in_append_cases}
 use Rattle.net_base.proofs.ItemLaws.{in_from_get}
 use Rattle.net_base.specs.Places.{stop_of}
 use Rattle.net_base.specs.declared.ids.Vlan.{Vlan}
@@ -30,11 +29,13 @@ use Rattle.certificates.specs.Certified.{classes_for}
 use Rattle.certificates.specs.declared.OrderedEvidence.{OrderedEvidence}
 use Rattle.certificates.specs.declared.Shared.{Shared}
 use Rattle.check_reasons.specs.Reasons.{class_duties}
-use Rattle.mixed_walks.specs.Walks.{WalkState, switches_of, Covers, AreTogether}
-use Rattle.ordered_check.specs.Kept.{OrderedState, is_marked, AreClasses, HoldsWalks, IsSettled, AreSettled}
+use Rattle.mixed_walks.specs.Walks.{WalkState, Covers, AreTogether}
+use Rattle.class_watch.specs.Classes.{AreClasses}
+use Rattle.class_watch.specs.Walks.{HoldsWalks}
+use Rattle.class_watch.proofs.ListLaws.{get_set_other}
+use Rattle.ordered_check.specs.Kept.{OrderedState, IsSettled, AreSettled}
 use Rattle.ordered_check.specs.Together.{IsMember, AreMembers, AreGathered, AreSafe, AreSettledWith}
 use Rattle.ordered_check.specs.declared.together.Group.{Group}
-use Rattle.ordered_check.proofs.PickLaws.{get_set_other}
 
 -- the pick in force names a use
 pub use_within : (t : Task) (e : OrderedEvidence) (round n : ℕ) (pick : OrderedPick) → IsValidOrdered t.update.net (length t.rounds) e → IsPickInForce e.picks round n pick → pick.shared < length e.uses
@@ -60,6 +61,9 @@ positions_none : (chains : List (List SwitchId)) → positions chains [] ≡ []
 positions_none [] = refl
 positions_none ([] ∷ chains) = positions_none chains
 positions_none ((w ∷ ws) ∷ chains) = positions_none chains
+
+pub together_at : (u : Rollout) (k a b : ℕ) (v w : Vlan) (noted : WalkState) → a ≡ b → v ≡ w → AreTogether u k a v noted → AreTogether u k b w noted
+together_at u k a b v w noted same same_vlan h = subst (λ (x : Vlan). AreTogether u k b x noted) same_vlan (subst (λ (x : ℕ). AreTogether u k x v noted) same h)
 
 -- a class of a group that was walked together with others
 module _ (t : Task) (e : OrderedEvidence) (k : ℕ) (group : Group) (m : NumberedClass) (member : IsMember t e k group m) (noted : WalkState)
@@ -100,20 +104,15 @@ module _ (t : Task) (e : OrderedEvidence) (k : ℕ) (group : Group) (m : Numbere
         };
       }
 
-  -- the marks of the switches that were walked hold its walks
-  pub member_walks : (switches : List SwitchId) (marks : List Bool) → ((s : SwitchId) → IsIn s switches ↔ IsIn s (switches_of noted.places)) → ((s : SwitchId) → IsTrue (is_marked marks s) ↔ IsIn s switches)
-      → HoldsWalks (rollout t) k m.class marks
-  member_walks switches marks seen marked place on =
-      (marked place.switch).1 ((seen place.switch).1 (in_map (λ (p : Place). p.switch) place noted.places (covers.places place on)))
+  -- the switches that were walked hold its walks
+  pub member_walks : (marks : ℕ) → (AreTogether (rollout t) k m.class.first group.vlan noted → IsIn m.class.entry noted.places → HoldsWalks (rollout t) k m.class marks) → HoldsWalks (rollout t) k m.class marks
+  member_walks marks held = held (together_at (rollout t) k group.address m.class.first group.vlan group.vlan noted (sym member.of_group.address) refl together) entry
 
 -- ---- walking
 
 -- what a list is read with past its end
 abbrev pub no_class : NumberedClass
 no_class = record { number = 0; class = record { entry = record { switch = record { 0 = 0 }; port = record { 0 = 0 }; vlan = Untagged }; first = 0 } }
-
-pub together_at : (u : Rollout) (k a b : ℕ) (v w : Vlan) (noted : WalkState) → a ≡ b → v ≡ w → AreTogether u k a v noted → AreTogether u k b w noted
-together_at u k a b v w noted same same_vlan h = subst (λ (x : Vlan). AreTogether u k b x noted) same_vlan (subst (λ (x : ℕ). AreTogether u k x v noted) same h)
 
 -- the entry of a class is at a host port
 pub host_used : (t : Task) (n : ℕ) (class : Class) → IsClass (classes_for t) n class → IsUsed t.update.net (stop_of class.entry)
@@ -145,7 +144,7 @@ some_then (Some g) P Q p f = f g p
 
 -- ---- settling
 
-pub with_none : (marks : List Bool) (settled : List Bool) (came : List (List Bool)) → AreSettledWith [] marks settled came settled came
+pub with_none : (marks : ℕ) (settled : List Bool) (came : List ℕ) → AreSettledWith [] marks settled came settled came
 with_none marks settled came n = inl (record { settled = refl; came = refl })
 
 get_set_here : {A : Type 0} (xs : List A) (i : ℕ) (x : A) → i < length xs → slice_get (set xs i x) i ≡ Some x
@@ -153,7 +152,7 @@ get_set_here [] i x lt = absurd (omega arith)
 get_set_here (y ∷ xs) zero x lt = refl
 get_set_here (y ∷ xs) (suc i) x lt = get_set_here xs i x (omega arith)
 
-pub with_more : (members : List NumberedClass) (marks settled : List Bool) (came : List (List Bool)) (settled_ : List Bool) (came_ : List (List Bool)) (m : NumberedClass) → m.number < length settled_ → m.number < length came_
+pub with_more : (members : List NumberedClass) (marks : ℕ) (settled : List Bool) (came : List ℕ) (settled_ : List Bool) (came_ : List ℕ) (m : NumberedClass) → m.number < length settled_ → m.number < length came_
     → AreSettledWith members marks settled came settled_ came_ → AreSettledWith (members ++ m ∷ []) marks settled came (set settled_ m.number true) (set came_ m.number marks)
 with_more members marks settled came settled_ came_ m within there each n =
     elim (cases_eq n m.number) [
@@ -162,7 +161,7 @@ with_more members marks settled came settled_ came_ m within there each n =
         among = in_append_right m members (m ∷ []) (inl refl);
         number = sym e;
         settled_is = ap (slice_get (set settled_ m.number true)) e ∙ get_set_here settled_ m.number true within;
-        marks_are = ap (slice_get (set came_ m.number marks)) e ∙ get_set_here came_ m.number marks there;
+        set_is = ap (slice_get (set came_ m.number marks)) e ∙ get_set_here came_ m.number marks there;
       })
       | inr ne ↦ elim (each n) [
         | inl kept ↦ inl (record { settled = get_set_other settled_ m.number n true ne ∙ kept.settled; came = get_set_other came_ m.number n marks ne ∙ kept.came })
@@ -171,7 +170,7 @@ with_more members marks settled came settled_ came_ m within there each n =
           among = in_append_left here.member members (m ∷ []) here.among;
           number = here.number;
           settled_is = get_set_other settled_ m.number n true ne ∙ here.settled_is;
-          marks_are = get_set_other came_ m.number n marks ne ∙ here.marks_are;
+          set_is = get_set_other came_ m.number n marks ne ∙ here.set_is;
         })
       ]
     ]
@@ -179,7 +178,7 @@ with_more members marks settled came settled_ came_ m within there each n =
 -- ---- what is kept
 
 -- the classes of a group are settled
-pub settled_more : (t : Task) (e : OrderedEvidence) (k : ℕ) (members : List NumberedClass) (marks : List Bool) (old new : OrderedState) → AreClasses (classes_for t) old.classes → AreSettled t e k old
+pub settled_more : (t : Task) (e : OrderedEvidence) (k : ℕ) (members : List NumberedClass) (marks : ℕ) (old new : OrderedState) → AreClasses (classes_for t) old.classes → AreSettled t e k old
     → new.classes ≡ old.classes → AreSettledWith members marks old.settled old.came new.settled new.came → ((m : NumberedClass) → IsIn m members → IsClass (classes_for t) m.number m.class)
     → ((m : NumberedClass) → IsIn m members → OrderedCertificate (rollout t) e k m.number m.class.first m.class.entry (class_duties t m.class))
     → ((m : NumberedClass) → IsIn m members → HoldsWalks (rollout t) k m.class marks) → AreSettled t e k new
@@ -194,6 +193,6 @@ settled_more t e k members marks old new classes so same each are safe held n cl
           let cert = subst (λ (x : ℕ). OrderedCertificate (rollout t) e k x m.class.first m.class.entry (class_duties t m.class)) here.number (safe m i) in
           subst (IsSettled t e k n class them) (same_Some true settled (sym here.settled_is ∙ at)) (
             subst (λ (c : Class). OrderedCertificate (rollout t) e k n c.first c.entry (class_duties t c)) class_here cert,
-            subst (λ (c : Class). HoldsWalks (rollout t) k c them) class_here (subst (HoldsWalks (rollout t) k m.class) (same_Some marks them (sym here.marks_are ∙ came)) (held m i)),
+            subst (λ (c : Class). HoldsWalks (rollout t) k c them) class_here (subst (HoldsWalks (rollout t) k m.class) (same_Some marks them (sym here.set_is ∙ came)) (held m i)),
           ))
     ]

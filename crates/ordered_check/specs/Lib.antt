@@ -6,4 +6,3 @@ pub mod Looked
 pub mod Kept
 pub mod Firsts
 pub mod Together
-pub mod Laws

@@ -1,5 +1,5 @@
 -- The atoms whose classes are looked at in a round.
-use Rattle.std.specs.Prelude.{◌≡◌, ℕ, suc, ◌%◌, ◌<◌, ◌≤◌, Bool, false, List, length, slice_get, Some}
+use Rattle.std.specs.Prelude.{◌≡◌, ℕ, suc, ◌%◌, ◌<◌, Bool, false, List}
 use Rattle.net_base.specs.Members.{IsIn}
 use Rattle.dest_classes.specs.Classes.{IsClass, class_count, atom_count}
 use Rattle.dest_classes.specs.declared.Class.{Class}
@@ -11,19 +11,8 @@ use Rattle.certificates.specs.declared.OrderedEvidence.{OrderedEvidence}
 use Rattle.check_reasons.specs.Touched.{touches}
 use Rattle.check_reasons.specs.AtomMarks.{is_marked}
 
--- no atom from this one on is marked before the next one
-pub record IsNext (marks : List Bool) (atom next : ℕ) : Type 0 where
-  pub from : atom ≤ next
-  pub passed : (a : ℕ) → atom ≤ a → a < next → is_marked marks a ≡ false
-
--- of each atom, of which there are 1 to 8192, the next marked one
-pub record AreNext (marks : List Bool) (next : List ℕ) : Type 0 where
-  pub some : 0 < length marks
-  pub few : length marks ≤ 8192
-  pub count : length next ≡ length marks
-  pub each : (atom n : ℕ) → slice_get next atom ≡ Some n → (n ≤ length marks) × IsNext marks atom n
-
--- class n may be passed over in round k: it isn't the first one, no change covers the address of the class, and no pick of it begins with the round
+-- class n may be passed over in round k: it isn't the first one, no change covers the address of the class, and no pick of it
+-- begins with the round
 pub record MayBePassed (t : Task) (e : OrderedEvidence) (k n : ℕ) : Type 0 where
   pub later : 0 < k
   pub untouched : (class : Class) → IsClass (classes_for t) n class → touches (round_after k t.rounds) class.first ≡ false
@@ -31,4 +20,5 @@ pub record MayBePassed (t : Task) (e : OrderedEvidence) (k n : ℕ) : Type 0 whe
 
 -- each class whose atom isn't marked may be passed over in round k
 abbrev pub AreLookedAt : Task → OrderedEvidence → ℕ → List Bool → Type 0
-AreLookedAt t e k marks = (n : ℕ) → n < class_count (classes_for t) → is_marked marks (n % atom_count (classes_for t)) ≡ false → MayBePassed t e k n
+AreLookedAt t e k marks =
+    (n : ℕ) → n < class_count (classes_for t) → is_marked marks (n % atom_count (classes_for t)) ≡ false → MayBePassed t e k n

@@ -53,19 +53,20 @@ pub record AreSafe (e : OrderedEvidence) (group : Group) (noted : WalkState) : T
   pub falls : (s : SwitchId) → ¬ HasEdgeUp noted.steps numbers s
   pub arrives : IsTrue group.arrive → (s : SwitchId) → ¬ IsIn s noted.dropping
 
--- class n was settled with these marks
-pub record IsSettledAt (members : List NumberedClass) (marks : List Bool) (n : ℕ) (settled : List Bool) (came : List (List Bool)) : Type 0 where
+-- class n was settled with this set of switches
+pub record IsSettledAt (members : List NumberedClass) (set n : ℕ) (settled : List Bool) (came : List ℕ) : Type 0 where
   pub member : NumberedClass
   pub among : IsIn member members
   pub number : member.number ≡ n
   pub settled_is : slice_get settled n ≡ Some true
-  pub marks_are : slice_get came n ≡ Some marks
+  pub set_is : slice_get came n ≡ Some set
 
 -- class n is as it was
-pub record IsAsBefore (n : ℕ) (old_settled new_settled : List Bool) (old_came new_came : List (List Bool)) : Type 0 where
+pub record IsAsBefore (n : ℕ) (old_settled new_settled : List Bool) (old_came new_came : List ℕ) : Type 0 where
   pub settled : slice_get new_settled n ≡ slice_get old_settled n
   pub came : slice_get new_came n ≡ slice_get old_came n
 
--- each class is as it was, or one of these and settled with these marks
-abbrev pub AreSettledWith : List NumberedClass → List Bool → List Bool → List (List Bool) → List Bool → List (List Bool) → Type 0
-AreSettledWith members marks settled came settled_ came_ = (n : ℕ) → IsAsBefore n settled settled_ came came_ ⊎ IsSettledAt members marks n settled_ came_
+-- each class is as it was, or one of these and settled with this set of switches
+abbrev pub AreSettledWith : List NumberedClass → ℕ → List Bool → List ℕ → List Bool → List ℕ → Type 0
+AreSettledWith members set settled came settled_ came_ =
+    (n : ℕ) → IsAsBefore n settled settled_ came came_ ⊎ IsSettledAt members set n settled_ came_

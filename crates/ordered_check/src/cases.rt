@@ -46,7 +46,8 @@ pub(crate) struct PreparedRound<'a> {
 impl<'a> OrderedCase<'a> {
     /// Does nothing: its contract says what every case of an ordered plan keeps.
     pub(crate) fn keeps_valid(&self)
-        ensures valid { IsValidOrdered self.now.task.update.net (length self.now.task.rounds) self.now.evidence }
+        ensures valid { IsValidOrdered self.now.task.update.net (length self.now.task.rounds)
+            self.now.evidence }
         ensures rounds { length self.now.task.rounds ≤ 4200 }
         ensures switches { switch_count self.now.task.update.net ≤ 128 }
         ensures network { IsNetwork self.now.task.update.net }
@@ -84,7 +85,10 @@ impl<'a> OrderedCase<'a> {
 
     /// The duties of the classes.
     pub(crate) fn class_duties(&self) -> &'a Duties
-        ensures { result.now ≡ record { demands = self.now.task.update.demands; classes = classes_for self.now.task } }
+        ensures { result.now ≡ record {
+          demands = self.now.task.update.demands;
+          classes = classes_for self.now.task;
+        } }
     {
         self.duties
     }

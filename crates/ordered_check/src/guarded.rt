@@ -79,7 +79,8 @@ impl Guarded {
     pub(crate) fn knows(&self, of: &OrderedCase, class: GuardedClass, walk: &WalkRoom) -> bool
         requires number { class.number < class_count (classes_for of.now.task) }
         requires kept { HoldsGuarded of.now.task of.now.evidence self.now }
-        ensures { result ≡ true → (c : Class) → IsClass (classes_for of.now.task) class.number c → IsGuarded of.now.task of.now.evidence class c walk.now.steps walk.now.leaving }
+        ensures { result ≡ true → (c : Class) → IsClass (classes_for of.now.task) class.number c
+            → IsGuarded of.now.task of.now.evidence class c walk.now.steps walk.now.leaving }
     {
         let Some(last) = self.last else {
             return false;
@@ -93,7 +94,9 @@ impl Guarded {
 
     /// Keeps a class whose positions are guarded, where its walks are those that were walked last.
     pub(crate) fn keep(&mut self, class: GuardedClass, walk: &WalkRoom)
-        ensures { (t : Task) (e : OrderedEvidence) (c : Class) → IsClass (classes_for t) class.number c → IsGuarded t e class c walk.now.steps walk.now.leaving → HoldsGuarded t e self.new }
+        ensures { (t : Task) (e : OrderedEvidence) (c : Class)
+            → IsClass (classes_for t) class.number c
+            → IsGuarded t e class c walk.now.steps walk.now.leaving → HoldsGuarded t e self.new }
     {
         self.last = None;
         self.steps.clear();

@@ -32,7 +32,8 @@ use net_base::SwitchId;
 fn least_drop(duties: &Duties, numbered: NumberedClass, dropping: &[SwitchId]) -> Option<SwitchId>
     requires number { numbered.number < class_count duties.now.classes }
     requires class { IsNumbered duties.now.classes numbered }
-    ensures { IsLeastOf (λ s. IsTrue (duties_of duties.now.demands numbered.class.entry numbered.class.first).arrive × IsIn s dropping.now) result }
+    ensures { IsLeastOf (λ s. IsTrue (duties_of duties.now.demands numbered.class.entry
+        numbered.class.first).arrive × IsIn s dropping.now) result }
 {
     if duties.must_arrive(numbered.number) {
         least_of(dropping)
@@ -58,11 +59,18 @@ fn way_by_walks(
     requires steps { All (λ e. (e.from.0 < 128) × (e.to.0 < 128)) walk.now.steps }
     requires leaving { All (λ s. s.0 < 128) walk.now.leaving }
     requires entry { numbered.class.entry.switch.0 < 128 }
-    requires count { length shared.now.befores ≡ position_count (class_duties of.now.task numbered.class).chains }
-    ensures none { IfNone result (AreGuardedBelow (IsWayRound numbered.class.entry.switch (IsEdge walk.now.steps) (λ s. IsIn s walk.now.leaving))
-        (positions (class_duties of.now.task numbered.class).chains (sets_of of.now.evidence.befores shared.now.befores)) (length shared.now.befores)) }
-    ensures some { IfSome result (IsFirstWayRound (IsWayRound numbered.class.entry.switch (IsEdge walk.now.steps) (λ s. IsIn s walk.now.leaving))
-        (positions (class_duties of.now.task numbered.class).chains (sets_of of.now.evidence.befores shared.now.befores))) }
+    requires count { length shared.now.befores ≡ position_count
+        (class_duties of.now.task numbered.class).chains }
+    ensures none { IfNone result (AreGuardedBelow
+        (IsWayRound numbered.class.entry.switch (IsEdge walk.now.steps)
+        (λ s. IsIn s walk.now.leaving))
+        (positions (class_duties of.now.task numbered.class).chains
+        (sets_of of.now.evidence.befores shared.now.befores)) (length shared.now.befores)) }
+    ensures some { IfSome result (IsFirstWayRound
+        (IsWayRound numbered.class.entry.switch (IsEdge walk.now.steps)
+        (λ s. IsIn s walk.now.leaving))
+        (positions (class_duties of.now.task numbered.class).chains
+        (sets_of of.now.evidence.befores shared.now.befores))) }
 {
     let sets = shared.befores.list();
     let duties = of.class_duties();
@@ -87,12 +95,19 @@ fn way_of_class(
     requires steps { All (λ e. (e.from.0 < 128) × (e.to.0 < 128)) walk.now.steps }
     requires leaving { All (λ s. s.0 < 128) walk.now.leaving }
     requires entry { numbered.class.entry.switch.0 < 128 }
-    requires count { length shared.now.befores ≡ position_count (class_duties of.now.task numbered.class).chains }
+    requires count { length shared.now.befores ≡ position_count
+        (class_duties of.now.task numbered.class).chains }
     requires guarded { HoldsGuarded of.now.task of.now.evidence guarded.old }
-    ensures none { IfNone result (AreGuardedBelow (IsWayRound numbered.class.entry.switch (IsEdge walk.now.steps) (λ s. IsIn s walk.now.leaving))
-        (positions (class_duties of.now.task numbered.class).chains (sets_of of.now.evidence.befores shared.now.befores)) (length shared.now.befores)) }
-    ensures some { IfSome result (IsFirstWayRound (IsWayRound numbered.class.entry.switch (IsEdge walk.now.steps) (λ s. IsIn s walk.now.leaving))
-        (positions (class_duties of.now.task numbered.class).chains (sets_of of.now.evidence.befores shared.now.befores))) }
+    ensures none { IfNone result (AreGuardedBelow
+        (IsWayRound numbered.class.entry.switch (IsEdge walk.now.steps)
+        (λ s. IsIn s walk.now.leaving))
+        (positions (class_duties of.now.task numbered.class).chains
+        (sets_of of.now.evidence.befores shared.now.befores)) (length shared.now.befores)) }
+    ensures some { IfSome result (IsFirstWayRound
+        (IsWayRound numbered.class.entry.switch (IsEdge walk.now.steps)
+        (λ s. IsIn s walk.now.leaving))
+        (positions (class_duties of.now.task numbered.class).chains
+        (sets_of of.now.evidence.befores shared.now.befores))) }
     ensures guarded { HoldsGuarded of.now.task of.now.evidence guarded.new }
 {
     if shared.befores.list().len() < MANY_POSITIONS {
@@ -126,10 +141,12 @@ pub(crate) fn first_of_class(
     requires class { IsNumbered (classes_for of.now.task) numbered }
     requires round { k < length of.now.task.rounds }
     requires in_force { IsPickInForce of.now.evidence.picks (suc k) numbered.number pick }
-    requires walked { IsWalked (rollout of.now.task) k numbered.class.first numbered.class.entry walk.now }
+    requires walked { IsWalked (rollout of.now.task) k numbered.class.first numbered.class.entry
+        walk.now }
     requires entry { numbered.class.entry.switch.0 < switch_count of.now.task.update.net }
     requires guarded { HoldsGuarded of.now.task of.now.evidence guarded.old }
-    ensures none { IfNone result (OrderedCertificate (rollout of.now.task) of.now.evidence k numbered.number numbered.class.first numbered.class.entry
+    ensures none { IfNone result (OrderedCertificate (rollout of.now.task) of.now.evidence k
+        numbered.number numbered.class.first numbered.class.entry
         (duties_of of.now.task.update.demands numbered.class.entry numbered.class.first)) }
     ensures some { IfSome result (IsFirstOfClass of.now.task of.now.evidence k numbered.number) }
     ensures guarded { HoldsGuarded of.now.task of.now.evidence guarded.new }

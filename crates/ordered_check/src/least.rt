@@ -15,7 +15,8 @@ use waypoint_evidence::{Before, begins, meets};
 
 /// The least of the switches from which a step goes to no lower number.
 pub(crate) fn least_not_lower(numbering: &Numbering, steps: &[Edge]) -> Option<SwitchId>
-    requires { All (λ e. (e.from.0 < length numbering.now) × (e.to.0 < length numbering.now)) steps.now }
+    requires { All (λ e. (e.from.0 < length numbering.now)
+        × (e.to.0 < length numbering.now)) steps.now }
     ensures { IsLeastOf (HasEdgeUp steps.now numbering.now) result }
 {
     let mut least = None;
@@ -52,7 +53,11 @@ fn least_held(set: &Before, switches: &[SwitchId]) -> Option<SwitchId>
 /// Whether the step leaves the set otherwise than from outside the set before to the waypoint.
 fn strays(set: &Before, step: Edge, waypoint: SwitchId, earlier: Option<&Before>) -> bool
     requires { (step.from.0 < 128) × (step.to.0 < 128) }
-    ensures { IsTrue result ↔ Strays (record { waypoint = waypoint; earlier = option_copied earlier.entry; set = set.now }) step }
+    ensures { IsTrue result ↔ Strays (record {
+      waypoint = waypoint;
+      earlier = option_copied earlier.entry;
+      set = set.now;
+    }) step }
 {
     set.holds(step.from) && !set.holds(step.to) && !meets(step, waypoint, earlier)
 }
@@ -65,7 +70,11 @@ fn least_stray(
     earlier: Option<&Before>,
 ) -> Option<SwitchId>
     requires { All (λ e. (e.from.0 < 128) × (e.to.0 < 128)) steps.now }
-    ensures { IsLeastOf (HasStray steps.now (record { waypoint = waypoint; earlier = option_copied earlier.entry; set = set.now })) result }
+    ensures { IsLeastOf (HasStray steps.now (record {
+      waypoint = waypoint;
+      earlier = option_copied earlier.entry;
+      set = set.now;
+    })) result }
 {
     let mut least = None;
     for step in steps {
@@ -91,7 +100,8 @@ pub(crate) fn least_way_round(
     requires steps { All (λ e. (e.from.0 < 128) × (e.to.0 < 128)) steps.now }
     requires leaving { All (λ s. s.0 < 128) leaving.now }
     ensures { IsLeastOf (IsWayRound start (IsEdge steps.now) (λ s. IsIn s leaving.now)
-        (record { waypoint = waypoint; earlier = option_copied earlier.entry; set = set.now })) result }
+        (record { waypoint = waypoint; earlier = option_copied earlier.entry; set = set.now }))
+        result }
 {
     let unbegun = !begins(set, start, waypoint, earlier);
     let at_start = unbegun.then_some(start);

@@ -4,9 +4,8 @@
 mod cases;
 mod guarded;
 mod judging;
-pub mod laws;
 mod least;
-mod looked;
+mod looking;
 mod ordered;
 mod picks;
 mod together;

@@ -1,8 +1,6 @@
 //! The classes of the rounds of an ordered plan.
 ghost use Rattle.certificates.specs.Updates.{rollout};
-ghost use Rattle.std.specs.Prelude.{◌≡◌, ◌≢◌, ◌↔◌, ℕ, ◌<◌, ◌≤◌, suc, true, false, List, Bool, length, All, IsTrue, IsSomeAnd, slice_get, Some, IfOk, IfSome, IfNone};
-ghost use Rattle.net_base.specs.Members.{IsIn};
-ghost use Rattle.net_base.specs.declared.ids.SwitchId.{SwitchId};
+ghost use Rattle.std.specs.Prelude.{◌≡◌, ◌≢◌, ℕ, ◌<◌, ◌≤◌, suc, true, false, Bool, length, IsSomeAnd, slice_get, Some, IfOk, IfSome, IfNone};
 ghost use Rattle.dest_classes.specs.Classes.{class_count};
 ghost use Rattle.dest_classes.specs.declared.Class.{Class};
 ghost use Rattle.certificates.specs.Certified.{classes_for, HasCertificate};
@@ -18,21 +16,23 @@ ghost use Rattle.ordered_check.specs.Guarded.{HoldsGuarded};
 ghost use Rattle.ordered_check.specs.Picks.{IsKeptPick, PicksStand};
 ghost use Rattle.check_reasons.specs.AtomMarks.{AreTouched};
 ghost use Rattle.ordered_check.specs.Looked.{AreLookedAt};
-ghost use Rattle.ordered_check.specs.Kept.{is_marked, AreClasses, AreAtoms, HasClassRoom, HoldsWalks, WalksStand, IsSettled, AreSettled, KeepsRoom, touches_walk};
+ghost use Rattle.class_watch.specs.Classes.{AreClasses};
+ghost use Rattle.class_watch.specs.Walks.{HoldsWalks, meets_any};
+ghost use Rattle.ordered_check.specs.Kept.{HasClassRoom, WalksStand, IsSettled, AreSettled, KeepsRoom};
 ghost use Rattle.ordered_check.specs.Together.{IsMember, AreGathered};
 ghost use Rattle.ordered_check.specs.Firsts.{first_of, IsFirstOfClass, IsFoundBelow};
 
 use crate::cases::{OrderedCase, PreparedRound};
 use crate::guarded::Guarded;
 use crate::judging::first_of_class;
-use crate::looked::LookedAtoms;
+use crate::looking::choose;
 use crate::picks::PicksInForce;
 use crate::together::{Group, are_safe, group_of, is_other, settle_members, walk_members};
 use certificates::OrderedPick;
-use check_reasons::{Reason, TouchedAtoms, may_cover};
+use check_reasons::{Reason, TouchedAtoms};
+use class_watch::{ClassWatch, LookedAtoms, SwitchSet, all_classes, meets_any, switches_on};
 use dest_classes::{Class, ClassMap, NumberedClass};
-use mixed_walks::WalkRoom;
-use net_base::{Memory, SwitchId};
+use net_base::Memory;
 use round_mix::Mixed;
 use std::alloc::Global;
 use std::marker::Model;
@@ -42,18 +42,16 @@ use update_model::Change;
 /// class anew costs no more than to compare them all.
 const MOST_COMPARED: usize = 64;
 
-/// Room for the classes of an ordered plan: walks, the class whose positions were found guarded last, and of each class its pick
-/// in force, the number of its atom, the switches that its last walk came to, and whether it is settled in the round that is
+/// Room for the classes of an ordered plan: walks, with the switches that the last walk of each class came to, and the class
+/// whose positions were found guarded last; of each class its pick in force, and whether it is settled in the round that is
 /// judged; of each atom whether a change of the round touches it, and whether its classes are looked at in the round; and the
 /// classes that are walked together.
 #[derive(Drop)]
 pub struct OrderedRoom {
-    walk: WalkRoom,
+    watch: ClassWatch,
     guarded: Guarded,
     picks: PicksInForce,
     classes: Vec<Class>,
-    atoms: Vec<u32>,
-    came: Vec<[bool; 128]>,
     touched: TouchedAtoms,
     looked: LookedAtoms,
     settled: Vec<bool>,
@@ -65,7 +63,7 @@ impl Model for OrderedRoom {
 
     ghost Value = { OrderedState };
 
-    ghost view = { λ r. record { guarded = r.guarded; picks = r.picks; classes = r.classes.items; atoms = r.atoms.items; came = r.came.items; touched = r.touched; looked = r.looked; settled = r.settled.items; members = r.members.items } };
+    ghost view = { λ r. record { guarded = r.guarded; picks = r.picks; classes = r.classes.items; came = r.watch.came.items; touched = r.touched; looked = r.looked; settled = r.settled.items; members = r.members.items } };
 }
 
 /// The first of two reasons, where there are two and the second is of a later class.
@@ -87,68 +85,13 @@ fn first_of(found: Option<Reason>, later: Option<Reason>) -> Option<Reason>
     }
 }
 
-/// The classes of a map, in the order of their numbers.
-fn all_classes(alloc: Global, classes: &ClassMap) -> Result<Vec<Class>, Memory>
-    ensures { IfOk result (λ list. AreClasses classes.now list.items) }
-{
-    let mut list = Vec::new(alloc);
-    for number in 0..classes.count() {
-        list.push(classes.class(number))?;
-    }
-    Ok(list)
-}
-
-/// The atoms of the classes of a map by their numbers, in the order of the classes.
-fn all_atoms(alloc: Global, classes: &ClassMap) -> Result<Vec<u32>, Memory>
-    ensures { IfOk result (λ list. AreAtoms classes.now list.items) }
-{
-    let mut list = Vec::new(alloc);
-    for number in 0..classes.count() {
-        list.push(number % classes.atoms())?;
-    }
-    Ok(list)
-}
-
-/// As many lists of marks, in none of which a switch is marked.
-fn no_marks(alloc: Global, count: usize) -> Result<Vec<[bool; 128]>, Memory>
-    ensures { IfOk result (λ list. length list.items ≡ count) }
-{
-    Ok(vec![in alloc; [false; 128]; count]?)
-}
-
-/// A mark for each switch below 128: whether it is one of these.
-fn marks_of(switches: &[SwitchId]) -> [bool; 128]
-    requires { All (λ s. s.0 < 128) switches.now }
-    ensures { (s : SwitchId) → IsTrue (is_marked result s) ↔ IsIn s switches.now }
-{
-    let mut marks = [false; 128];
-    for switch in switches {
-        marks[switch.0 as usize] = true;
-    }
-    marks
-}
-
-/// Whether the switch is marked.
-fn is_marked(marks: &[bool; 128], switch: SwitchId) -> bool
-    ensures { result ≡ is_marked marks.now switch }
-{
-    switch.0 < 128 && marks[switch.0 as usize]
-}
-
-/// Whether a change of the round may cover packets of the class at a marked switch.
-fn touches_walk(changes: &[Change], class: Class, marks: &[bool; 128]) -> bool
-    ensures { result ≡ touches_walk changes.now class marks.now }
-{
-    changes.iter().any(|change| may_cover(change, class) && is_marked(marks, change.switch()))
-}
-
-/// Whether no change of the round may be met on walks of a class that come to the marked switches; it is known whether a
-/// change covers the address of the class. Not told where one does and the round has more than `MOST_COMPARED` changes.
-fn misses_walk(changes: &[Change], class: Class, touched: bool, marks: &[bool; 128]) -> bool
+/// Whether no change of the round may be met by packets of a class at these switches; it is known whether a change covers the
+/// address of the class. Not told where one does and the round has more than `MOST_COMPARED` changes.
+fn misses_walk(changes: &[Change], class: Class, touched: bool, came: SwitchSet) -> bool
     requires { touched ≡ touches changes.now class.first }
-    ensures { result ≡ true → touches_walk changes.now class marks.now ≡ false }
+    ensures { result ≡ true → meets_any changes.now class came ≡ false }
 {
-    !touched || (changes.len() <= MOST_COMPARED && !touches_walk(changes, class, marks))
+    !touched || (changes.len() <= MOST_COMPARED && !meets_any(changes, class, came))
 }
 
 /// Whether a class has its certificate where each class had one in the round before, and these are the switches that its
@@ -157,34 +100,47 @@ fn is_unchanged(
     round: &PreparedRound,
     class: Class,
     touched: bool,
-    marks: &[bool; 128],
+    came: SwitchSet,
     in_force: Option<OrderedPick>,
 ) -> bool
     requires { touched ≡ touches round.now.changes.now class.first }
     ensures pick { result ≡ true → IsSomeAnd in_force (λ pick. pick.round ≤ round.now.number) }
-    ensures walk { result ≡ true → touches_walk round.now.changes.now class marks.now ≡ false }
+    ensures walk { result ≡ true → meets_any round.now.changes.now class came ≡ false }
 {
     let Some(pick) = in_force else {
         return false;
     };
-    pick.round as usize <= round.number && misses_walk(round.changes, class, touched, marks)
+    pick.round as usize <= round.number && misses_walk(round.changes, class, touched, came)
 }
 
-/// Walks the mixed walks of a class in a round of an ordered plan.
-fn walk_class(walk: &mut WalkRoom, of: &OrderedCase, round: &PreparedRound, numbered: NumberedClass)
+/// Walks the mixed walks of a class in a round of an ordered plan, and notes where they come to.
+fn walk_class(
+    watch: &mut ClassWatch,
+    of: &OrderedCase,
+    round: &PreparedRound,
+    numbered: NumberedClass,
+)
     requires class { IsNumbered (classes_for of.now.task) numbered }
-    requires round { IsRound of.now.task of.now.evidence round.now.number round.now.changes.now round.now.mixes.now }
-    ensures { IsWalked (rollout of.now.task) round.now.number numbered.class.first numbered.class.entry walk.new }
+    requires round { IsRound of.now.task of.now.evidence round.now.number
+        round.now.changes.now round.now.mixes.now }
+    requires number { numbered.number < length watch.old.came.items }
+    ensures walked { IsWalked (rollout of.now.task) round.now.number numbered.class.first
+        numbered.class.entry watch.new.walk }
+    ensures held { (set : ℕ) → slice_get watch.new.came.items numbered.number ≡ Some set
+        → HoldsWalks (rollout of.now.task) round.now.number numbered.class set }
+    ensures count { length watch.new.came.items ≡ length watch.old.came.items }
+    ensures others { (n : ℕ) → n ≢ numbered.number
+        → slice_get watch.new.came.items n ≡ slice_get watch.old.came.items n }
 {
     of.keeps_valid();
     let case = of.case;
-    walk.walk(case.net, round.mixes, numbered.class);
+    let _came = watch.walk(case.net, round.mixes, numbered);
 }
 
 /// The first reason why a class has no certificate in a round, where this is its pick in force. Where it has one, its mixed
-/// walks are those that were walked last.
+/// walks are those that were walked last, and where they come to is noted.
 fn judge_class(
-    walk: &mut WalkRoom,
+    watch: &mut ClassWatch,
     guarded: &mut Guarded,
     of: &OrderedCase,
     round: &PreparedRound,
@@ -192,12 +148,22 @@ fn judge_class(
     in_force: Option<OrderedPick>,
 ) -> Option<Reason>
     requires class { IsNumbered (classes_for of.now.task) numbered }
-    requires round { IsRound of.now.task of.now.evidence round.now.number round.now.changes.now round.now.mixes.now }
-    requires in_force { IsKeptPick of.now.evidence.picks (suc round.now.number) numbered.number in_force }
+    requires round { IsRound of.now.task of.now.evidence round.now.number
+        round.now.changes.now round.now.mixes.now }
+    requires in_force { IsKeptPick of.now.evidence.picks (suc round.now.number) numbered.number
+        in_force }
     requires guarded { HoldsGuarded of.now.task of.now.evidence guarded.old }
-    ensures none { IfNone result (HasCertificate of.now.task (Ordered of.now.evidence) round.now.number numbered.number numbered.class) }
-    ensures some { IfSome result (IsFirstOfClass of.now.task of.now.evidence round.now.number numbered.number) }
-    ensures walked { IfNone result (IsWalked (rollout of.now.task) round.now.number numbered.class.first numbered.class.entry walk.new) }
+    requires number { numbered.number < length watch.old.came.items }
+    ensures none { IfNone result (HasCertificate of.now.task (Ordered of.now.evidence)
+        round.now.number numbered.number numbered.class) }
+    ensures some { IfSome result (IsFirstOfClass of.now.task of.now.evidence round.now.number
+        numbered.number) }
+    ensures held { IfNone result ((set : ℕ) → slice_get watch.new.came.items numbered.number
+        ≡ Some set
+        → HoldsWalks (rollout of.now.task) round.now.number numbered.class set) }
+    ensures count { length watch.new.came.items ≡ length watch.old.came.items }
+    ensures others { (n : ℕ) → n ≢ numbered.number
+        → slice_get watch.new.came.items n ≡ slice_get watch.old.came.items n }
     ensures guarded { HoldsGuarded of.now.task of.now.evidence guarded.new }
 {
     of.keeps_valid();
@@ -207,16 +173,14 @@ fn judge_class(
             class: numbered.number,
         });
     };
-    walk_class(walk, of, round, numbered);
-    first_of_class(of, walk, guarded, round.number, numbered, pick)
+    walk_class(watch, of, round, numbered);
+    first_of_class(of, &watch.walk, guarded, round.number, numbered, pick)
 }
 
 /// The lists of a room that are as long as there are classes.
 #[derive(Drop)]
 struct ClassLists {
     classes: Vec<Class>,
-    atoms: Vec<u32>,
-    came: Vec<[bool; 128]>,
     settled: Vec<bool>,
     members: Vec<NumberedClass>,
 }
@@ -224,14 +188,10 @@ struct ClassLists {
 impl ClassLists {
     fn make(alloc: Global, classes: &ClassMap) -> Result<ClassLists, Memory>
         ensures classes { IfOk result (λ l. AreClasses classes.now l.classes.items) }
-        ensures atoms { IfOk result (λ l. AreAtoms classes.now l.atoms.items) }
-        ensures came { IfOk result (λ l. length l.came.items ≡ class_count classes.now) }
         ensures settled { IfOk result (λ l. length l.settled.items ≡ class_count classes.now) }
     {
         Ok(ClassLists {
             classes: all_classes(alloc, classes)?,
-            atoms: all_atoms(alloc, classes)?,
-            came: no_marks(alloc, classes.count() as usize)?,
             settled: vec![in alloc; false; classes.count() as usize]?,
             members: Vec::with_capacity(alloc, classes.count() as usize)?,
         })
@@ -242,42 +202,41 @@ impl ClassLists {
 #[derive(Drop)]
 struct Walks {
     guarded: Guarded,
-    walk: WalkRoom,
+    watch: ClassWatch,
 }
 
 impl Walks {
-    fn make(alloc: Global) -> Result<Walks, Memory> {
+    fn make(alloc: Global, count: u32) -> Result<Walks, Memory>
+        ensures { IfOk result (λ w. length w.watch.came.items ≡ count) }
+    {
         Ok(Walks {
             guarded: Guarded::make(alloc)?,
-            walk: WalkRoom::make(alloc)?,
+            watch: ClassWatch::make(alloc, count, SwitchSet::none())?,
         })
     }
 }
 
 impl OrderedRoom {
-    /// Room for the classes of a map: less than 200 bytes for each, 8192 for the atoms and 5 for each of them; beside that room
+    /// Room for the classes of a map: less than 100 bytes for each, 8192 for the atoms and 5 for each of them; beside that room
     /// for the walks of any class twice, which is the same for each map.
     pub fn make(alloc: Global, classes: &ClassMap) -> Result<OrderedRoom, Memory>
         ensures { IfOk result (HasClassRoom classes.now) }
     {
+        let count = classes.count();
         let touched = TouchedAtoms::make(alloc)?;
         let looked = LookedAtoms::make(alloc, classes)?;
-        let picks = PicksInForce::make(alloc, classes.count())?;
+        let picks = PicksInForce::make(alloc, count)?;
         let ClassLists {
             classes,
-            atoms,
-            came,
             settled,
             members,
         } = ClassLists::make(alloc, classes)?;
-        let Walks { guarded, walk } = Walks::make(alloc)?;
+        let Walks { guarded, watch } = Walks::make(alloc, count)?;
         Ok(OrderedRoom {
-            walk,
+            watch,
             guarded,
             picks,
             classes,
-            atoms,
-            came,
             touched,
             looked,
             settled,
@@ -306,27 +265,35 @@ impl OrderedRoom {
     ) -> Option<Reason>
         requires number { number < class_count (classes_for of.now.task) }
         requires guarded { HoldsGuarded of.now.task of.now.evidence self.old.guarded }
-        requires round { IsRound of.now.task of.now.evidence round.now.number round.now.changes.now round.now.mixes.now }
+        requires round { IsRound of.now.task of.now.evidence round.now.number
+            round.now.changes.now round.now.mixes.now }
         requires stands { PicksStand of.now.evidence.picks (suc round.now.number) self.old.picks }
         requires room { HasClassRoom (classes_for of.now.task) self.old }
-        requires touched { AreTouched (classes_for of.now.task) round.now.changes.now self.old.touched }
-        requires settled { (class : Class) (marks : List Bool) (settled : Bool) → slice_get self.old.classes number ≡ Some class
-            → slice_get self.old.came number ≡ Some marks → slice_get self.old.settled number ≡ Some settled
-            → IsSettled of.now.task of.now.evidence round.now.number number class marks settled }
+        requires touched { AreTouched (classes_for of.now.task) round.now.changes.now
+            self.old.touched }
+        requires settled { (class : Class) (set : ℕ) (settled : Bool)
+            → slice_get self.old.classes number ≡ Some class
+            → slice_get self.old.came number ≡ Some set
+            → slice_get self.old.settled number ≡ Some settled
+            → IsSettled of.now.task of.now.evidence round.now.number number class set settled }
         ensures none { (class : Class) → slice_get self.old.classes number ≡ Some class
-            → IfNone result (HasCertificate of.now.task (Ordered of.now.evidence) round.now.number number class) }
-        ensures some { IfSome result (IsFirstOfClass of.now.task of.now.evidence round.now.number number) }
+            → IfNone result (HasCertificate of.now.task (Ordered of.now.evidence)
+            round.now.number number class) }
+        ensures some { IfSome result (IsFirstOfClass of.now.task of.now.evidence round.now.number
+            number) }
         ensures guarded { HoldsGuarded of.now.task of.now.evidence self.new.guarded }
         ensures picks { self.new.picks ≡ self.old.picks }
         ensures classes { self.new.classes ≡ self.old.classes }
-        ensures atoms { self.new.atoms ≡ self.old.atoms }
         ensures touched { self.new.touched ≡ self.old.touched }
         ensures looked { self.new.looked ≡ self.old.looked }
         ensures settled { self.new.settled ≡ self.old.settled }
         ensures count { length self.new.came ≡ length self.old.came }
-        ensures others { (n : ℕ) → n ≢ number → slice_get self.new.came n ≡ slice_get self.old.came n }
-        ensures walks { IfNone result ((class : Class) (marks : List Bool) → slice_get self.new.classes number ≡ Some class → slice_get self.new.came number ≡ Some marks
-            → HoldsWalks (rollout of.now.task) round.now.number class marks) }
+        ensures others { (n : ℕ) → n ≢ number
+            → slice_get self.new.came n ≡ slice_get self.old.came n }
+        ensures walks { IfNone result ((class : Class) (set : ℕ)
+            → slice_get self.new.classes number ≡ Some class
+            → slice_get self.new.came number ≡ Some set
+            → HoldsWalks (rollout of.now.task) round.now.number class set) }
     {
         of.keeps_valid();
         let place = number as usize;
@@ -335,43 +302,40 @@ impl OrderedRoom {
             return None;
         }
         let class = self.classes[place];
-        let atom = self.atoms[place];
-        let touched = self.touched.has(atom);
+        let touched = self.touched.has(self.looked.atom_of(number));
         let in_force = self.picks.of(number);
-        if is_unchanged(round, class, touched, &self.came[place], in_force) {
+        if is_unchanged(round, class, touched, self.watch.came[place], in_force) {
             return None;
         }
-        let numbered = NumberedClass { number, class };
-        let reason = judge_class(
-            &mut self.walk,
+        judge_class(
+            &mut self.watch,
             &mut self.guarded,
             of,
             round,
-            numbered,
+            NumberedClass { number, class },
             in_force,
-        );
-        let marks = marks_of(self.walk.switches());
-        self.came[place] = marks;
-        reason
+        )
     }
 
     /// The group of the class of this number, where the class has to be walked in a round and has one.
     fn group_at(&self, of: &OrderedCase, round: &PreparedRound, number: u32) -> Option<Group>
         requires number { number < class_count (classes_for of.now.task) }
-        requires round { IsRound of.now.task of.now.evidence round.now.number round.now.changes.now round.now.mixes.now }
+        requires round { IsRound of.now.task of.now.evidence round.now.number
+            round.now.changes.now round.now.mixes.now }
         requires stands { PicksStand of.now.evidence.picks (suc round.now.number) self.now.picks }
         requires room { HasClassRoom (classes_for of.now.task) self.now }
-        requires touched { AreTouched (classes_for of.now.task) round.now.changes.now self.now.touched }
+        requires touched { AreTouched (classes_for of.now.task) round.now.changes.now
+            self.now.touched }
         ensures { (class : Class) → slice_get self.now.classes number ≡ Some class
-            → IfSome result (λ group. IsMember of.now.task of.now.evidence round.now.number group (record { number = number; class = class })) }
+            → IfSome result (λ group. IsMember of.now.task of.now.evidence round.now.number group
+            (record { number = number; class = class })) }
     {
         of.keeps_valid();
         let place = number as usize;
         let class = self.classes[place];
-        let atom = self.atoms[place];
-        let touched = self.touched.has(atom);
+        let touched = self.touched.has(self.looked.atom_of(number));
         let in_force = self.picks.of(number);
-        if is_unchanged(round, class, touched, &self.came[place], in_force) {
+        if is_unchanged(round, class, touched, self.watch.came[place], in_force) {
             return None;
         }
         let pick = in_force?;
@@ -388,12 +352,16 @@ impl OrderedRoom {
         number: u32,
     ) -> Option<Group>
         requires number { number < class_count (classes_for of.now.task) }
-        requires round { IsRound of.now.task of.now.evidence round.now.number round.now.changes.now round.now.mixes.now }
+        requires round { IsRound of.now.task of.now.evidence round.now.number
+            round.now.changes.now round.now.mixes.now }
         requires stands { PicksStand of.now.evidence.picks (suc round.now.number) self.old.picks }
         requires room { HasClassRoom (classes_for of.now.task) self.old }
-        requires touched { AreTouched (classes_for of.now.task) round.now.changes.now self.old.touched }
-        requires so_far { AreGathered of.now.task of.now.evidence round.now.number begun self.old.members }
-        ensures gathered { AreGathered of.now.task of.now.evidence round.now.number result self.new.members }
+        requires touched { AreTouched (classes_for of.now.task) round.now.changes.now
+            self.old.touched }
+        requires so_far { AreGathered of.now.task of.now.evidence round.now.number begun
+            self.old.members }
+        ensures gathered { AreGathered of.now.task of.now.evidence round.now.number result
+            self.new.members }
         ensures rest { self.new ≡ record self.old { members = self.new.members } }
     {
         let Some(group) = self.group_at(of, round, number) else {
@@ -417,11 +385,14 @@ impl OrderedRoom {
         of_host: u32,
     ) -> Option<Group>
         requires some { 0 < of_host }
-        requires round { IsRound of.now.task of.now.evidence round.now.number round.now.changes.now round.now.mixes.now }
+        requires round { IsRound of.now.task of.now.evidence round.now.number
+            round.now.changes.now round.now.mixes.now }
         requires stands { PicksStand of.now.evidence.picks (suc round.now.number) self.old.picks }
         requires room { HasClassRoom (classes_for of.now.task) self.old }
-        requires touched { AreTouched (classes_for of.now.task) round.now.changes.now self.old.touched }
-        ensures gathered { AreGathered of.now.task of.now.evidence round.now.number result self.new.members }
+        requires touched { AreTouched (classes_for of.now.task) round.now.changes.now
+            self.old.touched }
+        ensures gathered { AreGathered of.now.task of.now.evidence round.now.number result
+            self.new.members }
         ensures rest { self.new ≡ record self.old { members = self.new.members } }
     {
         of.keeps_valid();
@@ -438,10 +409,12 @@ impl OrderedRoom {
     /// Walks a group of at least two classes together, if there is one, and settles them if their walks keep them safe.
     fn settle_group(&mut self, of: &OrderedCase, round: &PreparedRound, first: u32, of_host: u32)
         requires some { 0 < of_host }
-        requires round { IsRound of.now.task of.now.evidence round.now.number round.now.changes.now round.now.mixes.now }
+        requires round { IsRound of.now.task of.now.evidence round.now.number
+            round.now.changes.now round.now.mixes.now }
         requires stands { PicksStand of.now.evidence.picks (suc round.now.number) self.old.picks }
         requires room { HasClassRoom (classes_for of.now.task) self.old }
-        requires touched { AreTouched (classes_for of.now.task) round.now.changes.now self.old.touched }
+        requires touched { AreTouched (classes_for of.now.task) round.now.changes.now
+            self.old.touched }
         requires settled { AreSettled of.now.task of.now.evidence round.now.number self.old }
         ensures settled { AreSettled of.now.task of.now.evidence round.now.number self.new }
         ensures room { KeepsRoom self.old self.new }
@@ -453,20 +426,22 @@ impl OrderedRoom {
         if self.members.len() < 2 {
             return;
         }
-        walk_members(&mut self.walk, of, round, group, &self.members);
-        if are_safe(&self.walk, of, group) {
-            let marks = marks_of(self.walk.switches());
-            settle_members(&self.members, marks, &mut self.settled, &mut self.came);
+        walk_members(&mut self.watch.walk, of, round, group, &self.members);
+        if are_safe(&self.watch.walk, of, group) {
+            let came = switches_on(&self.watch.walk);
+            settle_members(&self.members, came, &mut self.settled, &mut self.watch.came);
         }
     }
 
     /// Settles those classes that are kept safe by walks that are walked together, of one group after the other. Only classes
     /// whose atom is looked at are taken.
     fn settle(&mut self, of: &OrderedCase, round: &PreparedRound)
-        requires round { IsRound of.now.task of.now.evidence round.now.number round.now.changes.now round.now.mixes.now }
+        requires round { IsRound of.now.task of.now.evidence round.now.number
+            round.now.changes.now round.now.mixes.now }
         requires stands { PicksStand of.now.evidence.picks (suc round.now.number) self.old.picks }
         requires room { HasClassRoom (classes_for of.now.task) self.old }
-        requires touched { AreTouched (classes_for of.now.task) round.now.changes.now self.old.touched }
+        requires touched { AreTouched (classes_for of.now.task) round.now.changes.now
+            self.old.touched }
         requires walks { WalksStand (rollout of.now.task) round.now.number self.old }
         ensures settled { AreSettled of.now.task of.now.evidence round.now.number self.new }
         ensures room { KeepsRoom self.old self.new }
@@ -482,16 +457,20 @@ impl OrderedRoom {
 
     /// The first reason why a class has no certificate in a round. Classes whose atom isn't looked at have theirs.
     fn judge_classes(&mut self, of: &OrderedCase, round: &PreparedRound) -> Option<Reason>
-        requires round { IsRound of.now.task of.now.evidence round.now.number round.now.changes.now round.now.mixes.now }
+        requires round { IsRound of.now.task of.now.evidence round.now.number
+            round.now.changes.now round.now.mixes.now }
         requires stands { PicksStand of.now.evidence.picks (suc round.now.number) self.old.picks }
         requires room { HasClassRoom (classes_for of.now.task) self.old }
-        requires touched { AreTouched (classes_for of.now.task) round.now.changes.now self.old.touched }
+        requires touched { AreTouched (classes_for of.now.task) round.now.changes.now
+            self.old.touched }
         requires looked { AreLookedAt of.now.task of.now.evidence round.now.number self.old.looked }
         requires settled { AreSettled of.now.task of.now.evidence round.now.number self.old }
-        ensures found { IsFoundBelow of.now.task of.now.evidence round.now.number (class_count (classes_for of.now.task)) result }
+        ensures found { IsFoundBelow of.now.task of.now.evidence round.now.number
+            (class_count (classes_for of.now.task)) result }
         ensures picks { self.new.picks ≡ self.old.picks }
         ensures room { HasClassRoom (classes_for of.now.task) self.new }
-        ensures walks { IfNone result (WalksStand (rollout of.now.task) (suc round.now.number) self.new) }
+        ensures walks { IfNone result (WalksStand (rollout of.now.task) (suc round.now.number)
+            self.new) }
     {
         of.keeps_valid();
         self.guarded.forget();
@@ -527,7 +506,8 @@ impl OrderedRoom {
         requires walks { WalksStand (rollout of.now.task) k self.old }
         requires room { HasClassRoom (classes_for of.now.task) self.old }
         ensures none { IfNone result (ClassesPass of.now.task (Ordered of.now.evidence) k) }
-        ensures some { IfSome result (IsFirstFrom of.now.task (Ordered of.now.evidence) (classes_start k)) }
+        ensures some { IfSome result (IsFirstFrom of.now.task (Ordered of.now.evidence)
+            (classes_start k)) }
         ensures stands { PicksStand of.now.evidence.picks (suc k) self.new.picks }
         ensures walks { IfNone result (WalksStand (rollout of.now.task) (suc k) self.new) }
         ensures room { HasClassRoom (classes_for of.now.task) self.new }
@@ -545,7 +525,7 @@ impl OrderedRoom {
         };
         self.touched.mark(case, of.class_map(), k);
         let begun = self.picks.taken_since(picks, taken);
-        self.looked.choose(of, &round, &self.touched, begun);
+        choose(&mut self.looked, of, &round, &self.touched, begun);
         self.settle(of, &round);
         self.judge_classes(of, &round)
     }

@@ -16,6 +16,7 @@ use crate::cases::{OrderedCase, PreparedRound};
 use crate::least::least_not_lower;
 use certificates::OrderedPick;
 use check_reasons::has_positions;
+use class_watch::SwitchSet;
 use dest_classes::NumberedClass;
 use mixed_walks::WalkRoom;
 use net_base::Vlan;
@@ -77,11 +78,14 @@ fn walk_member(
     numbered: NumberedClass,
 )
     requires class { IsNumbered (classes_for of.now.task) numbered }
-    requires round { IsRound of.now.task of.now.evidence round.now.number round.now.changes.now round.now.mixes.now }
+    requires round { IsRound of.now.task of.now.evidence round.now.number
+        round.now.changes.now round.now.mixes.now }
     requires address { numbered.class.first ≡ group.address }
     requires vlan { numbered.class.entry.vlan ≡ group.vlan }
-    requires together { AreTogether (rollout of.now.task) round.now.number group.address group.vlan walk.old }
-    ensures together { AreTogether (rollout of.now.task) round.now.number group.address group.vlan walk.new }
+    requires together { AreTogether (rollout of.now.task) round.now.number group.address group.vlan
+        walk.old }
+    ensures together { AreTogether (rollout of.now.task) round.now.number group.address group.vlan
+        walk.new }
     ensures entry { IsIn numbered.class.entry walk.new.places }
     ensures kept { (p : Place) → IsIn p walk.old.places → IsIn p walk.new.places }
 {
@@ -98,10 +102,13 @@ pub(crate) fn walk_members(
     group: Group,
     members: &[NumberedClass],
 )
-    requires round { IsRound of.now.task of.now.evidence round.now.number round.now.changes.now round.now.mixes.now }
+    requires round { IsRound of.now.task of.now.evidence round.now.number
+        round.now.changes.now round.now.mixes.now }
     requires members { AreMembers of.now.task of.now.evidence round.now.number group members.now }
-    ensures together { AreTogether (rollout of.now.task) round.now.number group.address group.vlan walk.new }
-    ensures entries { (m : NumberedClass) → IsIn m members.now → IsIn m.class.entry walk.new.places }
+    ensures together { AreTogether (rollout of.now.task) round.now.number group.address group.vlan
+        walk.new }
+    ensures entries { (m : NumberedClass) → IsIn m members.now
+        → IsIn m.class.entry walk.new.places }
 {
     walk.clear();
     for member in members {
@@ -113,7 +120,8 @@ pub(crate) fn walk_members(
 /// discarded that must arrive.
 pub(crate) fn are_safe(walk: &WalkRoom, of: &OrderedCase, group: Group) -> bool
     requires shared { group.shared < length of.now.evidence.uses }
-    requires within { AllByRecursion (λ e. (e.from.0 < switch_count of.now.task.update.net) × (e.to.0 < switch_count of.now.task.update.net)) walk.now.steps }
+    requires within { AllByRecursion (λ e. (e.from.0 < switch_count of.now.task.update.net)
+        × (e.to.0 < switch_count of.now.task.update.net)) walk.now.steps }
     ensures { result ≡ true → AreSafe of.now.evidence group walk.now }
 {
     of.keeps_valid();
@@ -126,21 +134,23 @@ pub(crate) fn are_safe(walk: &WalkRoom, of: &OrderedCase, group: Group) -> bool
     walk.dropping().is_empty() || !group.arrive
 }
 
-/// Settles classes, each with these marks.
+/// Settles classes, each with these switches.
 pub(crate) fn settle_members(
     members: &[NumberedClass],
-    marks: [bool; 128],
+    set: SwitchSet,
     settled: &mut Vec<bool>,
-    came: &mut Vec<[bool; 128]>,
+    came: &mut Vec<SwitchSet>,
 )
-    requires settled { (m : NumberedClass) → IsIn m members.now → m.number < length settled.old.items }
+    requires settled { (m : NumberedClass) → IsIn m members.now
+        → m.number < length settled.old.items }
     requires came { (m : NumberedClass) → IsIn m members.now → m.number < length came.old.items }
     ensures settled { length settled.new.items ≡ length settled.old.items }
     ensures came { length came.new.items ≡ length came.old.items }
-    ensures each { AreSettledWith members.now marks settled.old.items came.old.items settled.new.items came.new.items }
+    ensures each { AreSettledWith members.now set settled.old.items came.old.items settled.new.items
+        came.new.items }
 {
     for member in members {
         settled[member.number as usize] = true;
-        came[member.number as usize] = marks;
+        came[member.number as usize] = set;
     }
 }

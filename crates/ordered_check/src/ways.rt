@@ -38,9 +38,11 @@ fn way_round_chain(
     requires leaving { All (λ s. s.0 < 128) leaving.now }
     requires indices { All (λ i. i < length befores.now) indices.now }
     requires enough { length chain.now ≤ length indices.now }
-    ensures none { IfNone result (AreGuardedBelow (IsWayRound start (IsEdge steps.now) (λ s. IsIn s leaving.now))
+    ensures none { IfNone result (AreGuardedBelow
+        (IsWayRound start (IsEdge steps.now) (λ s. IsIn s leaving.now))
         (chain_positions None chain.now (sets_of befores.now indices.now)) (length chain.now)) }
-    ensures some { IfSome result (IsFirstWayRound (IsWayRound start (IsEdge steps.now) (λ s. IsIn s leaving.now))
+    ensures some { IfSome result (IsFirstWayRound
+        (IsWayRound start (IsEdge steps.now) (λ s. IsIn s leaving.now))
         (chain_positions None chain.now (sets_of befores.now indices.now))) }
 {
     for (place, waypoint) in chain.iter().enumerate() {
@@ -71,11 +73,16 @@ pub(crate) fn first_way_round(
     requires number { numbered.number < class_count duties.now.classes }
     requires class { IsNumbered duties.now.classes numbered }
     requires indices { All (λ i. i < length befores.now) indices.now }
-    requires count { length indices.now ≡ position_count (duties_of duties.now.demands numbered.class.entry numbered.class.first).chains }
-    ensures none { IfNone result (AreGuardedBelow (IsWayRound numbered.class.entry.switch (IsEdge steps.now) (λ s. IsIn s leaving.now))
-        (positions (duties_of duties.now.demands numbered.class.entry numbered.class.first).chains (sets_of befores.now indices.now)) (length indices.now)) }
-    ensures some { IfSome result (IsFirstWayRound (IsWayRound numbered.class.entry.switch (IsEdge steps.now) (λ s. IsIn s leaving.now))
-        (positions (duties_of duties.now.demands numbered.class.entry numbered.class.first).chains (sets_of befores.now indices.now))) }
+    requires count { length indices.now ≡ position_count
+        (duties_of duties.now.demands numbered.class.entry numbered.class.first).chains }
+    ensures none { IfNone result (AreGuardedBelow
+        (IsWayRound numbered.class.entry.switch (IsEdge steps.now) (λ s. IsIn s leaving.now))
+        (positions (duties_of duties.now.demands numbered.class.entry numbered.class.first).chains
+        (sets_of befores.now indices.now)) (length indices.now)) }
+    ensures some { IfSome result (IsFirstWayRound
+        (IsWayRound numbered.class.entry.switch (IsEdge steps.now) (λ s. IsIn s leaving.now))
+        (positions (duties_of duties.now.demands numbered.class.entry numbered.class.first).chains
+        (sets_of befores.now indices.now))) }
 {
     let number = numbered.number;
     let start = numbered.class.entry.switch;

@@ -1,8 +1,8 @@
 -- A failure of a change stands while nothing touches what it rests on.
-use Rattle.std.proofs.Common.{◌≡◌, ◌≢◌, ◌↔◌, ℕ, zero, suc, ◌<◌, ◌≤◌, cond, List, [], ◌∷◌, length, sym, ◌∙◌, subst, ap, inl, inr, arith, length-set, get_or-set_other}
+use Rattle.std.proofs.Common.{◌≡◌, ◌≢◌, ℕ, zero, suc, ◌<◌, ◌≤◌, cond, List, [], ◌∷◌, length, refl, sym, ◌∙◌, subst, ap, inl, inr, arith, length-set, get_or-set_other}
 use Rattle.std.specs.Prelude.{◌==◌, not, map, IsTrue}
 use Rattle.std.specs.List.{AllByRecursion}
-use Rattle.std.proofs.lemmas.Bool.{cases_eq, eq-eqb, cond-true, cond_both}
+use Rattle.std.proofs.lemmas.Bool.{cases_eq, eq-eqb, and_from, cond-true, cond_both}
 use Rattle.net_base.proofs.MemberLaws.{each_append, each_filter, each_get_or, each_set, each_weaker}
 use Rattle.net_base.proofs.NameLaws.{same_switch}
 use Rattle.net_base.specs.declared.ids.SwitchId.{SwitchId}
@@ -12,10 +12,9 @@ use Rattle.flow_rules.specs.Patterns.{key_eq}
 use Rattle.flow_rules.specs.Tables.{IsClear, rules_at, rules_of_all, covering}
 use Rattle.flow_rules.specs.declared.rules.Rule.{Rule}
 use Rattle.path_walk.specs.Outcomes.{header_at}
-use Rattle.path_walk.specs.declared.Outcome.{Outcome}
 use Rattle.dest_classes.specs.declared.Class.{Class}
 use Rattle.update_model.specs.Changes.{switch_of, rule_of, rules_after_change, tables_after_change, tables_after, changes_at, round_after}
-use Rattle.update_model.specs.Mixtures.{Rollout, IsMixture, MayHold, IsPossible, IsOnMixedWalk, need_of, entries_needed}
+use Rattle.update_model.specs.Mixtures.{Rollout, IsMixture, MayHold, IsOnMixedWalk, need_of, entries_needed}
 use Rattle.update_model.specs.declared.Change.{Change}
 use Rattle.update_model.specs.declared.Change.TheVariants.{Insert, Delete, Replace}
 use Rattle.update_model.proofs.ChangeLaws.{rules_at-after_change}
@@ -28,11 +27,13 @@ use Rattle.round_tables.specs.Trials.{TrialState, single, HasRoomAlone, IsSettle
 use Rattle.round_tables.proofs.TrialLaws.{changes_here, changes_there}
 use Rattle.round_mix.proofs.TriedLaws.{clear_none}
 use Rattle.round_planner.specs.Search.{Aim, duties_in, CanBeSafe, Qualifies}
-use Rattle.round_planner.specs.Failures.{HasRoomThere, IsVisited, IsTouched, IsApart, IsFailure}
+use Rattle.class_watch.specs.Switches.{has}
+use Rattle.class_watch.specs.Alike.{AreAlike}
+use Rattle.class_watch.proofs.CoveringLaws.{covering_kept}
+use Rattle.class_watch.proofs.StandLaws.{alike_walks, alike_safe}
+use Rattle.round_planner.specs.Failures.{HasRoomThere, IsTouched, IsApart, IsFailure}
 use Rattle.round_planner.specs.declared.failing.Failure.{Failure}
 use Rattle.round_planner.specs.declared.failing.Failure.TheVariants as failure
-use Rattle.round_planner.proofs.CoveringLaws.{covering_kept, possible_by_covering}
-use Rattle.check_reasons.proofs.SameWalks.{same_on_walk, same_safe}
 
 -- the rules of another switch than the change's stay
 other_rules : (d : Change) (tables : List (List Rule)) (s : SwitchId) → s.0 ≢ (switch_of d).0 → rules_at (tables_after_change d tables) s ≡ rules_at tables s
@@ -118,25 +119,21 @@ module _ (aim : Aim) (tables : List (List Rule)) (c : Change) (keeps_rules : Tab
           | inr ne ↦ ap (covering (header_at place class.first)) (other_rules d tables place.switch ne)
         ]
 
-    same_outcomes : (place : Place) → IsOnMixedWalk u 0 class.first class.entry place → (found : Outcome) → IsPossible v 0 class.first place found ↔ IsPossible u 0 class.first place found
-    same_outcomes place on found =
-        let same = same_covering place on in
-        let cs = changes_at place.switch (c ∷ []) in (
-          possible_by_covering aim.net place class.first (rules_at (tables_after_change d tables) place.switch) (rules_at tables place.switch) same cs found,
-          possible_by_covering aim.net place class.first (rules_at tables place.switch) (rules_at (tables_after_change d tables) place.switch) (sym same) cs found,
-        )
+    -- so both rounds are alike for the class
+    alike : AreAlike u 0 v 0 class
+    alike = record { net = refl; each = λ place on. record { rules = sym (same_covering place on); changes = refl } }
 
     -- evidence that keeps the class safe after the change does before it
     pub safe_back : CanBeSafe aim (tables_after_change d tables) c class → CanBeSafe aim tables c class
     safe_back can = record {
       numbers = can.numbers;
       sets = can.sets;
-      safe = (same_safe u v 0 0 class.first class.entry same_outcomes (duties_in aim class) can.numbers can.sets).0 can.safe;
+      safe = (alike_safe u v 0 0 class alike (duties_in aim class) can.numbers can.sets).0 can.safe;
     }
 
     -- and its mixed walks are the same
     pub walk_same : (place : Place) → IsOnMixedWalk v 0 class.first class.entry place → IsOnMixedWalk u 0 class.first class.entry place
-    walk_same place = (same_on_walk u v 0 0 class.first class.entry same_outcomes place).0
+    walk_same place = (alike_walks u v 0 0 class alike place).0
 
 -- ---- a failure, after one change
 
@@ -145,7 +142,8 @@ pub failure_stands : (aim : Aim) (tables : List (List Rule)) (c : Change) → Ta
 failure_stands aim tables c keeps_rules keeps d within failure.Table untouched fails =
     λ room. fails (room_back aim.net tables c d (λ e. untouched (sym e)) room)
 failure_stands aim tables c keeps_rules keeps d within (failure.Class f) untouched fails =
-    let apart : IsApart aim tables c f.class d = λ place on at covers_it. untouched (subst (IsVisited f.visited) at (fails.visits place on), covers_it) in
+    let apart : IsApart aim tables c f.class d = λ place on at covers_it.
+    untouched (and_from (may_cover d f.class) (has f.visited (switch_of d)) covers_it (subst (λ (x : SwitchId). IsTrue (has f.visited x)) at (fails.visits place on))) in
     record {
       number = fails.number;
       is_class = fails.is_class;

@@ -1,24 +1,18 @@
 -- What is found for the classes, class by class, and what the pick in force says of a class.
-use Rattle.std.proofs.Common.{◌≡◌, ◌≢◌, ◌⊎◌, ◌↔◌, ℕ, zero, suc, ◌+◌, ◌<◌, ◌≤◌, List, [], ◌∷◌, ◌++◌, length, get_or, Option, Some, None, Result, Ok, Err, Vec, Global, refl, sym, ◌∙◌, subst, ap, inl, inr, arith}
-use Rattle.std.specs.Prelude.{slice_get, IsTrue, IfOk, IsOkAnd}
+use Rattle.std.proofs.Common.{◌≡◌, ◌≢◌, ◌⊎◌, ◌↔◌, ℕ, zero, suc, ◌+◌, ◌<◌, ◌≤◌, false, List, [], ◌∷◌, ◌++◌, length, get_or, Option, Some, None, Result, Ok, Err, Vec, Global, refl, sym, ◌∙◌, subst, ap, inl, inr, arith}
+use Rattle.std.specs.Prelude.{slice_get, IfOk, IsOkAnd}
 use Rattle.std.specs.List.{AllByRecursion, AllZip}
 use Rattle.std.proofs.lemmas.Option.{same_Some, slice_get-get_or}
 use Rattle.std.proofs.lemmas.Bool.{cases_lt}
 use Rattle.net_base.specs.Members.{IsIn}
-use Rattle.net_base.proofs.WalkLaws.{reached_start, reached_more}
-use Rattle.net_base.specs.Walks.{IsWalk, end_of}
-use Rattle.net_base.specs.declared.ids.Place.{Place}
 use Rattle.topology.specs.Networks.{Network, IsNetwork, switch_count}
-use Rattle.acyclic_numbering.specs.declared.Edge.{Edge}
 use Rattle.net_base.proofs.MemberLaws.{each_at, each_weaker, each_append, in_append_left, in_append_right}
 use Rattle.dest_classes.specs.Classes.{ClassList, IsClass, class_count}
 use Rattle.dest_classes.specs.declared.Class.{Class}
 use Rattle.dest_classes.proofs.MapLaws.{class_exists, class_is as same_class}
-use Rattle.update_model.specs.Changes.{switch_of}
-use Rattle.update_model.specs.Mixtures.{Rollout, MayGo, IsOnMixedWalk, tables_before}
-use Rattle.certificates.specs.Steps.{IsMixedStep}
+use Rattle.update_model.specs.Mixtures.{Rollout, tables_before}
 use Rattle.round_mix.specs.Prepared.{MixedState}
-use Rattle.mixed_walks.specs.Walks.{WalkState, IsRoundOf, IsWalked, TablesKeepVlans, KeepVlansUpTo}
+use Rattle.mixed_walks.specs.Walks.{IsRoundOf, TablesKeepVlans, KeepVlansUpTo}
 use Rattle.update_model.specs.declared.Change.{Change}
 use Rattle.certificates.specs.Ordered.{IsSafe, IsPickInForce, IsMeant}
 use Rattle.certificates.specs.Valid.{IsChain, IsPickBefore, IsValidUse}
@@ -37,10 +31,9 @@ use Rattle.round_planner.specs.declared.judging.Judged.{Judged}
 use Rattle.round_planner.specs.declared.judging.Judged.TheVariants.{Kept, New, Unsafe}
 use Rattle.round_planner.specs.Search.{Aim, duties_in}
 use Rattle.round_planner.specs.declared.failing.UnsafeClass.{UnsafeClass}
-use Rattle.check_reasons.specs.Touched.{may_cover}
-use Rattle.round_planner.specs.Failures.{IsVisited}
-use Rattle.round_planner.specs.Visits.{HoldsTables}
-use Rattle.round_planner.proofs.VisitLaws.{safe_still, safe_after}
+use Rattle.class_watch.specs.Walks.{HoldsTables, meets_any}
+use Rattle.class_watch.proofs.StandLaws.{safe_after}
+use Rattle.round_planner.proofs.VisitLaws.{safe_still}
 use Rattle.round_planner.specs.Standing.{IsCertifiedClass, IsNextRound, IsJudged, IsJudgedIfMet, HasFound, HasNotFound, AreSafeBelow, IsNewlySafe, IsUnsafe, HasUnsafe, IsNoted, verdict_of}
 use Rattle.round_planner.specs.declared.judging.Verdict.{Verdict}
 
@@ -81,8 +74,8 @@ module _ (aim : Aim) (u : Rollout) (e : OrderedEvidence) (k : ℕ) (c : Change) 
 
   -- its certificate of the round before stands
   pub stays_certified : TablesKeepVlans u.old → KeepVlansUpTo u k → (n : ℕ) (class : Class) (marks : ℕ) → IsClass aim.classes n class → 0 < k
-      → HoldsTables u.net (tables_before u k) class marks → ¬ (IsVisited marks (switch_of c) × IsTrue (may_cover c class)) → IsCertifiedClass aim u e k n class
-  stays_certified rules keeps n class marks is later held apart =
+      → HoldsTables u.net (tables_before u k) class marks → meets_any (c ∷ []) class marks ≡ false → IsCertifiedClass aim u e k n class
+  stays_certified rules keeps n class marks is later held off =
       elim k as (λ j. 0 < j → IsNextRound aim u e j c → KeepVlansUpTo u j → HoldsTables u.net (tables_before u j) class marks → IsCertifiedClass aim u e j n class) [
         | zero ↦ λ less _ _ _. absurd (let low : 0 < 0 = less in omega arith)
         | suc j ↦ λ less h keep hold.
@@ -100,8 +93,8 @@ module _ (aim : Aim) (u : Rollout) (e : OrderedEvidence) (k : ℕ) (c : Change) 
                     cert.in_force.latest other i same (each_at (λ (p : OrderedPick). (0 < p.round) × (p.round ≤ suc j)) e.picks other h.picks i).1;
               };
               meant = cert.meant;
-              safe = safe_still u (suc j) class c h.round rules keep marks hold apart (duties_in aim class) cert.numbers cert.sets
-                  (safe_after u j class.first class.entry less (h.good j (omega arith)) (duties_in aim class) cert.numbers cert.sets cert.safe);
+              safe = safe_still u (suc j) class c h.round rules keep marks hold off (duties_in aim class) cert.numbers cert.sets
+                  (safe_after u j class less (h.good j (omega arith)) (duties_in aim class) cert.numbers cert.sets cert.safe);
             }
       ] later next keeps held
 
@@ -280,31 +273,7 @@ module _ (aim : Aim) (u : Rollout) (e : OrderedEvidence) (k : ℕ) where
   failed_noted m less found new (Unsafe g) failing f noted some judged =
       subst (HasUnsafe aim u k) (same_Some g f (sym noted ∙ some)) (unsafe_at m less g judged)
 
--- ---- the switches that mixed walks come to
-
-module _ (u : Rollout) (k dst : ℕ) (entry : Place) (noted : WalkState) (walked : IsWalked u k dst entry noted) where
-  -- they are the entry's and the ends of the steps
-  pub visits_all : (marks : ℕ) → IsVisited marks entry.switch → AllByRecursion (λ (e : Edge). IsVisited marks e.to) noted.steps
-      → (place : Place) → IsOnMixedWalk u k dst entry place → IsVisited marks place.switch
-  visits_all marks begins ends place (rest, walk, last) = subst (λ (p : Place). IsVisited marks p.switch) last (along entry rest (reached_start (MayGo u k dst) entry) begins walk)
-    where
-      along : (start : Place) (rest : List Place) → IsOnMixedWalk u k dst entry start → IsVisited marks start.switch → IsWalk (MayGo u k dst) start rest → IsVisited marks (end_of start rest).switch
-      along start [] reached here walk = here
-      along start (next ∷ rest) reached here walk =
-          let step : IsMixedStep u k dst entry start.switch next.switch = record { place = start; next = next; on_walk = reached; goes = walk.0; from_is = refl; to_is = refl } in
-          let edge : Edge = record { from = start.switch; to = next.switch } in
-          along next rest (reached_more (MayGo u k dst) entry start next reached walk.0)
-          (each_at (λ (e : Edge). IsVisited marks e.to) noted.steps edge ends ((walked.steps start.switch next.switch).1 step)) walk.1
-
-  -- and among the 128 of every network
-  pub steps_near : IsNetwork u.net → AllByRecursion (λ (e : Edge). e.to.0 < 128) noted.steps
-  steps_near net =
-      each_weaker (λ (e : Edge). (e.from.0 < switch_count u.net) × (e.to.0 < switch_count u.net)) (λ (e : Edge). e.to.0 < 128)
-      (λ e h. let few = net.few in let within = h.1 in omega arith) noted.steps walked.steps_within
-
--- each switch of the network is one of 128
-pub near_switch : (net : Network) → IsNetwork net → (s : ℕ) → s < switch_count net → s < 128
-near_switch net is s less = let few = is.few in omega arith
+-- ---- the class of a number
 
 -- the switches are prepared for a round in the same network
 pub round_here : (net other : Network) → other ≡ net → (mixes : List MixedState) (u : Rollout) (k : ℕ) → IsRoundOf net mixes u k → IsRoundOf other mixes u k

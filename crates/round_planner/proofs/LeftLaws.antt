@@ -6,7 +6,6 @@ use Rattle.std.proofs.lemmas.Bool.{false≢true}
 use Rattle.std.specs.List.{AllByRecursion}
 use Rattle.net_base.specs.Members.{IsIn}
 use Rattle.net_base.proofs.MemberLaws.{each_weaker, each_append, each_map, each_from_map, each_from_in, in_append_right}
-use Rattle.topology.specs.Networks.{IsNetwork}
 use Rattle.flow_rules.specs.declared.rules.Rule.{Rule}
 use Rattle.path_walk.specs.UserConfigs.{IsUserConfig}
 use Rattle.update_model.specs.Changes.{switch_of, rule_of, tables_after, tables_after_change}
@@ -181,10 +180,6 @@ module _ (aim : Aim) (old : List (List Rule)) (old_user : IsUserConfig aim.net o
         change = keeps_user aim.net (switch_of l.change) (rule_of l.change).action is.rule.action;
         within = subst (λ n. (switch_of l.change).0 < n) (sym user.count) is.within;
       }) left each_left
-
-  -- they are at switches with numbers below 128
-  pub near_left : IsNetwork aim.net → AllByRecursion (λ (l : Left). (switch_of l.change).0 < 128) left
-  near_left net = each_weaker (λ (l : Left). IsUserChange aim old l.change) (λ (l : Left). (switch_of l.change).0 < 128) (λ l is. let few = net.few in let less = is.within in omega arith) left each_left
 
   -- after one of them the others remain
   pub moved_on : (new : List Left) (t : SearchState) (place : ℕ) (made : IsMadeAt aim old changes t left place)

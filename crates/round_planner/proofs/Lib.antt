@@ -15,11 +15,8 @@ pub mod RunLaws
 pub mod OrderLaws
 pub mod OneSearch
 pub mod AnswerLaws
-pub mod CoveringLaws
 pub mod VisitLaws
 pub mod FailureLaws
 pub mod LeftLaws
-pub mod RowLaws
 pub mod MetLaws
-pub mod CoveredLaws
 pub mod UpdateLaws

@@ -1,7 +1,7 @@
 -- A change that is tried, and what comes of it.
 use Rattle.std.proofs.Common.{◌≡◌, ℕ, zero, suc, ◌+◌, ◌<◌, ◌≤◌, List, [], ◌∷◌, ◌++◌, length, take, drop, get_or, refl, sym, ◌∙◌, subst, ap, inl, inr, arith, length-append}
 use Rattle.std.proofs.lemmas.List.{append-nil}
-use Rattle.std.specs.Prelude.{Some, slice_get}
+use Rattle.std.specs.Prelude.{Bool, IsTrue, Some, slice_get}
 use Rattle.std.specs.List.{AllByRecursion}
 use Rattle.net_base.specs.Members.{IsIn}
 use Rattle.net_base.proofs.MemberLaws.{each_weaker, each_append, each_from_in}
@@ -32,8 +32,10 @@ use Rattle.round_planner.specs.declared.judging.Found.{Found}
 use Rattle.round_planner.specs.Search.{Aim, duties_in, update_by, single_rounds, CanBeSafe, Qualifies, IsFirstQualifying}
 use Rattle.round_planner.specs.Standing.{Stands, IsCertifiedClass, IsNextRound, AreSafeBelow, HasUnsafe, AreWithPicks}
 use Rattle.round_planner.specs.declared.failing.UnsafeClass.{UnsafeClass}
-use Rattle.round_planner.specs.Failures.{IsUnsafeClass, IsVisited}
-use Rattle.round_planner.specs.Searching.{SearchState, IsAt, IsTryingAt}
+use Rattle.class_watch.specs.Switches.{has}
+use Rattle.class_watch.proofs.StandLaws.{all_held}
+use Rattle.round_planner.specs.Failures.{IsUnsafeClass}
+use Rattle.round_planner.specs.Searching.{SearchState, HasAtoms, IsAt, IsTryingAt}
 use Rattle.round_planner.proofs.SameRound.{IsSameRound, same_back, same_alone, same_prefix, tables_at, held_same, on_walk_same, safe_same}
 use Rattle.table_difference.proofs.LengthLaws.{few_remain}
 use Rattle.std.proofs.lemmas.Bool.{cases_lt}
@@ -44,7 +46,6 @@ use Rattle.round_planner.proofs.UserTables.{AreUserTables, IsUserChange, keeps_u
 use Rattle.dest_classes.proofs.MapLaws.{number_fits}
 use Rattle.config_check.proofs.JudgeLaws.{class_within}
 use Rattle.round_planner.specs.Visits.{marks_at, HoldTables}
-use Rattle.round_planner.proofs.VisitLaws.{all_held}
 
 -- ---- prepared switches and rounds
 
@@ -227,9 +228,9 @@ pub made_at : (aim : Aim) (old : List (List Rule)) → IsUserConfig aim.net old 
     → IsFirstQualifying aim (tables_after changes old) (remaining (tables_after changes old) aim.new) c
     → between ≡ s.rounds ++ [] ∷ [] → new.rounds ≡ with_change c between → round ≡ length new.rounds
     → rules_of_all new.trial.tables ≡ tables_after_change c (rules_of_all s.trial.tables) → IsSettled aim.net new.trial
-    → AreWithPicks s.store.evidence round found new.store.evidence → new.store.classes ≡ s.store.classes → IsStored s.store.evidence → IsStored new.store.evidence → new.came ≡ s.came
+    → AreWithPicks s.store.evidence round found new.store.evidence → new.store.classes ≡ s.store.classes → IsStored s.store.evidence → IsStored new.store.evidence → new.came ≡ s.came → new.looked ≡ s.looked
     → IsAt aim old (changes ++ c ∷ []) new
-made_at aim old old_user new_user changes c s new found round between at safe first added_round put counted tables settled added classes stored_old stored came =
+made_at aim old old_user new_user changes c s new found round between at safe first added_round put counted tables settled added classes stored_old stored came looked =
     let rounds_are : new.rounds ≡ with_change c (s.rounds ++ [] ∷ []) = put ∙ ap (with_change c) added_round in
     let round_is : round ≡ suc (length changes) = counted ∙ ap length rounds_are ∙ round_number s.rounds changes c at.rounds in
     let remains = first_remains aim (tables_after changes old) (remaining (tables_after changes old) aim.new) c first in
@@ -241,6 +242,7 @@ made_at aim old old_user new_user changes c s new found round between at safe fi
           (subst (λ n. AreWithPicks s.store.evidence n found new.store.evidence) round_is added) stored;
       classes = classes ∙ at.classes;
       came = subst (HoldTables aim (tables_after (changes ++ c ∷ []) old)) (sym came) at.came;
+      looked = subst (HasAtoms aim.classes) (sym looked) at.looked;
     }
 
 -- what a found change needs of the store
@@ -258,22 +260,23 @@ module _ (aim : Aim) (old : List (List Rule)) (old_user : IsUserConfig aim.net o
   pub tried_round : IsRoundOf aim.net trial.mixes (update_by aim old (changes ++ c ∷ [])) (length changes)
   tried_round = round_of aim old old_user new_user changes c s.store.evidence at.stands remains (rules_of_all trial.tables) (rules ∙ at.tables) trial.mixes trying.loaded
 
-  pub tried_at : (came : List ℕ) → HoldTables aim (tables_before (update_by aim old (changes ++ c ∷ [])) (suc (length changes))) came
-      → IsTryingAt aim old changes c (record { trial = trial; rounds = s.rounds; store = s.store; came = came })
-  tried_at came held = record {
+  pub tried_at : (came : List ℕ) (looked : List Bool) → HoldTables aim (tables_before (update_by aim old (changes ++ c ∷ [])) (suc (length changes))) came → length looked ≡ length s.looked
+      → IsTryingAt aim old changes c (record { trial = trial; rounds = s.rounds; store = s.store; came = came; looked = looked })
+  tried_at came looked held atoms = record {
     rounds = at.rounds;
     tables = rules ∙ at.tables;
     trying = trying;
     stands = at.stands;
     classes = at.classes;
     came = subst (λ (ts : List (List Rule)). HoldTables aim ts came) (tables_last aim old changes c) held;
+    looked = λ some. atoms ∙ at.looked some;
   }
 
-  -- where packets come to before it is marked
+  -- where packets come to before it is known
   pub tried_came : HoldTables aim (tables_before (update_by aim old (changes ++ c ∷ [])) (length changes)) s.came
   tried_came = subst (λ (ts : List (List Rule)). HoldTables aim ts s.came) (sym (tables_at aim old changes (c ∷ []))) at.came
 
-  -- and stays marked if it fails
+  -- and stays known if it fails
   pub failed_came : (came : List ℕ) → HoldTables aim (tables_before (update_by aim old (changes ++ c ∷ [])) (length changes)) came → HoldTables aim (tables_after changes old) came
   failed_came came held = subst (λ (ts : List (List Rule)). HoldTables aim ts came) (tables_at aim old changes (c ∷ [])) held
 
@@ -291,16 +294,17 @@ module _ (aim : Aim) (old : List (List Rule)) (old_user : IsUserConfig aim.net o
   tried_fails f unsafe = fails_by aim old old_user new_user changes c s.store.evidence at.stands remains f unsafe
 
 -- the tables are those before again
-pub given_up : (aim : Aim) (old : List (List Rule)) (changes : List Change) (s : SearchState) (trial : TrialState) (came : List ℕ) → IsAt aim old changes s
-    → rules_of_all trial.tables ≡ rules_of_all s.trial.tables → IsSettled aim.net trial → HoldTables aim (tables_after changes old) came
-    → IsAt aim old changes (record { trial = trial; rounds = s.rounds; store = s.store; came = came })
-given_up aim old changes s trial came at rules settled held = record {
+pub given_up : (aim : Aim) (old : List (List Rule)) (changes : List Change) (s : SearchState) (trial : TrialState) (came : List ℕ) (looked : List Bool) → IsAt aim old changes s
+    → rules_of_all trial.tables ≡ rules_of_all s.trial.tables → IsSettled aim.net trial → HoldTables aim (tables_after changes old) came → length looked ≡ length s.looked
+    → IsAt aim old changes (record { trial = trial; rounds = s.rounds; store = s.store; came = came; looked = looked })
+given_up aim old changes s trial came looked at rules settled held atoms = record {
   rounds = at.rounds;
   tables = rules ∙ at.tables;
   settled = settled;
   stands = at.stands;
   classes = at.classes;
   came = held;
+  looked = λ some. atoms ∙ at.looked some;
 }
 
 -- ---- a change among those that remain
@@ -322,19 +326,20 @@ module _ {A : Type 0} where
 -- ---- a search that begins
 
 pub begins_at : (aim : Aim) (old : List (List Rule)) (s : SearchState) → s.rounds ≡ [] → rules_of_all s.trial.tables ≡ old → IsSettled aim.net s.trial
-    → (classes : ℕ) → classes ≡ class_count aim.classes → s.store ≡ record { evidence = no_evidence; classes = classes } → HoldTables aim old s.came → IsAt aim old [] s
-begins_at aim old s rounds tables settled classes count store came = record {
+    → (classes : ℕ) → classes ≡ class_count aim.classes → s.store ≡ record { evidence = no_evidence; classes = classes } → HoldTables aim old s.came → HasAtoms aim.classes s.looked → IsAt aim old [] s
+begins_at aim old s rounds tables settled classes count store came looked = record {
   rounds = rounds;
   tables = tables;
   settled = settled;
   stands = subst (λ (st : StoreState). Stands aim old [] st.evidence) (sym store) (stands_none aim old);
   classes = ap (λ (st : StoreState). st.classes) store ∙ count;
   came = came;
+  looked = looked;
 }
 
 -- where all switches are marked for each class
 pub all_come : (aim : Aim) (old : List (List Rule)) → IsNetwork aim.net → IsUserConfig aim.net old → aim.classes.hosts ≡ aim.net.hosts → (count : ℕ) → count ≡ class_count aim.classes → (came : List ℕ)
-    → length came ≡ count → ((n : ℕ) (s : SwitchId) → n < count → s.0 < 128 → IsVisited (marks_at came n) s) → HoldTables aim old came
+    → length came ≡ count → ((n : ℕ) (s : SwitchId) → n < count → s.0 < 128 → IsTrue (has (marks_at came n) s)) → HoldTables aim old came
 all_come aim old net user hosts count count_is came length_is all = record {
   count = length_is ∙ count_is;
   each = λ n class is.

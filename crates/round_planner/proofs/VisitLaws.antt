@@ -1,111 +1,36 @@
--- The switches that packets of a class come to before, in and after a round; and a class that a change doesn't meet at any of them.
-use Rattle.std.proofs.Common.{◌≡◌, ◌≢◌, ℕ, suc, ◌+◌, ◌<◌, false, List, [], ◌∷◌, length, set, sym, ◌∙◌, subst, inl, inr, arith, get_or-set_same}
-use Rattle.std.specs.Prelude.{◌==◌, IsTrue}
-use Rattle.std.specs.List.{AllByRecursion}
-use Rattle.std.proofs.lemmas.Bool.{cases_eq, cases_lt, eqb-true}
-use Rattle.net_base.specs.Members.{IsIn, IsSameSet}
-use Rattle.net_base.proofs.MemberLaws.{IsSubsequence_refl, each_from_in, in_from_filter}
-use Rattle.net_base.proofs.NameLaws.{same_switch}
-use Rattle.net_base.specs.declared.ids.SwitchId.{SwitchId}
-use Rattle.net_base.specs.declared.ids.Place.{Place}
-use Rattle.topology.specs.Networks.{Network, IsNetwork, switch_count}
-use Rattle.flow_rules.specs.Patterns.{covers}
-use Rattle.flow_rules.specs.Tables.{rules_at}
-use Rattle.flow_rules.specs.declared.rules.Rule.{Rule}
-use Rattle.path_walk.specs.Outcomes.{header_at}
-use Rattle.path_walk.specs.declared.Outcome.{Outcome}
+-- The switches that packets of each class come to before, in and after a round; and a class that its change doesn't meet.
+use Rattle.std.proofs.Common.{◌≡◌, ◌≢◌, ℕ, suc, ◌+◌, ◌<◌, false, List, [], ◌∷◌, length, sym, ◌∙◌, subst, inl, inr, arith}
+use Rattle.std.proofs.lemmas.Bool.{cases_eq, cases_lt}
+use Rattle.topology.specs.Networks.{Network}
 use Rattle.dest_classes.specs.Classes.{IsClass, class_count}
 use Rattle.dest_classes.specs.declared.Class.{Class}
 use Rattle.dest_classes.proofs.MapLaws.{number_fits}
 use Rattle.demands.specs.Duties.{PacketDuties}
-use Rattle.update_model.specs.Changes.{switch_of, rule_of, changes_at, round_after, IsGoodRound}
-use Rattle.update_model.specs.Mixtures.{Rollout, IsPossible, IsOnMixedWalk, tables_before}
+use Rattle.update_model.specs.Changes.{round_after, IsGoodRound}
+use Rattle.update_model.specs.Mixtures.{Rollout, tables_before}
 use Rattle.update_model.specs.declared.Change.{Change}
-use Rattle.update_model.proofs.OneRoundLaws.{next_tables}
 use Rattle.certificates.specs.Ordered.{IsSafe}
 use Rattle.mixed_walks.specs.Walks.{TablesKeepVlans, KeepVlansUpTo}
-use Rattle.mixed_walks.proofs.PlaceLaws.{on_walk_in, on_walk_vlan, places_within}
-use Rattle.check_reasons.specs.Touched.{may_cover}
-use Rattle.check_reasons.proofs.SameWalks.{was_on_walk, was_safe}
-use Rattle.check_reasons.proofs.TouchLaws.{not_covered}
+use Rattle.class_watch.specs.Walks.{at_rest, HoldsWalks, HoldsTables, meets_any}
+use Rattle.class_watch.proofs.StandLaws as stand
+use Rattle.class_watch.proofs.StandLaws.{held_before, held_after, vlan_before, meets_one}
 use Rattle.round_planner.specs.Search.{Aim}
-use Rattle.round_planner.specs.Failures.{IsVisited}
-use Rattle.round_planner.specs.Visits.{marks_at, at_rest, HoldsWalks, HoldsTables, HoldTables, HoldRound}
-use Rattle.round_planner.proofs.CoveringLaws.{possible_alone}
-
--- ---- what is possible between rounds
-
--- what is possible in the tables before a round is possible in it
-pub possible_rest : (u : Rollout) (k dst : ℕ) (place : Place) (found : Outcome) → IsPossible (at_rest u.net (tables_before u k)) 0 dst place found → IsPossible u k dst place found
-possible_rest u k dst place found possible =
-    let (mixed, same, is) = possible_alone u.net place dst (rules_at (tables_before u k) place.switch) [] tt found possible in
-    record { mixed = mixed; held = record { made = []; some = tt; same = same }; is = is }
-
--- what is possible in the tables after a round is possible in it
-pub possible_next : (u : Rollout) (k dst : ℕ) → k < length u.rounds → IsGoodRound (tables_before u k) (round_after k u.rounds)
-    → (place : Place) (found : Outcome) → IsPossible (at_rest u.net (tables_before u (suc k))) 0 dst place found → IsPossible u k dst place found
-possible_next u k dst less good place found possible =
-    let (mixed, same, is) = possible_alone u.net place dst (rules_at (tables_before u (suc k)) place.switch) [] tt found possible in
-    let made = changes_at place.switch (round_after k u.rounds) in
-    record {
-      mixed = mixed;
-      held = record { made = made; some = IsSubsequence_refl made; same = subst (IsSameSet mixed) (next_tables u k less good place.switch) same };
-      is = is;
-    }
-
-module _ (u : Rollout) (k : ℕ) (class : Class) (marks : ℕ) (held : HoldsWalks u k class marks) where
-  -- marks that hold the mixed walks of a round hold where packets come to before it
-  pub held_before : HoldsTables u.net (tables_before u k) class marks
-  held_before place on =
-      held place (was_on_walk u (at_rest u.net (tables_before u k)) k 0 class.first class.entry (λ p _ found. possible_rest u k class.first p found) place on)
-
-  -- and after it
-  pub held_after : k < length u.rounds → IsGoodRound (tables_before u k) (round_after k u.rounds) → HoldsTables u.net (tables_before u (suc k)) class marks
-  held_after less good place on =
-      held place (was_on_walk u (at_rest u.net (tables_before u (suc k))) k 0 class.first class.entry (λ p _ found. possible_next u k class.first less good p found) place on)
-
--- what keeps a class safe in a round keeps it safe after it
-pub safe_after : (u : Rollout) (k dst : ℕ) (entry : Place) → k < length u.rounds → IsGoodRound (tables_before u k) (round_after k u.rounds)
-    → (duties : PacketDuties) (numbers : List ℕ) (sets : List (List ℕ)) → IsSafe u k dst entry duties numbers sets → IsSafe (at_rest u.net (tables_before u (suc k))) 0 dst entry duties numbers sets
-safe_after u k dst entry less good = was_safe u (at_rest u.net (tables_before u (suc k))) k 0 dst entry (λ p _ found. possible_next u k dst less good p found)
+use Rattle.round_planner.specs.Visits.{marks_at, HoldTables, HoldRound}
 
 -- ---- a class that the change of a round doesn't meet
 
 module _ (u : Rollout) (k : ℕ) (class : Class) (c : Change) (round_is : round_after k u.rounds ≡ c ∷ []) (keeps_rules : TablesKeepVlans u.old) (keeps : KeepVlansUpTo u k)
-    (marks : ℕ) (held : HoldsTables u.net (tables_before u k) class marks) (apart : ¬ (IsVisited marks (switch_of c) × IsTrue (may_cover c class))) where
-  abbrev rest : Rollout
-  rest = at_rest u.net (tables_before u k)
-
-  none_covers : (place : Place) → IsOnMixedWalk rest 0 class.first class.entry place
-      → AllByRecursion (λ d. covers (rule_of d).key.pattern (header_at place class.first) ≡ false) (changes_at place.switch (round_after k u.rounds))
-  none_covers place on =
-      let on_walk : IsOnMixedWalk u k class.first class.entry place = was_on_walk u rest k 0 class.first class.entry (λ p _ found. possible_rest u k class.first p found) place on in
-      each_from_in (λ d. covers (rule_of d).key.pattern (header_at place class.first) ≡ false) (changes_at place.switch (round_after k u.rounds)) (λ d i.
-      let (in_round, here) = in_from_filter (λ e. (switch_of e).0 == place.switch.0) d (round_after k u.rounds) i in
-      let same : d ≡ c = elim (subst (IsIn d) round_is in_round) [ inl e ↦ e | inr none ↦ absurd none ] in
-      let at : place.switch ≡ switch_of d = sym (same_switch (switch_of d) place.switch (eqb-true (switch_of d).0 place.switch.0 here)) in
-      let off : ¬ IsTrue (may_cover c class) = (λ covers_it. apart (subst (IsVisited marks) (subst (λ (x : Change). place.switch ≡ switch_of x) same at) (held place on), covers_it)) in
-      subst (λ (x : Change). covers (rule_of x).key.pattern (header_at place class.first) ≡ false) (sym same)
-      (not_covered c class place (on_walk_vlan u k class.first class.entry keeps_rules keeps place on_walk) off))
-
-  was : (place : Place) → IsOnMixedWalk rest 0 class.first class.entry place → (found : Outcome) → IsPossible u k class.first place found → IsPossible rest 0 class.first place found
-  was place on found possible =
-      let (mixed, same, is) = possible_alone u.net place class.first (rules_at (tables_before u k) place.switch) (changes_at place.switch (round_after k u.rounds)) (none_covers place on) found possible in
-      record { mixed = mixed; held = record { made = []; some = tt; same = same }; is = is }
-
+    (marks : ℕ) (held : HoldsTables u.net (tables_before u k) class marks) (off : meets_any (c ∷ []) class marks ≡ false) where
   -- its mixed walks come to no other switches
   pub walks_still : HoldsWalks u k class marks
-  walks_still place on = held place (was_on_walk rest u 0 k class.first class.entry was place on)
+  walks_still = stand.walks_still u k class marks held (vlan_before u k class keeps_rules keeps) (meets_one (round_after k u.rounds) c class marks round_is off)
 
   -- and what keeps it safe before the round does in it
-  pub safe_still : (duties : PacketDuties) (numbers : List ℕ) (sets : List (List ℕ)) → IsSafe rest 0 class.first class.entry duties numbers sets → IsSafe u k class.first class.entry duties numbers sets
-  safe_still = was_safe rest u 0 k class.first class.entry was
+  pub safe_still : (duties : PacketDuties) (numbers : List ℕ) (sets : List (List ℕ)) → IsSafe (at_rest u.net (tables_before u k)) 0 class.first class.entry duties numbers sets
+      → IsSafe u k class.first class.entry duties numbers sets
+  safe_still = stand.safe_still u k class marks held (vlan_before u k class keeps_rules keeps) (meets_one (round_after k u.rounds) c class marks round_is off)
 
 -- ---- class by class
-
--- the marks of one class put in
-pub put_there : (came : List ℕ) (n : ℕ) (marks : ℕ) → n < length came → marks_at (set came n marks) n ≡ marks
-put_there came n marks less = get_or-set_same came n marks 0 less
 
 module _ (aim : Aim) (u : Rollout) (k : ℕ) where
   -- the marks of each class hold where its packets come to before the round, and those of each class below a number its mixed walks
@@ -191,12 +116,3 @@ module _ (aim : Aim) (u : Rollout) (k : ℕ) where
     each = λ n class is.
         subst (λ (x : Network). HoldsTables x (tables_before u (suc k)) class (marks_at came n)) net (held_after u k class (marks_at came n) (h.each n class is) less good);
   }
-
--- ---- where a search begins
-
--- where each of 128 switches is marked, each that packets come to is
-pub all_held : (net : Network) (tables : List (List Rule)) (class : Class) (marks : ℕ) → IsNetwork net → TablesKeepVlans tables → class.entry.switch.0 < switch_count net
-    → ((s : SwitchId) → s.0 < 128 → IsVisited marks s) → HoldsTables net tables class marks
-all_held net tables class marks is keeps within all place on =
-    let there = places_within net class.entry is within place (on_walk_in (at_rest net tables) 0 class.first class.entry keeps (λ j le. tt) place on) in
-    all place.switch (let few = is.few in omega arith)

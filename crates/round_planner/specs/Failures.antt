@@ -1,6 +1,5 @@
 -- Why a change doesn't qualify, and what that rests on.
 use Rattle.std.specs.Prelude.{◌≡◌, ◌<◌, ◌≤◌, ℕ, List, [], ◌∷◌, length, map, IsTrue, IfSome}
-use Rattle.std.specs.Int.{bit_at}
 use Rattle.std.specs.List.{AllByRecursion}
 use Rattle.net_base.specs.declared.ids.SwitchId.{SwitchId}
 use Rattle.net_base.specs.declared.ids.Place.{Place}
@@ -16,6 +15,7 @@ use Rattle.update_model.specs.declared.Change.{Change}
 use Rattle.certificates.specs.Certified.{KeepsVlan}
 use Rattle.check_reasons.specs.Touched.{may_cover}
 use Rattle.mixed_walks.specs.Walks.{TablesKeepVlans}
+use Rattle.class_watch.specs.Walks.{HoldsWalks, meets}
 use Rattle.round_tables.specs.Trials.{single}
 use Rattle.round_planner.specs.declared.failing.Failure.{Failure}
 use Rattle.round_planner.specs.declared.failing.Failure.TheVariants as failure
@@ -30,16 +30,12 @@ pub record HasRoomThere (net : Network) (tables : List (List Rule)) (c : Change)
   pub clear : (mixed : List Rule) → IsMixture (rules_at tables (switch_of c)) (c ∷ []) mixed → IsClear mixed
   pub fits : (switch_of c).0 < switch_count net → entries_needed (rules_at tables (switch_of c)) (c ∷ []) ≤ capacity_of net (switch_of c)
 
--- the switch is marked: its bit is set
-abbrev pub IsVisited : ℕ → SwitchId → Type 0
-IsVisited marks s = bit_at marks s.0 ≡ 1
-
--- while the change is made no evidence keeps the class safe, and each switch that its mixed walks come to is marked
+-- while the change is made no evidence keeps the class safe, and each switch that its mixed walks come to is known
 pub record IsUnsafeClass (aim : Aim) (tables : List (List Rule)) (c : Change) (f : UnsafeClass) : Type 0 where
   pub number : ℕ
   pub is_class : IsClass aim.classes number f.class
   pub never : ¬ CanBeSafe aim tables c f.class
-  pub visits : (place : Place) → IsOnMixedWalk (single aim.net tables c) 0 f.class.first f.class.entry place → IsVisited f.visited place.switch
+  pub visits : HoldsWalks (single aim.net tables c) 0 f.class f.visited
 
 -- why the change doesn't qualify: it has no room in its table, or a class is not safe by any evidence
 abbrev pub IsFailure : Aim → List (List Rule) → Change → Failure → Type 0
@@ -48,14 +44,16 @@ IsFailure aim tables c (failure.Class f) = IsUnsafeClass aim tables c f
 
 -- ---- what it rests on
 
--- the change touches what a failure of a change at the switch rests on: its table, or the packets of the class at a marked switch
+-- the change touches what a failure of a change at the switch rests on: its table, or the packets of the class where they come
 abbrev pub IsTouched : SwitchId → Change → Failure → Type 0
 IsTouched s d failure.Table = (switch_of d).0 ≡ s.0
-IsTouched s d (failure.Class f) = IsVisited f.visited (switch_of d) × IsTrue (may_cover d f.class)
+IsTouched s d (failure.Class f) = IsTrue (meets d f.class f.visited)
 
 -- while the change c is made no packet of the class comes to a switch where the change d covers it
 abbrev pub IsApart : Aim → List (List Rule) → Change → Class → Change → Type 0
-IsApart aim tables c class d = (place : Place) → IsOnMixedWalk (single aim.net tables c) 0 class.first class.entry place → place.switch ≡ switch_of d → ¬ IsTrue (may_cover d class)
+IsApart aim tables c class d =
+    (place : Place) → IsOnMixedWalk (single aim.net tables c) 0 class.first class.entry place
+    → place.switch ≡ switch_of d → ¬ IsTrue (may_cover d class)
 
 -- ---- the changes that remain
 

@@ -1,11 +1,11 @@
 -- What a search is for, and where it is.
-use Rattle.std.specs.Prelude.{◌≡◌, ℕ, ◌<◌, ◌≤◌, Bool, true, false, List, [], ◌∷◌, ◌++◌, length, slice_index_or, Option, Some, None}
+use Rattle.std.specs.Prelude.{◌≡◌, ℕ, ◌<◌, ◌≤◌, Bool, true, false, List, [], ◌∷◌, ◌++◌, length, Option, Some, None}
 use Rattle.std.specs.List.{AllByRecursion}
 use Rattle.topology.specs.Networks.{Network}
 use Rattle.flow_rules.specs.Tables.{TableState, rules_of_all}
 use Rattle.flow_rules.specs.declared.rules.Rule.{Rule}
 use Rattle.path_walk.specs.UserConfigs.{IsUserConfig}
-use Rattle.dest_classes.specs.Classes.{ClassList, IsClass, class_count}
+use Rattle.dest_classes.specs.Classes.{ClassList, class_count, atom_count}
 use Rattle.dest_classes.specs.declared.Class.{Class}
 use Rattle.demands.specs.Duties.{ClassDuties}
 use Rattle.update_model.specs.Changes.{tables_after}
@@ -15,6 +15,7 @@ use Rattle.certificates.specs.declared.Evidence.TheVariants as evidence
 use Rattle.certificates.specs.declared.OrderedEvidence.{OrderedEvidence}
 use Rattle.evidence_store.specs.State.{StoreState}
 use Rattle.evidence_store.specs.Stored.{IsStored}
+use Rattle.class_watch.specs.Classes.{AreClasses}
 use Rattle.round_tables.specs.Trials.{TrialState, IsSettled, IsTrying}
 use Rattle.round_planner.specs.declared.Ordered.{Ordered}
 use Rattle.round_planner.specs.declared.Ordered.TheVariants.{Rounds, Stuck}
@@ -25,25 +26,26 @@ use Rattle.round_planner.specs.Search.{Aim, single_rounds, Qualifies, IsFirstQua
 use Rattle.round_planner.specs.Standing.{Stands}
 use Rattle.round_planner.specs.Visits.{HoldTables}
 
--- the list has the classes, by their numbers
-pub record AreListed (classes : ClassList) (list : List Class) : Type 0 where
-  pub count : length list ≡ class_count classes
-  pub each : (n : ℕ) (d : Class) → n < length list → IsClass classes n (slice_index_or list n d)
-
 -- the new tables are a user configuration, the classes are of the network, and the duties and the list are theirs
 pub record IsGoal (net : Network) (new : List TableState) (duties : ClassDuties) (classes : ClassList) (list : List Class) : Type 0 where
   pub user : IsUserConfig net (rules_of_all new)
   pub duties_of_them : duties.classes ≡ classes
   pub hosts : classes.hosts ≡ net.hosts
   pub vlans : classes.vlans ≡ net.vlans
-  pub listed : AreListed classes list
+  pub listed : AreClasses classes list
 
--- the tables with what is prepared of them, the rounds, their evidence, and for each class the switches that its packets come to
+-- the tables with what is prepared of them, the rounds, their evidence, for each class the switches that its packets come to,
+-- and for each atom whether its classes are looked at
 pub record SearchState : Type 0 where
   pub trial : TrialState
   pub rounds : List (List Change)
   pub store : StoreState
   pub came : List ℕ
+  pub looked : List Bool
+
+-- where there are classes, there is a mark for each atom
+abbrev pub HasAtoms : ClassList → List Bool → Type 0
+HasAtoms classes looked = 0 < class_count classes → length looked ≡ atom_count classes
 
 -- the search has made these changes, each as a round of its own, and no change is tried
 pub record IsAt (aim : Aim) (old : List (List Rule)) (changes : List Change) (s : SearchState) : Type 0 where
@@ -53,8 +55,9 @@ pub record IsAt (aim : Aim) (old : List (List Rule)) (changes : List Change) (s 
   pub stands : Stands aim old changes s.store.evidence
   pub classes : s.store.classes ≡ class_count aim.classes
   pub came : HoldTables aim (tables_after changes old) s.came
+  pub looked : HasAtoms aim.classes s.looked
 
--- the search has made these changes, and one that remains is tried; where packets come to after it is marked
+-- the search has made these changes, and one that remains is tried; where packets come to after it is known
 pub record IsTryingAt (aim : Aim) (old : List (List Rule)) (changes : List Change) (c : Change) (s : SearchState) : Type 0 where
   pub rounds : s.rounds ≡ single_rounds changes
   pub tables : rules_of_all s.trial.tables ≡ tables_after changes old
@@ -62,6 +65,7 @@ pub record IsTryingAt (aim : Aim) (old : List (List Rule)) (changes : List Chang
   pub stands : Stands aim old changes s.store.evidence
   pub classes : s.store.classes ≡ class_count aim.classes
   pub came : HoldTables aim (tables_after (changes ++ c ∷ []) old) s.came
+  pub looked : HasAtoms aim.classes s.looked
 
 -- what trying a change leads to: it qualifies and, if it is the first that does, the search has made it;
 -- or it fails and the search is where it was

@@ -4,18 +4,20 @@ use Rattle.std.specs.declared.alloc.Global.{Global}
 use Rattle.std.specs.List.{AllByRecursion}
 use Rattle.net_base.specs.Members.{IsIn}
 use Rattle.net_base.specs.declared.ids.SwitchId.{SwitchId}
-use Rattle.net_base.specs.declared.ids.Place.{Place}
 use Rattle.flow_rules.specs.Tables.{IsClear}
 use Rattle.flow_rules.specs.declared.rules.Rule.{Rule}
 use Rattle.dest_classes.specs.Classes.{IsClass, class_count}
 use Rattle.dest_classes.specs.declared.Class.{Class}
 use Rattle.update_model.specs.Changes.{IsGoodRound, round_after}
-use Rattle.update_model.specs.Mixtures.{Rollout, MayHold, IsOnMixedWalk, tables_before}
+use Rattle.update_model.specs.Mixtures.{Rollout, MayHold, tables_before}
 use Rattle.update_model.specs.declared.Change.{Change}
 use Rattle.certificates.specs.Ordered.{IsSafe, OrderedCertificate}
 use Rattle.certificates.specs.Valid.{IsChain, IsValidNumbering, IsValidBefore}
 use Rattle.certificates.specs.declared.OrderedEvidence.{OrderedEvidence}
+use Rattle.round_mix.specs.Prepared.{MixedState}
+use Rattle.mixed_walks.specs.Walks.{IsRoundOf}
 use Rattle.evidence_store.specs.Found.{IsSafeEvidence}
+use Rattle.evidence_store.specs.State.{StoreState}
 use Rattle.evidence_store.specs.Last.{SetsState, HoldsLast}
 use Rattle.evidence_store.specs.Stored.{IsWithPick}
 use Rattle.round_planner.specs.declared.judging.Found.{Found}
@@ -24,7 +26,7 @@ use Rattle.round_planner.specs.declared.judging.Judged.TheVariants.{Kept, New, U
 use Rattle.round_planner.specs.declared.judging.Verdict.{Verdict}
 use Rattle.round_planner.specs.declared.judging.Verdict.TheVariants as verdict
 use Rattle.round_planner.specs.declared.failing.UnsafeClass.{UnsafeClass}
-use Rattle.round_planner.specs.Failures.{IsVisited}
+use Rattle.class_watch.specs.Walks.{HoldsWalks}
 use Rattle.round_planner.specs.Visits.{HoldTables, HoldRound}
 use Rattle.round_planner.specs.Search.{Aim, duties_in, update_by, AreFirstQualifying, IsSearchEvidence}
 
@@ -51,10 +53,16 @@ pub record IsNextRound (aim : Aim) (u : Rollout) (e : OrderedEvidence) (k : ℕ)
   pub picks : AllByRecursion (λ p. (0 < p.round) × (p.round ≤ k)) e.picks
   pub certificates : (j n : ℕ) (class : Class) → j < k → IsClass aim.classes n class → IsCertifiedClass aim u e j n class
 
--- no evidence keeps the class safe in round k, and each switch that its mixed walks come to is marked
+-- the switches are prepared for a round, and the evidence so far is of the classes, with numberings of the network
+pub record IsReady (aim : Aim) (mixes : List MixedState) (store : StoreState) : Type 0 where
+  pub round : (u : Rollout) × (k : ℕ) × IsRoundOf aim.net mixes u k
+  pub numberings : AllByRecursion (IsValidNumbering aim.net) store.evidence.numberings
+  pub classes : store.classes ≡ class_count aim.classes
+
+-- no evidence keeps the class safe in round k, and each switch that its mixed walks come to is known
 pub record IsUnsafe (aim : Aim) (u : Rollout) (k : ℕ) (f : UnsafeClass) : Type 0 where
   pub never : (numbers : List ℕ) (sets : List (List ℕ)) → ¬ IsSafe u k f.class.first f.class.entry (duties_in aim f.class) numbers sets
-  pub visits : (place : Place) → IsOnMixedWalk u k f.class.first f.class.entry place → IsVisited f.visited place.switch
+  pub visits : HoldsWalks u k f.class f.visited
 
 -- the least before sets that were found last, if any were, are those of a class
 abbrev pub HoldsLastOf : Aim → Option SetsState → Type 0
@@ -121,13 +129,13 @@ pub record IsNewlySafe (aim : Aim) (u : Rollout) (e : OrderedEvidence) (k : ℕ)
   pub safe : IsSafeEvidence u k class (duties_in aim class) f.evidence
 
 -- each class that the change of round k meets is safe in it, and so is each other one if there is a round before;
--- and each switch that the mixed walks of each class come to is marked
+-- and each switch that the mixed walks of each class come to is known
 pub record AreMetSafe (aim : Aim) (u : Rollout) (e : OrderedEvidence) (k : ℕ) (found : List Found) (came : List ℕ) : Type 0 where
   pub later : 0 < k → AreSafeBelow aim u e k (class_count aim.classes) found
   pub new : AllByRecursion (IsNewlySafe aim u e k) found
-  pub marked : HoldRound aim u k came
+  pub known : HoldRound aim u k came
 
--- what is found for the classes that the change of round k meets, and what is marked then
+-- what is found for the classes that the change of round k meets, and where packets come to then
 abbrev pub AreMetJudged : Aim → Rollout → OrderedEvidence → ℕ → Verdict → List ℕ → Type 0
 AreMetJudged aim u e k (verdict.Safe found) came = AreMetSafe aim u e k found.items came
 AreMetJudged aim u e k (verdict.Unsafe f) came = HasUnsafe aim u k f × HoldTables aim (tables_before u k) came

@@ -1,5 +1,5 @@
 //! What is found for the classes while a change is tried.
-ghost use Rattle.std.specs.Prelude.{◌≡◌, ◌≢◌, ◌↔◌, ℕ, ◌<◌, ◌≤◌, suc, List, [], length, IsTrue, IfOk, IfSome, IsOkAnd, OnOk, slice_get, Some};
+ghost use Rattle.std.specs.Prelude.{◌≡◌, ◌≢◌, ◌↔◌, ℕ, ◌<◌, ◌≤◌, suc, List, [], ◌∷◌, length, IsTrue, IfOk, IfSome, IsOkAnd, OnOk, slice_get, Some};
 ghost use Rattle.net_base.specs.Members.{IsIn};
 ghost use Rattle.std.specs.List.{AllByRecursion};
 ghost use Rattle.topology.specs.Networks.{switch_count};
@@ -13,17 +13,18 @@ ghost use Rattle.dest_classes.specs.Numbered.{IsNumbered};
 ghost use Rattle.mixed_walks.specs.Walks.{IsRoundOf, IsWalked};
 ghost use Rattle.round_planner.specs.Search.{duties_in};
 ghost use Rattle.round_planner.specs.declared.judging.Found.{Found as FoundOf};
-ghost use Rattle.certificates.specs.Valid.{IsChain};
-ghost use Rattle.check_reasons.specs.Touched.{may_cover};
-ghost use Rattle.round_planner.specs.Standing.{IsNextRound, IsCertifiedClass, IsJudged, IsJudgedIfMet, IsNewlySafe, IsNoted, AreJudged, AreMetJudged, HoldsLastOf, verdict_of};
-ghost use Rattle.round_planner.specs.Visits.{marks_at, HoldsWalks, HoldsTables, HoldTables, HoldRound, HoldAfter};
+ghost use Rattle.check_reasons.specs.AtomMarks.{AreTouched};
+ghost use Rattle.class_watch.specs.Walks.{HoldsWalks, HoldsTables};
+ghost use Rattle.round_planner.specs.Standing.{IsReady, IsNextRound, IsCertifiedClass, IsJudged, IsJudgedIfMet, IsNewlySafe, IsNoted, AreJudged, AreMetJudged, HoldsLastOf, verdict_of};
+ghost use Rattle.round_planner.specs.Searching.{HasAtoms};
+ghost use Rattle.round_planner.specs.Visits.{marks_at, HoldTables, HoldRound, HoldAfter};
 
-use crate::came::Came;
-use crate::failing::{UnsafeClass, Visited, visited_on};
+use crate::failing::UnsafeClass;
 use crate::goal::Goal;
 use acyclic_numbering::Numbering;
 use certificates::{OrderedEvidence, Shared};
-use dest_classes::{Class, NumberedClass};
+use class_watch::{ClassWatch, LookedAtoms, meets};
+use dest_classes::NumberedClass;
 use evidence_store::{
     ClassEvidence, EvidenceStore, LastSets, NamedEvidence, evidence_by_last, keeps_safe,
 };
@@ -92,12 +93,18 @@ fn use_keeps(
     requires class { IsNumbered goal.now.classes numbered }
     requires entry { numbered.class.entry.switch.0 < switch_count goal.now.net }
     requires there { use_ < length evidence.now.uses }
-    requires uses { AllByRecursion (IsValidUse (length evidence.now.numberings) (length evidence.now.befores)) evidence.now.uses }
+    requires uses { AllByRecursion (IsValidUse (length evidence.now.numberings)
+        (length evidence.now.befores)) evidence.now.uses }
     requires numberings { AllByRecursion (IsValidNumbering goal.now.net) evidence.now.numberings }
-    requires walked { (u : Rollout) × (k : ℕ) × (u.net ≡ goal.now.net) × IsWalked u k numbered.class.first numbered.class.entry walk.now }
-    ensures { (u : Rollout) (k : ℕ) (pick : OrderedPick) (numbers : List ℕ) (sets : List (List ℕ)) → u.net ≡ goal.now.net
-        → IsWalked u k numbered.class.first numbered.class.entry walk.now → pick.shared ≡ use_ → IsMeant evidence.now pick numbers sets
-        → IsTrue result ↔ IsSafe u k numbered.class.first numbered.class.entry (duties_in goal.now numbered.class) numbers sets }
+    requires walked { (u : Rollout) × (k : ℕ) × (u.net ≡ goal.now.net)
+        × IsWalked u k numbered.class.first numbered.class.entry walk.now }
+    ensures { (u : Rollout) (k : ℕ) (pick : OrderedPick) (numbers : List ℕ) (sets : List (List ℕ))
+        → u.net ≡ goal.now.net
+        → IsWalked u k numbered.class.first numbered.class.entry walk.now → pick.shared ≡ use_
+        → IsMeant evidence.now pick numbers sets
+        → IsTrue result
+        ↔ IsSafe u k numbered.class.first numbered.class.entry
+        (duties_in goal.now numbered.class) numbers sets }
 {
     let shared = use_at(evidence, use_);
     keeps_safe(
@@ -118,12 +125,16 @@ fn is_kept(goal: &Goal, walk: &WalkRoom, store: &EvidenceStore, numbered: Number
     requires number { numbered.number < class_count goal.now.classes }
     requires class { IsNumbered goal.now.classes numbered }
     requires entry { numbered.class.entry.switch.0 < switch_count goal.now.net }
-    requires numberings { AllByRecursion (IsValidNumbering goal.now.net) store.now.evidence.numberings }
+    requires numberings { AllByRecursion (IsValidNumbering goal.now.net)
+        store.now.evidence.numberings }
     requires classes { store.now.classes ≡ class_count goal.now.classes }
-    requires walked { (u : Rollout) × (k : ℕ) × (u.net ≡ goal.now.net) × IsWalked u k numbered.class.first numbered.class.entry walk.now }
-    ensures { (u : Rollout) (k : ℕ) → u.net ≡ goal.now.net → IsWalked u k numbered.class.first numbered.class.entry walk.now
+    requires walked { (u : Rollout) × (k : ℕ) × (u.net ≡ goal.now.net)
+        × IsWalked u k numbered.class.first numbered.class.entry walk.now }
+    ensures { (u : Rollout) (k : ℕ) → u.net ≡ goal.now.net
+        → IsWalked u k numbered.class.first numbered.class.entry walk.now
         → AllByRecursion (λ p. p.round ≤ suc k) store.now.evidence.picks
-        → IsTrue result ↔ IsCertifiedClass goal.now u store.now.evidence k numbered.number numbered.class }
+        → IsTrue result
+        ↔ IsCertifiedClass goal.now u store.now.evidence k numbered.number numbered.class }
 {
     store.keeps_once();
     match store.in_force(numbered.number) {
@@ -132,52 +143,40 @@ fn is_kept(goal: &Goal, walk: &WalkRoom, store: &EvidenceStore, numbered: Number
     }
 }
 
-/// Walks the mixed walks of a class. The result are the switches that they come to.
-fn walk_class(goal: &Goal, walk: &mut WalkRoom, mixes: &[Mixed], class: Class) -> Visited
-    requires entry { class.entry.switch.0 < switch_count goal.now.net }
-    requires round { (u : Rollout) × (k : ℕ) × IsRoundOf goal.now.net mixes.now u k }
-    ensures walked { (u : Rollout) (k : ℕ) → IsRoundOf goal.now.net mixes.now u k → IsWalked u k class.first class.entry walk.new }
-    ensures visits { (u : Rollout) (k : ℕ) → IsRoundOf goal.now.net mixes.now u k → HoldsWalks u k class result }
-{
-    goal.net.keeps_rules();
-    walk.walk(goal.net, mixes, class);
-    visited_on(class.entry.switch, walk.steps())
-}
-
 /// What is found for a class while the round of a change is carried out. Its mixed walks are walked, and the switches that
 /// they come to are kept.
 fn judge_class(
     alloc: Global,
     goal: &Goal,
-    walk: &mut WalkRoom,
+    watch: &mut ClassWatch,
     tried: &Tried,
-    came: &mut Came,
     last: &mut LastSets,
     numbered: NumberedClass,
 ) -> Result<Judged, Memory>
     requires number { numbered.number < class_count goal.now.classes }
     requires class { IsNumbered goal.now.classes numbered }
-    requires round { (u : Rollout) × (k : ℕ) × IsRoundOf goal.now.net tried.now.mixes.now u k }
-    requires numberings { AllByRecursion (IsValidNumbering goal.now.net) tried.now.store.now.evidence.numberings }
-    requires classes { tried.now.store.now.classes ≡ class_count goal.now.classes }
-    requires came { length came.old ≡ class_count goal.now.classes }
+    requires ready { IsReady goal.now tried.now.mixes.now tried.now.store.now }
+    requires came { length watch.old.came.items ≡ class_count goal.now.classes }
     requires last { HoldsLastOf goal.now last.old }
-    ensures judged { IfOk result (λ judged. (u : Rollout) (k : ℕ) → IsRoundOf goal.now.net tried.now.mixes.now u k
+    ensures judged { IfOk result (λ judged. (u : Rollout) (k : ℕ)
+        → IsRoundOf goal.now.net tried.now.mixes.now u k
         → IsNextRound goal.now u tried.now.store.now.evidence k tried.now.change.now
-        → IsJudged goal.now u tried.now.store.now.evidence k numbered.number numbered.class judged) }
-    ensures walks { OnOk result ((u : Rollout) (k : ℕ) → IsRoundOf goal.now.net tried.now.mixes.now u k
-        → HoldsWalks u k numbered.class (marks_at came.new numbered.number)) }
-    ensures count { length came.new ≡ length came.old }
-    ensures others { (n : ℕ) → n ≢ numbered.number → marks_at came.new n ≡ marks_at came.old n }
+        → IsJudged goal.now u tried.now.store.now.evidence k numbered.number
+        numbered.class judged) }
+    ensures walks { OnOk result ((u : Rollout) (k : ℕ)
+        → IsRoundOf goal.now.net tried.now.mixes.now u k
+        → HoldsWalks u k numbered.class (marks_at watch.new.came.items numbered.number)) }
+    ensures count { length watch.new.came.items ≡ length watch.old.came.items }
+    ensures others { (n : ℕ) → n ≢ numbered.number
+        → marks_at watch.new.came.items n ≡ marks_at watch.old.came.items n }
     ensures last { OnOk result (HoldsLastOf goal.now last.new) }
 {
     goal.net.keeps_rules();
-    let visited = walk_class(goal, walk, tried.mixes, numbered.class);
-    came.put(numbered.number, visited.copy());
-    if is_kept(goal, walk, tried.store, numbered) {
+    let visited = watch.walk(goal.net, tried.mixes, numbered);
+    if is_kept(goal, &watch.walk, tried.store, numbered) {
         return Ok(Judged::Kept);
     }
-    match evidence_by_last(alloc, goal.net, walk, goal.duties, numbered, last)? {
+    match evidence_by_last(alloc, goal.net, &watch.walk, goal.duties, numbered, last)? {
         Some(evidence) => Ok(Judged::New(evidence)),
         None => Ok(Judged::Unsafe(UnsafeClass {
             class: numbered.class,
@@ -191,33 +190,35 @@ fn judge_class(
 fn judge_if_met(
     alloc: Global,
     goal: &Goal,
-    walk: &mut WalkRoom,
+    watch: &mut ClassWatch,
     tried: &Tried,
-    came: &mut Came,
     last: &mut LastSets,
     number: u32,
 ) -> Result<Judged, Memory>
     requires number { number < class_count goal.now.classes }
-    requires round { (u : Rollout) × (k : ℕ) × IsRoundOf goal.now.net tried.now.mixes.now u k }
-    requires numberings { AllByRecursion (IsValidNumbering goal.now.net) tried.now.store.now.evidence.numberings }
-    requires classes { tried.now.store.now.classes ≡ class_count goal.now.classes }
-    requires came { length came.old ≡ class_count goal.now.classes }
+    requires ready { IsReady goal.now tried.now.mixes.now tried.now.store.now }
+    requires came { length watch.old.came.items ≡ class_count goal.now.classes }
     requires last { HoldsLastOf goal.now last.old }
-    ensures judged { IfOk result (λ judged. (u : Rollout) (k : ℕ) (class : Class) → IsRoundOf goal.now.net tried.now.mixes.now u k → IsClass goal.now.classes number class
-        → IsNextRound goal.now u tried.now.store.now.evidence k tried.now.change.now → HoldsTables u.net (tables_before u k) class (marks_at came.old number)
+    ensures judged { IfOk result (λ judged. (u : Rollout) (k : ℕ) (class : Class)
+        → IsRoundOf goal.now.net tried.now.mixes.now u k → IsClass goal.now.classes number class
+        → IsNextRound goal.now u tried.now.store.now.evidence k tried.now.change.now
+        → HoldsTables u.net (tables_before u k) class (marks_at watch.old.came.items number)
         → IsJudgedIfMet goal.now u tried.now.store.now.evidence k number class judged) }
-    ensures walks { OnOk result ((u : Rollout) (k : ℕ) (class : Class) → IsRoundOf goal.now.net tried.now.mixes.now u k → IsClass goal.now.classes number class
-        → IsNextRound goal.now u tried.now.store.now.evidence k tried.now.change.now → HoldsTables u.net (tables_before u k) class (marks_at came.old number)
-        → HoldsWalks u k class (marks_at came.new number)) }
-    ensures count { length came.new ≡ length came.old }
-    ensures others { (n : ℕ) → n ≢ number → marks_at came.new n ≡ marks_at came.old n }
+    ensures walks { OnOk result ((u : Rollout) (k : ℕ) (class : Class)
+        → IsRoundOf goal.now.net tried.now.mixes.now u k → IsClass goal.now.classes number class
+        → IsNextRound goal.now u tried.now.store.now.evidence k tried.now.change.now
+        → HoldsTables u.net (tables_before u k) class (marks_at watch.old.came.items number)
+        → HoldsWalks u k class (marks_at watch.new.came.items number)) }
+    ensures count { length watch.new.came.items ≡ length watch.old.came.items }
+    ensures others { (n : ℕ) → n ≢ number
+        → marks_at watch.new.came.items n ≡ marks_at watch.old.came.items n }
     ensures last { OnOk result (HoldsLastOf goal.now last.new) }
 {
     let numbered = goal.numbered(number);
-    if !came.of(number).meets(numbered.class, tried.change) {
+    if !meets(tried.change, numbered.class, watch.came[number as usize]) {
         return Ok(Judged::Kept);
     }
-    judge_class(alloc, goal, walk, tried, came, last, numbered)
+    judge_class(alloc, goal, watch, tried, last, numbered)
 }
 
 /// Notes what is found for a class behind what is found for others. The result is the class where it is not safe by any evidence.
@@ -254,37 +255,39 @@ fn verdict_of(
     }
 }
 
-/// Finds evidence for the classes with these numbers, class by class, where the change meets them. The result is the first
-/// that is not safe by any evidence.
-fn judge_covered(
+/// Finds evidence for the classes whose atoms are looked at, class by class, where the change meets them: these are the atoms
+/// that it touches. The result is the first class that is not safe by any evidence.
+fn judge_touched(
     goal: &Goal,
-    walk: &mut WalkRoom,
+    watch: &mut ClassWatch,
     tried: &Tried,
-    came: &mut Came,
+    looked: &LookedAtoms,
     last: &mut LastSets,
-    numbers: &[u32],
     found: &mut Vec<Found>,
 ) -> Result<Option<UnsafeClass>, Memory>
-    requires round { (u : Rollout) × (k : ℕ) × IsRoundOf goal.now.net tried.now.mixes.now u k }
-    requires numberings { AllByRecursion (IsValidNumbering goal.now.net) tried.now.store.now.evidence.numberings }
-    requires classes { tried.now.store.now.classes ≡ class_count goal.now.classes }
-    requires came { length came.old ≡ class_count goal.now.classes }
+    requires ready { IsReady goal.now tried.now.mixes.now tried.now.store.now }
+    requires came { length watch.old.came.items ≡ class_count goal.now.classes }
     requires last { HoldsLastOf goal.now last.old }
-    requires within { AllByRecursion (λ n. n < class_count goal.now.classes) numbers.now }
-    requires ascending { IsChain (λ m n. m < n) numbers.now }
-    requires all { (n : ℕ) (class : Class) → IsClass goal.now.classes n class → IsTrue (may_cover tried.now.change.now class) → IsIn n numbers.now }
+    requires atoms { HasAtoms goal.now.classes looked.now }
+    requires touched { AreTouched goal.now.classes (tried.now.change.now ∷ []) looked.now }
     requires none { found.old.items ≡ [] }
-    ensures judged { IfOk result (λ failing. (u : Rollout) (k : ℕ) → IsRoundOf goal.now.net tried.now.mixes.now u k
-        → IsNextRound goal.now u tried.now.store.now.evidence k tried.now.change.now → HoldTables goal.now (tables_before u k) came.old
-        → AreMetJudged goal.now u tried.now.store.now.evidence k (verdict_of found.new failing) came.new) }
-    ensures count { length came.new ≡ length came.old }
+    ensures judged { IfOk result (λ failing. (u : Rollout) (k : ℕ)
+        → IsRoundOf goal.now.net tried.now.mixes.now u k
+        → IsNextRound goal.now u tried.now.store.now.evidence k tried.now.change.now
+        → HoldTables goal.now (tables_before u k) watch.old.came.items
+        → AreMetJudged goal.now u tried.now.store.now.evidence k (verdict_of found.new failing)
+        watch.new.came.items) }
+    ensures count { length watch.new.came.items ≡ length watch.old.came.items }
 {
     let alloc = *found.allocator();
-    for number in numbers {
-        let judged = judge_if_met(alloc, goal, walk, tried, came, last, *number)?;
-        if let Some(failing) = note(*number, judged, found)? {
+    let end = goal.classes.count();
+    let mut number = looked.next_number(0, end);
+    'judging: while number < end {
+        let judged = judge_if_met(alloc, goal, watch, tried, last, number)?;
+        if let Some(failing) = note(number, judged, found)? {
             return Ok(Some(failing));
         }
+        number = looked.next_number(number + 1, end);
     }
     Ok(None)
 }
@@ -294,31 +297,33 @@ fn judge_covered(
 fn judge_met(
     alloc: Global,
     goal: &Goal,
-    walk: &mut WalkRoom,
+    watch: &mut ClassWatch,
     tried: &Tried,
-    came: &mut Came,
+    looked: &mut LookedAtoms,
 ) -> Result<Verdict, Memory>
-    requires round { (u : Rollout) × (k : ℕ) × IsRoundOf goal.now.net tried.now.mixes.now u k }
-    requires numberings { AllByRecursion (IsValidNumbering goal.now.net) tried.now.store.now.evidence.numberings }
-    requires classes { tried.now.store.now.classes ≡ class_count goal.now.classes }
-    requires came { length came.old ≡ class_count goal.now.classes }
-    ensures judged { IfOk result (λ verdict. (u : Rollout) (k : ℕ) → IsRoundOf goal.now.net tried.now.mixes.now u k
-        → IsNextRound goal.now u tried.now.store.now.evidence k tried.now.change.now → HoldTables goal.now (tables_before u k) came.old
-        → AreMetJudged goal.now u tried.now.store.now.evidence k verdict came.new) }
-    ensures count { length came.new ≡ length came.old }
+    requires ready { IsReady goal.now tried.now.mixes.now tried.now.store.now }
+    requires came { length watch.old.came.items ≡ class_count goal.now.classes }
+    requires atoms { HasAtoms goal.now.classes looked.old }
+    ensures judged { IfOk result (λ verdict. (u : Rollout) (k : ℕ)
+        → IsRoundOf goal.now.net tried.now.mixes.now u k
+        → IsNextRound goal.now u tried.now.store.now.evidence k tried.now.change.now
+        → HoldTables goal.now (tables_before u k) watch.old.came.items
+        → AreMetJudged goal.now u tried.now.store.now.evidence k verdict watch.new.came.items) }
+    ensures count { length watch.new.came.items ≡ length watch.old.came.items }
+    ensures atoms { length looked.new ≡ length looked.old }
 {
-    let numbers = goal.covered(alloc, tried.change)?;
+    looked.look_at_touched(&goal.list, tried.change);
     let mut last = LastSets::none();
     let mut found = Vec::new(alloc);
-    let failing = judge_covered(goal, walk, tried, came, &mut last, &numbers, &mut found);
-    drop(numbers);
+    let failing = judge_touched(goal, watch, tried, looked, &mut last, &mut found);
     drop(last);
     verdict_of(found, failing)
 }
 
 /// Takes out the last of what was found, if that is for the class of a number.
 fn take_last(found: &mut Vec<Found>, number: u32) -> Option<ClassEvidence>
-    ensures some { IfSome result (λ evidence. IsIn (record { class = number; evidence = evidence }) found.old.items) }
+    ensures some { IfSome result (λ evidence. IsIn (record { class = number; evidence = evidence })
+        found.old.items) }
     ensures rest { (f : FoundOf) → IsIn f found.new.items → IsIn f found.old.items }
 {
     if found.last()?.class != number {
@@ -331,60 +336,62 @@ fn take_last(found: &mut Vec<Found>, number: u32) -> Option<ClassEvidence>
 /// order of classes, none above this one.
 fn judge_next(
     goal: &Goal,
-    walk: &mut WalkRoom,
+    watch: &mut ClassWatch,
     tried: &Tried,
-    came: &mut Came,
     last: &mut LastSets,
     before: &mut Vec<Found>,
     number: u32,
 ) -> Result<Judged, Memory>
     requires number { number < class_count goal.now.classes }
-    requires round { (u : Rollout) × (k : ℕ) × IsRoundOf goal.now.net tried.now.mixes.now u k }
-    requires numberings { AllByRecursion (IsValidNumbering goal.now.net) tried.now.store.now.evidence.numberings }
-    requires classes { tried.now.store.now.classes ≡ class_count goal.now.classes }
-    requires came { length came.old ≡ class_count goal.now.classes }
+    requires ready { IsReady goal.now tried.now.mixes.now tried.now.store.now }
+    requires came { length watch.old.came.items ≡ class_count goal.now.classes }
     requires last { HoldsLastOf goal.now last.old }
-    ensures judged { IfOk result (λ judged. (u : Rollout) (k : ℕ) (class : Class) → IsRoundOf goal.now.net tried.now.mixes.now u k → IsClass goal.now.classes number class
-        → IsNextRound goal.now u tried.now.store.now.evidence k tried.now.change.now → AllByRecursion (IsNewlySafe goal.now u tried.now.store.now.evidence k) before.old.items
+    ensures judged { IfOk result (λ judged. (u : Rollout) (k : ℕ) (class : Class)
+        → IsRoundOf goal.now.net tried.now.mixes.now u k → IsClass goal.now.classes number class
+        → IsNextRound goal.now u tried.now.store.now.evidence k tried.now.change.now
+        → AllByRecursion (IsNewlySafe goal.now u tried.now.store.now.evidence k) before.old.items
         → IsJudged goal.now u tried.now.store.now.evidence k number class judged) }
-    ensures walks { OnOk result ((u : Rollout) (k : ℕ) (class : Class) → IsRoundOf goal.now.net tried.now.mixes.now u k → IsClass goal.now.classes number class
-        → HoldsWalks u k class (marks_at came.old number) → HoldsWalks u k class (marks_at came.new number)) }
+    ensures walks { OnOk result ((u : Rollout) (k : ℕ) (class : Class)
+        → IsRoundOf goal.now.net tried.now.mixes.now u k → IsClass goal.now.classes number class
+        → HoldsWalks u k class (marks_at watch.old.came.items number)
+        → HoldsWalks u k class (marks_at watch.new.came.items number)) }
     ensures before { (f : FoundOf) → IsIn f before.new.items → IsIn f before.old.items }
-    ensures count { length came.new ≡ length came.old }
-    ensures others { (n : ℕ) → n ≢ number → marks_at came.new n ≡ marks_at came.old n }
+    ensures count { length watch.new.came.items ≡ length watch.old.came.items }
+    ensures others { (n : ℕ) → n ≢ number
+        → marks_at watch.new.came.items n ≡ marks_at watch.old.came.items n }
     ensures last { OnOk result (HoldsLastOf goal.now last.new) }
 {
     if let Some(evidence) = take_last(before, number) {
         return Ok(Judged::New(evidence));
     }
     let alloc = *before.allocator();
-    judge_class(alloc, goal, walk, tried, came, last, goal.numbered(number))
+    judge_class(alloc, goal, watch, tried, last, goal.numbered(number))
 }
 
 /// Finds evidence for all classes, class by class, where something was found before for some of them, in descending order of
 /// classes. The result is the first that is not safe by any evidence.
 fn judge_each(
     goal: &Goal,
-    walk: &mut WalkRoom,
+    watch: &mut ClassWatch,
     tried: &Tried,
-    came: &mut Came,
     last: &mut LastSets,
     before: &mut Vec<Found>,
     found: &mut Vec<Found>,
 ) -> Result<Option<UnsafeClass>, Memory>
-    requires round { (u : Rollout) × (k : ℕ) × IsRoundOf goal.now.net tried.now.mixes.now u k }
-    requires numberings { AllByRecursion (IsValidNumbering goal.now.net) tried.now.store.now.evidence.numberings }
-    requires classes { tried.now.store.now.classes ≡ class_count goal.now.classes }
-    requires came { length came.old ≡ class_count goal.now.classes }
+    requires ready { IsReady goal.now tried.now.mixes.now tried.now.store.now }
+    requires came { length watch.old.came.items ≡ class_count goal.now.classes }
     requires last { HoldsLastOf goal.now last.old }
     requires none { found.old.items ≡ [] }
-    ensures { IfOk result (λ failing. (u : Rollout) (k : ℕ) → IsRoundOf goal.now.net tried.now.mixes.now u k
+    ensures { IfOk result (λ failing. (u : Rollout) (k : ℕ)
+        → IsRoundOf goal.now.net tried.now.mixes.now u k
         → IsNextRound goal.now u tried.now.store.now.evidence k tried.now.change.now
-        → AllByRecursion (IsNewlySafe goal.now u tried.now.store.now.evidence k) before.old.items → HoldRound goal.now u k came.old
-        → AreJudged goal.now u tried.now.store.now.evidence k (verdict_of found.new failing) × HoldAfter goal.now u k (verdict_of found.new failing) came.new) }
+        → AllByRecursion (IsNewlySafe goal.now u tried.now.store.now.evidence k) before.old.items
+        → HoldRound goal.now u k watch.old.came.items
+        → AreJudged goal.now u tried.now.store.now.evidence k (verdict_of found.new failing)
+        × HoldAfter goal.now u k (verdict_of found.new failing) watch.new.came.items) }
 {
     for number in 0..goal.classes.count() {
-        let judged = judge_next(goal, walk, tried, came, last, before, number)?;
+        let judged = judge_next(goal, watch, tried, last, before, number)?;
         if let Some(failing) = note(number, judged, found)? {
             return Ok(Some(failing));
         }
@@ -397,25 +404,25 @@ fn judge_each(
 fn judge_rest(
     alloc: Global,
     goal: &Goal,
-    walk: &mut WalkRoom,
+    watch: &mut ClassWatch,
     tried: &Tried,
-    came: &mut Came,
     met: Vec<Found>,
 ) -> Result<Verdict, Memory>
-    requires round { (u : Rollout) × (k : ℕ) × IsRoundOf goal.now.net tried.now.mixes.now u k }
-    requires numberings { AllByRecursion (IsValidNumbering goal.now.net) tried.now.store.now.evidence.numberings }
-    requires classes { tried.now.store.now.classes ≡ class_count goal.now.classes }
-    requires came { length came.old ≡ class_count goal.now.classes }
-    ensures { IfOk result (λ verdict. (u : Rollout) (k : ℕ) → IsRoundOf goal.now.net tried.now.mixes.now u k
+    requires ready { IsReady goal.now tried.now.mixes.now tried.now.store.now }
+    requires came { length watch.old.came.items ≡ class_count goal.now.classes }
+    ensures { IfOk result (λ verdict. (u : Rollout) (k : ℕ)
+        → IsRoundOf goal.now.net tried.now.mixes.now u k
         → IsNextRound goal.now u tried.now.store.now.evidence k tried.now.change.now
-        → AllByRecursion (IsNewlySafe goal.now u tried.now.store.now.evidence k) met.items → HoldRound goal.now u k came.old
-        → AreJudged goal.now u tried.now.store.now.evidence k verdict × HoldAfter goal.now u k verdict came.new) }
+        → AllByRecursion (IsNewlySafe goal.now u tried.now.store.now.evidence k) met.items
+        → HoldRound goal.now u k watch.old.came.items
+        → AreJudged goal.now u tried.now.store.now.evidence k verdict
+        × HoldAfter goal.now u k verdict watch.new.came.items) }
 {
     let mut before = met;
     before.reverse();
     let mut last = LastSets::none();
     let mut found = Vec::new(alloc);
-    let failing = judge_each(goal, walk, tried, came, &mut last, &mut before, &mut found);
+    let failing = judge_each(goal, watch, tried, &mut last, &mut before, &mut found);
     drop(before);
     drop(last);
     verdict_of(found, failing)
@@ -433,25 +440,28 @@ fn has_picks(store: &EvidenceStore) -> bool
 pub(crate) fn judge_all(
     alloc: Global,
     goal: &Goal,
-    walk: &mut WalkRoom,
+    watch: &mut ClassWatch,
     tried: &Tried,
-    came: &mut Came,
+    looked: &mut LookedAtoms,
 ) -> Result<Verdict, Memory>
-    requires round { (u : Rollout) × (k : ℕ) × IsRoundOf goal.now.net tried.now.mixes.now u k }
-    requires numberings { AllByRecursion (IsValidNumbering goal.now.net) tried.now.store.now.evidence.numberings }
-    requires classes { tried.now.store.now.classes ≡ class_count goal.now.classes }
-    requires came { length came.old ≡ class_count goal.now.classes }
-    ensures { IfOk result (λ verdict. (u : Rollout) (k : ℕ) → IsRoundOf goal.now.net tried.now.mixes.now u k
-        → IsNextRound goal.now u tried.now.store.now.evidence k tried.now.change.now → HoldTables goal.now (tables_before u k) came.old
-        → AreJudged goal.now u tried.now.store.now.evidence k verdict × HoldAfter goal.now u k verdict came.new) }
+    requires ready { IsReady goal.now tried.now.mixes.now tried.now.store.now }
+    requires came { length watch.old.came.items ≡ class_count goal.now.classes }
+    requires atoms { HasAtoms goal.now.classes looked.old }
+    ensures judged { IfOk result (λ verdict. (u : Rollout) (k : ℕ)
+        → IsRoundOf goal.now.net tried.now.mixes.now u k
+        → IsNextRound goal.now u tried.now.store.now.evidence k tried.now.change.now
+        → HoldTables goal.now (tables_before u k) watch.old.came.items
+        → AreJudged goal.now u tried.now.store.now.evidence k verdict
+        × HoldAfter goal.now u k verdict watch.new.came.items) }
+    ensures atoms { length looked.new ≡ length looked.old }
 {
-    match judge_met(alloc, goal, walk, tried, came)? {
+    match judge_met(alloc, goal, watch, tried, looked)? {
         Verdict::Unsafe(failing) => Ok(Verdict::Unsafe(failing)),
         Verdict::Safe(found) => {
             if has_picks(tried.store) {
                 return Ok(Verdict::Safe(found));
             }
-            judge_rest(alloc, goal, walk, tried, came, found)
+            judge_rest(alloc, goal, watch, tried, found)
         }
     }
 }

@@ -26,10 +26,14 @@ pub fn searches_end_once()
 /// switch; one by a class that no evidence keeps safe, while no change covers the class at a switch that the mixed walks
 /// of the class come to when the change is tried. The walks are then the same, and so is what keeps the class safe.
 pub fn failures_stand()
-    ensures table { (aim : Aim) (tables : List (List Rule)) (c : Change) → ¬ HasRoomThere aim.net tables c → (changes : List Change)
-        → AllByRecursion (λ d. (switch_of d).0 ≢ (switch_of c).0) changes → ¬ Qualifies aim (tables_after changes tables) c }
-    ensures class { (aim : Aim) (tables : List (List Rule)) (c : Change) (class : Class) → TablesKeepVlans tables → KeepsVlan (rule_of c).action
+    ensures table { (aim : Aim) (tables : List (List Rule)) (c : Change)
+        → ¬ HasRoomThere aim.net tables c → (changes : List Change)
+        → AllByRecursion (λ d. (switch_of d).0 ≢ (switch_of c).0) changes
+        → ¬ Qualifies aim (tables_after changes tables) c }
+    ensures class { (aim : Aim) (tables : List (List Rule)) (c : Change) (class : Class)
+        → TablesKeepVlans tables → KeepsVlan (rule_of c).action
         → ¬ CanBeSafe aim tables c class → (changes : List Change)
-        → AllByRecursion (λ d. KeepsVlan (rule_of d).action × ((switch_of d).0 < length tables) × IsApart aim tables c class d) changes
+        → AllByRecursion (λ d. KeepsVlan (rule_of d).action × ((switch_of d).0 < length tables)
+        × IsApart aim tables c class d) changes
         → ¬ CanBeSafe aim (tables_after changes tables) c class }
 {}

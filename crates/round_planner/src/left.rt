@@ -23,8 +23,8 @@ pub(crate) struct Left {
 impl Left {
     /// Whether a change that was made touches what the failure rests on.
     fn is_touched(&self, made: &Change) -> bool
-        requires { (switch_of made.now).0 < 128 }
-        ensures { IsTrue result ↔ IsSomeAnd self.now.failure (λ f. IsTouched (switch_of self.now.change) made.now f) }
+        ensures { IsTrue result ↔ IsSomeAnd self.now.failure
+            (λ f. IsTouched (switch_of self.now.change) made.now f) }
     {
         match &self.failure {
             Some(failure) => failure.is_touched(self.change.switch(), made),
@@ -34,10 +34,11 @@ impl Left {
 
     /// Forgets why the change failed, if a change that was made touches that.
     fn forget(&mut self, made: &Change)
-        requires { (switch_of made.now).0 < 128 }
         ensures change { self.new.change ≡ self.old.change }
-        ensures stands { (aim : Aim) (tables : List (List Rule)) → IsOfUsers tables self.old → (switch_of made.now).0 < length tables
-            → HasStanding aim tables self.old → HasStanding aim (tables_after_change made.now tables) self.new }
+        ensures stands { (aim : Aim) (tables : List (List Rule)) → IsOfUsers tables self.old
+            → (switch_of made.now).0 < length tables
+            → HasStanding aim tables self.old
+            → HasStanding aim (tables_after_change made.now tables) self.new }
     {
         if self.is_touched(made) {
             self.failure = None;
@@ -47,8 +48,10 @@ impl Left {
 
 /// The changes, of which none has been tried.
 pub(crate) fn untried(alloc: Global, changes: &[Change]) -> Result<Vec<Left>, Memory>
-    ensures changes { IfOk result (λ left. map (λ (l : LeftOf). l.change) left.items ≡ changes.now) }
-    ensures untried { IfOk result (λ left. AllByRecursion (λ (l : LeftOf). l.failure ≡ None) left.items) }
+    ensures changes { IfOk result (λ left.
+        map (λ (l : LeftOf). l.change) left.items ≡ changes.now) }
+    ensures untried { IfOk result (λ left.
+        AllByRecursion (λ (l : LeftOf). l.failure ≡ None) left.items) }
 {
     let mut left = Vec::new(alloc);
     for change in changes {
@@ -62,10 +65,12 @@ pub(crate) fn untried(alloc: Global, changes: &[Change]) -> Result<Vec<Left>, Me
 
 /// Forgets each failure that a change touches which was made.
 fn forget_touched(left: &mut [Left], made: &Change)
-    requires { (switch_of made.now).0 < 128 }
-    ensures changes { map (λ (l : LeftOf). l.change) left.new ≡ map (λ (l : LeftOf). l.change) left.old }
-    ensures stands { (aim : Aim) (tables : List (List Rule)) → AreOfUsers tables left.old → (switch_of made.now).0 < length tables
-        → AllByRecursion (HasStanding aim tables) left.old → AllByRecursion (HasStanding aim (tables_after_change made.now tables)) left.new }
+    ensures changes { map (λ (l : LeftOf). l.change) left.new
+        ≡ map (λ (l : LeftOf). l.change) left.old }
+    ensures stands { (aim : Aim) (tables : List (List Rule)) → AreOfUsers tables left.old
+        → (switch_of made.now).0 < length tables
+        → AllByRecursion (HasStanding aim tables) left.old
+        → AllByRecursion (HasStanding aim (tables_after_change made.now tables)) left.new }
 {
     for one in left.iter_mut() {
         one.forget(made);
@@ -75,12 +80,15 @@ fn forget_touched(left: &mut [Left], made: &Change)
 /// Takes out the change at a place, which was made, and forgets each failure that it touches.
 pub(crate) fn take_out(left: &mut Vec<Left>, place: usize)
     requires place { place < vec_len left.old }
-    requires near { AllByRecursion (λ (l : LeftOf). (switch_of l.change).0 < 128) left.old.items }
-    ensures changes { (front back : List LeftOf) (one : LeftOf) → left.old.items ≡ front ++ one ∷ back → length front ≡ place
-        → map (λ (l : LeftOf). l.change) left.new.items ≡ map (λ (l : LeftOf). l.change) (front ++ back) }
-    ensures stands { (front back : List LeftOf) (one : LeftOf) → left.old.items ≡ front ++ one ∷ back → length front ≡ place
+    ensures changes { (front back : List LeftOf) (one : LeftOf)
+        → left.old.items ≡ front ++ one ∷ back → length front ≡ place
+        → map (λ (l : LeftOf). l.change) left.new.items
+        ≡ map (λ (l : LeftOf). l.change) (front ++ back) }
+    ensures stands { (front back : List LeftOf) (one : LeftOf)
+        → left.old.items ≡ front ++ one ∷ back → length front ≡ place
         → (aim : Aim) (tables : List (List Rule)) → AreOfUsers tables left.old.items
-        → AllByRecursion (HasStanding aim tables) left.old.items → AllByRecursion (HasStanding aim (tables_after_change one.change tables)) left.new.items }
+        → AllByRecursion (HasStanding aim tables) left.old.items
+        → AllByRecursion (HasStanding aim (tables_after_change one.change tables)) left.new.items }
 {
     let made = left.remove(place);
     forget_touched(left, &made.change);

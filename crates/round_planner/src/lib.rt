@@ -1,7 +1,6 @@
 //! Ordered plans: rounds of one change each, found by a search for changes that are safe.
 #![tactic(auto)]
 
-mod came;
 mod failing;
 mod goal;
 mod judging;
@@ -9,7 +8,6 @@ pub mod laws;
 mod left;
 mod picking;
 mod prefixes;
-mod rows;
 mod searching;
 
 ghost use Rattle.std.specs.Prelude.{◌≡◌, [], length, IfOk};
@@ -25,9 +23,10 @@ ghost use Rattle.table_difference.specs.SameClasses.{HasSameClasses, classes_bef
 ghost use Rattle.table_difference.specs.Tried.{AreTried};
 ghost use Rattle.round_planner.specs.Ends.{aim_of, IsSearched, OfPlan, OfStuck, IsNotStuck};
 
-use crate::goal::{Goal, list_classes};
+use crate::goal::Goal;
 use crate::searching::answer_to;
 use certificates::Plan;
+use class_watch::all_classes;
 use demands::Duties;
 use dest_classes::ClassMap;
 use flow_rules::Config;
@@ -67,23 +66,37 @@ pub fn order(
     requires old { IsUserConfig net.now (rules_of_all old.now) }
     requires new { IsUserConfig net.now (rules_of_all new.now) }
     requires duties { duties.now.classes ≡ classes.now }
-    requires classes { classes.now ≡ classes_before net.now (rules_of_all old.now) (rules_of_all new.now) duties.now.demands }
+    requires classes { classes.now ≡ classes_before net.now (rules_of_all old.now)
+        (rules_of_all new.now) duties.now.demands }
     requires old_good { HasGoodPaths net.now (rules_of_all old.now) duties.now.demands classes.now }
     requires new_good { HasGoodPaths net.now (rules_of_all new.now) duties.now.demands classes.now }
-    ensures searched { IfOk result (IsSearched (aim_of net.now (rules_of_all old.now) (rules_of_all new.now) duties.now.demands) (rules_of_all old.now)) }
+    ensures searched { IfOk result (IsSearched
+        (aim_of net.now (rules_of_all old.now) (rules_of_all new.now) duties.now.demands)
+        (rules_of_all old.now)) }
     ensures valid { IfOk result (OfPlan (IsValidPlan net.now)) }
-    ensures certified { IfOk result (OfPlan (λ p. IsCertified (task_of net.now old.now new.now duties.now.demands p) p.evidence)) }
-    ensures classes { IfOk result (OfPlan (λ p. HasSameClasses (classes_for (task_of net.now old.now new.now duties.now.demands p)) classes.now)) }
+    ensures certified { IfOk result (OfPlan (λ p. IsCertified
+        (task_of net.now old.now new.now duties.now.demands p) p.evidence)) }
+    ensures classes { IfOk result (OfPlan (λ p. HasSameClasses
+        (classes_for (task_of net.now old.now new.now duties.now.demands p)) classes.now)) }
 
     // One round for each change that remained at first.
-    ensures count { IfOk result (OfPlan (λ p. length p.rounds ≡ length (remaining (rules_of_all old.now) (rules_of_all new.now)))) }
+    ensures count { IfOk result (OfPlan (λ p.
+        length p.rounds ≡ length (remaining (rules_of_all old.now) (rules_of_all new.now)))) }
     ensures tried { IfOk result (OfStuck (AreTried net.now)) }
 
     // The search of an update of destination trees isn't stuck.
-    ensures tree { IsTreeUpdate (record { update = record { net = net.now; old = rules_of_all old.now; new = rules_of_all new.now; demands = duties.now.demands }; rounds = [] })
+    ensures tree { IsTreeUpdate (record {
+      update = record {
+        net = net.now;
+        old = rules_of_all old.now;
+        new = rules_of_all new.now;
+        demands = duties.now.demands;
+      };
+      rounds = [];
+    })
         → IfOk result IsNotStuck }
 {
-    let list = list_classes(alloc, classes)?;
+    let list = all_classes(alloc, classes)?;
     let goal = Goal {
         net,
         new,

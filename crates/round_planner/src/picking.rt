@@ -59,7 +59,8 @@ pub(crate) fn put_picks(
     requires behind { AllByRecursion (λ p. p.round < round) store.old.evidence.picks }
     requires classes { AllByRecursion (λ (f : FoundView). f.class < store.old.classes) found.items }
     requires ascending { IsChain (λ (f g : FoundView). f.class < g.class) found.items }
-    ensures picks { OnOk result (AreWithPicks store.old.evidence round found.items store.new.evidence) }
+    ensures picks { OnOk result (AreWithPicks store.old.evidence round found.items
+        store.new.evidence) }
     ensures classes { OnOk result (store.new.classes ≡ store.old.classes) }
     ensures stored_before { OnOk result (IsStored store.old.evidence) }
     ensures stored { OnOk result (IsStored store.new.evidence) }

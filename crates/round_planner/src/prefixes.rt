@@ -9,7 +9,8 @@ use net_base::{Memory, Prefix};
 
 /// The prefixes of both configurations, and then of the demands.
 pub fn update_prefixes(old: &Config, new: &Config, demands: &Demands) -> Result<Vec<Prefix>, Memory>
-    ensures { IfOk result (λ v. v.items ≡ blocks_of (rules_of_all old.now) (rules_of_all new.now) demands.now []) }
+    ensures { IfOk result (λ v. v.items ≡ blocks_of (rules_of_all old.now) (rules_of_all new.now)
+        demands.now []) }
 {
     let mut prefixes = old.prefixes()?;
     prefixes.extend_from_slice(&new.prefixes()?)?;

@@ -1,5 +1,5 @@
 //! The search, change by change.
-ghost use Rattle.std.specs.Prelude.{◌≡◌, ℕ, ◌<◌, ◌≤◌, ◌++◌, ◌∷◌, [], List, suc, length, map, IfOk, OnOk};
+ghost use Rattle.std.specs.Prelude.{◌≡◌, ℕ, ◌<◌, ◌≤◌, ◌++◌, ◌∷◌, [], List, suc, length, map, IsTrue, IfOk, OnOk};
 ghost use Rattle.std.specs.List.{AllByRecursion};
 ghost use Rattle.net_base.specs.Members.{IsIn};
 ghost use Rattle.net_base.specs.declared.ids.SwitchId.{SwitchId as Switch};
@@ -16,21 +16,22 @@ ghost use Rattle.round_planner.specs.declared.judging.Found.{Found as FoundOf};
 ghost use Rattle.round_planner.specs.Search.{IsFirstQualifying, update_by};
 ghost use Rattle.round_planner.specs.Standing.{Stands, AreSafeBelow};
 ghost use Rattle.round_planner.specs.declared.left.Left.{Left as LeftOf};
-ghost use Rattle.round_planner.specs.Failures.{HasStanding, IsVisited, AreLeft};
-ghost use Rattle.round_planner.specs.Searching.{IsAt, IsTried, IsLeftTried, IsPlaced, IsMoved, IsTryingAt, IsEnded, IsAnswered, answer_of};
+ghost use Rattle.class_watch.specs.Switches.{has};
+ghost use Rattle.round_planner.specs.Failures.{HasStanding, AreLeft};
+ghost use Rattle.round_planner.specs.Searching.{HasAtoms, IsAt, IsTried, IsLeftTried, IsPlaced, IsMoved, IsTryingAt, IsEnded, IsAnswered, answer_of};
 ghost use Rattle.round_planner.specs.Visits.{marks_at};
 
 use crate::Ordered;
-use crate::came::Came;
 use crate::failing::Failure;
 use crate::goal::Goal;
 use crate::judging::{Found, Tried, Verdict, judge_all};
 use crate::left::{Left, take_out, untried};
 use crate::picking::put_picks;
 use certificates::{Evidence, OrderedEvidence, Plan};
+use class_watch::{ClassWatch, LookedAtoms, SwitchSet};
+use dest_classes::ClassMap;
 use evidence_store::EvidenceStore;
 use flow_rules::Config;
-use mixed_walks::WalkRoom;
 use net_base::Memory;
 use round_tables::TrialTables;
 use std::alloc::Global;
@@ -39,15 +40,15 @@ use table_difference::remaining;
 use topology::Net;
 use update_model::{Change, Rounds};
 
-/// A search: the tables so far with what is prepared of them, the rounds that led to them, their evidence, and for each class
-/// the switches that its packets come to.
+/// A search: the tables so far with what is prepared of them, the rounds that led to them, their evidence, for each class the
+/// switches that its packets come to, and which atoms are looked at.
 #[derive(Drop)]
 struct Search {
     trial: TrialTables,
     rounds: Rounds,
     store: EvidenceStore,
-    walk: WalkRoom,
-    came: Came,
+    watch: ClassWatch,
+    looked: LookedAtoms,
 }
 
 impl Model for Search {
@@ -55,17 +56,19 @@ impl Model for Search {
 
     ghost Value = { SearchState };
 
-    ghost view = { λ s. record { trial = s.trial; rounds = s.rounds; store = s.store; came = s.came } };
+    ghost view = { λ s. record { trial = s.trial; rounds = s.rounds; store = s.store; came = s.watch.came.items; looked = s.looked } };
 }
 
-/// Room for walks, and all switches for each of so many classes.
-fn rooms(alloc: Global, count: u32) -> Result<(WalkRoom, Came), Memory>
-    ensures count { IfOk result (λ r. length r.1 ≡ count) }
-    ensures each { IfOk result (λ r. (n : ℕ) (s : Switch) → n < count → s.0 < 128 → IsVisited (marks_at r.1 n) s) }
+/// Room to watch classes, with all switches for each, and marks for their atoms.
+fn rooms(alloc: Global, classes: &ClassMap) -> Result<(LookedAtoms, ClassWatch), Memory>
+    ensures atoms { IfOk result (λ r. HasAtoms classes.now r.0) }
+    ensures count { IfOk result (λ r. length r.1.came.items ≡ class_count classes.now) }
+    ensures each { IfOk result (λ r. (n : ℕ) (s : Switch) → n < class_count classes.now → s.0 < 128
+        → IsTrue (has (marks_at r.1.came.items n) s)) }
 {
-    let came = Came::all(alloc, count)?;
-    let walk = WalkRoom::make(alloc)?;
-    Ok((walk, came))
+    let looked = LookedAtoms::make(alloc, classes)?;
+    let watch = ClassWatch::make(alloc, classes.count(), SwitchSet::all())?;
+    Ok((looked, watch))
 }
 
 /// The tables of a configuration with what is prepared of them, no rounds, and a store of no picks, of so many classes.
@@ -96,7 +99,8 @@ fn keep_change(
     change: &Change,
 ) -> Result<(), Memory>
     requires { IsTrying net.now change.now trial.old }
-    ensures tables { OnOk result (rules_of_all trial.new.tables ≡ tables_after_change change.now (rules_of_all trial.old.tables)) }
+    ensures tables { OnOk result (rules_of_all trial.new.tables
+        ≡ tables_after_change change.now (rules_of_all trial.old.tables)) }
     ensures settled { OnOk result (IsSettled net.now trial.new) }
     ensures rounds { OnOk result (rounds.new ≡ with_change change.now (rounds.old ++ [] ∷ [])) }
 {
@@ -140,14 +144,14 @@ impl Search {
     {
         goal.net.keeps_rules();
         let count = goal.classes.count();
-        let (walk, came) = rooms(alloc, count)?;
+        let (looked, watch) = rooms(alloc, goal.classes)?;
         let (trial, rounds, store) = begun(alloc, goal.net, old, count)?;
         Ok(Search {
             trial,
             rounds,
             store,
-            walk,
-            came,
+            watch,
+            looked,
         })
     }
 
@@ -159,11 +163,16 @@ impl Search {
         change: &Change,
         found: Vec<Found>,
     ) -> Result<(), Memory>
-        requires { (old : List (List Rule)) × (changes : List ChangeOf) × IsUserConfig goal.now.net old × IsTryingAt goal.now old changes change.now self.old
-            × AreSafeBelow goal.now (update_by goal.now old (changes ++ change.now ∷ [])) self.old.store.evidence (length changes) (class_count goal.now.classes) found.items }
-        ensures { OnOk result ((old : List (List Rule)) (changes : List ChangeOf) → IsUserConfig goal.now.net old → IsTryingAt goal.now old changes change.now self.old
-            → AreSafeBelow goal.now (update_by goal.now old (changes ++ change.now ∷ [])) self.old.store.evidence (length changes) (class_count goal.now.classes) found.items
-            → IsFirstQualifying goal.now (tables_after changes old) (remaining (tables_after changes old) goal.now.new) change.now
+        requires { (old : List (List Rule)) × (changes : List ChangeOf)
+            × IsUserConfig goal.now.net old × IsTryingAt goal.now old changes change.now self.old
+            × AreSafeBelow goal.now (update_by goal.now old (changes ++ change.now ∷ []))
+            self.old.store.evidence (length changes) (class_count goal.now.classes) found.items }
+        ensures { OnOk result ((old : List (List Rule)) (changes : List ChangeOf)
+            → IsUserConfig goal.now.net old → IsTryingAt goal.now old changes change.now self.old
+            → AreSafeBelow goal.now (update_by goal.now old (changes ++ change.now ∷ []))
+            self.old.store.evidence (length changes) (class_count goal.now.classes) found.items
+            → IsFirstQualifying goal.now (tables_after changes old)
+            (remaining (tables_after changes old) goal.now.new) change.now
             → IsAt goal.now old (changes ++ change.now ∷ []) self.new) }
     {
         keep_change(&mut self.trial, &mut self.rounds, goal.net, change)?;
@@ -179,10 +188,13 @@ impl Search {
         goal: &Goal,
         change: &Change,
     ) -> Result<Option<Failure>, Memory>
-        requires { (old : List (List Rule)) × (changes : List ChangeOf) × IsUserConfig goal.now.net old × IsAt goal.now old changes self.old
+        requires { (old : List (List Rule)) × (changes : List ChangeOf)
+            × IsUserConfig goal.now.net old × IsAt goal.now old changes self.old
             × IsIn change.now (remaining (tables_after changes old) goal.now.new) }
-        ensures { IfOk result (λ failure. (old : List (List Rule)) (changes : List ChangeOf) → IsUserConfig goal.now.net old → IsAt goal.now old changes self.old
-            → IsIn change.now (remaining (tables_after changes old) goal.now.new) → IsTried goal.now old changes change.now self.new failure) }
+        ensures { IfOk result (λ failure. (old : List (List Rule)) (changes : List ChangeOf)
+            → IsUserConfig goal.now.net old → IsAt goal.now old changes self.old
+            → IsIn change.now (remaining (tables_after changes old) goal.now.new)
+            → IsTried goal.now old changes change.now self.new failure) }
     {
         goal.net.keeps_rules();
         if !self.trial.begin(goal.net, change) {
@@ -193,7 +205,7 @@ impl Search {
             mixes: self.trial.mixes(),
             store: &self.store,
         };
-        match judge_all(alloc, goal, &mut self.walk, &tried, &mut self.came)? {
+        match judge_all(alloc, goal, &mut self.watch, &tried, &mut self.looked)? {
             Verdict::Safe(found) => {
                 self.take(alloc, goal, change, found)?;
                 Ok(None)
@@ -208,12 +220,17 @@ impl Search {
     /// Tries a change that remains, unless its failure stands. The result says whether it is made; if it isn't, why it
     /// failed is kept.
     fn try_left(&mut self, alloc: Global, goal: &Goal, left: &mut Left) -> Result<bool, Memory>
-        requires { (old : List (List Rule)) × (changes : List ChangeOf) × IsUserConfig goal.now.net old × IsAt goal.now old changes self.old
-            × IsIn left.old.change (remaining (tables_after changes old) goal.now.new) × HasStanding goal.now (tables_after changes old) left.old }
+        requires { (old : List (List Rule)) × (changes : List ChangeOf)
+            × IsUserConfig goal.now.net old × IsAt goal.now old changes self.old
+            × IsIn left.old.change (remaining (tables_after changes old) goal.now.new)
+            × HasStanding goal.now (tables_after changes old) left.old }
         ensures change { OnOk result (left.new.change ≡ left.old.change) }
-        ensures tried { IfOk result (λ taken. (old : List (List Rule)) (changes : List ChangeOf) → IsUserConfig goal.now.net old → IsAt goal.now old changes self.old
-            → IsIn left.old.change (remaining (tables_after changes old) goal.now.new) → HasStanding goal.now (tables_after changes old) left.old
-            → IsLeftTried goal.now old changes left.old self.new taken × HasStanding goal.now (tables_after changes old) left.new) }
+        ensures tried { IfOk result (λ taken. (old : List (List Rule)) (changes : List ChangeOf)
+            → IsUserConfig goal.now.net old → IsAt goal.now old changes self.old
+            → IsIn left.old.change (remaining (tables_after changes old) goal.now.new)
+            → HasStanding goal.now (tables_after changes old) left.old
+            → IsLeftTried goal.now old changes left.old self.new taken
+            × HasStanding goal.now (tables_after changes old) left.new) }
     {
         if left.failure.is_some() {
             return Ok(false);
@@ -234,12 +251,16 @@ impl Search {
         goal: &Goal,
         left: &mut [Left],
     ) -> Result<Option<usize>, Memory>
-        requires { (old : List (List Rule)) × (changes : List ChangeOf) × IsUserConfig goal.now.net old × IsAt goal.now old changes self.old
+        requires { (old : List (List Rule)) × (changes : List ChangeOf)
+            × IsUserConfig goal.now.net old × IsAt goal.now old changes self.old
             × AreLeft goal.now (tables_after changes old) left.old }
-        ensures changes { OnOk result (map (λ (l : LeftOf). l.change) left.new ≡ map (λ (l : LeftOf). l.change) left.old) }
-        ensures placed { IfOk result (λ place. (old : List (List Rule)) (changes : List ChangeOf) → IsUserConfig goal.now.net old → IsAt goal.now old changes self.old
+        ensures changes { OnOk result (map (λ (l : LeftOf). l.change) left.new
+            ≡ map (λ (l : LeftOf). l.change) left.old) }
+        ensures placed { IfOk result (λ place. (old : List (List Rule)) (changes : List ChangeOf)
+            → IsUserConfig goal.now.net old → IsAt goal.now old changes self.old
             → AreLeft goal.now (tables_after changes old) left.old
-            → IsPlaced goal.now old changes self.new left.new place × AllByRecursion (HasStanding goal.now (tables_after changes old)) left.new) }
+            → IsPlaced goal.now old changes self.new left.new place
+            × AllByRecursion (HasStanding goal.now (tables_after changes old)) left.new) }
     {
         for place in 0..left.len() {
             if self.try_left(alloc, goal, &mut left[place])? {
@@ -251,10 +272,13 @@ impl Search {
 
     /// Makes the first of the changes that remain that qualifies. The result says whether one does.
     fn go_on(&mut self, alloc: Global, goal: &Goal, left: &mut Vec<Left>) -> Result<bool, Memory>
-        requires { (old : List (List Rule)) × (changes : List ChangeOf) × IsUserConfig goal.now.net old × IsAt goal.now old changes self.old
+        requires { (old : List (List Rule)) × (changes : List ChangeOf)
+            × IsUserConfig goal.now.net old × IsAt goal.now old changes self.old
             × AreLeft goal.now (tables_after changes old) left.old.items }
-        ensures { IfOk result (λ taken. (old : List (List Rule)) (changes : List ChangeOf) → IsUserConfig goal.now.net old → IsAt goal.now old changes self.old
-            → AreLeft goal.now (tables_after changes old) left.old.items → IsMoved goal.now old changes self.new left.new.items taken) }
+        ensures { IfOk result (λ taken. (old : List (List Rule)) (changes : List ChangeOf)
+            → IsUserConfig goal.now.net old → IsAt goal.now old changes self.old
+            → AreLeft goal.now (tables_after changes old) left.old.items
+            → IsMoved goal.now old changes self.new left.new.items taken) }
     {
         goal.net.keeps_rules();
         match self.take_first(alloc, goal, left)? {
@@ -274,10 +298,13 @@ impl Search {
         goal: &Goal,
         left: &mut Vec<Left>,
     ) -> Result<bool, Memory>
-        requires { (old : List (List Rule)) × (changes : List ChangeOf) × IsUserConfig goal.now.net old × IsAt goal.now old changes self.old
+        requires { (old : List (List Rule)) × (changes : List ChangeOf)
+            × IsUserConfig goal.now.net old × IsAt goal.now old changes self.old
             × AreLeft goal.now (tables_after changes old) left.old.items }
-        ensures { IfOk result (λ none_remains. (old : List (List Rule)) (changes : List ChangeOf) → IsUserConfig goal.now.net old → IsAt goal.now old changes self.old
-            → AreLeft goal.now (tables_after changes old) left.old.items → IsEnded goal.now old self.new none_remains) }
+        ensures { IfOk result (λ none_remains. (old : List (List Rule)) (changes : List ChangeOf)
+            → IsUserConfig goal.now.net old → IsAt goal.now old changes self.old
+            → AreLeft goal.now (tables_after changes old) left.old.items
+            → IsEnded goal.now old self.new none_remains) }
     {
         goal.net.keeps_rules();
         'searching: while !left.is_empty() {
@@ -290,8 +317,10 @@ impl Search {
 
     /// Goes on until no change remains, or until none of those that remain qualifies. The result says whether none remains.
     fn run(&mut self, alloc: Global, goal: &Goal) -> Result<bool, Memory>
-        requires { (old : List (List Rule)) × (changes : List ChangeOf) × IsUserConfig goal.now.net old × IsAt goal.now old changes self.old }
-        ensures { IfOk result (λ none_remains. (old : List (List Rule)) (changes : List ChangeOf) → IsUserConfig goal.now.net old → IsAt goal.now old changes self.old
+        requires { (old : List (List Rule)) × (changes : List ChangeOf)
+            × IsUserConfig goal.now.net old × IsAt goal.now old changes self.old }
+        ensures { IfOk result (λ none_remains. (old : List (List Rule)) (changes : List ChangeOf)
+            → IsUserConfig goal.now.net old → IsAt goal.now old changes self.old
             → IsEnded goal.now old self.new none_remains) }
     {
         goal.net.keeps_rules();

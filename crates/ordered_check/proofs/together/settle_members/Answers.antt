@@ -10,7 +10,7 @@ pub loop-member-init : goal.loop-member-init
 loop-member-init c = record {
   settled = refl;
   came = refl;
-  each = with_none c.args.marks c.args.settled.now.items c.args.came.now.items;
+  each = with_none c.args.set c.args.settled.now.items c.args.came.now.items;
 }
 
 pub index_mut-requires : goal.index_mut-requires
@@ -39,10 +39,10 @@ loop-member-preserved c =
     let there : m.number < length came = let w = c.requires.came m among in let n = c.loop-member.invariant.came in omega arith in
     record {
       settled = length-set settled m.number true ∙ c.loop-member.invariant.settled;
-      came = length-set came m.number c.args.marks ∙ c.loop-member.invariant.came;
+      came = length-set came m.number c.args.set ∙ c.loop-member.invariant.came;
       each =
-          subst (λ (xs : List NumberedClass). AreSettledWith xs c.args.marks c.args.settled.now.items c.args.came.now.items (set settled m.number true) (set came m.number c.args.marks)) (sym (take_more members i no_class c.loop-member-test.true))
-          (with_more (take i members) c.args.marks c.args.settled.now.items c.args.came.now.items settled came m within there c.loop-member.invariant.each);
+          subst (λ (xs : List NumberedClass). AreSettledWith xs c.args.set c.args.settled.now.items c.args.came.now.items (set settled m.number true) (set came m.number c.args.set)) (sym (take_more members i no_class c.loop-member-test.true))
+          (with_more (take i members) c.args.set c.args.settled.now.items c.args.came.now.items settled came m within there c.loop-member.invariant.each);
     }
 
 pub returns : goal.returns
@@ -50,6 +50,6 @@ returns c = record {
   settled = c.loop-member.invariant.settled;
   came = c.loop-member.invariant.came;
   each =
-      subst (λ (xs : List NumberedClass). AreSettledWith xs c.args.marks c.args.settled.now.items c.args.came.now.items c.loop-member.settled.items c.loop-member.came.items)
+      subst (λ (xs : List NumberedClass). AreSettledWith xs c.args.set c.args.settled.now.items c.args.came.now.items c.loop-member.settled.items c.loop-member.came.items)
       (take_all c.loop-member.member-index c.args.members.now c.loop-member-test.false) c.loop-member.invariant.each;
 }

@@ -1,34 +1,45 @@
-use Rattle.std.proofs.Common.{◌≡◌, ℕ, List, Option, Some, None, ◌<◌, refl, sym, ap, ◌∙◌, subst, arith, length, set}
+use Rattle.std.proofs.Common.{◌≡◌, ℕ, List, Option, Some, None, ◌<◌, refl, sym, ap, ◌∙◌, subst, arith, length, set, get_or-set_same}
 use Rattle.std.proofs.lemmas.Bool.{false≢true}
-use Rattle.topology.specs.Networks.{switch_count}
 use Rattle.dest_classes.specs.declared.Class.{Class}
 use Rattle.demands.specs.Duties.{DemandView, duties_of}
 use Rattle.update_model.specs.Mixtures.{Rollout}
 use Rattle.evidence_store.specs.Found.{IsFound}
 use Rattle.evidence_store.specs.declared.class_evidence.ClassEvidence.{ClassEvidence}
 use Rattle.round_planner.specs.Search.{Aim, duties_in}
-use Rattle.round_planner.specs.Visits.{marks_at, HoldsWalks}
+use Rattle.class_watch.specs.Walks.{HoldsWalks}
+use Rattle.round_planner.specs.Visits.{marks_at}
 use Rattle.round_planner.proofs.JudgingLaws.{picks_up_to, round_here, numbered_within}
 use Rattle.round_planner.proofs.LastLaws.{last_here, last_back}
-use Rattle.round_planner.proofs.VisitLaws.{put_there}
 use Rattle.round_planner.proofs.judging.judge_class.Goals as goal
 
-pub put-requires : goal.put-requires
-put-requires c = let number = c.requires.number in let count = c.requires.came in omega arith
+pub walk-visited-requires-clause-entry : goal.walk-visited-requires-clause-entry
+walk-visited-requires-clause-entry c =
+    numbered_within c.goal.inside.net.now c.keeps_rules.ensures c.args.goal.now.classes c.goal.inside.classes.now (ap (λ (a : Aim). a.classes) c.goal.view_is) c.goal.invariant.hosts c.args.numbered c.requires.class
 
-pub walk_class-visited-requires-clause-entry : goal.walk_class-visited-requires-clause-entry
-walk_class-visited-requires-clause-entry c =
-    subst (λ n. c.args.numbered.class.entry.switch.0 < switch_count n) (ap (λ (a : Aim). a.net) c.goal.view_is)
-    (numbered_within c.goal.inside.net.now c.keeps_rules.ensures c.args.goal.now.classes c.goal.inside.classes.now (ap (λ (a : Aim). a.classes) c.goal.view_is) c.goal.invariant.hosts c.args.numbered c.requires.class)
+pub walk-visited-requires-clause-round : goal.walk-visited-requires-clause-round
+walk-visited-requires-clause-round c =
+    let (u, k, round) = c.requires.ready.round in
+    (u, k, round_here c.args.goal.now.net c.goal.inside.net.now (ap (λ (a : Aim). a.net) c.goal.view_is) c.args.tried.now.mixes.now u k round)
+
+pub walk-visited-requires-clause-number : goal.walk-visited-requires-clause-number
+walk-visited-requires-clause-number c = let number = c.requires.number in let count = c.requires.came in omega arith
+
+pub is_kept-requires-clause-numberings : goal.is_kept-requires-clause-numberings
+is_kept-requires-clause-numberings c = c.requires.ready.numberings
+
+pub is_kept-requires-clause-classes : goal.is_kept-requires-clause-classes
+is_kept-requires-clause-classes c = c.requires.ready.classes
 
 pub is_kept-requires-clause-walked : goal.is_kept-requires-clause-walked
-is_kept-requires-clause-walked c = let (u, k, round) = c.requires.round in (u, k, round.net_is, c.walk_class-visited.ensures.walked u k round)
+is_kept-requires-clause-walked c =
+    let (u, k, round) = c.requires.ready.round in
+    (u, k, round.net_is, c.walk-visited.ensures.walked u k (round_here c.args.goal.now.net c.goal.inside.net.now (ap (λ (a : Aim). a.net) c.goal.view_is) c.args.tried.now.mixes.now u k round))
 
 pub evidence_by_last-requires-clause-walked : goal.evidence_by_last-requires-clause-walked
 evidence_by_last-requires-clause-walked c =
-    let (u, k, round) = c.requires.round in
+    let (u, k, round) = c.requires.ready.round in
     let here = round_here c.args.goal.now.net c.goal.inside.net.now (ap (λ (a : Aim). a.net) c.goal.view_is) c.args.tried.now.mixes.now u k round in
-    (u, k, here.net_is, c.walk_class-visited.ensures.walked u k round)
+    (u, k, here.net_is, c.walk-visited.ensures.walked u k (round_here c.args.goal.now.net c.goal.inside.net.now (ap (λ (a : Aim). a.net) c.goal.view_is) c.args.tried.now.mixes.now u k round))
 
 pub evidence_by_last-requires-clause-entry : goal.evidence_by_last-requires-clause-entry
 evidence_by_last-requires-clause-entry c =
@@ -49,7 +60,7 @@ returns-in-None-clause-last c =
 pub returns-then-is_kept-clause-judged : goal.returns-then-is_kept-clause-judged
 returns-then-is_kept-clause-judged c = λ u k round next.
     let begun = picks_up_to c.args.goal.now u c.args.tried.now.store.now.evidence k c.args.tried.now.change.now next in
-    (c.is_kept.ensures u k round.net_is (c.walk_class-visited.ensures.walked u k round) begun).0 c.if-is_kept.true
+    (c.is_kept.ensures u k round.net_is (c.walk-visited.ensures.walked u k (round_here c.args.goal.now.net c.goal.inside.net.now (ap (λ (a : Aim). a.net) c.goal.view_is) c.args.tried.now.mixes.now u k round)) begun).0 c.if-is_kept.true
 
 -- what was found is for the duties of the search
 found_for : (aim : Aim) (demands : List DemandView) → demands ≡ aim.demands → (u : Rollout) (k : ℕ) (class : Class) (found other : Option ClassEvidence) → found ≡ other
@@ -62,7 +73,7 @@ returns-in-Some-clause-judged c = λ u k round next.
     let begun = picks_up_to c.args.goal.now u c.args.tried.now.store.now.evidence k c.args.tried.now.change.now next in
     let aim = c.args.goal.now in
     let here = round_here aim.net c.goal.inside.net.now (ap (λ (a : Aim). a.net) c.goal.view_is) c.args.tried.now.mixes.now u k round in
-    let walked = c.walk_class-visited.ensures.walked u k round in (
+    let walked = c.walk-visited.ensures.walked u k (round_here c.args.goal.now.net c.goal.inside.net.now (ap (λ (a : Aim). a.net) c.goal.view_is) c.args.tried.now.mixes.now u k round) in (
       λ certified. absurd (false≢true (sym c.if-is_kept.false ∙ (c.is_kept.ensures u k round.net_is walked begun).1 certified)),
       found_for aim c.goal.inside.duties.now.demands (ap (λ (a : Aim). a.demands) c.goal.view_is) u k c.args.numbered.class c.in_ok-evidence.field-0 (Some c.in-Some.evidence) c.in-Some.is
           (c.in_ok-evidence.ensures.found u k here.net_is walked),
@@ -72,35 +83,35 @@ pub returns-in-None-clause-judged : goal.returns-in-None-clause-judged
 returns-in-None-clause-judged c = λ u k round next.
     let aim = c.args.goal.now in
     let here = round_here aim.net c.goal.inside.net.now (ap (λ (a : Aim). a.net) c.goal.view_is) c.args.tried.now.mixes.now u k round in
-    let walked = c.walk_class-visited.ensures.walked u k round in (
+    let walked = c.walk-visited.ensures.walked u k (round_here c.args.goal.now.net c.goal.inside.net.now (ap (λ (a : Aim). a.net) c.goal.view_is) c.args.tried.now.mixes.now u k round) in (
       refl,
       record {
         never = found_for aim c.goal.inside.duties.now.demands (ap (λ (a : Aim). a.demands) c.goal.view_is) u k c.args.numbered.class c.in_ok-evidence.field-0 None c.in-None.is (c.in_ok-evidence.ensures.found u k here.net_is walked);
-        visits = c.walk_class-visited.ensures.visits u k round;
+        visits = c.walk-visited.ensures.held u k (round_here c.args.goal.now.net c.goal.inside.net.now (ap (λ (a : Aim). a.net) c.goal.view_is) c.args.tried.now.mixes.now u k round);
       },
     )
 
--- the mixed walks that were walked are marked
-walks_put : (u : Rollout) (k n : ℕ) (came : List ℕ) (marks copied : ℕ) (new : List ℕ) → n < length came → new ≡ set came n copied → copied ≡ marks → (class : Class)
-    → HoldsWalks u k class marks → HoldsWalks u k class (marks_at new n)
-walks_put u k n came marks copied new less put is class held =
-    let there : marks_at new n ≡ marks = ap (λ (ms : List ℕ). marks_at ms n) put ∙ put_there came n copied less ∙ is in
-    subst (HoldsWalks u k class) (sym there) held
+-- where the walks that were walked come to is noted
+walks_put : (u : Rollout) (k n : ℕ) (came new : List ℕ) (visited : ℕ) (class : Class) → n < length came → new ≡ set came n visited → HoldsWalks u k class visited → HoldsWalks u k class (marks_at new n)
+walks_put u k n came new visited class less put held = subst (HoldsWalks u k class) (sym (ap (λ (ms : List ℕ). marks_at ms n) put ∙ get_or-set_same came n visited 0 less)) held
 
 pub returns-then-is_kept-clause-walks : goal.returns-then-is_kept-clause-walks
 returns-then-is_kept-clause-walks c = λ u k round.
     let number = c.requires.number in
     let count = c.requires.came in
-    walks_put u k c.args.numbered.number c.args.came.now c.walk_class-visited.result c.copy.result c.put.new.self (omega arith) c.put.ensures c.copy.ensures c.args.numbered.class (c.walk_class-visited.ensures.visits u k round)
+    walks_put u k c.args.numbered.number c.args.watch.now.came.items c.walk-visited.new.self.came.items c.walk-visited.result c.args.numbered.class (omega arith) c.walk-visited.ensures.noted
+    (c.walk-visited.ensures.held u k (round_here c.args.goal.now.net c.goal.inside.net.now (ap (λ (a : Aim). a.net) c.goal.view_is) c.args.tried.now.mixes.now u k round))
 
 pub returns-in-Some-clause-walks : goal.returns-in-Some-clause-walks
 returns-in-Some-clause-walks c = λ u k round.
     let number = c.requires.number in
     let count = c.requires.came in
-    walks_put u k c.args.numbered.number c.args.came.now c.walk_class-visited.result c.copy.result c.put.new.self (omega arith) c.put.ensures c.copy.ensures c.args.numbered.class (c.walk_class-visited.ensures.visits u k round)
+    walks_put u k c.args.numbered.number c.args.watch.now.came.items c.walk-visited.new.self.came.items c.walk-visited.result c.args.numbered.class (omega arith) c.walk-visited.ensures.noted
+    (c.walk-visited.ensures.held u k (round_here c.args.goal.now.net c.goal.inside.net.now (ap (λ (a : Aim). a.net) c.goal.view_is) c.args.tried.now.mixes.now u k round))
 
 pub returns-in-None-clause-walks : goal.returns-in-None-clause-walks
 returns-in-None-clause-walks c = λ u k round.
     let number = c.requires.number in
     let count = c.requires.came in
-    walks_put u k c.args.numbered.number c.args.came.now c.walk_class-visited.result c.copy.result c.put.new.self (omega arith) c.put.ensures c.copy.ensures c.args.numbered.class (c.walk_class-visited.ensures.visits u k round)
+    walks_put u k c.args.numbered.number c.args.watch.now.came.items c.walk-visited.new.self.came.items c.walk-visited.result c.args.numbered.class (omega arith) c.walk-visited.ensures.noted
+    (c.walk-visited.ensures.held u k (round_here c.args.goal.now.net c.goal.inside.net.now (ap (λ (a : Aim). a.net) c.goal.view_is) c.args.tried.now.mixes.now u k round))

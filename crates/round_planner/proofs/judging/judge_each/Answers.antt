@@ -36,8 +36,8 @@ returns-in-Some c u k round next met held =
     let judged = c.in_ok-judged.ensures in (
       failed_noted aim u e k number (subst (λ n. number < n) count less) c.loop-number.found.items c.note.new.found.items c.in_ok-judged.judged c.in_ok-failing.field-0 c.in-Some.failing c.in_ok-failing.ensures c.in-Some.is
           (λ class is. judged_met aim u e k number class c.in_ok-judged.judged (judged.judged u k class round is next before)),
-      round_before aim u k round.net_is c.judge_next.new.came
-          (round_still aim u k number c.loop-number.came c.judge_next.new.came judged.count judged.others (λ class is. judged.walks u k class round is) marked),
+      round_before aim u k round.net_is c.judge_next.new.watch.came.items
+          (round_still aim u k number c.loop-number.watch.came.items c.judge_next.new.watch.came.items judged.count judged.others (λ class is. judged.walks u k class round is) marked),
     )
 
 pub loop-number-preserved : goal.loop-number-preserved
@@ -52,7 +52,7 @@ loop-number-preserved c =
             safe_noted aim u e k number c.loop-number.found.items c.note.new.found.items c.in_ok-judged.judged c.in_ok-failing.field-0 c.in_ok-failing.ensures c.in_default.is so_far
                 (λ class is. judged.judged u k class round is next before),
             each_from_in (IsNewlySafe aim u e k) c.judge_next.new.before.items (λ f i. each_at (IsNewlySafe aim u e k) c.loop-number.before.items f before (judged.before f i)),
-            round_still aim u k number c.loop-number.came c.judge_next.new.came judged.count judged.others (λ class is. judged.walks u k class round is) marked,
+            round_still aim u k number c.loop-number.watch.came.items c.judge_next.new.watch.came.items judged.count judged.others (λ class is. judged.walks u k class round is) marked,
           ),
     )
 
@@ -63,5 +63,5 @@ returns c u k round next met held =
     let last : c.loop-number.number ≡ c.count-number-end.result = omega arith in
     let (safe, before, marked) = c.loop-number.invariant.1 u k round next met held in (
       subst (λ n. AreSafeBelow aim u c.args.tried.now.store.now.evidence k n c.loop-number.found.items) (last ∙ count) safe,
-      round_after_it aim u k round.net_is next.within (next.good k (omega arith)) c.loop-number.came marked,
+      round_after_it aim u k round.net_is next.within (next.good k (omega arith)) c.loop-number.watch.came.items marked,
     )

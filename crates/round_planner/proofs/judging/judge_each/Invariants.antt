@@ -8,7 +8,7 @@ use Rattle.round_planner.proofs.judging.judge_each.Given as goal
 
 abbrev pub invariant-loop-number : goal.invariant-loop-number
 invariant-loop-number l =
-    ((length l.came ≡ length l.fn.came) × HoldsLastOf l.goal l.last)
+    ((length l.watch.came.items ≡ length l.fn.watch.came.items) × HoldsLastOf l.goal l.last)
     × ((u : Rollout) (k : ℕ) → IsRoundOf l.goal.net l.tried.mixes.now u k → IsNextRound l.goal u l.tried.store.now.evidence k l.tried.change.now
-    → AllByRecursion (IsNewlySafe l.goal u l.tried.store.now.evidence k) l.fn.before.items → HoldRound l.goal u k l.fn.came
-    → AreSafeBelow l.goal u l.tried.store.now.evidence k l.number l.found.items × AllByRecursion (IsNewlySafe l.goal u l.tried.store.now.evidence k) l.before.items × HoldRound l.goal u k l.came)
+    → AllByRecursion (IsNewlySafe l.goal u l.tried.store.now.evidence k) l.fn.before.items → HoldRound l.goal u k l.fn.watch.came.items
+    → AreSafeBelow l.goal u l.tried.store.now.evidence k l.number l.found.items × AllByRecursion (IsNewlySafe l.goal u l.tried.store.now.evidence k) l.before.items × HoldRound l.goal u k l.watch.came.items)

@@ -1,50 +1,51 @@
-use Rattle.std.proofs.Common.{◌≡◌, ◌↔◌, ℕ, false, Bool, sym, ◌∙◌, subst, arith}
-use Rattle.std.specs.Prelude.{IsTrue}
-use Rattle.std.proofs.lemmas.Bool.{false≢true}
+use Rattle.std.proofs.Common.{◌≡◌, ℕ, ◌<◌, false, Bool, List, [], ◌∷◌, length, get_or, sym, ◌∙◌, ap, subst, arith}
+use Rattle.std.specs.Prelude.{◌||◌}
+use Rattle.std.proofs.lemmas.List.{get_or_default}
 use Rattle.std.proofs.lemmas.Result.{IfOk-weaker, on_ok_weaker}
 use Rattle.dest_classes.specs.Classes.{IsClass}
 use Rattle.dest_classes.specs.declared.Class.{Class}
-use Rattle.update_model.specs.Changes.{switch_of}
 use Rattle.update_model.specs.Mixtures.{Rollout, tables_before}
 use Rattle.update_model.specs.declared.Change.{Change}
-use Rattle.check_reasons.specs.Touched.{may_cover}
 use Rattle.mixed_walks.specs.Walks.{IsRoundOf}
 use Rattle.round_planner.specs.declared.judging.Judged.{Judged}
-use Rattle.round_planner.specs.Failures.{IsVisited}
+use Rattle.class_watch.specs.Walks.{HoldsTables, HoldsWalks, meets, meets_any}
 use Rattle.round_planner.specs.Standing.{IsNextRound, IsJudged, IsJudgedIfMet}
-use Rattle.round_planner.specs.Visits.{marks_at, HoldsTables, HoldsWalks}
+use Rattle.round_planner.specs.Visits.{marks_at}
 use Rattle.round_planner.proofs.JudgingLaws.{stays_certified, numbered_class, judged_there, judged_met}
 use Rattle.round_planner.proofs.VisitLaws.{walks_still}
 use Rattle.round_planner.proofs.judging.judge_if_met.Goals as goal
 
-pub of-requires : goal.of-requires
-of-requires c = let number = c.requires.number in let count = c.requires.came in omega arith
+pub index-requires : goal.index-requires
+index-requires c = let number = c.requires.number in let count = c.requires.came in omega arith
+
+-- a member that was read, whatever would stand past the end
+read_as : (came : List ℕ) (n read : ℕ) → n < length came → read ≡ get_or came n read → read ≡ marks_at came n
+read_as came n read within is = is ∙ get_or_default came n read 0 within
 
 -- the change doesn't meet the class at the switches that were read
-apart_there : (change : Change) (read marks : ℕ) → read ≡ marks → (here class : Class) → here ≡ class → (meets : Bool) → meets ≡ false
-    → IsTrue meets ↔ (IsVisited read (switch_of change) × IsTrue (may_cover change here)) → ¬ (IsVisited marks (switch_of change) × IsTrue (may_cover change class))
-apart_there change read marks is here class same meets off told (seen, covers_it) =
-    false≢true (sym off ∙ told.1 (subst (λ (ms : ℕ). IsVisited ms (switch_of change)) (sym is) seen, subst (λ (x : Class). IsTrue (may_cover change x)) (sym same) covers_it))
+not_met : (change : Change) (read marks : ℕ) → read ≡ marks → (here class : Class) → here ≡ class → (told : Bool) → told ≡ false → told ≡ meets change here read → meets_any (change ∷ []) class marks ≡ false
+not_met change read marks is here class same told off means =
+    subst (λ (ms : ℕ). meets_any (change ∷ []) class ms ≡ false) is (subst (λ (x : Class). meets_any (change ∷ []) x read ≡ false) same (ap (λ (b : Bool). b || false) (sym means ∙ off)))
 
 pub returns-then-not-meets-clause-judged : goal.returns-then-not-meets-clause-judged
 returns-then-not-meets-clause-judged c = λ u k class round is next held later.
     let aim = c.args.goal.now in
     let change = c.args.tried.now.change.now in
-    let marks = marks_at c.args.came.now c.args.number in
+    let marks = marks_at c.args.watch.now.came.items c.args.number in
     let numbered = c.numbered-numbered.result in
     let same = numbered_class aim.classes c.args.number numbered c.numbered-numbered.ensures.number c.numbered-numbered.ensures.class class is in
     stays_certified aim u c.args.tried.now.store.now.evidence k change next round.keeps_old round.keeps c.args.number class marks is later held
-    (apart_there change c.of.result.now marks c.of.ensures numbered.class class same c.meets.result c.if-not-meets.true c.meets.ensures)
+    (not_met change c.index.result.now marks (read_as c.args.watch.now.came.items c.args.number c.index.result.now (let n = c.requires.number in let count = c.requires.came in omega arith) c.index.ensures) numbered.class class same c.meets.result c.if-not-meets.true c.meets.ensures)
 
 pub returns-then-not-meets-clause-walks : goal.returns-then-not-meets-clause-walks
 returns-then-not-meets-clause-walks c = λ u k class round is next held.
     let aim = c.args.goal.now in
     let change = c.args.tried.now.change.now in
-    let marks = marks_at c.args.came.now c.args.number in
+    let marks = marks_at c.args.watch.now.came.items c.args.number in
     let numbered = c.numbered-numbered.result in
     let same = numbered_class aim.classes c.args.number numbered c.numbered-numbered.ensures.number c.numbered-numbered.ensures.class class is in
     walks_still u k class change next.round round.keeps_old round.keeps marks held
-    (apart_there change c.of.result.now marks c.of.ensures numbered.class class same c.meets.result c.if-not-meets.true c.meets.ensures)
+    (not_met change c.index.result.now marks (read_as c.args.watch.now.came.items c.args.number c.index.result.now (let n = c.requires.number in let count = c.requires.came in omega arith) c.index.ensures) numbered.class class same c.meets.result c.if-not-meets.true c.meets.ensures)
 
 pub returns-clause-judged : goal.returns-clause-judged
 returns-clause-judged c =
@@ -57,7 +58,7 @@ returns-clause-judged c =
     IfOk-weaker c.judge_class.result
     (λ (j : Judged). (u : Rollout) (k : ℕ) → IsRoundOf aim.net mixes u k → IsNextRound aim u e k change → IsJudged aim u e k numbered.number numbered.class j)
     (λ (j : Judged). (u : Rollout) (k : ℕ) (class : Class) → IsRoundOf aim.net mixes u k → IsClass aim.classes number class → IsNextRound aim u e k change
-    → HoldsTables u.net (tables_before u k) class (marks_at c.args.came.now number) → IsJudgedIfMet aim u e k number class j)
+    → HoldsTables u.net (tables_before u k) class (marks_at c.args.watch.now.came.items number) → IsJudgedIfMet aim u e k number class j)
     (λ j all u k class round is next held.
     let same = numbered_class aim.classes number numbered c.numbered-numbered.ensures.number c.numbered-numbered.ensures.class class is in
     judged_met aim u e k number class j (judged_there aim u e k numbered number class c.numbered-numbered.ensures.number same j (all u k round next))) c.judge_class.ensures.judged
@@ -70,8 +71,8 @@ returns-clause-walks c =
     on_ok_weaker c.judge_class.result
     (λ all u k class round is next held.
     let same = numbered_class aim.classes number numbered c.numbered-numbered.ensures.number c.numbered-numbered.ensures.class class is in
-    subst (λ (x : Class). HoldsWalks u k x (marks_at c.judge_class.new.came number)) same
-    (subst (λ (i : ℕ). HoldsWalks u k numbered.class (marks_at c.judge_class.new.came i)) c.numbered-numbered.ensures.number (all u k round))) c.judge_class.ensures.walks
+    subst (λ (x : Class). HoldsWalks u k x (marks_at c.judge_class.new.watch.came.items number)) same
+    (subst (λ (i : ℕ). HoldsWalks u k numbered.class (marks_at c.judge_class.new.watch.came.items i)) c.numbered-numbered.ensures.number (all u k round))) c.judge_class.ensures.walks
 
 pub returns-clause-others : goal.returns-clause-others
 returns-clause-others c n other = c.judge_class.ensures.others n (λ same. other (same ∙ c.numbered-numbered.ensures.number))

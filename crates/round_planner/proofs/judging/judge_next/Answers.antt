@@ -9,7 +9,8 @@ use Rattle.mixed_walks.specs.Walks.{IsRoundOf}
 use Rattle.round_planner.specs.declared.judging.Found.{Found}
 use Rattle.round_planner.specs.declared.judging.Judged.{Judged}
 use Rattle.round_planner.specs.Standing.{IsNextRound, IsJudged, IsNewlySafe}
-use Rattle.round_planner.specs.Visits.{marks_at, HoldsWalks}
+use Rattle.class_watch.specs.Walks.{HoldsWalks}
+use Rattle.round_planner.specs.Visits.{marks_at}
 use Rattle.round_planner.proofs.JudgingLaws.{new_here, numbered_class, judged_there}
 use Rattle.round_planner.proofs.judging.judge_next.Goals as goal
 
@@ -44,8 +45,8 @@ returns-clause-walks c =
     on_ok_weaker c.judge_class.result
     (λ all u k class round is held.
     let same = numbered_class aim.classes number numbered c.numbered.ensures.number c.numbered.ensures.class class is in
-    subst (λ (x : Class). HoldsWalks u k x (marks_at c.judge_class.new.came number)) same
-    (subst (λ (i : ℕ). HoldsWalks u k numbered.class (marks_at c.judge_class.new.came i)) c.numbered.ensures.number (all u k round))) c.judge_class.ensures.walks
+    subst (λ (x : Class). HoldsWalks u k x (marks_at c.judge_class.new.watch.came.items number)) same
+    (subst (λ (i : ℕ). HoldsWalks u k numbered.class (marks_at c.judge_class.new.watch.came.items i)) c.numbered.ensures.number (all u k round))) c.judge_class.ensures.walks
 
 pub returns-clause-others : goal.returns-clause-others
 returns-clause-others c n other = c.judge_class.ensures.others n (λ same. other (same ∙ c.numbered.ensures.number))

@@ -9,7 +9,7 @@ use Rattle.ordered_check.proofs.ordered.OrderedRoom.gather.Goals as goal
 
 -- the room doesn't depend on the classes that were taken
 room_still : (classes : ClassList) (state : OrderedState) (members : List NumberedClass) → HasClassRoom classes state → HasClassRoom classes (record state { members = members })
-room_still classes state members room = record { picks = room.picks; classes_are = room.classes_are; atoms_are = room.atoms_are; looked = room.looked; came = room.came; settled = room.settled }
+room_still classes state members room = record { picks = room.picks; classes_are = room.classes_are; looked = room.looked; came = room.came; settled = room.settled }
 
 pub gather_class-begun-requires-clause-touched : goal.gather_class-begun-requires-clause-touched
 gather_class-begun-requires-clause-touched c =

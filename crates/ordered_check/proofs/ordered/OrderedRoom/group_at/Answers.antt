@@ -1,15 +1,17 @@
-use Rattle.std.proofs.Common.{◌≡◌, suc, ◌<◌, List, length, Option, Some, IfSome, sym, ◌∙◌, ap, subst, arith}
+use Rattle.std.proofs.Common.{◌≡◌, ℕ, suc, ◌%◌, ◌<◌, List, length, Option, IfSome, sym, ◌∙◌, ap, subst, arith}
 use Rattle.std.proofs.lemmas.Option.{same_Some}
 use Rattle.certificates.specs.Ordered.{IsPickInForce}
+use Rattle.certificates.specs.Certified.{classes_for}
 use Rattle.certificates.specs.declared.OrderedPick.{OrderedPick}
 use Rattle.ordered_check.specs.Picks.{IsKeptPick}
 use Rattle.ordered_check.specs.Together.{IsOfGroup, IsMember}
 use Rattle.ordered_check.proofs.TogetherLaws.{use_within, some_then}
 use Rattle.std.specs.Prelude.{slice_get}
+use Rattle.dest_classes.specs.Classes.{atom_count, class_count}
 use Rattle.dest_classes.specs.declared.Class.{Class}
 use Rattle.check_reasons.specs.AtomMarks.{is_marked}
 use Rattle.ordered_check.specs.Kept.{OrderedState}
-use Rattle.ordered_check.proofs.KeptLaws.{read_at, class_at, is_at}
+use Rattle.ordered_check.proofs.KeptLaws.{class_at, is_at}
 use Rattle.ordered_check.proofs.ordered.OrderedRoom.group_at.Goals as goal
 
 pub index-class-requires : goal.index-class-requires
@@ -17,13 +19,6 @@ index-class-requires c =
     let number = c.requires.number in
     let same = ap (λ (s : OrderedState). length s.classes) c.self.view_is in
     let count = c.requires.room.classes_are.count in
-    omega arith
-
-pub index-atom-requires : goal.index-atom-requires
-index-atom-requires c =
-    let number = c.requires.number in
-    let same = ap (λ (s : OrderedState). length s.atoms) c.self.view_is in
-    let count = c.requires.room.atoms_are.count in
     omega arith
 
 pub index-requires : goal.index-requires
@@ -46,14 +41,14 @@ is_unchanged-requires c =
     let n = c.args.number in
     let state = c.args.self.now in
     let class = c.index-class.result.now in
-    let atom = c.index-atom.result.now in
     let room = c.requires.room in
     let number = c.requires.number in
     let classes_are = ap (λ (s : OrderedState). s.classes) c.self.view_is in
     let within : n < length c.self.inside.classes.items = (let same = ap (λ (cs : List Class). length cs) classes_are in let count = room.classes_are.count in omega arith) in
-    let known : n < length c.self.inside.atoms.items = (let same = ap (λ (s : OrderedState). length s.atoms) c.self.view_is in let count = room.atoms_are.count in omega arith) in
-    let at : slice_get state.atoms n ≡ Some atom = sym (ap (λ (s : OrderedState). slice_get s.atoms n) c.self.view_is) ∙ read_at c.self.inside.atoms.items n atom known c.index-atom.ensures in
-    c.has-touched.ensures ∙ ap (λ (s : OrderedState). is_marked s.touched atom) c.self.view_is ∙ ap (is_marked state.touched) (room.atoms_are.each n atom at)
+    let fits : n < class_count (classes_for t) = number in
+    let atom : c.atom_of.result ≡ n % atom_count (classes_for t) =
+    c.atom_of.ensures ∙ ap (λ (s : OrderedState). n % length s.looked) c.self.view_is ∙ ap (λ (m : ℕ). n % m) (room.looked (omega arith)) in
+    c.has-touched.ensures ∙ ap (λ (s : OrderedState). is_marked s.touched c.atom_of.result) c.self.view_is ∙ ap (is_marked state.touched) atom
     ∙ c.requires.touched n class (is_at t n state c.self.inside.classes.items classes_are class within c.index-class.ensures room)
 
 pub group_of-requires-clause-class : goal.group_of-requires-clause-class

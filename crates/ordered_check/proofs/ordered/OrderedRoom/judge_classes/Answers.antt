@@ -65,7 +65,7 @@ judging-preserved c =
     subst (λ found. AreJudged t e k (n + 1) found old c.judge_number-reason.new.self) (sym c.first_of-found.ensures)
     (judged_more t e k n c.judging.found c.judge_number-reason.result old c.judging.self c.judge_number-reason.new.self c.keeps_valid.ensures.valid.ascending c.requires.room.classes_are within
     c.judging.invariant.judged
-    (record { none = one.none; some = one.some; guarded = one.guarded; picks = one.picks; classes = one.classes; atoms = one.atoms; touched = one.touched; looked = one.looked; settled = one.settled; count = one.count; others = one.others; walks = one.walks })) in
+    (record { none = one.none; some = one.some; guarded = one.guarded; picks = one.picks; classes = one.classes; touched = one.touched; looked = one.looked; settled = one.settled; count = one.count; others = one.others; walks = one.walks })) in
     record {
       within = next.within;
       judged =

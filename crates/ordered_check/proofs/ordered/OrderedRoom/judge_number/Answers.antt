@@ -1,6 +1,7 @@
-use Rattle.std.proofs.Common.{◌≡◌, ℕ, suc, ◌<◌, ◌≤◌, Bool, true, false, List, length, set, Option, Some, IfNone, sym, ◌∙◌, ap, subst, arith}
+use Rattle.std.proofs.Common.{◌≡◌, ℕ, suc, ◌%◌, ◌<◌, ◌≤◌, Bool, true, false, List, length, Option, Some, IfNone, sym, ◌∙◌, ap, subst, arith}
 use Rattle.std.specs.Prelude.{slice_get, IsSomeAnd}
 use Rattle.std.proofs.lemmas.Option.{same_Some}
+use Rattle.dest_classes.specs.Classes.{atom_count, class_count}
 use Rattle.dest_classes.specs.declared.Class.{Class}
 use Rattle.update_model.specs.declared.Change.{Change}
 use Rattle.path_walk.specs.UserConfigs.{IsUserConfig}
@@ -12,25 +13,25 @@ use Rattle.certificates.specs.declared.OrderedPick.{OrderedPick}
 use Rattle.certificates.specs.declared.OrderedEvidence.{OrderedEvidence}
 use Rattle.check_reasons.specs.Reasons.{class_duties}
 use Rattle.check_reasons.specs.AtomMarks.{is_marked}
-use Rattle.mixed_walks.specs.Walks.{IsWalked}
 use Rattle.round_mix.specs.Prepared.{MixedState}
 use Rattle.ordered_check.specs.Cases.{IsRound}
 use Rattle.ordered_check.specs.Picks.{PicksStand}
-use Rattle.ordered_check.specs.Kept.{OrderedState, HasClassRoom, HoldsWalks, HoldsWalksBefore, touches_walk}
-use Rattle.ordered_check.proofs.KeptLaws.{some_at, read_at, none_then, walks_marked, class_at, is_at}
-use Rattle.ordered_check.proofs.PickLaws.{get_set_same, get_set_other}
+use Rattle.class_watch.specs.Walks.{HoldsWalks, meets_any}
+use Rattle.class_watch.proofs.ListLaws.{some_at, read_at}
+use Rattle.ordered_check.specs.Kept.{OrderedState, HasClassRoom, HoldsWalksBefore}
+use Rattle.ordered_check.proofs.KeptLaws.{none_then, class_at, is_at}
 use Rattle.ordered_check.proofs.StandLaws.{class_stands}
 use Rattle.ordered_check.proofs.ordered.OrderedRoom.judge_number.Goals as goal
 
 -- a class that isn't touched
-stands_there : (t : Task) (e : OrderedEvidence) (k n : ℕ) (changes : List Change) (mixes : List MixedState) (state : OrderedState) (class : Class) (marks : List Bool) (in_force : Option OrderedPick)
+stands_there : (t : Task) (e : OrderedEvidence) (k n : ℕ) (changes : List Change) (mixes : List MixedState) (state : OrderedState) (class : Class) (marks : ℕ) (in_force : Option OrderedPick)
     → IsUserConfig t.update.net t.update.old → IsValidOrdered t.update.net (length t.rounds) e → IsRound t e k changes mixes → HasClassRoom (classes_for t) state
-    → PicksStand e.picks (suc k) state.picks → ((other : Class) (them : List Bool) → slice_get state.classes n ≡ Some other → slice_get state.came n ≡ Some them → HoldsWalksBefore (rollout t) k other them)
+    → PicksStand e.picks (suc k) state.picks → ((other : Class) (them : ℕ) → slice_get state.classes n ≡ Some other → slice_get state.came n ≡ Some them → HoldsWalksBefore (rollout t) k other them)
     → slice_get state.classes n ≡ Some class → slice_get state.came n ≡ Some marks → slice_get state.picks.of_class n ≡ Some in_force → IsSomeAnd in_force (λ pick. pick.round ≤ k)
-    → touches_walk changes class marks ≡ false → OrderedCertificate (rollout t) e k n class.first class.entry (class_duties t class) × HoldsWalks (rollout t) k class marks
+    → meets_any changes class marks ≡ false → OrderedCertificate (rollout t) e k n class.first class.entry (class_duties t class) × HoldsWalks (rollout t) k class marks
 stands_there t e k n changes mixes state class marks in_force user valid round room picks walks is came kept begun off =
     class_stands t e k n class in_force marks user valid round.within round.before round.pass (room.classes_are.each n class is) (picks.each n in_force kept) begun (walks class marks is came)
-    (subst (λ (cs : List Change). touches_walk cs class marks ≡ false) round.changes_are off)
+    (subst (λ (cs : List Change). meets_any cs class marks ≡ false) round.changes_are off)
 
 pub index-settled-requires : goal.index-settled-requires
 index-settled-requires c =
@@ -44,13 +45,6 @@ index-class-requires c =
     let number = c.requires.number in
     let same = ap (λ (s : OrderedState). length s.classes) c.self.view_is in
     let count = c.requires.room.classes_are.count in
-    omega arith
-
-pub index-atom-requires : goal.index-atom-requires
-index-atom-requires c =
-    let number = c.requires.number in
-    let same = ap (λ (s : OrderedState). length s.atoms) c.self.view_is in
-    let count = c.requires.room.atoms_are.count in
     omega arith
 
 pub index-requires : goal.index-requires
@@ -104,15 +98,15 @@ returns-then-is_unchanged-clause-none c other is =
     let picks_are = ap (λ (s : OrderedState). s.picks.of_class) c.self.view_is in
     let number = c.requires.number in
     let within : n < length c.self.inside.classes.items = (let same = ap (λ (cs : List Class). length cs) classes_are in let count = c.requires.room.classes_are.count in omega arith) in
-    let marked : n < length c.self.inside.came.items = (let same = ap (λ (ms : List (List Bool)). length ms) came_is in let count = c.requires.room.came in omega arith) in
+    let marked : n < length c.self.inside.watch.came.items = (let same = ap (λ (ms : List ℕ). length ms) came_is in let count = c.requires.room.came in omega arith) in
     let here = class_at t n state c.self.inside.classes.items classes_are class within c.index-class.ensures in
     let settled_is = ap (λ (s : OrderedState). s.settled) c.self.view_is in
     let known : n < length c.self.inside.settled.items = (let same = ap (λ (bs : List Bool). length bs) settled_is in let count = c.requires.room.settled in omega arith) in
     let off : slice_get state.settled n ≡ Some false =
     ap (λ (bs : List Bool). slice_get bs n) (sym settled_is) ∙ read_at c.self.inside.settled.items n c.index-settled.result.now known c.index-settled.ensures ∙ ap (λ (b : Bool). Some b) c.if-settled.false in
-    let before = λ (cl : Class) (ms : List Bool) (at : slice_get state.classes n ≡ Some cl) (there_is : slice_get state.came n ≡ Some ms). c.requires.settled cl ms false at there_is off in
+    let before = λ (cl : Class) (ms : ℕ) (at : slice_get state.classes n ≡ Some cl) (there_is : slice_get state.came n ≡ Some ms). c.requires.settled cl ms false at there_is off in
     let stands = stands_there t e k n c.args.round.now.changes.now c.args.round.now.mixes.now state class c.index.result.now c.of-in_force.result c.keeps_valid.ensures.old_user c.keeps_valid.ensures.valid c.requires.round
-    c.requires.room c.requires.stands before here (ap (λ (ms : List (List Bool)). slice_get ms n) (sym came_is) ∙ read_at c.self.inside.came.items n c.index.result.now marked c.index.ensures)
+    c.requires.room c.requires.stands before here (ap (λ (ms : List ℕ). slice_get ms n) (sym came_is) ∙ read_at c.self.inside.watch.came.items n c.index.result.now marked c.index.ensures)
     (ap (λ (ps : List (Option OrderedPick)). slice_get ps n) (sym picks_are) ∙ c.of-in_force.ensures) (c.is_unchanged.ensures.pick c.if-is_unchanged.true) (c.is_unchanged.ensures.walk c.if-is_unchanged.true) in
     subst (λ (x : Class). OrderedCertificate (rollout t) e k n x.first x.entry (class_duties t x)) (same_Some class other (sym here ∙ is)) stands.0
 
@@ -130,18 +124,18 @@ returns-then-is_unchanged-clause-walks c other them is came =
     let picks_are = ap (λ (s : OrderedState). s.picks.of_class) c.self.view_is in
     let number = c.requires.number in
     let within : n < length c.self.inside.classes.items = (let same = ap (λ (cs : List Class). length cs) classes_are in let count = c.requires.room.classes_are.count in omega arith) in
-    let marked : n < length c.self.inside.came.items = (let same = ap (λ (ms : List (List Bool)). length ms) came_is in let count = c.requires.room.came in omega arith) in
+    let marked : n < length c.self.inside.watch.came.items = (let same = ap (λ (ms : List ℕ). length ms) came_is in let count = c.requires.room.came in omega arith) in
     let here = class_at t n state c.self.inside.classes.items classes_are class within c.index-class.ensures in
-    let there : slice_get state.came n ≡ Some marks = ap (λ (ms : List (List Bool)). slice_get ms n) (sym came_is) ∙ read_at c.self.inside.came.items n marks marked c.index.ensures in
+    let there : slice_get state.came n ≡ Some marks = ap (λ (ms : List ℕ). slice_get ms n) (sym came_is) ∙ read_at c.self.inside.watch.came.items n marks marked c.index.ensures in
     let settled_is = ap (λ (s : OrderedState). s.settled) c.self.view_is in
     let known : n < length c.self.inside.settled.items = (let same = ap (λ (bs : List Bool). length bs) settled_is in let count = c.requires.room.settled in omega arith) in
     let off : slice_get state.settled n ≡ Some false =
     ap (λ (bs : List Bool). slice_get bs n) (sym settled_is) ∙ read_at c.self.inside.settled.items n c.index-settled.result.now known c.index-settled.ensures ∙ ap (λ (b : Bool). Some b) c.if-settled.false in
-    let before = λ (cl : Class) (ms : List Bool) (at : slice_get state.classes n ≡ Some cl) (there_is : slice_get state.came n ≡ Some ms). c.requires.settled cl ms false at there_is off in
+    let before = λ (cl : Class) (ms : ℕ) (at : slice_get state.classes n ≡ Some cl) (there_is : slice_get state.came n ≡ Some ms). c.requires.settled cl ms false at there_is off in
     let stands = stands_there t e k n c.args.round.now.changes.now c.args.round.now.mixes.now state class marks c.of-in_force.result c.keeps_valid.ensures.old_user c.keeps_valid.ensures.valid c.requires.round
     c.requires.room c.requires.stands before here there
     (ap (λ (ps : List (Option OrderedPick)). slice_get ps n) (sym picks_are) ∙ c.of-in_force.ensures) (c.is_unchanged.ensures.pick c.if-is_unchanged.true) (c.is_unchanged.ensures.walk c.if-is_unchanged.true) in
-    subst (λ (ms : List Bool). HoldsWalks (rollout t) k other ms) (same_Some marks them (sym there ∙ came))
+    subst (λ (ms : ℕ). HoldsWalks (rollout t) k other ms) (same_Some marks them (sym there ∙ came))
     (subst (λ (x : Class). HoldsWalks (rollout t) k x marks) (same_Some class other (sym here ∙ is)) stands.1)
 
 pub is_unchanged-requires : goal.is_unchanged-requires
@@ -150,18 +144,18 @@ is_unchanged-requires c =
     let n = c.args.number in
     let state = c.args.self.now in
     let class = c.index-class.result.now in
-    let atom = c.index-atom.result.now in
     let room = c.requires.room in
     let number = c.requires.number in
     let classes_are = ap (λ (s : OrderedState). s.classes) c.self.view_is in
     let within : n < length c.self.inside.classes.items = (let same = ap (λ (cs : List Class). length cs) classes_are in let count = room.classes_are.count in omega arith) in
-    let known : n < length c.self.inside.atoms.items = (let same = ap (λ (s : OrderedState). length s.atoms) c.self.view_is in let count = room.atoms_are.count in omega arith) in
-    let at : slice_get state.atoms n ≡ Some atom = sym (ap (λ (s : OrderedState). slice_get s.atoms n) c.self.view_is) ∙ read_at c.self.inside.atoms.items n atom known c.index-atom.ensures in
-    c.has-touched.ensures ∙ ap (λ (s : OrderedState). is_marked s.touched atom) c.self.view_is ∙ ap (is_marked state.touched) (room.atoms_are.each n atom at)
+    let fits : n < class_count (classes_for t) = number in
+    let atom : c.atom_of.result ≡ n % atom_count (classes_for t) =
+    c.atom_of.ensures ∙ ap (λ (s : OrderedState). n % length s.looked) c.self.view_is ∙ ap (λ (m : ℕ). n % m) (room.looked (omega arith)) in
+    c.has-touched.ensures ∙ ap (λ (s : OrderedState). is_marked s.touched c.atom_of.result) c.self.view_is ∙ ap (is_marked state.touched) atom
     ∙ c.requires.touched n class (is_at t n state c.self.inside.classes.items classes_are class within c.index-class.ensures room)
 
-pub judge_class-reason-requires-clause-class : goal.judge_class-reason-requires-clause-class
-judge_class-reason-requires-clause-class c =
+pub judge_class-requires-clause-class : goal.judge_class-requires-clause-class
+judge_class-requires-clause-class c =
     let t = c.args.of.now.task in
     let classes_are = ap (λ (s : OrderedState). s.classes) c.self.view_is in
     let number = c.requires.number in
@@ -179,11 +173,10 @@ returns-clause-none c other is =
     let number = c.requires.number in
     let within : n < length c.self.inside.classes.items = (let same = ap (λ (cs : List Class). length cs) classes_are in let count = c.requires.room.classes_are.count in omega arith) in
     let here = class_at t n c.args.self.now c.self.inside.classes.items classes_are class within c.index-class.ensures in
-    subst (λ (x : Class). IfNone c.judge_class-reason.result (OrderedCertificate (rollout t) e k n x.first x.entry (class_duties t x))) (same_Some class other (sym here ∙ is)) c.judge_class-reason.ensures.none
+    subst (λ (x : Class). IfNone c.judge_class.result (OrderedCertificate (rollout t) e k n x.first x.entry (class_duties t x))) (same_Some class other (sym here ∙ is)) c.judge_class.ensures.none
 
 pub returns-clause-others : goal.returns-clause-others
-returns-clause-others c m ne =
-    get_set_other c.self.inside.came.items c.args.number m c.marks_of-marks.result ne ∙ ap (λ (s : OrderedState). slice_get s.came m) c.self.view_is
+returns-clause-others c m ne = c.judge_class.ensures.others m ne ∙ ap (λ (s : OrderedState). slice_get s.came m) c.self.view_is
 
 pub returns-clause-walks : goal.returns-clause-walks
 returns-clause-walks c =
@@ -191,14 +184,18 @@ returns-clause-walks c =
     let k = c.args.round.now.number in
     let n = c.args.number in
     let class = c.index-class.result.now in
-    let marks = c.marks_of-marks.result in
     let items = c.self.inside.classes.items in
+    let came = c.judge_class.new.watch.came.items in
     let number = c.requires.number in
     let within : n < length items = (let same = ap (λ (s : OrderedState). length s.classes) c.self.view_is in let count = c.requires.room.classes_are.count in omega arith) in
     let here : slice_get items n ≡ Some class = read_at items n class within c.index-class.ensures in
-    none_then c.judge_class-reason.result (IsWalked (rollout t) k class.first class.entry c.judge_class-reason.new.walk)
-    ((other : Class) (them : List Bool) → slice_get items n ≡ Some other → slice_get (set c.self.inside.came.items n marks) n ≡ Some them → HoldsWalks (rollout t) k other them) c.judge_class-reason.ensures.walked
-    (λ walked other them is came.
-    subst (λ (ms : List Bool). HoldsWalks (rollout t) k other ms) (get_set_same c.self.inside.came.items n marks them came)
-    (subst (λ (x : Class). HoldsWalks (rollout t) k x marks) (same_Some class other (sym here ∙ is))
-    (walks_marked (rollout t) k class c.judge_class-reason.new.walk c.switches.result.now marks walked c.switches.ensures.seen c.marks_of-marks.ensures)))
+    none_then c.judge_class.result ((marks : ℕ) → slice_get came n ≡ Some marks → HoldsWalks (rollout t) k class marks)
+    ((other : Class) (marks : ℕ) → slice_get items n ≡ Some other → slice_get came n ≡ Some marks → HoldsWalks (rollout t) k other marks) c.judge_class.ensures.held
+    (λ held other marks is at. subst (λ (x : Class). HoldsWalks (rollout t) k x marks) (same_Some class other (sym here ∙ is)) (held marks at))
+
+pub judge_class-requires-clause-number : goal.judge_class-requires-clause-number
+judge_class-requires-clause-number c =
+    let number = c.requires.number in
+    let same = ap (λ (s : OrderedState). length s.came) c.self.view_is in
+    let count = c.requires.room.came in
+    omega arith

@@ -9,7 +9,6 @@ keeps_on : (old mid new : OrderedState) → KeepsRoom old mid → KeepsRoom mid 
 keeps_on old mid new first then = record {
   picks = then.picks ∙ first.picks;
   classes = then.classes ∙ first.classes;
-  atoms = then.atoms ∙ first.atoms;
   touched = then.touched ∙ first.touched;
   looked = then.looked ∙ first.looked;
   came = then.came ∙ first.came;

@@ -3,7 +3,9 @@ use Rattle.net_base.specs.Members.{IsIn}
 use Rattle.dest_classes.specs.declared.NumberedClass.{NumberedClass}
 use Rattle.dest_classes.proofs.MapLaws.{number_fits}
 use Rattle.certificates.specs.Certified.{classes_for}
-use Rattle.ordered_check.specs.Kept.{OrderedState, AreClasses, AreSettled}
+use Rattle.certificates.specs.Updates.{rollout}
+use Rattle.class_watch.specs.Classes.{AreClasses}
+use Rattle.ordered_check.specs.Kept.{OrderedState, AreSettled}
 use Rattle.ordered_check.specs.Together.{AreMembers}
 use Rattle.ordered_check.proofs.TogetherLaws.{group_within, some_member, member_safe, member_walks, settled_more}
 use Rattle.ordered_check.proofs.ordered.OrderedRoom.settle_group.Goals as goal
@@ -46,13 +48,12 @@ returns-then-are_safe-clause-settled c =
     let inside = c.self.inside in
     let members = c.deref-then-are_safe.result.now in
     let noted = c.walk_members.new.walk in
-    let marks = c.marks_of-marks.result in
+    let marks = c.switches_on-came.result in
     let old : OrderedState = record {
       guarded = inside.guarded;
       picks = inside.picks;
       classes = inside.classes.items;
-      atoms = inside.atoms.items;
-      came = inside.came.items;
+      came = inside.watch.came.items;
       touched = inside.touched;
       looked = inside.looked;
       settled = inside.settled.items;
@@ -66,4 +67,4 @@ returns-then-are_safe-clause-settled c =
     settled_more t e k members marks old new (subst (AreClasses (classes_for t)) (sym (ap (λ (s : OrderedState). s.classes) was)) c.requires.room.classes_are)
     (subst (AreSettled t e k) (sym was) c.requires.settled) refl c.settle_members.ensures.each (λ m i. (all m i).is)
     (λ m i. member_safe t e k group m (all m i) noted c.walk_members.ensures.together (entry m i) (c.are_safe.ensures c.if-are_safe.true))
-    (λ m i. member_walks t e k group m (all m i) noted c.walk_members.ensures.together (entry m i) c.switches.result.now marks c.switches.ensures.seen c.marks_of-marks.ensures)
+    (λ m i. member_walks t e k group m (all m i) noted c.walk_members.ensures.together (entry m i) marks (c.switches_on-came.ensures.together (rollout t) k m.class group.vlan))

@@ -1,29 +1,15 @@
-use Rattle.std.proofs.Common.{◌≡◌, ◌<◌, List, sym, ◌∙◌, ap, subst, arith}
+use Rattle.std.proofs.Common.{◌≡◌, List, sym, ◌∙◌, subst, arith}
 use Rattle.std.proofs.lemmas.List.{with_items_is}
 use Rattle.std.specs.Vec.{with_items}
 use Rattle.std.specs.List.{AllByRecursion}
-use Rattle.topology.specs.Networks.{Network, IsNetwork}
 use Rattle.path_walk.specs.UserConfigs.{IsUserConfig}
-use Rattle.update_model.specs.Changes.{switch_of, tables_after}
+use Rattle.update_model.specs.Changes.{tables_after}
 use Rattle.round_planner.specs.Search.{Aim}
 use Rattle.round_planner.specs.Failures.{HasStanding, AreOfUsers, AreLeft}
 use Rattle.round_planner.specs.Searching.{IsMadeAt, IsPlaced}
 use Rattle.round_planner.specs.declared.left.Left.{Left}
-use Rattle.round_planner.proofs.LeftLaws.{near_left, of_users, moved_on}
+use Rattle.round_planner.proofs.LeftLaws.{of_users, moved_on}
 use Rattle.round_planner.proofs.searching.Search.go_on.Goals as goal
-
-pub take_out-requires-clause-near : goal.take_out-requires-clause-near
-take_out-requires-clause-near c =
-    let aim = c.args.goal.now in
-    let (old, changes, user, at, are) = c.requires in
-    let new_user = subst (λ (a : Aim). IsUserConfig a.net a.new) c.goal.view_is c.goal.invariant.user in
-    let net = subst (λ (n : Network). IsNetwork n) (ap (λ (a : Aim). a.net) c.goal.view_is) c.keeps_rules.ensures in
-    let new : List Left = c.take_first.new.left in
-    let same : (with_items c.args.left.now new).items ≡ new = with_items_is c.args.left.now new (omega arith) in
-    let lent = subst (AreLeft aim (tables_after changes old)) (sym c.deref_mut.ensures.value) are in
-    let (placed, standing) = c.in_ok-place.ensures.placed old changes user at lent in
-    let here : AreLeft aim (tables_after changes old) new = record { changes = c.in_ok-place.ensures.changes ∙ lent.changes; standing = standing } in
-    subst (AllByRecursion (λ (l : Left). (switch_of l.change).0 < 128)) (sym same) (near_left aim old user new_user changes c.args.self.now at new here net)
 
 pub returns-in-Some : goal.returns-in-Some
 returns-in-Some c = λ old changes user at are.

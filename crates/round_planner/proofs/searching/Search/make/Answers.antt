@@ -1,10 +1,11 @@
 use Rattle.std.proofs.Common.{◌≡◌, ◌≤◌, sym, ◌∙◌, subst, ap}
 use Rattle.topology.specs.Networks.{Network, IsNetwork}
 use Rattle.flow_rules.specs.Tables.{rules_of_all}
-use Rattle.dest_classes.specs.Classes.{class_count}
+use Rattle.dest_classes.specs.Classes.{ClassList, class_count}
 use Rattle.evidence_store.specs.State.{StoreState}
 use Rattle.round_tables.specs.Trials.{IsSettled}
 use Rattle.round_planner.specs.Search.{Aim}
+use Rattle.round_planner.specs.Searching.{HasAtoms}
 use Rattle.round_planner.proofs.SearchingLaws.{begins_at, all_come}
 use Rattle.round_planner.proofs.searching.Search.make.Goals as goal
 
@@ -12,13 +13,15 @@ pub returns-clause-at : goal.returns-clause-at
 returns-clause-at c =
     let aim = c.args.goal.now in
     let first = c.in_ok-trial.ensures in
-    let rooms = c.in_ok-walk.ensures in
+    let rooms = c.in_ok-looked.ensures in
+    let classes_are = ap (λ (a : Aim). a.classes) c.goal.view_is in
     let settled = subst (λ (n : Network). IsSettled n c.in_ok-trial.trial) (ap (λ (a : Aim). a.net) c.goal.view_is) first.settled in
     let count = c.count-count.ensures.count ∙ ap (λ (a : Aim). class_count a.classes) c.goal.view_is in
     let net = subst (λ (n : Network). IsNetwork n) (ap (λ (a : Aim). a.net) c.goal.view_is) c.keeps_rules.ensures in
     let hosts = subst (λ (a : Aim). a.classes.hosts ≡ a.net.hosts) c.goal.view_is c.goal.invariant.hosts in
     begins_at aim (rules_of_all c.args.old.now) _ first.rounds first.rules settled c.count-count.result count first.store
-    (all_come aim (rules_of_all c.args.old.now) net c.requires hosts c.count-count.result count _ rooms.count rooms.each)
+    (all_come aim (rules_of_all c.args.old.now) net c.requires hosts (class_count c.goal.inside.classes.now) (ap (λ (cs : ClassList). class_count cs) classes_are) _ rooms.count rooms.each)
+    (subst (λ (cs : ClassList). HasAtoms cs c.in_ok-looked.looked) classes_are rooms.atoms)
 
 pub returns-clause-few : goal.returns-clause-few
 returns-clause-few c = subst (λ (s : StoreState). s.classes ≤ 8192) (sym c.in_ok-trial.ensures.store) c.count-count.ensures.few

@@ -50,4 +50,4 @@ returns c old changes user at safe first =
     let settled = subst (λ (n : Network). IsSettled n c.keep_change.new.trial) (ap (λ (a : Aim). a.net) c.goal.view_is) c.in_ok-keep_change.ensures.settled in
     let picked = c.in_ok-put_picks.ensures in
     made_at aim old user new_user changes c.args.change.now _ _ c.args.found.items c.count-round.result _ here safe_here first refl c.in_ok-keep_change.ensures.rounds
-    c.count-round.ensures c.in_ok-keep_change.ensures.tables settled picked.picks picked.classes picked.stored_before picked.stored refl
+    c.count-round.ensures c.in_ok-keep_change.ensures.tables settled picked.picks picked.classes picked.stored_before picked.stored refl refl

@@ -1,4 +1,4 @@
-use Rattle.std.proofs.Common.{◌++◌, ◌∷◌, [], List, length, sym, ◌∙◌, subst, ap}
+use Rattle.std.proofs.Common.{◌++◌, ◌∷◌, [], List, length, refl, sym, ◌∙◌, subst, ap}
 use Rattle.topology.specs.Networks.{Network, IsNetwork}
 use Rattle.flow_rules.specs.declared.rules.Rule.{Rule}
 use Rattle.path_walk.specs.UserConfigs.{IsUserConfig}
@@ -23,18 +23,20 @@ begin-requires-clause-applies c =
     subst (λ (ts : List (List Rule)). Applies ts c.args.change.now) (sym here.tables)
     (applies_here c.args.goal.now old user new_user changes c.args.change.now c.self.inside.store.evidence here.stands i)
 
-pub judge_all-requires-clause-round : goal.judge_all-requires-clause-round
-judge_all-requires-clause-round c =
+pub judge_all-requires-clause-ready : goal.judge_all-requires-clause-ready
+judge_all-requires-clause-ready c =
     let aim = c.args.goal.now in
     let (old, changes, user, at, i) = c.requires in
     let new_user = subst (λ (a : Aim). IsUserConfig a.net a.new) c.goal.view_is c.goal.invariant.user in
     let here = subst (IsAt aim old changes) (sym c.self.view_is) at in
     let trying = subst (λ (n : Network). IsTrying n c.args.change.now c.begin.new.self) (ap (λ (a : Aim). a.net) c.goal.view_is) (c.begin.ensures.yes c.if-not-begin.false) in
-    let round = tried_round aim old user new_user changes c.args.change.now _ c.begin.new.self here i c.begin.ensures.rules trying in (
-      update_by aim old (changes ++ c.args.change.now ∷ []),
-      length changes,
-      subst (λ (ms : List MixedState). IsRoundOf aim.net ms (update_by aim old (changes ++ c.args.change.now ∷ [])) (length changes)) (sym c.mixes.ensures) round,
-    )
+    let round = tried_round aim old user new_user changes c.args.change.now _ c.begin.new.self here i c.begin.ensures.rules trying in
+    let next = update_by aim old (changes ++ c.args.change.now ∷ []) in
+    record {
+      round = (next, length changes, subst (λ (ms : List MixedState). IsRoundOf aim.net ms next (length changes)) (sym c.mixes.ensures) round);
+      numberings = here.stands.numberings;
+      classes = here.classes;
+    }
 
 pub take-requires : goal.take-requires
 take-requires c =
@@ -49,13 +51,13 @@ take-requires c =
     let net = subst (λ (n : Network). IsNetwork n) (ap (λ (a : Aim). a.net) c.goal.view_is) c.keeps_rules.ensures in
     let following = tried_next aim old user new_user changes c.args.change.now _ c.begin.new.self here i c.begin.ensures.rules trying net in
     let came = tried_came aim old user new_user changes c.args.change.now _ c.begin.new.self here i c.begin.ensures.rules trying in
-    let (judged, marked) = c.in_ok-found.ensures next (length changes) prepared following came in
+    let (judged, marked) = c.in_ok-found.ensures.judged next (length changes) prepared following came in
     let safe = subst (AreJudged aim next c.self.inside.store.evidence (length changes)) c.in-Safe.is judged in
-    let held = subst (λ v. HoldAfter aim next (length changes) v c.judge_all.new.came) c.in-Safe.is marked in (
+    let held = subst (λ v. HoldAfter aim next (length changes) v c.judge_all.new.watch.came.items) c.in-Safe.is marked in (
       old,
       changes,
       user,
-      tried_at aim old user new_user changes c.args.change.now _ c.begin.new.self here i c.begin.ensures.rules trying c.judge_all.new.came held,
+      tried_at aim old user new_user changes c.args.change.now _ c.begin.new.self here i c.begin.ensures.rules trying c.judge_all.new.watch.came.items c.judge_all.new.looked held c.in_ok-found.ensures.atoms,
       safe,
     )
 
@@ -71,12 +73,12 @@ returns-in_ok-take-in-Safe c old changes user at i =
     let net = subst (λ (n : Network). IsNetwork n) (ap (λ (a : Aim). a.net) c.goal.view_is) c.keeps_rules.ensures in
     let following = tried_next aim old user new_user changes c.args.change.now _ c.begin.new.self here i c.begin.ensures.rules trying net in
     let came = tried_came aim old user new_user changes c.args.change.now _ c.begin.new.self here i c.begin.ensures.rules trying in
-    let (judged, marked) = c.in_ok-found.ensures next (length changes) prepared following came in
+    let (judged, marked) = c.in_ok-found.ensures.judged next (length changes) prepared following came in
     let safe = subst (AreJudged aim next c.self.inside.store.evidence (length changes)) c.in-Safe.is judged in
-    let held = subst (λ v. HoldAfter aim next (length changes) v c.judge_all.new.came) c.in-Safe.is marked in (
+    let held = subst (λ v. HoldAfter aim next (length changes) v c.judge_all.new.watch.came.items) c.in-Safe.is marked in (
       tried_qualifies aim old user new_user changes c.args.change.now _ c.begin.new.self here i c.begin.ensures.rules trying c.in-Safe.found.items safe,
       λ first.
-          c.in_ok-take-in-Safe.ensures old changes user (tried_at aim old user new_user changes c.args.change.now _ c.begin.new.self here i c.begin.ensures.rules trying c.judge_all.new.came held) safe first,
+          c.in_ok-take-in-Safe.ensures old changes user (tried_at aim old user new_user changes c.args.change.now _ c.begin.new.self here i c.begin.ensures.rules trying c.judge_all.new.watch.came.items c.judge_all.new.looked held c.in_ok-found.ensures.atoms) safe first,
     )
 
 pub returns-in-Unsafe : goal.returns-in-Unsafe
@@ -91,13 +93,14 @@ returns-in-Unsafe c old changes user at i =
     let net = subst (λ (n : Network). IsNetwork n) (ap (λ (a : Aim). a.net) c.goal.view_is) c.keeps_rules.ensures in
     let following = tried_next aim old user new_user changes c.args.change.now _ c.begin.new.self here i c.begin.ensures.rules trying net in
     let came = tried_came aim old user new_user changes c.args.change.now _ c.begin.new.self here i c.begin.ensures.rules trying in
-    let (judged, marked) = c.in_ok-found.ensures next (length changes) prepared following came in
+    let (judged, marked) = c.in_ok-found.ensures.judged next (length changes) prepared following came in
     let unsafe = subst (AreJudged aim next c.self.inside.store.evidence (length changes)) c.in-Unsafe.is judged in
-    let held = subst (λ v. HoldAfter aim next (length changes) v c.judge_all.new.came) c.in-Unsafe.is marked in (
+    let held = subst (λ v. HoldAfter aim next (length changes) v c.judge_all.new.watch.came.items) c.in-Unsafe.is marked in (
       tried_fails aim old user new_user changes c.args.change.now _ c.begin.new.self here i c.begin.ensures.rules trying c.in-Unsafe.failing unsafe,
-      given_up aim old changes _ c.give_up.new.self c.judge_all.new.came here (c.give_up.ensures.rules ∙ c.begin.ensures.rules)
+      given_up aim old changes _ c.give_up.new.self c.judge_all.new.watch.came.items c.judge_all.new.looked here (c.give_up.ensures.rules ∙ c.begin.ensures.rules)
           (subst (λ (n : Network). IsSettled n c.give_up.new.self) (ap (λ (a : Aim). a.net) c.goal.view_is) c.give_up.ensures.settled)
-          (failed_came aim old user new_user changes c.args.change.now _ c.begin.new.self here i c.begin.ensures.rules trying c.judge_all.new.came held),
+          (failed_came aim old user new_user changes c.args.change.now _ c.begin.new.self here i c.begin.ensures.rules trying c.judge_all.new.watch.came.items held)
+          c.in_ok-found.ensures.atoms,
     )
 
 pub returns-then-not-begin : goal.returns-then-not-begin
@@ -109,10 +112,15 @@ returns-then-not-begin c old changes user at i =
     let alone : ¬ HasRoomAlone aim.net (tables_after changes old) c.args.change.now =
     subst (λ (ts : List (List Rule)). ¬ HasRoomAlone aim.net ts c.args.change.now) here.tables (subst (λ (n : Network). ¬ HasRoomAlone n (rules_of_all c.self.inside.trial.tables) c.args.change.now) net none) in (
       no_room aim.net c.self.inside.trial (tables_after changes old) c.args.change.now here.settled here.tables alone,
-      given_up aim old changes _ c.begin.new.self _ here c.begin.ensures.rules (subst (λ (n : Network). IsSettled n c.begin.new.self) net (c.begin.ensures.no c.if-not-begin.true)) here.came,
+      given_up aim old changes _ c.begin.new.self _ _ here c.begin.ensures.rules (subst (λ (n : Network). IsSettled n c.begin.new.self) net (c.begin.ensures.no c.if-not-begin.true)) here.came refl,
     )
 
 pub judge_all-requires-clause-came : goal.judge_all-requires-clause-came
 judge_all-requires-clause-came c =
     let (old, changes, user, at, i) = c.requires in
     (subst (IsAt c.args.goal.now old changes) (sym c.self.view_is) at).came.count
+
+pub judge_all-requires-clause-atoms : goal.judge_all-requires-clause-atoms
+judge_all-requires-clause-atoms c =
+    let (old, changes, user, at, i) = c.requires in
+    (subst (IsAt c.args.goal.now old changes) (sym c.self.view_is) at).looked

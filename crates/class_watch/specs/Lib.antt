@@ -1,0 +1,5 @@
+pub mod Switches
+pub mod Classes
+pub mod Looked
+pub mod Walks
+pub mod Alike

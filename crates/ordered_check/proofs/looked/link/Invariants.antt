@@ -1,5 +1,0 @@
-use Rattle.ordered_check.proofs.LookedLaws.{AreLinked}
-use Rattle.ordered_check.proofs.looked.link.Given as goal
-
-abbrev pub invariant-loop-atom : goal.invariant-loop-atom
-invariant-loop-atom l = AreLinked l.marks l.atom l.first l.next.items
