@@ -60,8 +60,10 @@ fn first_missed(duties: &Duties, class: u32, stops: &[Stop], met: &mut MetPath) 
     found
 }
 
-/// How the path of a class breaks its duties, where it does.
-pub(crate) fn how_broken(
+/// How the path of a class breaks its duties, where it does. The duties were made for the network, and the room for a network
+/// with as many switches. Takes time by the lengths of the path and of the class's chains; where these are many and the class
+/// judged before had the same demands and a path with the same stops, the chains are not tested again.
+pub fn how_broken(
     net: &Net,
     config: &Config,
     duties: &Duties,
@@ -75,8 +77,11 @@ pub(crate) fn how_broken(
     requires number { numbered.number < class_count duties.now.classes }
     requires class { IsNumbered duties.now.classes numbered }
     requires kept { IsMetPath duties.now met.old }
-    ensures none { IfNone result (HasGoodPath net.now (rules_of_all config.now) duties.now.demands numbered.class.entry numbered.class.first) }
-    ensures some { IfSome result (BreaksSo net.now (rules_of_all config.now) (duties_of duties.now.demands numbered.class.entry numbered.class.first) numbered.class.entry numbered.class.first) }
+    ensures none { IfNone result (HasGoodPath net.now (rules_of_all config.now)
+        duties.now.demands numbered.class.entry numbered.class.first) }
+    ensures some { IfSome result (BreaksSo net.now (rules_of_all config.now)
+        (duties_of duties.now.demands numbered.class.entry numbered.class.first)
+        numbered.class.entry numbered.class.first) }
     ensures same_room { room.new.switches ≡ room.old.switches }
     ensures kept { IsMetPath duties.now met.new }
 {

@@ -7,7 +7,9 @@ pub mod laws;
 mod met;
 mod waypoints;
 
+pub use breaking::how_broken;
 pub use checking::check_config;
+pub use met::MetPath;
 use net_base::SwitchId;
 
 /// How a path breaks its duties: it visits a switch again, is dropped there and must arrive, or misses a waypoint.

@@ -11,9 +11,10 @@ use std::marker::Model;
 /// How many stops are kept: no network has more switches.
 const MOST_STOPS: usize = 128;
 
-/// A class whose chains its path met, if any, and the stops of the path: so many of these.
+/// A class whose chains its path met, if any, and the stops of the path: so many of these. It is handed from one class that
+/// is judged to the next.
 #[derive(Drop)]
-pub(crate) struct MetPath {
+pub struct MetPath {
     class: Option<u32>,
     count: usize,
     stops: [Stop; 128],
@@ -32,7 +33,7 @@ impl Model for MetPath {
 
 impl MetPath {
     /// No class.
-    pub(crate) fn none() -> MetPath
+    pub fn none() -> MetPath
         ensures { (d : ClassDuties) → IsMetPath d result }
     {
         let stop = Stop {

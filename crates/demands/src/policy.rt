@@ -1,13 +1,15 @@
 //! Policies as lists of demands, and what a demand covers.
 ghost use Rattle.std.specs.Prelude.{◌≡◌, ◌<◌, ◌≤◌, ◌++◌, ◌∷◌, [], Some, true, length, map, option_map, slice_get, IfOk, if◌then◌else◌, is_ok};
-ghost use Rattle.std.specs.List.{AllByRecursion};
+ghost use Rattle.std.specs.List.{AllByRecursion, list_any};
 ghost use Rattle.net_base.specs.Members.{IsIn};
 ghost use Rattle.demands.specs.Covers.{is_covered};
+ghost use Rattle.demands.specs.Duties.{demand_covers};
 ghost use Rattle.std.specs.Option.{option_map_or};
 ghost use Rattle.topology.specs.Networks.{stop_eq};
 ghost use Rattle.net_base.specs.Places.{stop_of};
 
 use crate::{Cover, Demand, Demands};
+use dest_classes::Class;
 use flow_rules::admits_vlan;
 use net_base::{Memory, Place, Prefix, Stop};
 use std::alloc::{AllocFailed, Global};
@@ -89,6 +91,13 @@ impl Demands {
         ensures covered { IfOk result (λ v. AllByRecursion (λ d. IsIn d.dst v.items) self.now) }
     {
         prefixes_of(*self.list.allocator(), self.list.as_slice())
+    }
+
+    /// Whether some demand speaks of the packets of the class that go to its first address. Takes time by the demands.
+    pub fn cover(&self, class: Class) -> bool
+        ensures { result ≡ list_any (λ d. demand_covers d class.entry class.first) self.now }
+    {
+        self.list.iter().any(|demand| demand.covers(class))
     }
 
     /// The demands in their order.
