@@ -14,4 +14,8 @@ mod replay_command_tests;
 #[cfg(test)]
 mod sources;
 #[cfg(test)]
+mod tables_command_tests;
+#[cfg(test)]
+mod trace_command_tests;
+#[cfg(test)]
 mod upgrade_command_tests;

@@ -17,6 +17,9 @@ use Rattle.check_command.specs.Checks.{IsCheckAnswer}
 use Rattle.plan_command.specs.Planned.{IsPlanned}
 use Rattle.replay_command.specs.Names as replay
 use Rattle.replay_command.specs.Replayed.{ReplayMeaning, replay_dialogue, IsReplayAnswer}
+use Rattle.tables_command.specs.Listed.{IsTablesAnswer}
+use Rattle.trace_command.specs.Names as trace
+use Rattle.trace_command.specs.Traced.{TraceMeaning, trace_dialogue, IsTraceAnswer}
 use Rattle.simulate_command.specs.Names as simulate
 use Rattle.simulate_command.specs.Simulated.{IsSimulateAnswer}
 use Rattle.sample_command.specs.Sizes as sample
@@ -39,6 +42,8 @@ pub data Asked : Type 0 where
   Upgrade : PlanNames → Asked
   Emit : PlanNames → Asked
   Replay : replay.ReplayNames → Asked
+  Tables : replay.ReplayNames → Asked
+  Trace : trace.TraceNames → Asked
   Simulate : simulate.SimulateNames → Asked
   Explain : check.CheckNames → Asked
   Import : imports.ImportNames → Asked
@@ -55,6 +60,8 @@ asked (name ∷ words) =
     else if bytes_eq name (codes "upgrade") then option_map Upgrade (base.plan_names_in words)
     else if bytes_eq name (codes "emit") then option_map Emit (base.plan_names_in words)
     else if bytes_eq name (codes "replay") then option_map Replay (replay.names_in words)
+    else if bytes_eq name (codes "tables") then option_map Tables (replay.names_in words)
+    else if bytes_eq name (codes "trace") then option_map Trace (trace.names_in words)
     else if bytes_eq name (codes "simulate") then option_map Simulate (simulate.names_in words)
     else if bytes_eq name (codes "explain") then option_map Explain (check.names_in words)
     else if bytes_eq name (codes "import") then option_map Import (imports.names_in words)
@@ -70,6 +77,8 @@ seen (command.Plan names) = Plan (base.names_seen names)
 seen (command.Upgrade names) = Upgrade (base.plan_names_seen names)
 seen (command.Emit names) = Emit (base.plan_names_seen names)
 seen (command.Replay names) = Replay (replay.names_seen names)
+seen (command.Tables names) = Tables (replay.names_seen names)
+seen (command.Trace names) = Trace (trace.names_seen names)
 seen (command.Simulate names) = Simulate (simulate.names_seen names)
 seen (command.Explain names) = Explain (check.names_seen names)
 seen (command.Import names) = Import (imports.names_seen names)
@@ -84,6 +93,8 @@ pub data Ending : Type 0 where
   OfUpgrade : PlanMeaning → Ending
   OfEmit : PlanMeaning → Ending
   OfReplay : ReplayMeaning → Ending
+  OfTables : ReplayMeaning → Ending
+  OfTrace : TraceMeaning → Ending
   OfSimulate : ℕ → ℕ → CheckMeaning → Ending
   OfExplain : CheckMeaning → Ending
   OfImport : ImportMeaning → Ending
@@ -103,6 +114,8 @@ IsSaid (OfPlan u) answer = IsPlanned u answer
 IsSaid (OfUpgrade m) answer = IsUpgradeAnswer m answer
 IsSaid (OfEmit m) answer = IsEmitAnswer m answer
 IsSaid (OfReplay m) answer = IsReplayAnswer m answer
+IsSaid (OfTables m) answer = IsTablesAnswer m answer
+IsSaid (OfTrace m) answer = IsTraceAnswer m answer
 IsSaid (OfSimulate start count m) answer = IsSimulateAnswer start count m answer
 IsSaid (OfExplain m) answer = IsExplainAnswer m answer
 IsSaid (OfImport m) answer = IsImportAnswer m answer
@@ -118,6 +131,8 @@ dialogue_of (Plan names) = and_then (reading_update names) (λ u. Ends (OfPlan u
 dialogue_of (Upgrade names) = and_then (reading_plan_files names) (λ m. Ends (OfUpgrade m))
 dialogue_of (Emit names) = and_then (reading_plan_files names) (λ m. Ends (OfEmit m))
 dialogue_of (Replay names) = and_then (replay_dialogue names) (λ m. Ends (OfReplay m))
+dialogue_of (Tables names) = and_then (replay_dialogue names) (λ m. Ends (OfTables m))
+dialogue_of (Trace names) = and_then (trace_dialogue names) (λ m. Ends (OfTrace m))
 dialogue_of (Simulate names) = and_then (check_dialogue names.check) (λ m. Ends (OfSimulate names.start names.count m))
 dialogue_of (Explain names) = and_then (check_dialogue names) (λ m. Ends (OfExplain m))
 dialogue_of (Import names) = and_then (import_dialogue names) (λ m. Ends (OfImport m))

@@ -10,6 +10,7 @@ use import_command::{ImportNames, import_names};
 use replay_command::{ReplayNames, replay_names};
 use sample_command::{RingSize, ring_size};
 use simulate_command::{SimulateNames, simulate_names};
+use trace_command::{TraceNames, trace_names};
 
 /// A command, with the names of its files, or the number of switches of a sample.
 #[derive(Clone, Copy)]
@@ -20,6 +21,8 @@ pub enum Command<'a> {
     Upgrade(PlanNames<'a>),
     Emit(PlanNames<'a>),
     Replay(ReplayNames<'a>),
+    Tables(ReplayNames<'a>),
+    Trace(TraceNames<'a>),
     Simulate(SimulateNames<'a>),
     Explain(CheckNames<'a>),
     Import(ImportNames<'a>),
@@ -41,6 +44,8 @@ pub fn command_of(words: &[String]) -> Option<Command<'_>>
         "upgrade" => plan_names(rest).map(Command::Upgrade),
         "emit" => plan_names(rest).map(Command::Emit),
         "replay" => replay_names(rest).map(Command::Replay),
+        "tables" => replay_names(rest).map(Command::Tables),
+        "trace" => trace_names(rest).map(Command::Trace),
         "simulate" => simulate_names(rest).map(Command::Simulate),
         "explain" => check_names(rest).map(Command::Explain),
         "import" => import_names(rest).map(Command::Import),

@@ -16,6 +16,9 @@ ghost use Rattle.upgrade_command.specs.Promise.{UpgradePromise};
 ghost use Rattle.emit_command.specs.Promise.{EmitPromise};
 ghost use Rattle.replay_command.specs.Names.{ReplayNames};
 ghost use Rattle.replay_command.specs.Promise.{ReplayPromise};
+ghost use Rattle.tables_command.specs.Promise.{TablesPromise};
+ghost use Rattle.trace_command.specs.Names.{TraceNames};
+ghost use Rattle.trace_command.specs.Promise.{TracePromise};
 ghost use Rattle.simulate_command.specs.Names.{SimulateNames};
 ghost use Rattle.simulate_command.specs.Promise.{SimulatePromise};
 ghost use Rattle.explain_command.specs.Promise.{ExplainPromise};
@@ -25,7 +28,7 @@ ghost use Rattle.drive_command.specs.Names.{DriveNames};
 ghost use Rattle.drive_command.specs.Promise.{DrivePromise};
 ghost use Rattle.sample_command.specs.Summaries.{SaysSummary};
 ghost use Rattle.sample_command.specs.Promise.{SamplePromise};
-ghost use Rattle.planner_run.specs.Commands.{Config, Check, Plan, Upgrade, Emit, Replay, Simulate, Explain, Import, Drive, Sample, asked, seen, dialogue, dialogue_of, IsSaid, usage_line};
+ghost use Rattle.planner_run.specs.Commands.{Config, Check, Plan, Upgrade, Emit, Replay, Tables, Trace, Simulate, Explain, Import, Drive, Sample, asked, seen, dialogue, dialogue_of, IsSaid, usage_line};
 
 use crate::command::{Command, command_of};
 use check_command::check;
@@ -52,6 +55,10 @@ use sample_command::{RingSize, sample};
 use simulate_command::laws::simulate_promised;
 use simulate_command::simulate;
 use std::alloc::Global;
+use tables_command::laws::tables_promised;
+use tables_command::tables;
+use trace_command::laws::trace_promised;
+use trace_command::trace;
 use upgrade_command::laws::upgrade_promised;
 use upgrade_command::upgrade;
 
@@ -82,6 +89,8 @@ fn reply_to<S: Source>(alloc: Global, command: &Command<'_>, source: &mut S) -> 
         Command::Upgrade(names) => upgrade(alloc, source, names),
         Command::Emit(names) => emit(alloc, source, names),
         Command::Replay(names) => replay(alloc, source, names),
+        Command::Tables(names) => tables(alloc, source, names),
+        Command::Trace(names) => trace(alloc, source, names),
         Command::Simulate(names) => simulate(alloc, source, names),
         Command::Explain(names) => explain(alloc, source, names),
         Command::Import(names) => import(alloc, source, names),
@@ -180,6 +189,12 @@ pub fn run<S: Source, K: Sink>(
         → EmitPromise files names (K.written sink.old) (K.written sink.new) result }
     ensures replay { (files : Files) (names : ReplayNames) → S.held source.old ≡ Some files → asked (map string_bytes words.now) ≡ Some (Replay names)
         → ReplayPromise files names (K.written sink.old) (K.written sink.new) result }
+    ensures tables { (files : Files) (names : ReplayNames) → S.held source.old ≡ Some files
+        → asked (map string_bytes words.now) ≡ Some (Tables names)
+        → TablesPromise files names (K.written sink.old) (K.written sink.new) result }
+    ensures trace { (files : Files) (names : TraceNames) → S.held source.old ≡ Some files
+        → asked (map string_bytes words.now) ≡ Some (Trace names)
+        → TracePromise files names (K.written sink.old) (K.written sink.new) result }
     ensures simulate { (files : Files) (names : SimulateNames) → S.held source.old ≡ Some files → asked (map string_bytes words.now) ≡ Some (Simulate names)
         → SimulatePromise files names (K.written sink.old) (K.written sink.new) result }
     ensures explain { (files : Files) (names : CheckNames) → S.held source.old ≡ Some files → asked (map string_bytes words.now) ≡ Some (Explain names)
@@ -199,6 +214,8 @@ pub fn run<S: Source, K: Sink>(
     upgrade_promised();
     emit_promised();
     replay_promised();
+    tables_promised();
+    trace_promised();
     simulate_promised();
     explain_promised();
     import_promised();

@@ -6,13 +6,15 @@ use Rattle.check_base.specs.Checks.{check_dialogue}
 use Rattle.check_command.specs.Checks.{IsCheckAnswer}
 use Rattle.plan_command.specs.Planned.{IsPlanned}
 use Rattle.replay_command.specs.Replayed.{replay_dialogue, IsReplayAnswer}
+use Rattle.tables_command.specs.Listed.{IsTablesAnswer}
+use Rattle.trace_command.specs.Traced.{trace_dialogue, IsTraceAnswer}
 use Rattle.simulate_command.specs.Simulated.{IsSimulateAnswer}
 use Rattle.explain_command.specs.Explained.{IsExplainAnswer}
 use Rattle.upgrade_command.specs.Texts.{IsUpgradeAnswer}
 use Rattle.emit_command.specs.Answers.{IsEmitAnswer}
 use Rattle.import_command.specs.Imported.{import_dialogue, IsImportAnswer}
 use Rattle.drive_command.specs.Driven.{drive_dialogue, IsDriveAnswer}
-use Rattle.planner_run.specs.Commands.{Config, Check, Plan, Upgrade, Emit, Replay, Simulate, Explain, Import, Drive, OfConfig, OfCheck, OfPlan, OfUpgrade, OfEmit, OfReplay, OfSimulate, OfExplain, OfImport, OfDrive, IsSaid}
+use Rattle.planner_run.specs.Commands.{Config, Check, Plan, Upgrade, Emit, Replay, Tables, Trace, Simulate, Explain, Import, Drive, OfConfig, OfCheck, OfPlan, OfUpgrade, OfEmit, OfReplay, OfTables, OfTrace, OfSimulate, OfExplain, OfImport, OfDrive, IsSaid}
 use Rattle.planner_run.proofs.Answered.{answered}
 use Rattle.planner_run.proofs.Sampled.{sample_ends}
 use Rattle.planner_run.proofs.run.run.Goals as goal
@@ -46,6 +48,16 @@ pub returns-clause-replay : goal.returns-clause-replay
 returns-clause-replay g c = λ files names tells asks.
     c.replay_promised.ensures files names _ _ _ (λ settled.
     answered_as IsReplayAnswer IsSaid OfReplay files (replay_dialogue names) _ _ _ (λ m answer said. said) (answered _ _ _ _ _ files (Replay names) (c.respond.ensures.all settled) tells asks))
+
+pub returns-clause-tables : goal.returns-clause-tables
+returns-clause-tables g c = λ files names tells asks.
+    c.tables_promised.ensures files names _ _ _ (λ settled.
+    answered_as IsTablesAnswer IsSaid OfTables files (replay_dialogue names) _ _ _ (λ m answer said. said) (answered _ _ _ _ _ files (Tables names) (c.respond.ensures.all settled) tells asks))
+
+pub returns-clause-trace : goal.returns-clause-trace
+returns-clause-trace g c = λ files names tells asks.
+    c.trace_promised.ensures files names _ _ _ (λ settled.
+    answered_as IsTraceAnswer IsSaid OfTrace files (trace_dialogue names) _ _ _ (λ m answer said. said) (answered _ _ _ _ _ files (Trace names) (c.respond.ensures.all settled) tells asks))
 
 pub returns-clause-simulate : goal.returns-clause-simulate
 returns-clause-simulate g c = λ files names tells asks.
