@@ -10,6 +10,8 @@ mod file_sizes;
 #[cfg(test)]
 mod import_command_tests;
 #[cfg(test)]
+mod paths_command_tests;
+#[cfg(test)]
 mod replay_command_tests;
 #[cfg(test)]
 mod sources;

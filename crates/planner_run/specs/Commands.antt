@@ -11,6 +11,7 @@ use Rattle.certificates.specs.Updates.{Update}
 use Rattle.command_base.specs.Updates.{PlanMeaning}
 use Rattle.config_command.specs.Names as config
 use Rattle.config_command.specs.Configs.{ConfigMeaning, config_dialogue, IsConfigAnswer}
+use Rattle.paths_command.specs.Listed.{IsPathsAnswer}
 use Rattle.check_base.specs.Names as check
 use Rattle.check_base.specs.Checks.{CheckMeaning, check_dialogue}
 use Rattle.check_command.specs.Checks.{IsCheckAnswer}
@@ -37,6 +38,7 @@ use Rattle.planner_run.specs.declared.command.Command.TheVariants as command
 -- a command, with the names of its files, or the number of switches of a sample
 pub data Asked : Type 0 where
   Config : config.ConfigNames → Asked
+  Paths : config.ConfigNames → Asked
   Check : check.CheckNames → Asked
   Plan : UpdateNames → Asked
   Upgrade : PlanNames → Asked
@@ -55,6 +57,7 @@ abbrev pub asked : List (List ℕ) → Option Asked
 asked [] = None
 asked (name ∷ words) =
     if bytes_eq name (codes "config") then option_map Config (config.names_in words)
+    else if bytes_eq name (codes "paths") then option_map Paths (config.names_in words)
     else if bytes_eq name (codes "check") then option_map Check (check.names_in words)
     else if bytes_eq name (codes "plan") then option_map Plan (base.update_names_in words)
     else if bytes_eq name (codes "upgrade") then option_map Upgrade (base.plan_names_in words)
@@ -72,6 +75,7 @@ asked (name ∷ words) =
 -- a command without where its names lie in memory
 abbrev pub seen : Command → Asked
 seen (command.Config names) = Config (config.names_seen names)
+seen (command.Paths names) = Paths (config.names_seen names)
 seen (command.Check names) = Check (check.names_seen names)
 seen (command.Plan names) = Plan (base.names_seen names)
 seen (command.Upgrade names) = Upgrade (base.plan_names_seen names)
@@ -88,6 +92,7 @@ seen (command.Sample size) = Sample size.switches
 -- of what a command says its answer
 pub data Ending : Type 0 where
   OfConfig : ConfigMeaning → Ending
+  OfPaths : ConfigMeaning → Ending
   OfCheck : CheckMeaning → Ending
   OfPlan : Update → Ending
   OfUpgrade : PlanMeaning → Ending
@@ -109,6 +114,7 @@ usage_line = codes "unknown command or wrong words\n"
 -- what each command says of it
 abbrev pub IsSaid : Ending → Answer → Type 0
 IsSaid (OfConfig m) answer = IsConfigAnswer m answer
+IsSaid (OfPaths m) answer = IsPathsAnswer m answer
 IsSaid (OfCheck m) answer = IsCheckAnswer m answer
 IsSaid (OfPlan u) answer = IsPlanned u answer
 IsSaid (OfUpgrade m) answer = IsUpgradeAnswer m answer
@@ -126,6 +132,7 @@ IsSaid OfUsage answer = answer ≡ record { status = status.Usage; text = usage_
 -- the dialogue of a command
 abbrev pub dialogue_of : Asked → Dialogue Ending
 dialogue_of (Config names) = and_then (config_dialogue names) (λ m. Ends (OfConfig m))
+dialogue_of (Paths names) = and_then (config_dialogue names) (λ m. Ends (OfPaths m))
 dialogue_of (Check names) = and_then (check_dialogue names) (λ m. Ends (OfCheck m))
 dialogue_of (Plan names) = and_then (reading_update names) (λ u. Ends (OfPlan u))
 dialogue_of (Upgrade names) = and_then (reading_plan_files names) (λ m. Ends (OfUpgrade m))

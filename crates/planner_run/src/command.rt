@@ -16,6 +16,7 @@ use trace_command::{TraceNames, trace_names};
 #[derive(Clone, Copy)]
 pub enum Command<'a> {
     Config(ConfigNames<'a>),
+    Paths(ConfigNames<'a>),
     Check(CheckNames<'a>),
     Plan(UpdateNames<'a>),
     Upgrade(PlanNames<'a>),
@@ -39,6 +40,7 @@ pub fn command_of(words: &[String]) -> Option<Command<'_>>
     };
     match name.as_str() {
         "config" => config_names(rest).map(Command::Config),
+        "paths" => config_names(rest).map(Command::Paths),
         "check" => check_names(rest).map(Command::Check),
         "plan" => update_names(rest).map(Command::Plan),
         "upgrade" => plan_names(rest).map(Command::Upgrade),

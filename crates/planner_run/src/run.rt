@@ -9,6 +9,7 @@ ghost use Rattle.command_base.specs.Replies.{answer_of, Meets};
 ghost use Rattle.command_base.specs.Runs.{IsSettled, EndsAs, AnswersAll, AnswersFront};
 ghost use Rattle.config_command.specs.Names.{ConfigNames};
 ghost use Rattle.config_command.specs.Promise.{ConfigPromise};
+ghost use Rattle.paths_command.specs.Promise.{PathsPromise};
 ghost use Rattle.check_base.specs.Names.{CheckNames};
 ghost use Rattle.check_command.specs.Promise.{CheckPromise};
 ghost use Rattle.plan_command.specs.Promise.{PlanPromise};
@@ -28,7 +29,7 @@ ghost use Rattle.drive_command.specs.Names.{DriveNames};
 ghost use Rattle.drive_command.specs.Promise.{DrivePromise};
 ghost use Rattle.sample_command.specs.Summaries.{SaysSummary};
 ghost use Rattle.sample_command.specs.Promise.{SamplePromise};
-ghost use Rattle.planner_run.specs.Commands.{Config, Check, Plan, Upgrade, Emit, Replay, Tables, Trace, Simulate, Explain, Import, Drive, Sample, asked, seen, dialogue, dialogue_of, IsSaid, usage_line};
+ghost use Rattle.planner_run.specs.Commands.{Config, Paths, Check, Plan, Upgrade, Emit, Replay, Tables, Trace, Simulate, Explain, Import, Drive, Sample, asked, seen, dialogue, dialogue_of, IsSaid, usage_line};
 
 use crate::command::{Command, command_of};
 use check_command::check;
@@ -46,6 +47,8 @@ use file_access::{Sink, Source, WriteFault, pour};
 use import_command::import;
 use import_command::laws::import_promised;
 use net_base::Memory;
+use paths_command::laws::paths_promised;
+use paths_command::paths;
 use plan_command::laws::plan_promised;
 use plan_command::plan;
 use replay_command::laws::replay_promised;
@@ -84,6 +87,7 @@ fn reply_to<S: Source>(alloc: Global, command: &Command<'_>, source: &mut S) -> 
 {
     match command {
         Command::Config(names) => config(alloc, source, names),
+        Command::Paths(names) => paths(alloc, source, names),
         Command::Check(names) => check(alloc, source, names),
         Command::Plan(names) => plan(alloc, source, names),
         Command::Upgrade(names) => upgrade(alloc, source, names),
@@ -178,6 +182,10 @@ pub fn run<S: Source, K: Sink>(
     ensures config { (files : Files) (names : ConfigNames) → S.held source.old ≡ Some files → asked (map string_bytes words.now) ≡ Some (Config names)
         → ConfigPromise files names (K.written sink.old) (K.written sink.new) result }
 
+    ensures paths { (files : Files) (names : ConfigNames) → S.held source.old ≡ Some files
+        → asked (map string_bytes words.now) ≡ Some (Paths names)
+        → PathsPromise files names (K.written sink.old) (K.written sink.new) result }
+
     // The headline is the field `keeps` of this promise.
     ensures check { (files : Files) (names : CheckNames) → S.held source.old ≡ Some files → asked (map string_bytes words.now) ≡ Some (Check names)
         → CheckPromise files names (K.written sink.old) (K.written sink.new) result }
@@ -209,6 +217,7 @@ pub fn run<S: Source, K: Sink>(
     ensures unread { (n : ℕ) → asked (map string_bytes words.now) ≡ Some (Sample n) → source.new ≡ source.old }
 {
     config_promised();
+    paths_promised();
     check_promised();
     plan_promised();
     upgrade_promised();

@@ -1,10 +1,13 @@
 use Rattle.command_base.proofs.DialogueLaws.{meets_as}
-use Rattle.planner_run.specs.Commands.{IsSaid, OfConfig, OfCheck, OfPlan, OfUpgrade, OfEmit, OfReplay, OfTables, OfTrace, OfSimulate, OfExplain, OfImport, OfDrive}
+use Rattle.planner_run.specs.Commands.{IsSaid, OfConfig, OfPaths, OfCheck, OfPlan, OfUpgrade, OfEmit, OfReplay, OfTables, OfTrace, OfSimulate, OfExplain, OfImport, OfDrive}
 use Rattle.planner_run.proofs.Sampled.{sample_meets}
 use Rattle.planner_run.proofs.run.reply_to.Goals as goal
 
 pub returns-in-Config-clause-meets : goal.returns-in-Config-clause-meets
 returns-in-Config-clause-meets g c = rw c.in-Config.is (meets_as IsSaid OfConfig (λ m answer said. said) c.config.ensures.meets)
+
+pub returns-in-Paths-clause-meets : goal.returns-in-Paths-clause-meets
+returns-in-Paths-clause-meets g c = rw c.in-Paths.is (meets_as IsSaid OfPaths (λ m answer said. said) c.paths.ensures.meets)
 
 pub returns-in-Check-clause-meets : goal.returns-in-Check-clause-meets
 returns-in-Check-clause-meets g c = rw c.in-Check.is (meets_as IsSaid OfCheck (λ m answer said. said) c.check.ensures.meets)
