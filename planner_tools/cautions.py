@@ -134,6 +134,8 @@ def coverage_cautions(run, config):
     if status not in (0, 1):
         return undeclared_cautions(policy, network) if status == 2 and policy is not None else []
     lines = [PathLine(found) for found in map(PathLine.SHAPE.fullmatch, text.splitlines()) if found]
+    if not text.splitlines()[-1:] or not text.splitlines()[-1].startswith(f"{len(lines)} classes: "):
+        return []            # it isn't the answer that is expected
     shown = run.files[config].shown
     found = demand_cautions(policy, network, lines, shown) if policy is not None else []
     return found + free_cautions(run, lines, policy, config) + unserved_cautions(lines, network, shown)

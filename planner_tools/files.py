@@ -312,7 +312,7 @@ class Reading:
         elif re.match(r"0[xX][0-9a-fA-F]+$", text):
             right = str(int(text, 16))
         elif re.match(r"[0-9]{1,3}(\.[0-9]{1,3}){3}$", text):
-            right = f'the quote " around it'
+            right = 'the quote " around it'
         raise NotJson(f"{short(text)} is no number of JSON", at, right)
 
     def raise_bad_string(self, at):

@@ -20,11 +20,11 @@ class Refusals:
     is_quiet, is_strict, output = True, False, None
 
 
-def say_why(*given):
-    """Runs the program, and says why it refuses what it is given, where it does. Returns its status and its text."""
-    run = Run(list(given), Refusals)
+def say_why(*given, good=(0,)):
+    """Runs the program, and says what its answer means where its status is no good one. Returns its status and its text."""
+    run = Run(list(map(str, given)), Refusals)
     run.capture()
-    if run.status not in (0, 1):
+    if run.status not in good:
         run.safely(run.explain)
     return run.status, run.text
 
@@ -141,6 +141,8 @@ class Run:
         return bool(warnings)
 
     def explain(self):
+        if self.status == 0 and self.command.name != "explain":
+            return
         from planner_tools.explanations import Explainer
         Explainer(self).explain()
 

@@ -174,7 +174,7 @@ def why_no_run(explainer):
     line, before = lines[number - 1], "".join(f"{one}\n" for one in lines[:number - 1])
     why = (start_refused if name == "INPUT" else event_refused)(explainer, line, before)
     explainer.voice.refuse(f"{found.shown}, line {number}: `{line}` can't happen here{': ' + why if why else ''}",
-                           [f"the lines before it are a run: `replay` says how far it came" if name == "SCHEDULE" else
+                           ["the lines before it are a run: `replay` says how far it came" if name == "SCHEDULE" else
                             "a line `start` may stand only where no round runs, one is left, and each switch with changes in it has said HELLO"])
 
 

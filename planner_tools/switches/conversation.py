@@ -6,6 +6,7 @@ import struct
 import tempfile
 import time
 
+from planner_tools.proved import say_why
 from planner_tools.switches import openflow
 from planner_tools.switches.collect import Tables
 from planner_tools.switches.connections import OWN, Stop, lock, read_switches, say
@@ -72,6 +73,8 @@ class Conversation:
         status, text = self.ask("drive", *self.files, self.options.input)
         self.runs, self.seconds = self.runs + 1, self.seconds + time.monotonic() - before
         if status != 0:
+            if last is None:
+                say_why("drive", *self.files, self.options.input)
             raise Stop(f"`planner drive` ended with status {status}{f' and said: {text.strip()}' if text else ''}", self.after_refusal(status, text))
         self.driven, self.expected = Driven(text), None
         if last is not None and self.driven.settled > last.settled:
@@ -146,7 +149,7 @@ class Conversation:
             raise Stop(f"{name} refuses the mark of the update: {words}", "make room for one entry in its table; or put no mark there, by --no-mark: "
                        "then another controller isn't told of this update")
         if xid == REPAIR_XID:
-            raise Stop(f"{name} refuses a message of the repair: {words}", f"see why; then go on with --resume --repair, or put its table right by hand and go on with --resume")
+            raise Stop(f"{name} refuses a message of the repair: {words}", "see why; then go on with --resume --repair, or put its table right by hand and go on with --resume")
 
     def up(self, connection):
         """A switch has connected: it is asked for its table before anything else is sent to it."""
@@ -199,4 +202,4 @@ def write(path, text):
     try:
         pathlib.Path(path).write_text(text, encoding="ascii")
     except OSError as fault:
-        raise Stop(f"{path} can't be written: {fault.strerror or fault}", f"make room on its disk; then go on with --resume") from None
+        raise Stop(f"{path} can't be written: {fault.strerror or fault}", "make room on its disk; then go on with --resume") from None
