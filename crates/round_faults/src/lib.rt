@@ -1,11 +1,11 @@
 //! Whether the changes of each round can be made in any order, with one answer at each lookup.
 #![tactic(auto)]
 
-ghost use Rattle.std.specs.Prelude.{◌≡◌, ◌+◌, ◌<◌, ◌^◌, [], ℕ, length, IfErr, OnOk};
+ghost use Rattle.std.specs.Prelude.{◌≡◌, ◌+◌, ◌<◌, ◌^◌, [], ℕ, length, IfErr, OnErr, OnOk};
 ghost use Rattle.flow_rules.specs.Tables.{rules_of_all};
 ghost use Rattle.update_model.specs.Changes.{round_after, tables_after, IsGoodRound};
 ghost use Rattle.update_model.specs.Mixtures.{Rollout, AreGoodRounds, AreClearRounds};
-ghost use Rattle.round_faults.specs.Finding.{AreClearOr, IsSound, IsFirstOf};
+ghost use Rattle.round_faults.specs.Finding.{AreClearOr, IsSound, IsFirstOf, MakesFront};
 ghost use Rattle.round_faults.specs.Sound.{IsFault};
 
 mod bad_changes;
@@ -83,11 +83,12 @@ fn check_round(
     }
 }
 
-/// Makes the changes of a good round in the tables, one after the other. After a refusal some of them are made.
+/// Makes the changes of a good round in the tables, one after the other. After a refusal those of a front of it are made.
 pub fn make_round(tables: &mut Config, round: &[Change]) -> Result<(), Memory>
     requires { IsGoodRound (rules_of_all tables.old) round.now }
     ensures rules { OnOk result (rules_of_all tables.new ≡ tables_after round.now (rules_of_all tables.old)) }
     ensures count { OnOk result (length tables.new ≡ length tables.old) }
+    ensures err { OnErr result (MakesFront round.now (rules_of_all tables.old) (rules_of_all tables.new)) }
 {
     for change in round {
         change_tables(tables, change)?;
