@@ -29,9 +29,9 @@ def round_the_ring():
     return {"rules": rules}
 
 
-def demands(vlan):
-    """512 demands of packets with this VLAN; for each switch and each of four parts of the addresses."""
-    return {"demands": [{"from": f"switch-{i}:3", "vlan": vlan, "dst": f"0.0.{4 * j}.0/22"} for i in range(128) for j in range(4)]}
+def demands(vlans):
+    """512 demands of all addresses: from each switch one with each of four VLANs."""
+    return {"demands": [{"from": f"switch-{i}:3", "vlan": vlan, "dst": "0.0.0.0/0"} for i in range(128) for vlan in vlans]}
 
 
 def timed(title, words, folder):
@@ -54,12 +54,12 @@ def main():
         folder = pathlib.Path(name)
         (folder / "topology.json").write_text(json.dumps(ring()))
         (folder / "config.json").write_text(json.dumps(round_the_ring()))
-        (folder / "covering.json").write_text(json.dumps(demands("any")))
-        (folder / "other.json").write_text(json.dumps(demands(100)))
+        (folder / "covering.json").write_text(json.dumps(demands(range(1, VLANS + 1))))
+        (folder / "other.json").write_text(json.dumps(demands(range(101, 101 + VLANS))))
         files = ["topology.json", "config.json"]
         compare("8192 classes of 128 switches", files, folder)
         compare("under 512 demands", [*files, "covering.json"], folder)
-        compare("under 512 demands of another VLAN", [*files, "other.json"], folder)
+        compare("under 512 demands of other VLANs", [*files, "other.json"], folder)
 
 
 if __name__ == "__main__":
