@@ -172,7 +172,7 @@ class Comparison(Conversation):
         self.settled_at, self.asked = time.monotonic(), False       # packets that met it are under way
 
     def put_marks(self):
-        """Puts the mark of the update on every switch. Before the first round the tables are read again, so of two controllers one sees the other's."""
+        """Puts the mark of the update on every switch, and reads the tables again, so of two controllers one at least sees the other's mark."""
         if self.options.no_mark:
             return
         self.is_marked = True
@@ -181,6 +181,7 @@ class Comparison(Conversation):
             self.say_to(name, self.mark.put(), MARK_BARRIER)
         while self.owed:
             self.pump()
+        self.compare()
 
     def take_marks_away(self):
         if self.options.no_mark:
