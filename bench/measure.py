@@ -1,7 +1,6 @@
 """What the benchmark scripts share: running the program once, with its time and its greatest memory."""
 import os
 import pathlib
-import resource
 import subprocess
 import sys
 import time

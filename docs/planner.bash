@@ -4,7 +4,7 @@ _planner() {
     local files=0
     COMPREPLY=()
     if [ "$COMP_CWORD" -eq 1 ]; then
-        mapfile -t COMPREPLY < <(compgen -W "config paths trace plan check explain simulate replay tables upgrade import emit drive sample collect apply show page --help --version" -- "${COMP_WORDS[1]}")
+        mapfile -t COMPREPLY < <(compgen -W "config paths trace plan check explain simulate replay tables upgrade import emit drive sample collect apply update show page from-ofctl from-mininet from-graphml to-ofctl install --help --version" -- "${COMP_WORDS[1]}")
         return
     fi
     if [[ ${COMP_WORDS[COMP_CWORD]} == -* ]]; then
@@ -12,7 +12,7 @@ _planner() {
         return
     fi
     case ${COMP_WORDS[1]} in
-        collect) files=1 ;;
+        collect | from-ofctl | to-ofctl) files=1 ;;
         trace | upgrade | import | emit) files=2 ;;
         config | paths | show) files=3 ;;
         plan | replay | tables) files=4 ;;

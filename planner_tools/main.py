@@ -8,7 +8,13 @@ from planner_tools import program
 MODULES = {
     "apply": "planner_tools.switches.apply",
     "collect": "planner_tools.switches.collect",
+    "from-graphml": "planner_tools.convert.from_graphml",
+    "from-mininet": "planner_tools.convert.from_mininet",
+    "from-ofctl": "planner_tools.convert.from_ofctl",
+    "install": "planner_tools.install.install",
     "page": "planner_tools.page.page",
+    "to-ofctl": "planner_tools.convert.to_ofctl",
+    "update": "planner_tools.update.update",
     "show": "planner_tools.show",
 }
 # Those of them whose answer `-o FILE` takes.

@@ -95,6 +95,12 @@ complete -o default -F _planner planner ./planner
 
 
 def table():
-    """Returns the table of commands in the README."""
+    """Returns the table of the README: what people want, and the commands for it."""
+    rows = "".join(f"| {wish} | {', '.join(f'`{name}`' for name in names if name in words.BY_NAME)} |\n" for wish, names in words.WISHES)
+    return f"| You want | Commands |\n|---|---|\n{rows}"
+
+
+def long_table():
+    """Returns the table of all commands, with their words and answers."""
     rows = "".join(f"| `planner {f'{command.name} {command.usage}'.strip()}` | {command.answer} |\n" for command in words.COMMANDS)
     return f"| Command | Answer |\n|---|---|\n{rows}"

@@ -47,7 +47,7 @@ PROVED = [
     Command("trace", "TOPO CONFIG ENTRY VLAN ADDRESS",
             "the way of one packet through a configuration, with the rule that it meets at each switch",
             "Writes the way of one packet through the configuration, a line a stop with the rule that counts there, and where it ends. ENTRY is a host port as "
-            "`s1:1`, VLAN `untagged` or 1 to 4094, ADDRESS the packet's destination."),
+            "`s1:1`, VLAN `untagged` or 1 to 4094, ADDRESS the packet's destination. Where the network has no such entry it says so, and refuses."),
     Command("plan", "TOPO OLD NEW POLICY",
             "a certified plan: rounds of one change each where a search for safe changes finds them, otherwise a two-phase plan, otherwise which tags or table "
             "entries are wanting",
@@ -77,8 +77,10 @@ PROVED = [
             "it entered, each stop, and whether it left, was dropped, was lost or is under way. Where an event can't happen it names the line of the first one "
             "that can't."),
     Command("tables", "TOPO OLD PLAN SCHEDULE",
-            "the rules that each switch has after the events of a recorded run of a plan",
-            "Carries out the events of the schedule as `replay` does, and writes the rules that each switch has then, in one line of JSON."),
+            "the rules that each switch has after the events of a recorded run of a plan, and the changes of the running round that aren't made yet",
+            "Carries out the events of the schedule as `replay` does, and writes, in one line of JSON, the rules that each switch has then, and the changes of "
+            "the running round that aren't made yet: a switch may have made any of these. Where an event can't happen it names the line of the first one that "
+            "can't."),
     Command("upgrade", "TOPO PLAN",
             "the plan in the newer of its two formats",
             "Writes the plan in format 2, whichever format it has."),
@@ -111,17 +113,56 @@ FRONT = [
             "Carries out a plan on the switches. When it begins, before each round, after each lost connection and at the end it compares what they have with what "
             "`planner tables` says they must have, and stops where that differs; `--repair` puts it right. Every message of the plan is decided by `planner drive`; "
             "INPUT records what came and what was started, and `--resume` goes on with it. A mark on the switches tells other controllers of the update.", False),
+    Command("update", "DIR --switches FILE",
+            "all of it by one command: from the tables that the switches have to those of DIR/new.json, after a question",
+            "Reads the tables of the switches, makes a plan from them to DIR/new.json under DIR/policy.json, says what it is in words, asks whether it may be "
+            "carried out, and does so. What each step made stays in a new folder in DIR. With --dry-run it ends before the question, with --yes it doesn't ask.", False),
     Command("show", "TOPO [OLD] [PLAN] FILE",
             "a plan, a configuration or a schedule in words: of a plan round by round what is changed, from where to where, and the time that it takes",
             "Shows FILE in words: of a plan round by round the switch, the entry, and from which neighbour to which; of a configuration the rules of each switch; "
             "of a schedule its events. OLD says what was there before, and a schedule is shown whole behind OLD and PLAN. `--wait SECONDS` is the wait before each "
             "round, for the time that a plan takes; `--json` writes it for machines.", False),
     Command("page", "TOPO OLD NEW POLICY PLAN",
-            "one HTML file that shows what a plan does, round by round",
-            "Writes a page for the browser: of each round the changes, and the steps that packets may take; of a plan that is refused a walk that goes wrong, "
-            "where it finds one; of a run its events one by one.", False),
+            "one HTML file that shows what a plan does, round by round; `planner page TOPO CONFIG [POLICY]` shows where packets go under a configuration",
+            "Writes a page for the browser: of each round the changes, and the steps that packets may take; of a plan that is refused the walks that go wrong, "
+            "of all classes of packets; of a run its events one by one. Of TOPO CONFIG [POLICY] it shows where packets go under that configuration.", False),
+    Command("from-ofctl", "TOPO BRIDGE=FILE..",
+            "the configuration that the text of `ovs-ofctl dump-flows` says",
+            "Makes a configuration of the text of `ovs-ofctl dump-flows` of each bridge. Each entry that a configuration can't say is named with its line, and "
+            "nothing is written then. With --drop-unsayable entries for other packets than IPv4, and entries of priority 0 that do what a miss does, are left out.",
+            False),
+    Command("from-mininet", "FILE",
+            "the topology that Mininet's `net`, `links` and `ports` print",
+            "Makes a topology of what Mininet's commands `net`, `links` and `ports` print. The interface `s1-eth2` is port 2 of s1, where `ports` doesn't say "
+            "otherwise.", False),
+    Command("from-graphml", "FILE --hosts NAME,.. --vlans VLAN,.. --tags FIRST-LAST --capacity N",
+            "a topology made of a graph of the Internet Topology Zoo, and of what a graph lacks",
+            "Makes a topology of a graph in GraphML, as the Internet Topology Zoo has them. Ports are numbered in the order of the edges; which switches have a "
+            "host port, which VLANs and tags there are, and how many rules a switch can hold, is asked for.", False),
+    Command("to-ofctl", "PLAN [FOLDER]",
+            "the rounds of a plan as commands of `ovs-ofctl`, a script for each round",
+            "Writes a script of strict commands of `ovs-ofctl` for each round of a plan, for networks without a controller, into FOLDER, and prints their names. Between two "
+            "rounds it is on the operator to wait until the packets that entered before have left.", False),
+    Command("install", "[PREFIX]",
+            "the program, the front end, manual pages, completions and examples, in their places under a prefix",
+            "Puts the program, the front end, a manual page for each command, completions for bash, zsh and fish, and examples in their places under PREFIX, "
+            "/usr/local by default. It is done from a checkout.", False),
 ]
 COMMANDS = PROVED + FRONT
+# What people want who run a command, for the table in the README: what it is about, and the commands in the order of that table.
+WISHES = [
+    ("whether each packet has a good path under my rules", ["config"]),
+    ("where each class of packets goes, and by which rules one packet", ["paths", "trace"]),
+    ("a plan from the old rules to the new ones", ["plan"]),
+    ("whether a plan is safe, whoever made it", ["check"]),
+    ("what goes wrong under a plan that isn't", ["explain"]),
+    ("a plan, rules or a run in words, or in the browser", ["show", "page"]),
+    ("to try a plan: a run of it, where its packets went, and the tables then", ["simulate", "replay", "tables"]),
+    ("to change the switches", ["update", "collect", "apply"]),
+    ("the bytes, and what a controller sends", ["import", "emit", "drive"]),
+    ("my files from what I have, and back", ["from-ofctl", "from-mininet", "from-graphml", "to-ofctl"]),
+    ("the rest", ["upgrade", "sample", "install"]),
+]
 BY_NAME = {command.name: command for command in COMMANDS}
 # Commands of the program that are newer than some builds of it.
 NEW = ("paths", "trace", "tables")

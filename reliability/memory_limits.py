@@ -76,7 +76,7 @@ PLANS = {
     "many picks": lambda size: plan_of(listed("[]", 3 * 4200), "[[0,0,0,0]]", listed_picks(size // 15)),
 }
 SCHEDULES = {
-    "packets that go through": lambda size: "".join(f"enter s1:1 untagged 10.0.0.1\n" + f"hop {i}\n" * 4 for i in range(size // 70)),
+    "packets that go through": lambda size: "".join("enter s1:1 untagged 10.0.0.1\n" + f"hop {i}\n" * 4 for i in range(size // 70)),
     "packets that stay": lambda size: "enter s1:1 untagged 10.0.0.1\n" * (size // 29),
     "comments": lambda size: "#\n" * (size // 2),
 }

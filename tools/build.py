@@ -339,6 +339,24 @@ def alone(root, voice):
     return lock
 
 
+def other_toolchain(root):
+    """Returns a sentence where `rt version` isn't what toolchain.txt names, or None."""
+    wanted = next((line.split(" ", 1)[1].strip() for line in read_lines(f"{root}/toolchain.txt") if line.startswith("rattle ")), None)
+    found = subprocess.run(["rt", "version"], capture_output=True, text=True, check=False).stdout.strip() if wanted else None
+    if not found or wanted == found:
+        return None
+    return f"the toolchain on this machine is {found}; the repository was proved with {wanted}, and with another one proofs may fail"
+
+
+def read_lines(path):
+    """Returns the lines of a file, none where it isn't there."""
+    try:
+        with open(path, encoding="ascii") as file:
+            return file.readlines()
+    except OSError:
+        return []
+
+
 def main(words):
     if len(words) != 1:
         print(__doc__, file=sys.stderr)
@@ -349,6 +367,9 @@ def main(words):
     if not shutil.which("rt"):
         voice.say("planner: the command rt of the Rattle toolchain isn't on the path, so the program can't be built")
         return 1
+    other = other_toolchain(root)
+    if other:
+        voice.say(f"planner: {other}")
     for it in (signal.SIGINT, signal.SIGTERM, signal.SIGHUP):
         signal.signal(it, stop_at)
     try:

@@ -1,5 +1,5 @@
 #!/usr/bin/env python3
-"""Writes docs/planner.1, docs/planner.bash and the table of commands in README.md from planner_tools/words.py.
+"""Writes docs/planner.1, docs/planner.bash and the tables of commands in README.md and docs/TOUR.md from planner_tools/words.py.
 
     tools/manual.py             writes them
     tools/manual.py --check     writes nothing, and fails where one is not what this script makes
@@ -13,7 +13,7 @@ sys.path.insert(0, ROOT)
 
 from planner_tools import manual  # noqa: E402
 
-# Where the table stands in README.md.
+# Where the table stands in README.md and docs/TOUR.md.
 TABLE = re.compile(r"(<!-- commands -->\n).*?(<!-- /commands -->\n)", re.S)
 
 
@@ -24,8 +24,13 @@ def read(path):
 
 def wanted():
     """Returns the text that each file is to have, by its path."""
-    readme = TABLE.sub(lambda place: place[1] + manual.table() + place[2], read("README.md"))
-    return {"docs/planner.1": manual.manual(), "docs/planner.bash": manual.completion(), "README.md": readme}
+    return {"docs/planner.1": manual.manual(), "docs/planner.bash": manual.completion(), "README.md": with_table("README.md", manual.table()),
+            "docs/TOUR.md": with_table("docs/TOUR.md", manual.long_table())}
+
+
+def with_table(path, table):
+    """Returns the text of a document with a table between its marks."""
+    return TABLE.sub(lambda place: place[1] + table + place[2], read(path))
 
 
 def main(options):

@@ -28,8 +28,15 @@ class Words(unittest.TestCase):
             with self.subTest(path):
                 self.assertEqual(text, manual.read(path), "tools/manual.py writes it anew")
 
-    def test_the_readme_has_the_table(self):
+    def test_the_readme_and_the_tour_have_their_tables(self):
         self.assertIn(manual.manual.table(), manual.read("README.md"))
+        self.assertIn(manual.manual.long_table(), manual.read("docs/TOUR.md"))
+
+    def test_each_command_stands_in_the_readme(self):
+        self.assertEqual(set(), set(words.BY_NAME) - {name for _, names in words.WISHES for name in names})
+
+    def test_the_readme_is_short(self):
+        self.assertLessEqual(len(manual.read("README.md").partition("## Where to go on")[0].split()), 1200)
 
     def test_help_has_each_command(self):
         for command in words.COMMANDS:

@@ -23,6 +23,7 @@ start)
     fi
     python3 -B "$here/traffic.py" bridges "$dir" "$topology" "${delay:+slow}" >"$dir/commands"
     while read -r line; do
+        # shellcheck disable=SC2086   # the line has many words
         timeout 60 ovs-vsctl --db="unix:$dir/db.sock" $line
     done <"$dir/commands"
     ;;

@@ -16,7 +16,7 @@ here=$(cd "$(dirname "$0")" && pwd)
 root=$here/../..
 planner=$root/planner
 dir=$(mktemp -d -t controller-lab-XXXXXX)
-traffic= update=
+traffic='' update=''
 end() {
     for one in $traffic $update; do kill "$one" 2>/dev/null && wait "$one" 2>/dev/null; done
     "$here/bridges.sh" stop "$dir"

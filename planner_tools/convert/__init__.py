@@ -1,1 +1,1 @@
-"""Configurations, topologies and commands of other programs, into the planner's files and out of them."""
+"""Converters between what people have and the files of the planner: texts of ovs-ofctl, Mininet and GraphML."""

@@ -1,4 +1,5 @@
-"""Says where the switches and the host ports of a network are drawn: by Graphviz where it is on the machine, otherwise by a layout of its own."""
+"""Says where the switches and the host ports of a network are drawn: in layers where it has them, otherwise by Graphviz where it is on the machine, and
+otherwise by a layout of its own."""
 import math
 import subprocess
 from collections import deque
@@ -6,6 +7,7 @@ from collections import deque
 WIDTH, HEIGHT, MARGIN = 760, 560, 26
 SECONDS = 20
 ROUNDS = 80
+SWEEPS = 12
 # The half height of a switch of full size, and how far its host ports lie from its middle, in half heights.
 SIZE, HOST_AWAY = 20, 3.6
 DIRECTIONS = [turn * math.pi / 12 for turn in range(24)]
@@ -91,6 +93,53 @@ def by_ourselves(count, edges):
     return places
 
 
+def layers_of(count, edges, host_switches):
+    """Returns how far each switch is from the nearest host port, in links; None where the network has no layers: some switch reaches no host port, or a link
+    joins two switches that are equally far, or none is farther than another."""
+    beside = [set() for _ in range(count)]
+    for one, other in edges:
+        beside[one].add(other)
+        beside[other].add(one)
+    layer, queue = {at: 0 for at in host_switches}, deque(sorted(set(host_switches)))
+    while queue:
+        at = queue.popleft()
+        for other in sorted(beside[at] - layer.keys()):
+            layer[other] = layer[at] + 1
+            queue.append(other)
+    if len(layer) < count or any(abs(layer[one] - layer[other]) != 1 for one, other in edges) or max(layer.values(), default=0) == 0:
+        return None
+    return [layer[at] for at in range(count)]
+
+
+def in_layers(count, edges, host_switches):
+    """Returns places in layers, or None where the network has none. The farthest from hosts stand at the top. In its layer a switch stands where the mean of its
+    neighbours wants it."""
+    layer = layers_of(count, edges, host_switches)
+    if layer is None:
+        return None
+    rows = [[at for at in walk_order(count, edges) if layer[at] == number] for number in range(max(layer) + 1)]
+    beside = [[] for _ in range(count)]
+    for one, other in edges:
+        beside[one].append(other)
+        beside[other].append(one)
+    x = {}
+
+    def spread(row):
+        for place, at in enumerate(row):
+            x[at] = (place + 0.5) / len(row)
+
+    for row in rows:
+        spread(row)
+    for _ in range(SWEEPS):
+        for row in (*rows, *reversed(rows)):
+            mean = {at: sum(x[it] for it in beside[at]) / max(len(beside[at]), 1) for at in row}
+            row.sort(key=lambda at: mean[at])        # those that are wanted at one place stay in their order
+            spread(row)
+    wide = max(*(len(row) for row in rows), 1.6 * len(rows))
+    deep = 0.8 * wide * HEIGHT / WIDTH / (len(rows) - 1)
+    return [(x[at] * wide, -layer[at] * deep) for at in range(count)]
+
+
 def turned(places, edges):
     """Returns the places turned, or mirrored and turned, so that they fill the picture, links lie level or upright, the first switch is at the top left
     and the second one to its right."""
@@ -115,8 +164,9 @@ def first_top_left(places):
     return [(-px if right else px, -py if low else py) for px, py in places]
 
 
-def host_directions(places, links, hosts):
-    """Returns for each host port the direction in which it lies from its switch: away from links, other host ports and the middle of the network."""
+def host_directions(places, links, hosts, is_layered=False):
+    """Returns for each host port the direction in which it lies from its switch: away from links, other host ports and the middle of the network, and in layers
+    downward."""
     middle = [sum(it[axis] for it in places) / len(places) for axis in (0, 1)]
     taken = [[] for _ in places]
     for one, other in links:
@@ -127,7 +177,7 @@ def host_directions(places, links, hosts):
     directions = []
     for switch, _ in hosts:
         x, y = places[switch]
-        outward = math.atan2(y - middle[1], x - middle[0])
+        outward = math.pi / 2 if is_layered else math.atan2(y - middle[1], x - middle[0])
 
         def room(angle):
             least = min((abs(math.remainder(angle - it, 2 * math.pi)) for it in taken[switch]), default=math.pi)
@@ -143,8 +193,9 @@ def layout(count, links, hosts, graphviz=True):
     if count == 0:
         return {"width": WIDTH, "height": HEIGHT, "size": SIZE, "switches": [], "hosts": []}
     edges = [(link[0], link[2]) for link in links]
-    places = turned((by_graphviz(count, edges) if graphviz else None) or by_ourselves(count, edges), edges)
-    directions = host_directions(places, edges, hosts)
+    layered = in_layers(count, edges, [host[0] for host in hosts])
+    places = layered or turned((by_graphviz(count, edges) if graphviz else None) or by_ourselves(count, edges), edges)
+    directions = host_directions(places, edges, hosts, layered is not None)
     nearest = min((math.dist(one, other) for at, one in enumerate(places) for other in places[:at]), default=0) or 1.0
     # How far host ports lie away depends on the scale, which depends on where they lie: so it is tried from the greatest on.
     xs, ys = [x for x, _ in places], [y for _, y in places]

@@ -2,6 +2,8 @@
 
 const WALK_OF_REASON = { 6: "loop", 7: "loop", 8: "drop", 9: "missed", 10: "missed", 12: "mixed" };
 const MOST_LINES = 200;
+// How many other classes and rounds are named, and how long it is looked for another class when the page opens, in milliseconds.
+const MOST_NAMED = 12, SOON = 300;
 
 const make = (name, content, attributes = {}) => {
   const made = document.createElement(name);
@@ -18,9 +20,13 @@ class View {
     this.picture = new Picture(element("picture"), this.update, data.layout);
     this.player = data.schedule ? new Player(this.update, data.schedule) : null;
     this.waypoints = new Set(this.update.demands.flatMap((demand) => demand.through));
-    this.near = this.picture.unit < 0.55;
+    this.near = false;
+    this.search = data.verdict.accepted ? null : new Search(this.update, () => this.drawElsewhere());
+    document.body.classList.toggle("alone", this.update.alone);
     this.showVerdict();
     this.fillClasses();
+    element("switch").append(...this.update.names.map((name, at) => make("option", name, { value: at })));
+    this.fillRounds();
     element("legend").innerHTML = legendText(this.update);
     element("slider").max = this.update.last;
     Object.assign(this, this.begin());
@@ -37,7 +43,19 @@ class View {
     let number = reason.host ? this.refusedClass() : -1;
     if (number < 0) number = accepted || reason.round ? this.touchedClass(position, -1) : -1;
     if (number < 0) number = this.order.length ? this.order[0] : -1;
+    if (!accepted) number = this.wrongClass(position, number);
     return { position, class: number, chosen: 0, pinned: false, event: 0 };
+  }
+
+  // The class, if a walk of it goes wrong in a position, otherwise the first other one of which that is found soon; otherwise the class all the same.
+  wrongClass(position, number) {
+    const update = this.update, until = performance.now() + SOON;
+    for (const one of [number, ...this.order]) {
+      if (one < 0 || performance.now() > until) break;
+      const it = update.classOf(one);
+      if (badWalk(update, position, it, walksOf(update, position, it), null)) return one;
+    }
+    return number;
   }
 
   refusedClass() {
@@ -49,7 +67,7 @@ class View {
   showVerdict() {
     const { accepted, line, sentence } = this.data.verdict;
     document.querySelector("header").className = accepted ? "accepted" : "refused";
-    element("verdict").append(line, " ", make("small", `planner check ${this.data.files.map((it) => it.split("/").pop()).join(" ")}`));
+    element("verdict").append(line, " ", make("small", `planner ${this.data.command} ${this.data.files.map((it) => it.split("/").pop()).join(" ")}`));
     element("sentence").textContent = sentence;
   }
 
@@ -81,6 +99,8 @@ class View {
     on("on", "click", () => this.go(this.position + 1));
     on("class", "change", () => this.choose({ class: Number(element("class").value) }));
     on("touched", "click", () => this.nextTouched());
+    on("switch", "change", () => this.choose({ chosen: Number(element("switch").value), pinned: true }));
+    addEventListener("resize", () => this.picture.drawLabels());
     on("larger", "click", () => this.picture.scale(0.7));
     on("smaller", "click", () => this.picture.scale(1 / 0.7));
     on("whole", "click", () => { this.near = false; this.lookAgain(); });
@@ -154,8 +174,12 @@ class View {
     this.shown = { steps: stepsOf(places), bad, oldPath: it ? pathOf(update, update.old, it) : none, newPath: it ? pathOf(update, update.new, it) : none,
       evidence: it ? update.numbersIn(this.position, this.class) : null, duties: it ? update.duties(it) : { some: false, chains: [], deliver: false } };
     if (!this.pinned) this.chosen = this.firstToShow(bad);
+    element("switch").value = this.chosen;
     this.drawBad(it, bad);
+    if (this.search) this.search.first(this.position);
+    this.drawElsewhere();
     this.drawChanges();
+    this.markRound();
     if (it) this.drawClass(it);
     this.drawTable();
     this.drawPicture(places);
@@ -174,7 +198,7 @@ class View {
   drawPicture(places) {
     const { steps, bad, oldPath, newPath, evidence, duties } = this.shown, changes = this.update.changesIn(this.position);
     const pending = this.playing ? new Set([...this.pendingNow()].map((at) => changes[at].rule.at)) : null;
-    this.picture.draw({ steps, bad, oldPath, newPath, numbers: evidence && evidence.numbers, changing: new Set(changes.map((change) => change.rule.at)), pending,
+    this.picture.draw({ steps, bad, oldPath: this.update.alone ? { places: [], end: { what: "drop", from: 0 } } : oldPath, newPath, numbers: evidence && evidence.numbers, changing: new Set(changes.map((change) => change.rule.at)), pending,
       visited: new Set(places.map((place) => place.at)), waypoints: this.waypoints, own: new Set(duties.chains.flat()), chosen: this.chosen,
       tagged: this.update.kind === "two-phase", entry: this.class >= 0 ? this.update.classOf(this.class).host : null,
       drops: new Set(steps.filter(({ one }) => one.what === "drop").map(({ place }) => place.at)), packets: this.playing ? this.player.state.packets.filter((packet) => packet.end === null) : [] });
@@ -200,19 +224,20 @@ class View {
     const box = element("bad");
     box.hidden = !bad;
     if (!bad) return;
-    box.replaceChildren(make("h2", "What can go wrong here"), make("p", badText(this.update, it, bad)),
+    box.replaceChildren(make("h2", this.update.alone ? "What goes wrong here" : "What can go wrong here"), make("p", badText(this.update, it, bad)),
       make("ol", badSteps(this.update, bad).map((text) => make("li", text))));
   }
 
   drawChanges() {
     const update = this.update, changes = update.changesIn(this.position), box = element("changes"), parts = [];
+    if (update.alone) return;
     if (this.position === 0) parts.push(make("h2", "Before the update"), make("p", "All switches have their old rules."));
     else if (!update.isRound(this.position)) parts.push(make("h2", "After the update"), make("p", "All rounds are settled."));
     else parts.push(make("h2", `Changes of round ${this.position}, in any order`));
     if (update.isRound(this.position) && !changes.length) parts.push(make("p", "None: this round only waits until the packets that entered before are gone."));
     const done = (change) => !this.playing ? "" : this.pendingNow().has(change.at) ? "pending: " : "done: ";
     const lines = changes.slice(0, MOST_LINES).map((change) => make("li", [make("span", done(change), { class: "grey" }), this.switchButton(change.rule.at), " ",
-      make("span", changeText(change), { class: "code" }), make("span", ` (priority ${change.rule.priority})`, { class: "grey" })]));
+      make("span", changeText(update, change), { class: "code" }), make("span", ` (priority ${change.rule.priority})`, { class: "grey" })]));
     if (lines.length) parts.push(make("ul", lines, { class: lines.length > 8 ? "scroll" : "" }));
     if (changes.length > MOST_LINES) parts.push(make("p", `And ${changes.length - MOST_LINES} more: choose a switch to see its own.`));
     box.replaceChildren(...parts);
@@ -225,10 +250,10 @@ class View {
   }
 
   drawClass(it) {
-    const update = this.update, { steps, oldPath, newPath, evidence, duties, bad } = this.shown;
-    const parts = [make("h2", `Packets ${classText(update, it)}`), make("p", dutiesText(update, duties)),
-      make("p", [make("span", "old path ", { class: "old" }), make("span", pathText(update, oldPath), { id: "oldpath" })]),
-      make("p", [make("span", "new path ", { class: "new" }), make("span", pathText(update, newPath), { id: "newpath" })])];
+    const update = this.update, { steps, oldPath, newPath, evidence, duties } = this.shown;
+    const parts = [make("h2", `Packets ${classText(update, it)}`), make("p", dutiesText(update, duties))];
+    parts.push(make("p", [make("span", update.alone ? "path " : "old path ", { class: update.alone ? "new" : "old" }), make("span", pathText(update, oldPath), { id: "oldpath" })]));
+    if (!update.alone) parts.push(make("p", [make("span", "new path ", { class: "new" }), make("span", pathText(update, newPath), { id: "newpath" })]));
     parts.push(...this.evidenceLines(evidence, duties));
     const differ = steps.filter(({ one }) => one.when !== "always");
     const title = update.isRound(this.position) ? (differ.length ? "Steps that they may take in this round" : "Steps that they take in this round, which doesn't change them") : "Steps that they take";
@@ -239,7 +264,6 @@ class View {
     }
     const lines = new Map(steps.map((step) => this.stepLine(step, evidence)).map((line) => [line.textContent + line.dataset.to, line]));
     parts.push(make("ul", [...lines.values()], { id: "steps", class: steps.length > 10 ? "scroll" : "" }));
-    if (!this.data.verdict.accepted && !bad && update.isRound(this.position)) parts.push(make("p", "The page finds no walk here that the policy forbids.", { class: "grey" }));
     element("packetclass").replaceChildren(...parts);
   }
 
@@ -280,19 +304,77 @@ class View {
   drawTable() {
     const update = this.update, at = this.chosen, box = element("table");
     if (at >= update.names.length) { box.replaceChildren(); return; }
-    const [left, right, before, after] = this.position === 0 ? ["old rules", "new rules", update.old[at], update.new[at]]
+    const [left, right, before, after] = update.alone ? ["action", "", update.old[at], update.old[at]] : this.position === 0 ? ["old rules", "new rules", update.old[at], update.new[at]]
       : update.isRound(this.position) ? [`before round ${this.position}`, `after round ${this.position}`, update.tableBefore(this.position, at), update.tableBehind(this.position, at)]
         : ["after the last round", "new rules", update.tableAfter(update.rounds.length, at), update.new[at]];
     const rules = new Map([...before, ...after].map((rule) => [rule.key, rule])), byKey = (table) => new Map(table.map((rule) => [rule.key, rule]));
     const [was, is] = [byKey(before), byKey(after)];
     const lines = [...rules.values()].sort(compareRules).map((rule) => {
       const [one, other] = [was.get(rule.key), is.get(rule.key)], same = one && other && isSameAction(one, other);
-      return make("tr", [make("td", String(rule.priority)), make("td", matchText(rule)), make("td", one ? actionText(one) : "", { class: same ? "" : "was" }),
-        make("td", other ? actionText(other) : "", { class: same ? "" : "becomes" })], { class: same ? "" : "changed" });
+      return make("tr", [make("td", String(rule.priority)), make("td", matchText(rule)), make("td", one ? actionText(update, one) : "", { class: same ? "" : "was" }),
+        ...update.alone ? [] : [make("td", other ? actionText(update, other) : "", { class: same ? "" : "becomes" })]], { class: same ? "" : "changed" });
     });
-    const head = make("tr", ["priority", "packets", left, right].map((text) => make("th", text)));
+    const head = make("tr", ["priority", "packets", left, right].filter((text) => text).map((text) => make("th", text)));
     box.replaceChildren(make("h2", `Rules of ${update.names[at]} (room for ${update.capacities[at]})`),
-      lines.length ? make("table", [head, ...lines]) : make("p", "It has none."));
+      lines.length ? make("table", [head, ...lines]) : make("p", "It has none."), make("p", this.portsOf(at), { id: "portlist" }));
+  }
+
+  // The ports of a switch, each with what is there: a neighbour is chosen by a click.
+  portsOf(at) {
+    const update = this.update, ports = [...update.ends[at].keys()].sort((a, b) => a - b);
+    return [make("b", "Ports "), ...ports.flatMap((port, number) => {
+      const end = update.ends[at].get(port);
+      return [number ? ", " : "", `${port} to `, end.host !== undefined ? "hosts" : this.switchButton(end.to)];
+    })];
+  }
+
+  // All rounds, each with what it changes: a click goes there.
+  fillRounds() {
+    const update = this.update;
+    if (update.alone || !update.rounds.length) return;
+    this.roundLines = update.rounds.map((changes, at) => {
+      const made = make("li", [make("b", `${at + 1} `), roundText(update, changes)]);
+      made.addEventListener("click", () => this.go(at + 1));
+      return made;
+    });
+    element("rounds").append(make("h2", `All ${update.rounds.length} rounds`), make("ol", this.roundLines, { class: this.roundLines.length > 8 ? "scroll" : "" }));
+  }
+
+  markRound() {
+    if (!this.roundLines) return;
+    const list = element("rounds").querySelector("ol"), marked = list.querySelector(".now"), now = this.roundLines[this.position - 1];
+    if (marked) marked.classList.remove("now");
+    if (!now) return;
+    now.classList.add("now");
+    if (list.scrollHeight > list.clientHeight) list.scrollTop = now.offsetTop - 80;
+  }
+
+  // Of a plan or a configuration that is refused: which other packets can go wrong here, and in which other rounds.
+  drawElsewhere() {
+    const { search, update } = this, box = element("elsewhere");
+    box.hidden = !search;
+    if (!search) return;
+    const here = search.at(this.position).filter((number) => number !== this.class), place = update.alone ? "in this configuration" : this.position === 0 ? "before the update"
+      : update.isRound(this.position) ? "in this round" : "after the update";
+    const others = search.positions().filter((position) => position !== this.position), isReady = search.jobs.length === 0;
+    const looking = isReady ? [] : [make("p", `Looked at ${search.done} of ${search.total} ${search.total > 1 ? "rounds" : "tables"} in all classes so far ..`, { class: "grey" })];
+    const parts = here.length ? [make("p", `${this.shown.bad ? "Other" : "These"} packets ${update.alone ? "" : "can "}go wrong ${place}: ${here.length}`), this.named(here.map((number) =>
+      [classText(update, update.classOf(number)), { class: number }]))] : [];
+    if (!here.length && !search.isLooking(this.position)) parts.push(make("p", this.shown.bad ? `No other packets go wrong ${place}.` : `No packets go wrong ${place}.`));
+    if (others.length) parts.push(make("p", "They can also go wrong elsewhere:"), this.named(others.map((position) => [`${positionText(update, position)}: ${search.at(position).length}`,
+      { position, class: search.at(position)[0], playing: false }])));
+    if (isReady && !search.positions().length) parts.push(make("p", "The page finds no walk that the policy forbids, in any class and any round: what the planner refuses is not a walk."));
+    box.replaceChildren(make("h2", "All classes of packets"), ...parts, ...looking);
+  }
+
+  // Buttons that choose something, as many as are named.
+  named(list) {
+    const buttons = list.slice(0, MOST_NAMED).map(([words, chosen]) => {
+      const made = make("button", words, { class: "name" });
+      made.addEventListener("click", () => this.choose(chosen));
+      return made;
+    });
+    return make("p", [...buttons.flatMap((button) => [button, " "]), list.length > MOST_NAMED ? `and ${list.length - MOST_NAMED} more` : ""], { class: "names" });
   }
 
   // The run.

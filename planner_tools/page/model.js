@@ -8,7 +8,7 @@ const STRIP = -1;
 class Update {
   constructor(data) {
     Object.assign(this, { names: data.switches.map((it) => it.name), capacities: data.switches.map((it) => it.capacity) });
-    Object.assign(this, { hosts: data.hosts, vlans: data.vlans, kind: data.kind, evidence: data.evidence, demands: data.demands });
+    Object.assign(this, { hosts: data.hosts, vlans: data.vlans, kind: data.kind, evidence: data.evidence, demands: data.demands, alone: data.alone });
     this.number = new Map(this.names.map((name, at) => [name, at]));
     this.rules = data.rules.map(ruleOf);
     this.ends = this.names.map(() => new Map());

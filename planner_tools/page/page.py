@@ -1,6 +1,7 @@
-"""Writes a page that shows what a plan does, one HTML file that needs nothing else:
+"""Writes a page that shows what a plan does, or where packets go under a configuration, one HTML file that needs nothing else:
 
     planner page TOPO OLD NEW POLICY PLAN [--schedule FILE] > update.html
+    planner page TOPO CONFIG [POLICY] > now.html
 """
 import argparse
 import html
@@ -13,24 +14,30 @@ import tempfile
 from planner_tools import program
 from planner_tools.page.layout import layout
 from planner_tools.page.values import Files
-from planner_tools.page.verdict import Refused, driven, traces, verdict
+from planner_tools.page.verdict import Refused, driven, traces, verdict, verdict_of_configuration
 from planner_tools.proved import say_why
 
 HERE = os.path.dirname(os.path.realpath(__file__))
 
-SCRIPTS = ("model.js", "walks.js", "words.js", "picture.js", "player.js", "main.js")
+SCRIPTS = ("model.js", "walks.js", "search.js", "words.js", "picture.js", "player.js", "main.js")
+# How many files there are: of an update, and of a configuration without and with a policy.
+UPDATE, CONFIGURATION = 5, (2, 3)
 
 
 def asked_by(words):
-    parser = argparse.ArgumentParser(prog="planner page", description="Writes a page that shows what a plan does.")
-    for name, text in (("topology", "the network"), ("old", "the rules now"), ("new", "the rules wanted"), ("policy", "what packets must do"),
-                       ("plan", "the plan, from any source")):
-        parser.add_argument(name, metavar={"topology": "TOPO"}.get(name, name.upper()), help=text)
-    parser.add_argument("--schedule", metavar="FILE", help="a run of the plan, to be played: what `planner simulate` or `planner explain` wrote, "
-                        "or the record INPUT of an update, of which `planner drive` says the events")
+    parser = argparse.ArgumentParser(prog="planner page", usage="planner page [-h] TOPO OLD NEW POLICY PLAN [--schedule FILE]\n       planner page [-h] TOPO CONFIG [POLICY]",
+                                     description="Writes a page that shows what a plan does; or, without a plan, where packets go under a configuration.")
+    parser.add_argument("files", metavar="FILE", nargs="+", help="the network, the rules now, the rules wanted, what packets must do, and the plan, from any source; "
+                        "or the network, the rules, and what packets must do")
+    parser.add_argument("--schedule", metavar="FILE", help="a run of the plan, to be played: what `planner simulate` or `planner explain` wrote, or the record of an update")
     parser.add_argument("--planner", metavar="PATH", help="the program; else the variable PLANNER, else the one that is built or installed")
     parser.add_argument("--layout", choices=("graphviz", "own"), default="graphviz", help="own: Graphviz isn't used, even where it is there")
-    return parser.parse_args(words)
+    asked = parser.parse_args(words)
+    if len(asked.files) != UPDATE and len(asked.files) not in CONFIGURATION:
+        parser.error(f"{len(asked.files)} files are given: it takes the {UPDATE} of an update, or TOPO CONFIG [POLICY]")
+    if asked.schedule and len(asked.files) != UPDATE:
+        parser.error("--schedule goes with a plan")
+    return asked
 
 
 def part(name):
@@ -47,14 +54,17 @@ def page(values):
 
 
 def values_of(asked):
-    planner = asked.planner or program.path()
-    update = [asked.topology, asked.old, asked.new, asked.policy, asked.plan]
-    said = verdict(planner, update)
-    files = Files(*update)
-    values = {"title": f"{os.path.basename(asked.plan)}: what the plan does", "files": update, "verdict": said, **files.values(),
+    planner, paths = asked.planner or program.path(), asked.files
+    if len(paths) == UPDATE:
+        said, files = verdict(planner, paths), Files(*paths)
+        title = f"{os.path.basename(paths[4])}: what the plan does"
+    else:
+        said, files = verdict_of_configuration(planner, paths), Files.of_configuration(*paths)
+        title = f"{os.path.basename(paths[1])}: where packets go"
+    values = {"title": title, "files": paths, "command": "check" if len(paths) == UPDATE else "config", "verdict": said, **files.values(),
               "layout": layout(len(files.names), files.links, files.hosts, asked.layout == "graphviz")}
     if asked.schedule:
-        values["schedule"] = schedule_values(planner, update, asked.schedule)
+        values["schedule"] = schedule_values(planner, paths, asked.schedule)
     return values
 
 
@@ -80,11 +90,10 @@ def lines_of(text):
 def words_of_refused(asked, line):
     """The words of the command that refused a file of the page."""
     if asked.schedule and line.startswith(("bad schedule", "planner replay")):
-        return "replay", asked.topology, asked.old, asked.plan, asked.schedule
-    files = [one for one in (asked.topology, asked.old, asked.new, asked.policy, asked.plan) if one]
-    if asked.schedule and line.startswith(("bad input", "planner drive", "not a run")):
-        return "drive", *files, asked.schedule
-    return "check" if len(files) == 5 else "config", *files
+        return "replay", asked.files[0], asked.files[1], asked.files[4], asked.schedule
+    if asked.schedule and line.startswith(("bad input", "not a run", "planner drive")):
+        return "drive", *asked.files, asked.schedule
+    return "check" if len(asked.files) == UPDATE else "config", *asked.files
 
 
 def main(words):

@@ -1,6 +1,12 @@
 // The picture of the network: its links and switches, the paths and steps of the chosen class, packets, and a walk that goes wrong.
 
-const COLOURS = { old: "#c2570c", new: "#1d4ed8", ink: "#1f2937", line: "#c4c9d1", bad: "#9d174d", mark: "#fde68a", paleOld: "#f6c9a4", paleNew: "#bcd0fb" };
+// The colours are those of page.css, which has a light and a dark set.
+const COLOURS = Object.fromEntries(["old", "new", "ink", "bad", "mark", "paper", "node", "link", "dim", "grey", "rider", "sheer", "onmark"].map((name) => [name, `var(--${name})`]));
+Object.assign(COLOURS, { paleOld: "var(--pale-old)", paleNew: "var(--pale-new)" });
+// How high names beside the switches are on the screen, and how high those in the boxes must be to be read, in pixels.
+const LABEL = 11.5, READABLE = 8.5;
+// The radius of the dot for a switch whose box is too small to be seen, in pixels.
+const DOT = 3.5;
 
 class Picture {
   constructor(svg, update, layout) {
@@ -12,8 +18,8 @@ class Picture {
       + `<path d="M0 0L10 5L0 10z" fill="${colour}"/></marker>`;
     const markers = [["mold", COLOURS.old], ["mnew", COLOURS.new], ["mink", COLOURS.ink], ["mbad", COLOURS.bad]].map(([name, colour]) => arrow(name, colour));
     svg.innerHTML = `<defs>${markers.join("")}</defs><g id="bands"></g><g id="links">${this.linkLines()}</g><g id="steps"></g>`
-      + `<g id="ports">${this.ports()}</g><g id="walk"></g><g id="nodes">${this.emptyNodes()}</g><g id="riders"></g>`;
-    this.parts = Object.fromEntries(["bands", "steps", "walk", "riders"].map((name) => [name, svg.querySelector(`#${name}`)]));
+      + `<g id="ports">${this.ports()}</g><g id="walk"></g><g id="nodes">${this.emptyNodes()}</g><g id="labels"></g><g id="riders"></g>`;
+    this.parts = Object.fromEntries(["bands", "steps", "walk", "labels", "riders"].map((name) => [name, svg.querySelector(`#${name}`)]));
     update.names.forEach((_, at) => { this.parts[`node${at}`] = svg.querySelector(`#nodes > :nth-child(${at + 1})`); });
     this.filled = new Map();
   }
@@ -103,11 +109,11 @@ class Picture {
   width(much) { return (much * this.unit).toFixed(2); }
 
   linkLines() {
-    const style = `stroke="${COLOURS.line}" stroke-width="${this.width(2)}"`;
+    const style = `stroke="${COLOURS.link}" stroke-width="${this.width(2)}"`;
     const lines = this.linkEnds.map(([[at, port]]) => this.path(this.line(at, port), style));
     const hosts = this.update.hosts.map(([at, port], host) => {
       const [x, y] = this.hostPlaces[host], name = hostText(this.update, host);
-      return `${this.path(this.line(at, port), style)}<circle class="host" data-host="${name}" cx="${x}" cy="${y}" r="${this.width(7)}" fill="#fff"`
+      return `${this.path(this.line(at, port), style)}<circle class="host" data-host="${name}" cx="${x}" cy="${y}" r="${this.width(7)}" fill="${COLOURS.paper}"`
         + ` stroke="${COLOURS.ink}" stroke-width="${this.width(1.5)}"><title>host port ${name}</title></circle>`;
     });
     return [...lines, ...hosts].join("");
@@ -117,8 +123,9 @@ class Picture {
   ports() {
     return this.update.ends.map((ends, at) => [...ends.keys()].map((port) => {
       const points = this.line(at, port), [x, y] = points[Math.min(points.length - 1, this.reach(points, 8))];
-      return `<circle cx="${x.toFixed(1)}" cy="${y.toFixed(1)}" r="${this.width(6.5)}" fill="#ffffffe0"/>`
-        + this.text(x, y + 3.6 * this.unit, port, 10.5, `class="port" data-port="${this.update.names[at]}:${port}" fill="#4b5563"`);
+      const name = `${this.update.names[at]}:${port} to ${neighbourText(this.update, at, port)}`;
+      return `<g><title>${name}</title><circle cx="${x.toFixed(1)}" cy="${y.toFixed(1)}" r="${this.width(6.5)}" fill="${COLOURS.sheer}"/>`
+        + this.text(x, y + 3.6 * this.unit, port, 10.5, `class="port" data-port="${this.update.names[at]}:${port}" fill="${COLOURS.grey}"`) + "</g>";
     }).join("")).join("");
   }
 
@@ -152,6 +159,55 @@ class Picture {
     this.fill("walk", shown.bad ? this.bad(shown.bad) : "");
     this.update.names.forEach((name, at) => this.fill(`node${at}`, this.node(name, at, shown)));
     this.fill("riders", this.riders(shown.packets || []));
+    this.changing = shown.changing;
+    this.first = [shown.chosen, ...shown.changing, ...(shown.bad ? shown.bad.steps.map(({ place }) => place.at) : []), ...shown.newPath.places.map((place) => place.at),
+      ...shown.waypoints];
+    this.drawLabels();
+  }
+
+  // How many pixels of the screen a unit of the picture has.
+  onScreen() {
+    const box = this.svg.getBoundingClientRect();
+    return this.view ? Math.min(box.width / this.view[2], box.height / this.view[3]) || 1 : 1;
+  }
+
+  // Names beside the switches, of one size on the screen, where those in the boxes are too small to be read. First come those of the switches of which
+  // the page speaks; a name gives way where it would cover another one, or a switch.
+  drawLabels() {
+    const scale = this.onScreen(), isSmall = 15 * this.unit * scale < READABLE;
+    this.svg.classList.toggle("small", isSmall);
+    if (!isSmall) { this.fill("labels", ""); return; }
+    const high = LABEL / scale, boxes = this.places.map(([x, y], at) => this.boxOf(x, y, this.half(Object.assign([x, y], { at })), 15 * this.unit)), taken = [], lines = [];
+    for (const at of new Set([...this.first, ...this.places.keys()])) {
+      const isFirst = this.first.includes(at), wide = 0.64 * high * this.update.names[at].length;
+      const sides = this.besides(at, wide, high), isFree = (it) => !taken.some((other) => isOver(it, other)) && !boxes.some((other, one) => one !== at && isOver(it, other));
+      const room = sides.find(isFree) || (at === this.first[0] ? sides[0] : null);
+      if (!room) continue;
+      taken.push(room);
+      lines.push(`<text class="label" data-label="${this.update.names[at]}" x="${(room.left + wide / 2).toFixed(1)}" y="${(room.top + 0.8 * high).toFixed(1)}"`
+        + ` font-size="${high.toFixed(2)}" text-anchor="middle" fill="${COLOURS.ink}" stroke="${COLOURS.paper}" stroke-width="${(high / 4).toFixed(2)}" paint-order="stroke"`
+        + ` font-weight="${isFirst ? "bold" : "normal"}">${this.update.names[at]}</text>`);
+    }
+    this.fill("labels", this.dots(scale) + lines.join(""));
+  }
+
+  // Where the boxes are too small to be seen and to be clicked: a dot for each switch.
+  dots(scale) {
+    if (30 * this.unit * scale > 2 * DOT) return "";
+    return this.places.map(([x, y], at) => `<circle class="switch dot" data-switch="${this.update.names[at]}" cx="${x}" cy="${y}" r="${(DOT / scale).toFixed(2)}"`
+      + ` fill="${this.changing.has(at) ? COLOURS.mark : COLOURS.node}" stroke="${COLOURS.ink}" stroke-width="${((at === this.first[0] ? 2.2 : 1) / scale).toFixed(2)}">`
+      + `<title>${this.update.names[at]}</title></circle>`).join("");
+  }
+
+  boxOf(x, y, half, halfHigh) { return { left: x - half, right: x + half, top: y - halfHigh, low: y + halfHigh }; }
+
+  // Where the name of a switch has room: on its outer side first, as seen from the middle of the picture.
+  besides(at, wide, high) {
+    const [x, y] = this.places[at], half = this.half(Object.assign([x, y], { at })), gap = 0.25 * high, halfHigh = 15 * this.unit;
+    const across = half + gap + wide / 2, down = halfHigh + gap + high / 2, near = 0.6;
+    const sides = [-1, 0, 1].flatMap((right) => [-1, 0, 1].map((low) => [right * across, low * down * (right ? near : 1)])).filter(([dx, dy]) => dx || dy);
+    const outward = ([dx, dy]) => ((x - this.layout.width / 2) * dx + (y - this.layout.height / 2) * dy) / Math.hypot(dx, dy);
+    return sides.sort((a, b) => outward(b) - outward(a)).map(([dx, dy]) => this.boxOf(x + dx, y + dy, wide / 2, high / 2));
   }
 
   // Fills a part of the picture, unless it is as it was.
@@ -182,7 +238,7 @@ class Picture {
     if (entry === null) return "";
     const [at, port] = this.update.hosts[entry], points = [...this.line(at, port)].reverse(), [x, y] = this.hostPlaces[entry];
     return this.path(this.between(points, 8, 15), `class="entry" stroke="${COLOURS.ink}" stroke-width="${this.width(3)}" marker-end="url(#mink)"`)
-      + this.text(x, y + (y > this.places[at][1] ? 18 : -11) * this.unit, "enter here", 10.5, `font-style="italic" stroke="#fff" stroke-width="${this.width(3)}" paint-order="stroke"`);
+      + this.text(x, y + (y > this.places[at][1] ? 18 : -11) * this.unit, "enter here", 10.5, `font-style="italic" fill="${COLOURS.ink}" stroke="${COLOURS.paper}" stroke-width="${this.width(3)}" paint-order="stroke"`);
   }
 
   step({ place, one }, shown) {
@@ -196,7 +252,7 @@ class Picture {
     if (!shown.tagged || one.what !== "go") return arrow;
     const [x, y] = this.aside(part, 12)[Math.floor(part.length * 0.4)], words = one.vlan === 0 ? "untagged" : `tag ${one.vlan}`, wide = 6.2 * words.length;
     return `${arrow}<rect x="${(x - wide / 2 * this.unit).toFixed(1)}" y="${(y - 6 * this.unit).toFixed(1)}" width="${this.width(wide)}"`
-      + ` height="${this.width(12)}" fill="#ffffffd9"/>${this.text(x, y + 3.6 * this.unit, words, 10.5, `class="tag" fill="${COLOURS.ink}"`)}`;
+      + ` height="${this.width(12)}" fill="${COLOURS.sheer}"/>${this.text(x, y + 3.6 * this.unit, words, 10.5, `class="tag" fill="${COLOURS.ink}"`)}`;
   }
 
   bad(walk) {
@@ -205,7 +261,7 @@ class Picture {
       const points = this.aside(this.line(place.at, one.what === "go" ? one.out : one.port), -6), middle = points[Math.floor(points.length * 0.55)];
       return this.path(points, `class="bad" stroke="${COLOURS.bad}" stroke-width="${this.width(5)}" marker-end="url(#mbad)"`)
         + `<circle cx="${middle[0].toFixed(1)}" cy="${middle[1].toFixed(1)}" r="${this.width(9)}" fill="${COLOURS.bad}"/>`
-        + this.text(middle[0], middle[1] + 4 * this.unit, at + 1, 12, 'fill="#fff" font-weight="bold"');
+        + this.text(middle[0], middle[1] + 4 * this.unit, at + 1, 12, `fill="${COLOURS.paper}" font-weight="bold"`);
     }).join("");
   }
 
@@ -216,19 +272,19 @@ class Picture {
     const box = (more, style) => `<rect x="${(x - half - more * unit).toFixed(1)}" y="${(y - (15 + more) * unit).toFixed(1)}" width="${(2 * half + 2 * more * unit).toFixed(1)}"`
       + ` height="${this.width(30 + 2 * more)}" rx="${this.width(6)}" ${style}/>`;
     const marks = [];
-    if (shown.waypoints.has(at)) marks.push(box(4, `class="waypoint" fill="#fff" stroke="${COLOURS.ink}" stroke-width="${this.width(shown.own.has(at) ? 2.2 : 1)}"`));
-    marks.push(box(0, `fill="${changing ? COLOURS.mark : "#f3f4f6"}" stroke="${COLOURS.ink}" stroke-width="${this.width(at === shown.chosen ? 3.5 : 1.5)}"`
+    if (shown.waypoints.has(at)) marks.push(box(4, `class="waypoint" fill="${COLOURS.paper}" stroke="${COLOURS.ink}" stroke-width="${this.width(shown.own.has(at) ? 2.2 : 1)}"`));
+    marks.push(box(0, `fill="${changing ? COLOURS.mark : COLOURS.node}" stroke="${COLOURS.ink}" stroke-width="${this.width(at === shown.chosen ? 3.5 : 1.5)}"`
       + (changing && shown.pending && shown.pending.has(at) ? ` stroke-dasharray="${this.width(5)} ${this.width(3)}"` : "")));
     const size = Math.min(15, 1.75 * half / unit / name.length);
-    marks.push(this.text(x, y + (changing ? 1.5 : 5) * unit, name, size, 'font-weight="bold"'));
-    if (changing) marks.push(this.text(x, y + 11.5 * unit, !shown.pending ? "changes" : shown.pending.has(at) ? "pending" : "changed", 9, 'class="words" font-style="italic"'));
+    marks.push(this.text(x, y + (changing ? 1.5 : 5) * unit, name, size, `class="inside" fill="${changing ? COLOURS.onmark : COLOURS.ink}" font-weight="bold"`));
+    if (changing) marks.push(this.text(x, y + 11.5 * unit, !shown.pending ? "changes" : shown.pending.has(at) ? "pending" : "changed", 9, `class="words inside" fill="${COLOURS.onmark}" font-style="italic"`));
     const below = [...shown.drops.has(at) ? ["&#10005; drops"] : [], ...shown.waypoints.has(at) ? ["waypoint"] : []];
-    const halo = `stroke="#fff" stroke-width="${this.width(3)}" paint-order="stroke"`;
+    const halo = `fill="${COLOURS.ink}" stroke="${COLOURS.paper}" stroke-width="${this.width(3)}" paint-order="stroke"`;
     if (below.length) marks.push(this.text(x, y + (shown.waypoints.has(at) ? 30 : 26) * unit, below.join(", "), 10.5, `class="words" font-style="italic" ${halo}`));
     if (shown.numbers) {
       const on = shown.visited.has(at), cx = x + half, cy = y - 15 * unit, wide = 6.5 + 3.6 * String(shown.numbers[at]).length;
       marks.push(`<rect x="${(cx - wide * unit).toFixed(1)}" y="${(cy - 10 * unit).toFixed(1)}" width="${this.width(2 * wide)}" height="${this.width(20)}" rx="${this.width(10)}"`
-        + ` fill="${on ? COLOURS.ink : "#d1d5db"}"/>${this.text(cx, cy + 4.3 * unit, shown.numbers[at], 12, `class="number" fill="${on ? "#fff" : "#6b7280"}" font-weight="bold"`)}`);
+        + ` fill="${on ? COLOURS.ink : COLOURS.dim}"/>${this.text(cx, cy + 4.3 * unit, shown.numbers[at], 12, `class="number" fill="${on ? COLOURS.paper : COLOURS.grey}" font-weight="bold"`)}`);
     }
     return `<title>${name}</title>${marks.join("")}`;
   }
@@ -241,7 +297,7 @@ class Picture {
       there.set(packet.at, count + 1);
       const cx = x + (21 * count - 18) * this.unit, cy = y - 20 * this.unit, name = packet.number;
       return `<g class="rider" data-packet="${name}" data-at="${this.update.names[packet.at]}"><circle cx="${cx.toFixed(1)}" cy="${cy.toFixed(1)}" r="${this.width(10)}"`
-        + ` fill="#065f46" stroke="#fff" stroke-width="${this.width(1.5)}"/>${this.text(cx, cy + 4.2 * this.unit, name, 11.5, 'fill="#fff" font-weight="bold"')}</g>`;
+        + ` fill="${COLOURS.rider}" stroke="${COLOURS.paper}" stroke-width="${this.width(1.5)}"/>${this.text(cx, cy + 4.2 * this.unit, name, 11.5, `fill="${COLOURS.paper}" font-weight="bold"`)}</g>`;
     }).join("");
   }
 
@@ -270,11 +326,17 @@ class Picture {
     this.show();
   }
 
-  show() { this.svg.setAttribute("viewBox", this.view.map((it) => it.toFixed(1)).join(" ")); }
+  show() {
+    this.svg.setAttribute("viewBox", this.view.map((it) => it.toFixed(1)).join(" "));
+    if (this.first) this.drawLabels();
+  }
 }
+
+function isOver(one, other) { return one.left < other.right && other.left < one.right && one.top < other.low && other.top < one.low; }
 
 // What the lines of the picture mean.
 function legendText(update) {
+  if (update.alone) return "";
   const line = (style) => `<svg width="34" height="10"><path d="M2 5H30" ${style}/></svg>`;
   const parts = [[line(`stroke="${COLOURS.ink}" stroke-width="3"`), "step in any case"],
     [line(`stroke="${COLOURS.old}" stroke-width="3" stroke-dasharray="7 4"`), "step before a change of this round"],
@@ -282,6 +344,6 @@ function legendText(update) {
     [line(`stroke="${COLOURS.paleOld}" stroke-width="7"`), "old path"], [line(`stroke="${COLOURS.paleNew}" stroke-width="7"`), "new path"],
     [`<svg width="16" height="12"><rect x="1" y="1" width="14" height="10" fill="${COLOURS.mark}" stroke="${COLOURS.ink}"/></svg>`, "switch that changes"]];
   if (update.kind === "ordered") parts.push([`<svg width="16" height="16"><circle cx="8" cy="8" r="7" fill="${COLOURS.ink}"/></svg>`, "number in the plan: each step must go to a lower one"]);
-  parts.push([`<svg width="12" height="12"><circle cx="6" cy="6" r="5" fill="#fff" stroke="${COLOURS.ink}"/></svg>`, "host port"]);
+  parts.push([`<svg width="12" height="12"><circle cx="6" cy="6" r="5" fill="${COLOURS.paper}" stroke="${COLOURS.ink}"/></svg>`, "host port"]);
   return parts.map(([mark, words]) => `<span>${mark} ${words}</span>`).join("");
 }

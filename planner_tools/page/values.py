@@ -30,15 +30,24 @@ def prefix_of(text):
     return first, int(length)
 
 
+NO_PLAN = {"format": 2, "kind": "ordered", "rules": [], "rounds": [], "numberings": [], "befores": [], "uses": [], "picks": []}
+
+
 class Files:
     """The update of some files, as values for the page."""
 
     def __init__(self, topology, old, new, policy, plan):
         self.rules, self.number_of_rule = [], {}
+        self.is_alone = plan is None
         self.read_topology(read_json(topology))
         self.old, self.new = (self.read_configuration(read_json(path)) for path in (old, new))
-        self.demands = [self.demand_of(demand) for demand in read_json(policy)["demands"]]
-        self.read_plan(read_json(plan))
+        self.demands = [self.demand_of(demand) for demand in read_json(policy)["demands"]] if policy else []
+        self.read_plan(read_json(plan) if plan else NO_PLAN)
+
+    @classmethod
+    def of_configuration(cls, topology, config, policy=None):
+        """A configuration without a plan: nothing is changed."""
+        return cls(topology, config, config, policy, None)
 
     def read_topology(self, topology):
         self.names = [switch["name"] for switch in topology["switches"]]
@@ -97,4 +106,4 @@ class Files:
         """Returns what the page's script takes."""
         return {"switches": [{"name": name, "capacity": capacity} for name, capacity in zip(self.names, self.capacities)], "links": self.links,
                 "hosts": self.hosts, "vlans": self.vlans, "rules": self.rules, "old": self.old, "new": self.new, "demands": self.demands,
-                "kind": self.kind, "rounds": self.rounds, "evidence": self.evidence}
+                "alone": self.is_alone, "kind": self.kind, "rounds": self.rounds, "evidence": self.evidence}

@@ -3,6 +3,7 @@ import subprocess
 
 from planner_tools.reasons import sentence_of
 
+HOLDS = "No packet comes to a switch twice, each that leaves has met its waypoints in their order, and none that must arrive is dropped by a switch."
 # The statuses with which the planner says yes or no; with any other one there is no page.
 YES, NO, NO_RUN = 0, 1, 8
 
@@ -31,6 +32,18 @@ def verdict(planner, files):
         raise Refused("\n".join(lines) or f"planner check ended with status {status}", status)
     sentence, reason = sentence_of(lines[0])
     return {"accepted": status == YES, "line": lines[0], "sentence": sentence, "reason": reason}
+
+
+def verdict_of_configuration(planner, files):
+    """Returns the planner's line on a configuration, with a sentence and the parts of the line."""
+    status, lines = ask(planner, "config", *files)
+    if status not in (YES, NO):
+        raise Refused("\n".join(lines) or f"planner config ended with status {status}", status)
+    if status == YES:
+        return {"accepted": True, "line": lines[0], "sentence": HOLDS, "reason": {}}
+    # `check` says the same of a configuration that breaks, with the name and the end of an update before it.
+    sentence, reason = sentence_of(f"refused: 1 EndBreaks old {lines[0].removeprefix('breaks: ')}")
+    return {"accepted": False, "line": lines[0], "sentence": sentence.replace("the old configuration", "this configuration"), "reason": reason}
 
 
 def driven(planner, update, record):

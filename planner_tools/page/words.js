@@ -11,13 +11,27 @@ function matchText(rule) {
   return [prefixText(rule), ...port, ...vlan].join(", ");
 }
 
-function actionText(rule) {
-  if (!rule.out) return "drop";
-  const rewrite = rule.rewrite === STRIP ? "strip the tag, " : rule.rewrite ? `set VLAN ${rule.rewrite}, ` : "";
-  return `${rewrite}port ${rule.out}`;
+// What is at a port: the switch that its link leads to, hosts, or nothing.
+function neighbourText(update, at, port) {
+  const end = update.ends[at].get(port);
+  return !end ? "nothing" : end.host !== undefined ? "hosts" : update.names[end.to];
 }
 
-function changeText(change) { return `${change.what} ${matchText(change.rule)} -> ${actionText(change.rule)}`; }
+function actionText(update, rule) {
+  if (!rule.out) return "drop";
+  const rewrite = rule.rewrite === STRIP ? "strip the tag, " : rule.rewrite ? `set VLAN ${rule.rewrite}, ` : "";
+  return `${rewrite}port ${rule.out} to ${neighbourText(update, rule.at, rule.out)}`;
+}
+
+function changeText(update, change) { return `${change.what} ${matchText(change.rule)} -> ${actionText(update, change.rule)}`; }
+
+// The changes of a round in few words: what is done where.
+function roundText(update, changes) {
+  if (!changes.length) return "waits";
+  const where = new Map();
+  for (const { what, rule } of changes) where.set(what, [...(where.get(what) || []), update.names[rule.at]]);
+  return [...where].map(([what, names]) => `${what} ${names.length > 1 ? `${names.length} entries ` : ""}at ${shortened([...new Set(names)], 6)}`).join("; ");
+}
 
 // The addresses of an atom: as a prefix where they are one.
 function atomText({ first, last }) {
@@ -31,6 +45,7 @@ function hostText(update, host) { const [at, port] = update.hosts[host]; return 
 function classText(update, it) { return `${hostText(update, it.host)} ${it.vlan === 0 ? "untagged" : it.vlan} to ${atomText(it.atom)}`; }
 
 function positionText(update, position) {
+  if (update.alone) return "this configuration";
   if (position === 0) return "before the update";
   return position === update.last ? "after the update" : `round ${position} of ${update.rounds.length}`;
 }
@@ -74,11 +89,19 @@ function tagText(update, position, vlan) {
 function badText(update, it, walk) {
   const names = walk.steps.map(({ place }) => update.names[place.at]), last = names[names.length - 1];
   const packet = `A packet that enters at ${hostText(update, it.host)} ${vlanText(it.vlan)} for ${addressText(it.address)}`;
+  if (update.alone) return sureText(update, packet, walk, last, names);
   if (walk.kind === "loop") return `${packet} can come back to ${last}, where it has been: ${shortened(names)}.`;
   if (walk.kind === "drop") return `${packet} can be dropped by ${last}, though it must arrive: ${shortened(names)}.`;
   if (walk.kind === "missed") return `${packet} can leave the network without having met ${update.names[walk.missed]} in its place: ${shortened(names)}.`;
   const end = walk.steps[walk.steps.length - 1].one, way = end.what === "go" ? [...names, update.names[end.at]] : names;
   return `${packet} can go neither the old path nor the new one: ${shortened(way)}.`;
+}
+
+// The same of a configuration alone, in which each packet has one way.
+function sureText(update, packet, walk, last, names) {
+  if (walk.kind === "loop") return `${packet} comes back to ${last}, where it has been: ${shortened(names)}.`;
+  if (walk.kind === "drop") return `${packet} is dropped by ${last}, though it must arrive: ${shortened(names)}.`;
+  return `${packet} leaves the network without having met ${update.names[walk.missed]} in its place: ${shortened(names)}.`;
 }
 
 // What each switch of a bad walk does, one sentence a switch.

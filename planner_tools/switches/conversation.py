@@ -149,7 +149,7 @@ class Conversation:
             raise Stop(f"{name} refuses the mark of the update: {words}", "make room for one entry in its table; or put no mark there, by --no-mark: "
                        "then another controller isn't told of this update")
         if xid == REPAIR_XID:
-            raise Stop(f"{name} refuses a message of the repair: {words}", f"see why; then go on with --resume --repair, or put its table right by hand and go on with --resume")
+            raise Stop(f"{name} refuses a message of the repair: {words}", "see why; then go on with --resume --repair, or put its table right by hand and go on with --resume")
 
     def up(self, connection):
         """A switch has connected: it is asked for its table before anything else is sent to it."""
@@ -202,4 +202,4 @@ def write(path, text):
     try:
         pathlib.Path(path).write_text(text, encoding="ascii")
     except OSError as fault:
-        raise Stop(f"{path} can't be written: {fault.strerror or fault}", f"make room on its disk; then go on with --resume") from None
+        raise Stop(f"{path} can't be written: {fault.strerror or fault}", "make room on its disk; then go on with --resume") from None

@@ -23,8 +23,8 @@ use path_walk::PathRoom;
 use std::alloc::Global;
 use topology::Net;
 
-/// The prefixes of the configuration, and then of the demands.
-fn prefixes_of(config: &Config, demands: &Demands) -> Result<Vec<Prefix>, Memory>
+/// The prefixes of the configuration, and then of the demands: those of its classes under them.
+pub fn prefixes_of(config: &Config, demands: &Demands) -> Result<Vec<Prefix>, Memory>
     ensures { IfOk result (λ v. v.items ≡ table_blocks (rules_of_all config.now) ++ map (λ d. d.dst) demands.now) }
 {
     let mut prefixes = config.prefixes()?;

@@ -39,7 +39,8 @@ fn report_reply(
     requires certified { IsCertified (task_for (meaning_of files.now) plan.now) plan.now.evidence }
     requires net { driver.now.net ≡ files.now.net }
     requires rounds { driver.now.rounds ≡ plan.now.rounds }
-    ensures { IfOk result (λ r. (inputs : List InputLine) → driven_by files.now.net plan.now.rounds inputs ≡ Ok driver.now.state
+    ensures { IfOk result (λ r. (inputs : List InputLine) → AreInputs files.now.net inputs
+        → driven_by files.now.net plan.now.rounds inputs ≡ Ok driver.now.state
         → SaysReport (rollout (task_for (meaning_of files.now) plan.now)) inputs (answer_of r)) }
 {
     certified_begins_safely(&files.net, &files.old, &files.new, &files.demands, plan);

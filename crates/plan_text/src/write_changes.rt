@@ -190,7 +190,12 @@ fn write_change(out: &mut Writer, alloc: Global, net: &Net, change: &Change) -> 
 }
 
 /// Writes the list of the objects of a round's changes.
-fn write_round(out: &mut Writer, alloc: Global, net: &Net, round: &[Change]) -> Result<(), Memory>
+pub fn write_round(
+    out: &mut Writer,
+    alloc: Global,
+    net: &Net,
+    round: &[Change],
+) -> Result<(), Memory>
     ensures { OnOk result (Adds out.old out.new (tokens_of (round_tree net.now round.now))) }
 {
     out.begin_array()?;

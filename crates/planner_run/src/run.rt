@@ -9,6 +9,7 @@ ghost use Rattle.command_base.specs.Replies.{answer_of, Meets};
 ghost use Rattle.command_base.specs.Runs.{IsSettled, EndsAs, AnswersAll, AnswersFront};
 ghost use Rattle.config_command.specs.Names.{ConfigNames};
 ghost use Rattle.config_command.specs.Promise.{ConfigPromise};
+ghost use Rattle.paths_command.specs.Promise.{PathsPromise};
 ghost use Rattle.check_base.specs.Names.{CheckNames};
 ghost use Rattle.check_command.specs.Promise.{CheckPromise};
 ghost use Rattle.plan_command.specs.Promise.{PlanPromise};
@@ -16,6 +17,9 @@ ghost use Rattle.upgrade_command.specs.Promise.{UpgradePromise};
 ghost use Rattle.emit_command.specs.Promise.{EmitPromise};
 ghost use Rattle.replay_command.specs.Names.{ReplayNames};
 ghost use Rattle.replay_command.specs.Promise.{ReplayPromise};
+ghost use Rattle.tables_command.specs.Promise.{TablesPromise};
+ghost use Rattle.trace_command.specs.Names.{TraceNames};
+ghost use Rattle.trace_command.specs.Promise.{TracePromise};
 ghost use Rattle.simulate_command.specs.Names.{SimulateNames};
 ghost use Rattle.simulate_command.specs.Promise.{SimulatePromise};
 ghost use Rattle.explain_command.specs.Promise.{ExplainPromise};
@@ -25,7 +29,7 @@ ghost use Rattle.drive_command.specs.Names.{DriveNames};
 ghost use Rattle.drive_command.specs.Promise.{DrivePromise};
 ghost use Rattle.sample_command.specs.Summaries.{SaysSummary};
 ghost use Rattle.sample_command.specs.Promise.{SamplePromise};
-ghost use Rattle.planner_run.specs.Commands.{Config, Check, Plan, Upgrade, Emit, Replay, Simulate, Explain, Import, Drive, Sample, asked, seen, dialogue, dialogue_of, IsSaid, usage_line};
+ghost use Rattle.planner_run.specs.Commands.{Config, Paths, Check, Plan, Upgrade, Emit, Replay, Tables, Trace, Simulate, Explain, Import, Drive, Sample, asked, seen, dialogue, dialogue_of, IsSaid, usage_line};
 
 use crate::command::{Command, command_of};
 use check_command::check;
@@ -43,6 +47,8 @@ use file_access::{Sink, Source, WriteFault, pour};
 use import_command::import;
 use import_command::laws::import_promised;
 use net_base::Memory;
+use paths_command::laws::paths_promised;
+use paths_command::paths;
 use plan_command::laws::plan_promised;
 use plan_command::plan;
 use replay_command::laws::replay_promised;
@@ -52,6 +58,10 @@ use sample_command::{RingSize, sample};
 use simulate_command::laws::simulate_promised;
 use simulate_command::simulate;
 use std::alloc::Global;
+use tables_command::laws::tables_promised;
+use tables_command::tables;
+use trace_command::laws::trace_promised;
+use trace_command::trace;
 use upgrade_command::laws::upgrade_promised;
 use upgrade_command::upgrade;
 
@@ -77,11 +87,14 @@ fn reply_to<S: Source>(alloc: Global, command: &Command<'_>, source: &mut S) -> 
 {
     match command {
         Command::Config(names) => config(alloc, source, names),
+        Command::Paths(names) => paths(alloc, source, names),
         Command::Check(names) => check(alloc, source, names),
         Command::Plan(names) => plan(alloc, source, names),
         Command::Upgrade(names) => upgrade(alloc, source, names),
         Command::Emit(names) => emit(alloc, source, names),
         Command::Replay(names) => replay(alloc, source, names),
+        Command::Tables(names) => tables(alloc, source, names),
+        Command::Trace(names) => trace(alloc, source, names),
         Command::Simulate(names) => simulate(alloc, source, names),
         Command::Explain(names) => explain(alloc, source, names),
         Command::Import(names) => import(alloc, source, names),
@@ -169,6 +182,10 @@ pub fn run<S: Source, K: Sink>(
     ensures config { (files : Files) (names : ConfigNames) → S.held source.old ≡ Some files → asked (map string_bytes words.now) ≡ Some (Config names)
         → ConfigPromise files names (K.written sink.old) (K.written sink.new) result }
 
+    ensures paths { (files : Files) (names : ConfigNames) → S.held source.old ≡ Some files
+        → asked (map string_bytes words.now) ≡ Some (Paths names)
+        → PathsPromise files names (K.written sink.old) (K.written sink.new) result }
+
     // The headline is the field `keeps` of this promise.
     ensures check { (files : Files) (names : CheckNames) → S.held source.old ≡ Some files → asked (map string_bytes words.now) ≡ Some (Check names)
         → CheckPromise files names (K.written sink.old) (K.written sink.new) result }
@@ -180,6 +197,12 @@ pub fn run<S: Source, K: Sink>(
         → EmitPromise files names (K.written sink.old) (K.written sink.new) result }
     ensures replay { (files : Files) (names : ReplayNames) → S.held source.old ≡ Some files → asked (map string_bytes words.now) ≡ Some (Replay names)
         → ReplayPromise files names (K.written sink.old) (K.written sink.new) result }
+    ensures tables { (files : Files) (names : ReplayNames) → S.held source.old ≡ Some files
+        → asked (map string_bytes words.now) ≡ Some (Tables names)
+        → TablesPromise files names (K.written sink.old) (K.written sink.new) result }
+    ensures trace { (files : Files) (names : TraceNames) → S.held source.old ≡ Some files
+        → asked (map string_bytes words.now) ≡ Some (Trace names)
+        → TracePromise files names (K.written sink.old) (K.written sink.new) result }
     ensures simulate { (files : Files) (names : SimulateNames) → S.held source.old ≡ Some files → asked (map string_bytes words.now) ≡ Some (Simulate names)
         → SimulatePromise files names (K.written sink.old) (K.written sink.new) result }
     ensures explain { (files : Files) (names : CheckNames) → S.held source.old ≡ Some files → asked (map string_bytes words.now) ≡ Some (Explain names)
@@ -194,11 +217,14 @@ pub fn run<S: Source, K: Sink>(
     ensures unread { (n : ℕ) → asked (map string_bytes words.now) ≡ Some (Sample n) → source.new ≡ source.old }
 {
     config_promised();
+    paths_promised();
     check_promised();
     plan_promised();
     upgrade_promised();
     emit_promised();
     replay_promised();
+    tables_promised();
+    trace_promised();
     simulate_promised();
     explain_promised();
     import_promised();

@@ -1,5 +1,5 @@
 //! The texts of places and events.
-ghost use Rattle.std.specs.Prelude.{◌≡◌, ◌≤◌, ◌^◌, ◌++◌, ◌∷◌, [], IfOk, OnOk, Ok, length, decimal};
+ghost use Rattle.std.specs.Prelude.{◌≡◌, ◌≤◌, ◌^◌, ◌++◌, ◌∷◌, [], IfOk, OnOk, OnErr, Ok, length, decimal};
 ghost use Rattle.std.specs.List.{AllByRecursion};
 ghost use Rattle.flow_rules.specs.Tables.{rules_of_all};
 ghost use Rattle.update_model.specs.Runs.{IsRun};
@@ -113,10 +113,12 @@ fn add_event(text: &mut Vec<u8>, alloc: Global, net: &Net, event: Event) -> Resu
     }
 }
 
-/// One more line of a text.
+/// One more line of a text. After a refusal the text is as before.
 pub fn add_line(text: &mut Vec<u8>, line: &[u8]) -> Result<(), Memory>
-    ensures { OnOk result (text.new.items ≡ text.old.items ++ line.now ++ 10 ∷ []) }
+    ensures ok { OnOk result (text.new.items ≡ text.old.items ++ line.now ++ 10 ∷ []) }
+    ensures err { OnErr result (text.new.items ≡ text.old.items) }
 {
+    text.reserve(line.len() + 1)?;
     text.extend_from_slice(line)?;
     text.push(b'\n')?;
     Ok(())

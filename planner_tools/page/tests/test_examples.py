@@ -1,6 +1,5 @@
 """The pages of the examples and of a ring: what they show in each round."""
 import os
-import time
 import unittest
 
 import networks
@@ -13,11 +12,19 @@ def paths(name, plan="plan.json"):
     return [os.path.join(EXAMPLES, name, f"{it}.json") for it in networks.FILES] + [os.path.join(EXAMPLES, name, plan)]
 
 
-def change_words(what, rule):
+def neighbour(topology, switch, port):
+    """Says what is at a port."""
+    links = [tuple(link) for link in topology["links"]]
+    ends = dict(links) | {other: one for one, other in links}
+    place = f"{switch}:{port}"
+    return "hosts" if place in topology["hosts"] else ends[place].rpartition(":")[0]
+
+
+def change_words(what, rule, topology):
     """Says a change as the page does, from the rule in the plan's file."""
     packets = ", ".join([rule["dst"]] + ([f"from port {rule['in_port']}"] if "in_port" in rule else [])
                         + ([rule["vlan"] if rule["vlan"] == "untagged" else f"VLAN {rule['vlan']}"] if "vlan" in rule else []))
-    action = "drop" if rule["out"] == "drop" else f"port {rule['out']}"
+    action = "drop" if rule["out"] == "drop" else f"port {rule['out']} to {neighbour(topology, rule['switch'], rule['out'])}"
     if "set" in rule:
         action = f"set VLAN {rule['set']}, {action}"
     return f"{rule['switch']} {what} {packets} -> {'strip the tag, ' if 'strip' in rule else ''}{action} (priority {rule['priority']})"
@@ -27,12 +34,12 @@ class Examples(PagesInBrowser):
     def check_rounds(self, files):
         """In each round the page shows its changes, finds no walk that the policy forbids for any class, and shows numbers that fall along each step."""
         self.open(*files)
-        plan = networks.read(files[4])
+        topology, plan = networks.read(files[0]), networks.read(files[4])
         self.assertIn(self.ask("check", *files)[1].strip(), self.seen("#verdict"))
         for number, changes in enumerate(plan["rounds"], 1):
             self.go(number)
             self.assertEqual(f"round {number} of {len(plan['rounds'])}", self.seen("#position"))
-            self.assertEqual([change_words(what, plan["rules"][rule]) for what, rule in changes], self.text("#changes li"))
+            self.assertEqual([change_words(what, plan["rules"][rule], topology) for what, rule in changes], self.text("#changes li"))
             changing = {plan["rules"][rule]["switch"] for _, rule in changes}
             marked = self.tab.value("[...document.querySelectorAll('#nodes .switch')].filter((it) => it.textContent.includes('changes')).map((it) => it.dataset.switch)")
             self.assertEqual(changing, set(marked))
@@ -61,10 +68,10 @@ class Examples(PagesInBrowser):
         worst = self.tab.value("""(() => { let worst = 0; for (let round = 0; round <= 125; round++) { const from = performance.now(); view.go(round);
             document.body.offsetHeight; worst = Math.max(worst, performance.now() - from); } return worst; })()""")
         self.assertLess(worst, 1000)
-        rules = networks.read(plan)["rules"]
+        topology, rules = networks.read(files[0]), networks.read(plan)["rules"]
         for number in range(1, 125, 11):
             self.go(number)
-            self.assertEqual([change_words(what, rules[rule]) for what, rule in rounds[number - 1]], self.text("#changes li"))
+            self.assertEqual([change_words(what, rules[rule], topology) for what, rule in rounds[number - 1]], self.text("#changes li"))
             self.tab.value("document.getElementById('touched').click()")
             self.assertEqual(1, len(self.text("#steps .old")))
             self.assertEqual(1, len(self.text("#steps .new")))
@@ -81,7 +88,7 @@ class Examples(PagesInBrowser):
                          self.text("#steps li"))
         self.assertEqual(["s2 s3 s4, leaves at s4:3"], self.text("#oldpath"))
         self.assertEqual(["s2 s3 s1 s4, leaves at s4:3"], self.text("#newpath"))
-        self.assertEqual(["priority", "packets", "before round 2", "after round 2", "100", "10.0.0.0/24", "port 2", "port 3"], self.text("#table th, #table td"))
+        self.assertEqual(["priority", "packets", "before round 2", "after round 2", "100", "10.0.0.0/24", "port 2 to s4", "port 3 to s1"], self.text("#table th, #table td"))
 
     def test_keys_move_the_slider_and_a_click_chooses_a_switch(self):
         self.open(*paths("square"))

@@ -2,6 +2,7 @@
 import copy
 import os
 import re
+import time
 import unittest
 
 import networks
@@ -108,7 +109,42 @@ class Reasons(PagesInBrowser):
         plan["numberings"] = [[0, 0, 0, 0]]
         self.refused("7 NotLower round 1 at s1:1 untagged 10.0.0.0 switch s1", self.square(), plan)
         self.assertIsNone(self.bad())
-        self.assertIn("The page finds no walk here that the policy forbids.", self.text("#packetclass p"))
+        self.tab.value("view.search.finish()")
+        self.assertIn("The page finds no walk that the policy forbids, in any class and any round: what the planner refuses is not a walk.", self.text("#elsewhere p"))
+
+    def test_a_walk_that_goes_wrong_is_found_in_whatever_class_it_is(self):
+        """The planner names a class of which no walk goes wrong; packets of another one come back to a switch."""
+        plan = ordered("square", [[change("replace", "s1", 4), change("replace", "s3", 3)]], 0)
+        self.refused("6 NoNumbering round 1 at s1:1 untagged 0.0.0.0", self.square(), plan)
+        self.assertIn("can come back to s1, where it has been", self.bad())
+        self.tab.value("view.choose({ class: 0 })")
+        self.assertIsNone(self.bad())
+        self.tab.value("view.search.finish()")
+        said = self.seen("#elsewhere")
+        self.assertIn("These packets can go wrong in this round: ", said)
+        self.assertIn("s1:1 untagged to 10.0.0.0/24", said)
+        self.tab.value("[...document.querySelectorAll('#elsewhere button')].find((it) => it.textContent === 's1:1 untagged to 10.0.0.0/24').click()")
+        self.assertIn("can come back to s1, where it has been", self.bad())
+
+    def test_a_walk_that_goes_wrong_is_found_in_whatever_round_it_is(self):
+        """The planner names round 1, in which nothing goes wrong."""
+        plan = ordered("square", [[], [change("replace", "s1", 4), change("replace", "s3", 3)]], 0)
+        self.refused("6 NoNumbering round 1 at s1:1 untagged 0.0.0.0", self.square(), plan)
+        self.assertIsNone(self.bad())
+        self.tab.value("view.search.finish()")
+        self.assertIn("No packets go wrong in this round.", self.text("#elsewhere p"))
+        self.assertEqual(["round 2 of 2: 3"], self.text("#elsewhere button"))
+        self.tab.value("document.querySelector('#elsewhere button').click()")
+        self.assertIn("can come back to s1, where it has been", self.bad())
+
+    def test_the_search_goes_on_by_itself(self):
+        plan = ordered("square", [[], [change("replace", "s1", 4), change("replace", "s3", 3)]], 0)
+        self.refused("6 NoNumbering round 1 at s1:1 untagged 0.0.0.0", self.square(), plan)
+        for _ in range(200):
+            if self.tab.value("view.search.jobs.length") == 0:
+                break
+            time.sleep(0.05)
+        self.assertEqual(["round 2 of 2: 3"], self.text("#elsewhere button"))
 
     def test_a_drop(self):
         plan = ordered("square", [[change("delete", "s2", 2)]])
@@ -142,7 +178,7 @@ class Reasons(PagesInBrowser):
         sentence = self.refused("13 WrongEnd switch s3", self.square(), plan)
         self.assertIn("table of s3 isn't the new one", sentence)
         self.assertEqual("after the update", self.seen("#position"))
-        self.assertEqual(["priority", "packets", "after the last round", "new rules", "100", "10.0.0.0/24", "port 2", "port 3"], self.text("#table th, #table td"))
+        self.assertEqual(["priority", "packets", "after the last round", "new rules", "100", "10.0.0.0/24", "port 2 to s4", "port 3 to s1"], self.text("#table th, #table td"))
 
     def test_each_reason_of_the_documents_has_a_test_here(self):
         with open(os.path.join(networks.ROOT, "docs", "FORMATS.md"), encoding="utf-8") as file:

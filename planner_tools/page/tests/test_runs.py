@@ -111,6 +111,15 @@ class Runs(PagesInBrowser):
         self.tab.value("view.play(Infinity)")
         self.assertEqual(["lost"], self.ends())
 
+    def test_the_record_of_an_update_is_played_as_drive_tells_it(self):
+        hello, answer = "0100000800000001", "0113000800000002"
+        record = networks.write(self.folder, "update", "".join(f"feed s{at} {hello}\n" for at in range(1, 5)) + f"start\nfeed s1 {answer}\nstart\n")
+        self.open(*paths("square"), "--schedule", record)
+        self.assertEqual(["start", "change 0", "settle", "start"], [line for line in self.text("#events li") if not line.startswith("#")])
+        self.tab.value("view.play(4)")
+        self.assertEqual("round 2 of 2", self.seen("#position"))
+        self.assertIn("event 4 of 4; round 2 runs", self.seen("#event"))
+
     def test_a_bad_schedule_gives_no_page(self):
         schedule = networks.write(self.folder, "schedule", "begin\n")
         _, said = self.page(*paths("square"), "--schedule", schedule, status=3)

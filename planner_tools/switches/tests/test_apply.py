@@ -5,7 +5,6 @@ import time
 import unittest
 
 from network import EXAMPLES, Network, UpdateTest, planner
-import fake_switch
 from planner_tools.switches import collect, openflow
 from planner_tools.switches.connections import OWN
 

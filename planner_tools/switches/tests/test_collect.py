@@ -1,5 +1,4 @@
 """Tests of `planner collect`: what fake switches answer over the loopback, and what `planner import` makes of it. PLANNER names the program."""
-import pathlib
 import socket
 import struct
 import unittest

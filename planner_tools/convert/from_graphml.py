@@ -1,0 +1,151 @@
+"""`planner from-graphml`: makes a topology of a graph in GraphML, as the Internet Topology Zoo has them.
+
+A graph has nodes and edges. What it hasn't are port numbers, hosts, VLANs, tags and the capacities of switches. Ports are numbered from 1 at each
+switch: those of its links in the order of the edges, then its host port; the rest is asked for.
+"""
+import argparse
+import re
+import unicodedata
+import xml.etree.ElementTree as xml
+
+from planner_tools.convert.common import NAME, Refused, Topology, capacity, checked, name_list, nearest, read_bytes, run, say, tag_range, vlan_list
+
+LONGEST_NAME = 32
+# Switches without a host port, for `--hosts`.
+ALL = "all"
+
+
+class Graph:
+    """The nodes of a graph, each with its label and its further values, and its edges."""
+
+    def __init__(self, path):
+        try:
+            root = xml.fromstring(read_bytes(path))
+        except xml.ParseError as fault:
+            raise Refused(f"{path}:{fault.position[0]}:{fault.position[1] + 1}: it is no XML: {str(fault).split(':')[0]}") from fault
+        graphs = children(root, "graph")
+        if local(root) != "graphml" or len(graphs) != 1:
+            raise Refused(f"{path}: it isn't GraphML with one graph")
+        self.path, graph = path, graphs[0]
+        if graph.get("edgedefault") == "directed" or any(edge.get("directed") == "true" for edge in children(graph, "edge")):
+            raise Refused(f"{path}: its edges are directed, and links go both ways", "make the graph undirected, with one edge for each link")
+        if children(graph, "hyperedge"):
+            raise Refused(f"{path}: it has hyperedges, and a link joins two switches")
+        keys = {key.get("id"): key.get("attr.name") for key in children(root, "key")}
+        self.nodes = {}
+        for node in children(graph, "node"):
+            if node.get("id") is None or node.get("id") in self.nodes:
+                raise Refused(f"{path}: node {node.get('id')!r} has no id, or stands twice")
+            self.nodes[node.get("id")] = {keys.get(data.get("key"), data.get("key")): (data.text or "").strip() for data in children(node, "data")}
+        self.edges = [(edge.get("source"), edge.get("target")) for edge in children(graph, "edge")]
+        unknown = [end for edge in self.edges for end in edge if end not in self.nodes]
+        if unknown:
+            raise Refused(f"{path}: an edge names node {unknown[0]!r}, which isn't there")
+
+    def label(self, node):
+        return self.nodes[node].get("label") or ""
+
+
+def local(element):
+    return element.tag.rpartition("}")[2]
+
+
+def children(element, name):
+    return [child for child in element if local(child) == name]
+
+
+def plain(text):
+    """A label in the letters that a switch's name may have: accents are taken from letters, and other signs become `_`."""
+    bare = unicodedata.normalize("NFKD", text).encode("ascii", "ignore").decode()
+    return re.sub(r"[^A-Za-z0-9-]+", "_", bare).strip("_")[:LONGEST_NAME]
+
+
+def names_of(graph):
+    """The name of each node: its label, where it has one that no other node has, otherwise the label with the node's id, or the id alone."""
+    wanted = {node: plain(graph.label(node)) if graph.label(node) != "None" else "" for node in graph.nodes}
+    count = {}
+    for name in wanted.values():
+        count[name.lower()] = count.get(name.lower(), 0) + 1
+    names, taken = {}, set()
+    for node, name in wanted.items():
+        ending = re.sub(r"[^A-Za-z0-9_-]", "_", node)
+        if not name:
+            name = f"n{ending}" if ending[:1].isdigit() else ending
+        elif count[name.lower()] > 1:
+            name = f"{name[:LONGEST_NAME - 1 - len(ending)]}_{ending}"
+        if name in taken or not NAME.fullmatch(name):
+            raise Refused(f"{graph.path}: node {node!r} can't be given a name of its own", "--names ids takes the ids")
+        names[node] = name
+        taken.add(name)
+    return names
+
+
+def host_switches(graph, names, wanted, switches):
+    """The nodes that get a host port."""
+    if wanted == [ALL]:
+        return switches
+    by_word = {name: node for node, name in names.items()} | {node: node for node in graph.nodes}
+    unknown = [word for word in wanted if by_word.get(word) not in switches]
+    if unknown:
+        raise Refused([f"{graph.path} has no switch {word}{nearest(word, [names[one] for one in switches])}" for word in unknown], "name switches by name or id, or --hosts all", 2)
+    return [by_word[word] for word in dict.fromkeys(wanted)]
+
+
+def topology_of(graph, options):
+    names = names_of(graph) if options.names == "labels" else {node: re.sub(r"[^A-Za-z0-9_-]", "_", node) for node in graph.nodes}
+    outside = {node for node, values in graph.nodes.items() if values.get("Internal") == "0"} if options.external == "hosts" else set()
+    for node, name in names.items():
+        if name != graph.label(node) and node not in outside:
+            say(f"{graph.path}: note: node {node}{f', {graph.label(node)!r},' if graph.label(node) else ''} is the switch {name}")
+    for node, values in graph.nodes.items():
+        if values.get("hyperedge") == "1" and node not in outside:
+            say(f"{graph.path}: note: node {node} stands for a link of several nodes, and is taken as the switch {names[node]}")
+    topology = Topology(options.vlans, options.tags)
+    for node, name in names.items():
+        if node not in outside:
+            topology.add_switch(name, options.capacity)
+    hosts = []
+    for one, other in graph.edges:
+        if one in outside and other in outside:
+            continue
+        if one == other:
+            say(f"{graph.path}: note: an edge joins the switch {names[one]} to itself: a packet that takes it visits the switch twice")
+        ends = []
+        for node in (one, other):
+            if node not in outside:
+                ends.append((names[node], topology.free_port(names[node])))
+                topology.take_port(*ends[-1])
+        if len(ends) == 2:
+            topology.add_link(*ends)
+        else:
+            hosts += ends
+    for node in host_switches(graph, names, options.hosts, [node for node in graph.nodes if node not in outside]):
+        hosts.append((names[node], topology.free_port(names[node])))
+        topology.take_port(*hosts[-1])
+    for end in hosts:
+        topology.add_host(*end)
+    return topology
+
+
+def convert(words):
+    parser = argparse.ArgumentParser(prog="planner from-graphml", description="Makes a topology of a graph in GraphML, as the Internet Topology Zoo has them, and writes it.")
+    parser.add_argument("file", metavar="FILE", help="- is the standard input")
+    parser.add_argument("--hosts", metavar="NAME,..", type=name_list, help="the switches that have a host port, by name or id of the node; `all`")
+    parser.add_argument("--external", choices=("switches", "hosts"), default="switches", help="hosts: nodes that the graph says aren't internal are no switches, and the "
+                        "ports to them are host ports")
+    parser.add_argument("--vlans", metavar="VLAN,..", type=vlan_list, help="the VLANs with which packets of hosts come, as untagged,10")
+    parser.add_argument("--tags", metavar="FIRST-LAST", type=tag_range, help="VLAN ids that the planner may use as tags, as 3000-3009; `none`")
+    parser.add_argument("--capacity", metavar="N", type=capacity, help="how many rules each switch can hold")
+    parser.add_argument("--names", choices=("labels", "ids"), default="labels", help="what the switches are named by: labels")
+    options = parser.parse_args(words)
+    lacking = [word for word, value in (("--hosts", options.hosts or options.external == "hosts"), ("--vlans", options.vlans), ("--tags", options.tags is not None),
+                                        ("--capacity", options.capacity)) if not value]
+    if lacking:
+        raise Refused(f"a graph doesn't say which hosts, VLANs, tags and capacities there are: {', '.join(lacking)} is wanting",
+                      "as --hosts all --vlans untagged --tags 3000-3009 --capacity 1000; `planner from-graphml --help` explains them", 2)
+    options.hosts = options.hosts or []
+    return checked(topology_of(Graph(options.file), options), options.file)
+
+
+def main(words):
+    return run(convert, words)

@@ -1,0 +1,103 @@
+"""`planner to-ofctl`: writes the rounds of a plan as commands of `ovs-ofctl`, a script for each round, for networks without a controller.
+
+Each command is strict: it names one entry by its priority and match, and says the same to the switch as the message that `planner emit` writes.
+"""
+import argparse
+import json
+import os
+import shlex
+
+from planner_tools.convert.common import UNWRITABLE, Refused, read_text, run
+
+# The command for each change. `ovs-ofctl` waits for the barrier reply of the switch before it ends, and its status tells of an error.
+COMMANDS = {"insert": "add-flow", "replace": "--strict mod-flows", "delete": "--strict del-flows"}
+
+
+def rounds_of(path):
+    """The rounds of a plan of either format: lists of what to do and the rule."""
+    try:
+        plan = json.loads(read_text(path))
+        if plan["format"] == 1:
+            return [[(change["do"], change) for change in changes] for changes in plan["rounds"]]
+        return [[(do, plan["rules"][rule]) for do, rule in changes] for changes in plan["rounds"]]
+    except (ValueError, TypeError, KeyError, IndexError, RecursionError) as fault:
+        raise Refused(f"{path}: it is no plan", "`planner check` says what of it can't be read") from fault
+
+
+def match_of(rule):
+    """The priority and the match, which name an entry."""
+    words = [f"priority={rule['priority']}", "ip"]
+    words += [f"in_port={rule['in_port']}"] if rule.get("in_port", "any") != "any" else []
+    if rule.get("vlan", "any") != "any":
+        words.append("vlan_tci=0x0000" if rule["vlan"] == "untagged" else f"dl_vlan={rule['vlan']}")
+    return ",".join([*words, f"nw_dst={rule['dst']}"])
+
+
+def actions_of(rule):
+    if rule["out"] == "drop":
+        return "drop"
+    rewrite = f"mod_vlan_vid:{rule['set']}," if "set" in rule else "strip_vlan," if rule.get("strip") else ""
+    return f"{rewrite}output:{rule['out']}"
+
+
+def command_of(do, rule, targets):
+    """The line that makes a change."""
+    match = match_of(rule)
+    flow = match if do == "delete" else f"{match},actions={actions_of(rule)}"
+    return f"ovs-ofctl -O OpenFlow10 {COMMANDS[do]} {shlex.quote(targets.get(rule['switch'], rule['switch']))} {shlex.quote(flow)}"
+
+
+def script_of(number, rounds, plan, targets):
+    """The script of a round."""
+    changes = rounds[number - 1]
+    lines = ["#!/bin/sh", f"# Round {number} of {len(rounds)} of {os.path.basename(plan).translate({10: ' ', 13: ' '})}: {len(changes)} changes, in any order.",
+             "# Begin when the round before is done and the packets that entered before that have left; where a command fails, see to it and run this again.", "set -e"]
+    lines += [command_of(do, rule, targets) for do, rule in changes]
+    return "\n".join([*lines, f"echo 'round {number} of {len(rounds)} is done'"]) + "\n"
+
+
+def read_targets(path):
+    """Where each switch listens, from a file of switches."""
+    targets = {}
+    for number, line in enumerate(read_text(path).splitlines(), 1):
+        words = line.split("#")[0].split()
+        if words and not 2 <= len(words) <= 3:
+            raise Refused(f"{path}:{number}: not `NAME DATAPATH [HOST:PORT]`")
+        targets |= {words[0]: f"tcp:{words[2]}"} if len(words) == 3 else {}
+    return targets
+
+
+def write_scripts(folder, scripts):
+    """Writes each script. A folder that has files already isn't touched."""
+    try:
+        os.makedirs(folder, exist_ok=True)
+        if os.listdir(folder):
+            raise Refused(f"{folder}: it has files already", "name another folder", UNWRITABLE)
+        for name, text in scripts:
+            with open(os.path.join(folder, name), "x", encoding="utf-8") as file:
+                file.write(text)
+            os.chmod(file.name, 0o755)
+    except OSError as fault:
+        raise Refused(f"{fault.filename or folder}: it can't be written: {fault.strerror}", status=UNWRITABLE) from fault
+
+
+def convert(words):
+    parser = argparse.ArgumentParser(prog="planner to-ofctl", description="Writes the rounds of a plan as commands of `ovs-ofctl`, a script for each round.")
+    parser.add_argument("plan", metavar="PLAN")
+    parser.add_argument("folder", metavar="FOLDER", nargs="?", help="where the scripts are written, a new or an empty folder; PLAN without its ending, and `-rounds`")
+    parser.add_argument("--switches", metavar="FILE", help="lines `NAME DATAPATH HOST:PORT`, as for `planner apply`: a switch is reached there; otherwise it is a bridge of "
+                        "its name on this machine")
+    options = parser.parse_args(words)
+    rounds, targets = rounds_of(options.plan), read_targets(options.switches) if options.switches else {}
+    wide = max(2, len(str(len(rounds))))
+    try:
+        scripts = [(f"round-{number:0{wide}}.sh", script_of(number, rounds, options.plan, targets)) for number in range(1, len(rounds) + 1)]
+    except (KeyError, TypeError, AttributeError) as fault:
+        raise Refused(f"{options.plan}: a change of it can't be read", "`planner check` says what of it can't be read") from fault
+    folder = options.folder or f"{os.path.splitext(os.path.basename(options.plan))[0]}-rounds"
+    write_scripts(folder, scripts)
+    return "".join(f"{os.path.join(folder, name)}\n" for name, _ in scripts)
+
+
+def main(words):
+    return run(convert, words)

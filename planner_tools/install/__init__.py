@@ -1,0 +1,1 @@
+"""What puts the planner on a machine: the folders of an installation, manual pages, completions and a Debian package."""

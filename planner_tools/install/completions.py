@@ -1,0 +1,57 @@
+"""The completions for zsh and fish, made of the words of the planner. That for bash is in manual.py."""
+from planner_tools import words
+
+FLAGS = ("--help", "--version")
+
+
+def counts():
+    """How many names of files stand behind each command."""
+    return {command.name: sum(word in words.FILES or word == "FILE" for word in command.words()[0]) for command in words.COMMANDS}
+
+
+def short(text):
+    """The beginning of an answer, up to its first stop, which a list of commands has room for."""
+    for stop in (";", ":", ", "):
+        text = text.partition(stop)[0]
+    return text
+
+
+def quoted(text):
+    return "'" + text.replace("'", "'\\''") + "'"
+
+
+def zsh():
+    listed = "\n".join(f"        {quoted(command.name + ':' + short(command.answer))}" for command in words.COMMANDS)
+    without = " | ".join(name for name, count in counts().items() if not count) or "none"
+    return f"""#compdef planner
+# Completes the words of the planner in zsh.
+
+_planner() {{
+    local -a commands
+    commands=(
+{listed}
+    )
+    if (( CURRENT == 2 )); then
+        _describe 'command' commands
+        compadd -- {' '.join(FLAGS)}
+        return
+    fi
+    case ${{words[2]}} in
+        {without}) _message 'a number or a word' ;;
+        *) _files ;;
+    esac
+}}
+
+_planner "$@"
+"""
+
+
+def fish():
+    names = " ".join(command.name for command in words.COMMANDS)
+    with_files = " ".join(name for name, count in counts().items() if count)
+    first = f"not __fish_seen_subcommand_from {names}"
+    lines = ["# Completes the words of the planner in fish.", "complete -c planner -f"]
+    lines += [f"complete -c planner -n {quoted(first)} -a {quoted(command.name)} -d {quoted(short(command.answer))}" for command in words.COMMANDS]
+    lines += [f"complete -c planner -n {quoted(first)} -l {flag.lstrip('-')}" for flag in FLAGS]
+    lines.append(f"complete -c planner -n {quoted('__fish_seen_subcommand_from ' + with_files)} -F")
+    return "\n".join(lines) + "\n"

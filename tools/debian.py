@@ -1,0 +1,149 @@
+#!/usr/bin/env python3
+"""Makes a Debian package of the program, the front end, manual pages, completions and examples.
+
+    tools/debian.py [FOLDER]        writes FOLDER/planner_VERSION_ARCHITECTURE.deb, in the working folder by default, and prints its path
+
+The program is that of the checkout, which is proved and built first where that wasn't done yet, or the one that the variable PLANNER names. Only
+`dpkg-deb` and `dpkg` are needed.
+"""
+import datetime
+import gzip
+import hashlib
+import os
+import re
+import shutil
+import subprocess
+import sys
+import tempfile
+import textwrap
+
+ROOT = os.path.dirname(os.path.dirname(os.path.realpath(__file__)))
+sys.path.insert(0, ROOT)
+sys.dont_write_bytecode = True
+
+from planner_tools import program  # noqa: E402
+from planner_tools.install import files, toolchain  # noqa: E402
+from planner_tools.version import VERSION  # noqa: E402
+
+NAME = "planner"
+MAINTAINER = "planner maintainers <maintainers@planner.invalid>"
+ABOUT = """plan and check updates of OpenFlow networks, proved
+ From a network, the rules now, the rules wanted and what packets must do, it
+ plans the rounds in which the switches are to be changed, and it checks such
+ plans, whoever made them. Under a plan that it accepts no packet comes to a
+ switch twice, none leaves the network without having met its waypoints, and
+ none that must arrive is dropped by a switch, in whatever order the changes
+ of a round and the hops of packets fall.
+ .
+ {origin}
+ The scripts around it are tested. The package does everything but build the
+ program.
+"""
+
+# Python keeps what it made of the scripts beside them: it is made when the package is set up, and taken away with it.
+SCRIPTS = {"postinst": "#!/bin/sh\nset -e\nif [ \"$1\" = configure ]; then\n    python3 -m compileall -q /usr/lib/planner\nfi\n",
+           "prerm": "#!/bin/sh\nset -e\nfind /usr/lib/planner -name __pycache__ -prune -exec rm -r {} +\n"}
+
+
+def architecture():
+    return subprocess.run(["dpkg", "--print-architecture"], capture_output=True, text=True, check=True).stdout.strip()
+
+
+def library_version(path):
+    """The newest version of the C library of which the program uses a symbol."""
+    with open(path, "rb") as file:
+        found = re.findall(rb"GLIBC_(\d+)\.(\d+)", file.read())
+    return ".".join(map(str, max((int(major), int(minor)) for major, minor in found))) if found else None
+
+
+def dependencies(path):
+    newest = library_version(path)
+    return ", ".join([f"libc6 (>= {newest})"] * bool(newest) + [f"python3 (>= {toolchain.versions()['python']})"])
+
+
+def control(built, size):
+    about = ABOUT.format(origin="\n ".join(textwrap.wrap(toolchain.origin(built), 78)))
+    return (f"Package: {NAME}\nVersion: {VERSION}\nArchitecture: {architecture()}\nMaintainer: {MAINTAINER}\nInstalled-Size: {size}\nDepends: {dependencies(built)}\n"
+            f"Suggests: graphviz, openvswitch-switch\nSection: net\nPriority: optional\nDescription: {about}")
+
+
+def copyright_text():
+    with open(os.path.join(ROOT, "LICENSE"), encoding="utf-8") as file:
+        first = next(line.strip() for line in file if line.strip())
+    if first != "Apache License":
+        raise SystemExit("LICENSE isn't the one that the package names")
+    return ("Format: https://www.debian.org/doc/packaging-manuals/copyright-format/1.0/\nUpstream-Name: planner\n\nFiles: *\nCopyright: 2026 the planner authors\nLicense: Apache-2.0\n"
+            " On Debian systems the text of the Apache License, version 2.0, is in\n /usr/share/common-licenses/Apache-2.0.\n")
+
+
+def changes(day):
+    """The list of changes in Debian's form."""
+    when = datetime.datetime.strptime(day, "%Y-%m-%d").strftime("%a, %d %b %Y 12:00:00 +0000")
+    return f"{NAME} ({VERSION}) unstable; urgency=medium\n\n  * Version {VERSION}: CHANGELOG.md has what it brings.\n\n -- {MAINTAINER}  {when}\n"
+
+
+def write(path, data, mode=0o644):
+    os.makedirs(os.path.dirname(path), exist_ok=True)
+    with open(path, "wb") as file:
+        file.write(data)
+    os.chmod(path, mode)
+
+
+def strip(path):
+    """Takes the symbols of the program away, which are for those who debug it; the code stays as it was built."""
+    if shutil.which("strip"):
+        subprocess.run(["strip", "--strip-all", "--remove-section=.comment", "--remove-section=.note", path], check=True)
+
+
+def sums(folder):
+    """The lines of DEBIAN/md5sums."""
+    for place in files.under(folder, "usr"):
+        path = os.path.join(folder, place)
+        if not os.path.islink(path):
+            with open(path, "rb") as file:
+                yield f"{hashlib.md5(file.read()).hexdigest()}  {place}\n"
+
+
+def fill(folder, built, day):
+    """Puts the whole package into a folder."""
+    files.put(os.path.join(folder, "usr"), ROOT, built, day, zsh_folder="share/zsh/vendor-completions")
+    documents = os.path.join(folder, "usr", files.DOCUMENTS)
+    write(os.path.join(documents, "changelog.gz"), gzip.compress(changes(day).encode(), 9, mtime=0))
+    write(os.path.join(documents, "copyright"), copyright_text().encode())
+    strip(os.path.join(folder, "usr", files.LIBRARY, files.PROGRAM_NAME))
+    size = sum(os.path.getsize(os.path.join(folder, place)) for place in files.under(folder, "usr")) // 1024 + 1
+    write(os.path.join(folder, "DEBIAN", "control"), control(built, size).encode())
+    for name, text in SCRIPTS.items():
+        write(os.path.join(folder, "DEBIAN", name), text.encode(), 0o755)
+    write(os.path.join(folder, "DEBIAN", "md5sums"), "".join(sums(folder)).encode())
+    for at, folders, _ in os.walk(folder):
+        for name in folders:
+            os.chmod(os.path.join(at, name), 0o755)
+
+
+def main(words):
+    if len(words) > 1 or words[:1] in (["--help"], ["-h"]):
+        print(__doc__.strip())
+        return 0 if words[:1] in (["--help"], ["-h"]) else 2
+    try:
+        built = files.program_to_install()
+    except program.NoProgram as fault:
+        print(f"debian.py: {fault}", file=sys.stderr)
+        return program.NO_PROGRAM
+    day = files.day_of(ROOT)
+    target = os.path.join(words[0] if words else ".", f"{NAME}_{VERSION}_{architecture()}.deb")
+    with tempfile.TemporaryDirectory() as folder:
+        os.chmod(folder, 0o755)
+        fill(folder, built, day)
+        environment = {**os.environ, "SOURCE_DATE_EPOCH": os.environ.get("SOURCE_DATE_EPOCH", seconds_of(day))}
+        subprocess.run(["dpkg-deb", "--root-owner-group", "-Zxz", "--build", folder, target], check=True, stdout=subprocess.DEVNULL, env=environment)
+    print(target)
+    return 0
+
+
+def seconds_of(day):
+    return str(int(datetime.datetime.strptime(day, "%Y-%m-%d").replace(tzinfo=datetime.timezone.utc).timestamp()))
+
+
+if __name__ == "__main__":
+    sys.exit(main(sys.argv[1:]))
