@@ -212,13 +212,14 @@ class Explainer:
             return
         wanted, least = command.words()
         usage = f"planner {command.name} {command.usage}"
-        have = len(given) - 1
+        behind = self.run.behind
+        have = len(behind)
         if have < least:
             self.voice.refuse(f"{', '.join(wanted[have:least])} {'is' if least - have == 1 else 'are'} missing", [usage])
         elif have > len(wanted):
             self.voice.refuse(f"{counted(have, 'word')} stand behind `{command.name}`, and it takes {counted(len(wanted), 'word')}", [usage, *option_lines(given)])
         else:
-            lines = [line for word, text in zip(wanted, given[1:]) for line in spelling(word, text)]
+            lines = [line for word, text in zip(wanted, behind) for line in spelling(word, text)]
             if not lines and command.name in all_words.NEW:
                 lines = [f"this program has no command `{command.name}`: it is older than the front end"]
             self.voice.refuse("; ".join(lines) or "the words are wrong", [usage])
