@@ -48,7 +48,7 @@ class Comparison(Conversation):
         """Another update has put its mark on a switch."""
         if not self.options.take_over or any((name, mark) in self.taken_away for mark in others) and name not in self.owed:
             raise Stop(f"another update is at work: {name} has its mark, {'; '.join(map(str, others))}",
-                       "wait for its end. If nothing is at work with it any more, go on with --take-over, which takes its mark away")
+                       "wait for its end, then go on with --resume; where nothing is at work with it any more, --resume --take-over takes its mark away")
         for mark in others:
             self.taken_away.add((name, mark))
             say(f"{name}: the mark of the update {mark} is taken away")

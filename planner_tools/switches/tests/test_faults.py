@@ -165,7 +165,7 @@ class Faults(UpdateTest):
         net.apply_until("round 1 starts", "--wait", "0.05")
         record, listed = net.record, net.listed
         run = self.another(net).apply()
-        self.stops(run, "another update is at work: s", "go on with --take-over")
+        self.stops(run, "another update is at work: s", "--resume --take-over takes its mark away")
         net.record, net.listed = record, listed
         self.settles(net, net.apply("--resume"))
 
@@ -186,7 +186,7 @@ class Faults(UpdateTest):
         net = Network(self, "detour", listen=True)
         net.apply_until("round 5 starts")
         self.another(net)
-        self.stops(net.apply(), "another update is at work", "go on with --take-over")
+        self.stops(net.apply(), "another update is at work", "--resume --take-over takes its mark away")
         self.stops(net.apply("--resume", "--take-over"), "So the switches don't have the tables of", "No plan can start from what they have: a configuration can't say it")
         self.settles(net, net.apply("--resume", "--repair"))
 
