@@ -7,7 +7,7 @@ use trace_command::{trace, trace_names};
 
 /// Two switches with two links between them, and three host ports.
 const TOPOLOGY: &[u8] =
-    br#"{"switches":[{"name":"a","capacity":8},{"name":"b","capacity":8}],"links":[["a:2","b:1"],["a:4","b:4"]],"hosts":["a:1","a:3","b:2"],"vlans":["untagged",10]}"#;
+    br#"{"switches":[{"name":"a","capacity":8},{"name":"b","capacity":8}],"links":[["a:2","b:1"],["a:4","b:4"]],"hosts":["a:1","a:3","b:2"],"vlans":["untagged",10],"tags":[]}"#;
 
 /// Rules by port, by VLAN and by prefix; packets to 20.0.0.0/24 go round.
 const CONFIG: &[u8] = br#"{"rules":[

@@ -104,13 +104,9 @@ fn ran_over(rt: &impl Abort, alloc: Global, texts: &[&str], source: &mut MemoryS
 
 #[test]
 fn each_command_runs(rt: HostRuntime) {
-    let rows: [(&[&str], &[u8]); 9] = [
+    let rows: [(&[&str], &[u8]); 8] = [
         (&["config", "topology", "old"], b"holds: 12 classes\n"),
         (&["paths", "topology", "old", "policy"], SQUARE_LISTING),
-        (
-            &["trace", "topology", "old", "s4:3", "untagged", "10.0.1.0"],
-            b"s4:3 untagged: no rule\ndropped s4\n",
-        ),
         (
             &["check", "topology", "old", "new", "policy", "plan"],
             b"accepted: ordered, 2 rounds, 12 classes\n",
@@ -147,6 +143,15 @@ fn replay_runs(rt: HostRuntime) {
     let mut source = held_beside(&rt, rt.alloc(), b"start\nstart\n");
     let answer = ran_over(&rt, rt.alloc(), &REPLAY, &mut source);
     assert!(rt; answer.is(Status::NotARun, b"not a run: line 2\n"));
+}
+
+#[test]
+fn trace_runs(rt: HostRuntime) {
+    let mut source = held_beside(&rt, rt.alloc(), b"");
+    let words = ["trace", "topology", "old", "s4:3", "untagged", "10.0.1.0"];
+    let answer = ran_over(&rt, rt.alloc(), &words, &mut source);
+    let lines = b"s4:3 untagged: no rule\ndropped s4\n";
+    assert!(rt; answer.is(Status::Done, lines));
 }
 
 #[test]
