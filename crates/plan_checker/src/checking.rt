@@ -30,7 +30,8 @@ use topology::Net;
 
 /// The new or the old configuration.
 fn config_of<'a>(case: &Case<'a>, new: bool) -> &'a Config
-    ensures rules { rules_of_all result.now ≡ (if new then case.now.task.update.new else case.now.task.update.old) }
+    ensures rules { rules_of_all result.now
+        ≡ (if new then case.now.task.update.new else case.now.task.update.old) }
     ensures count { length result.now ≡ switch_count case.now.task.update.net }
 {
     if new { case.new } else { case.old }
@@ -39,8 +40,14 @@ fn config_of<'a>(case: &Case<'a>, new: bool) -> &'a Config
 /// How the first class that has no good path in the new or the old configuration breaks its duties.
 fn end_breaks(case: &Case, new: bool, room: &mut CheckRoom) -> Option<Breaks>
     requires { Fits case.now.task room.old }
-    ensures none { IfNone result (HasGoodPaths case.now.task.update.net (if new then case.now.task.update.new else case.now.task.update.old) case.now.task.update.demands (classes_for case.now.task)) }
-    ensures some { IfSome result (IsFirstBreak case.now.task.update.net (if new then case.now.task.update.new else case.now.task.update.old) case.now.task.update.demands (classes_for case.now.task)) }
+    ensures none { IfNone result
+        (HasGoodPaths case.now.task.update.net
+        (if new then case.now.task.update.new else case.now.task.update.old)
+        case.now.task.update.demands (classes_for case.now.task)) }
+    ensures some { IfSome result
+        (IsFirstBreak case.now.task.update.net
+        (if new then case.now.task.update.new else case.now.task.update.old)
+        case.now.task.update.demands (classes_for case.now.task)) }
     ensures fits { Fits case.now.task room.new }
 {
     let config = config_of(case, new);
@@ -85,7 +92,8 @@ fn classes_reason(case: &Case, k: usize, room: &mut CheckRoom) -> Option<Reason>
     ensures none { IfNone result (ClassesPass case.now.task case.now.evidence k) }
     ensures some { IfSome result (IsFirstFrom case.now.task case.now.evidence (classes_start k)) }
     ensures fits { Fits case.now.task room.new }
-    ensures evidence { IfNone result (EvidenceStands case.now.task case.now.evidence (suc k) room.new) }
+    ensures evidence { IfNone result
+        (EvidenceStands case.now.task case.now.evidence (suc k) room.new) }
     ensures tables { room.new.tables ≡ room.old.tables }
 {
     match &case.plan.evidence {
@@ -150,7 +158,9 @@ fn start(case: &Case, room: &mut CheckRoom)
 fn rounds_reason(case: &Case, room: &mut CheckRoom) -> Option<Reason>
     requires fits { Fits case.now.task room.old }
     requires ends { EndsAreGood case.now.task }
-    ensures none { IfNone result (RoundsPass case.now.task case.now.evidence (length case.now.task.rounds) × IsReady case.now (length case.now.task.rounds) room.new) }
+    ensures none { IfNone result
+        (RoundsPass case.now.task case.now.evidence (length case.now.task.rounds)
+        × IsReady case.now (length case.now.task.rounds) room.new) }
     ensures some { IfSome result (IsFirstReason case.now.task case.now.evidence) }
     ensures fits { Fits case.now.task room.new }
 {
@@ -194,9 +204,13 @@ pub fn check(
     requires new { IsUserConfig net.now (rules_of_all new.now) }
     requires plan { IsValidPlan net.now plan.now }
     requires room { Fits (task_of net.now old.now new.now demands.now plan.now) room.old }
-    ensures accepted { (result ≡ Verdict.Accepted) ↔ IsCertified (task_of net.now old.now new.now demands.now plan.now) plan.now.evidence }
-    ensures consistent { result ≡ Verdict.Accepted → IsConsistent (update_of net.now old.now new.now demands.now) plan.now.rounds (is_two_phase plan.now.evidence) }
-    ensures refused { IfRefused result (IsFirstReason (task_of net.now old.now new.now demands.now plan.now) plan.now.evidence) }
+    ensures accepted { (result ≡ Verdict.Accepted)
+        ↔ IsCertified (task_of net.now old.now new.now demands.now plan.now) plan.now.evidence }
+    ensures consistent { result ≡ Verdict.Accepted
+        → IsConsistent (update_of net.now old.now new.now demands.now) plan.now.rounds
+        (is_two_phase plan.now.evidence) }
+    ensures refused { IfRefused result
+        (IsFirstReason (task_of net.now old.now new.now demands.now plan.now) plan.now.evidence) }
     ensures fits { Fits (task_of net.now old.now new.now demands.now plan.now) room.new }
 {
     certified_consistent(net, old, new, demands, plan);

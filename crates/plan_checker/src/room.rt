@@ -114,9 +114,11 @@ fn classes_of_plan(
 ) -> Result<ClassMap, RoomFault>
     requires old { length old.now ≡ switch_count net.now }
     requires new { length new.now ≡ switch_count net.now }
-    ensures classes { IfOk result (λ classes. classes ≡ classes_for (task_of net.now old.now new.now demands.now plan.now)) }
+    ensures classes { IfOk result
+        (λ classes. classes ≡ classes_for (task_of net.now old.now new.now demands.now plan.now)) }
     ensures few { IfOk result (λ classes. class_count classes ≤ 8192) }
-    ensures too_many { IfErr result (IsCauseFor (classes_for (task_of net.now old.now new.now demands.now plan.now))) }
+    ensures too_many { IfErr result
+        (IsCauseFor (classes_for (task_of net.now old.now new.now demands.now plan.now))) }
 {
     let prefixes = prefixes_of(old, new, demands, &plan.rounds)?;
     Ok(class_map(alloc, net, &prefixes)?)
@@ -137,8 +139,11 @@ impl CheckRoom {
         requires old { length old.now ≡ switch_count net.now }
         requires new { length new.now ≡ switch_count net.now }
         ensures fits { IfOk result (Fits (task_of net.now old.now new.now demands.now plan.now)) }
-        ensures few { IfOk result (λ _. class_count (classes_for (task_of net.now old.now new.now demands.now plan.now)) ≤ 8192) }
-        ensures too_many { IfErr result (IsCauseFor (classes_for (task_of net.now old.now new.now demands.now plan.now))) }
+        ensures few { IfOk result
+            (λ _. class_count
+            (classes_for (task_of net.now old.now new.now demands.now plan.now)) ≤ 8192) }
+        ensures too_many { IfErr result
+            (IsCauseFor (classes_for (task_of net.now old.now new.now demands.now plan.now))) }
     {
         let classes = classes_of_plan(alloc, net, old, new, demands, plan)?;
         let duties = Duties::make(alloc, net, demands, &classes)?;

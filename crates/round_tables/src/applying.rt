@@ -117,7 +117,8 @@ fn change_switch(tables: &mut Config, switch: SwitchId, changes: &[Change], rule
     requires good { AreGood (rules_there tables.old switch) changes.now }
     requires fits { insert_count changes.now ≤ (table_at tables.old switch).spare }
     requires list { length changes.now ≤ vec_capacity rules.old }
-    ensures rules { rules_there tables.new switch ≡ rules_after changes.now (rules_there tables.old switch) }
+    ensures rules { rules_there tables.new switch
+        ≡ rules_after changes.now (rules_there tables.old switch) }
     ensures room { room_of (table_at tables.new switch) ≡ room_of (table_at tables.old switch) }
     ensures others { (t : Switch) → t.0 ≢ switch.0 → table_at tables.new t ≡ table_at tables.old t }
     ensures count { length tables.new ≡ length tables.old }
@@ -140,8 +141,10 @@ fn change_all(tables: &mut Config, lists: &[SwitchChanges], rules: &mut Vec<Rule
     requires list { (s : Switch) → s.0 < length tables.old
         → length (list_at lists.now s).changes ≤ vec_capacity rules.old }
     ensures rules { (s : Switch) → s.0 < length tables.old
-        → rules_there tables.new s ≡ rules_after (list_at lists.now s).changes (rules_there tables.old s) }
-    ensures room { (s : Switch) → room_of (table_at tables.new s) ≡ room_of (table_at tables.old s) }
+        → rules_there tables.new s
+        ≡ rules_after (list_at lists.now s).changes (rules_there tables.old s) }
+    ensures room { (s : Switch) → room_of (table_at tables.new s)
+        ≡ room_of (table_at tables.old s) }
     ensures count { length tables.new ≡ length tables.old }
     ensures list { vec_capacity rules.old ≤ vec_capacity rules.new }
 {
@@ -177,10 +180,13 @@ fn keep_switch(
     requires mixes { length mixes.old ≡ length tables.now }
     requires touched { length touched.now ≡ length tables.now }
     requires lists { length lists.now ≡ length tables.now }
-    requires few { is_touched touched.now switch ≡ false → length (list_at lists.now switch).changes ≤ 1 }
-    requires prepared { IsMixed (rules_there tables.now switch) (list_at lists.now switch).changes (mix_at mixes.old switch) }
+    requires few { is_touched touched.now switch ≡ false
+        → length (list_at lists.now switch).changes ≤ 1 }
+    requires prepared { IsMixed (rules_there tables.now switch) (list_at lists.now switch).changes
+        (mix_at mixes.old switch) }
     ensures after { is_touched touched.now switch ≡ false
-        → IsMixed (rules_after (list_at lists.now switch).changes (rules_there tables.now switch)) [] (mix_at mixes.new switch) }
+        → IsMixed (rules_after (list_at lists.now switch).changes (rules_there tables.now switch))
+        [] (mix_at mixes.new switch) }
     ensures others { (t : Switch) → t.0 ≢ switch.0 → mix_at mixes.new t ≡ mix_at mixes.old t }
     ensures room { (mix_at mixes.old switch).room ≤ (mix_at mixes.new switch).room }
 {
@@ -197,11 +203,13 @@ fn keep_all(mixes: &mut [Mixed], touched: &[bool], tables: &Config, lists: &[Swi
     requires mixes { length mixes.old ≡ length tables.now }
     requires touched { length touched.now ≡ length tables.now }
     requires lists { length lists.now ≡ length tables.now }
-    requires once { (s : Switch) → is_touched touched.now s ≡ false → length (list_at lists.now s).changes ≤ 1 }
+    requires once { (s : Switch) → is_touched touched.now s ≡ false
+        → length (list_at lists.now s).changes ≤ 1 }
     requires prepared { (s : Switch) → s.0 < length tables.now
         → IsMixed (rules_there tables.now s) (list_at lists.now s).changes (mix_at mixes.old s) }
     ensures after { (s : Switch) → s.0 < length tables.now → is_touched touched.now s ≡ false
-        → IsMixed (rules_after (list_at lists.now s).changes (rules_there tables.now s)) [] (mix_at mixes.new s) }
+        → IsMixed (rules_after (list_at lists.now s).changes (rules_there tables.now s)) []
+        (mix_at mixes.new s) }
     ensures room { (s : Switch) → (mix_at mixes.old s).room ≤ (mix_at mixes.new s).room }
 {
     for i in 0..tables.count() as u32 {
@@ -214,7 +222,8 @@ impl PreparedTables {
     /// be prepared anew. The changes at a switch take time n log n together.
     pub fn apply_round(&mut self, update: &Rollout<'_>, k: usize)
         requires round { k < length update.now.rounds }
-        requires within { AreWithin (switch_count update.now.net) (round_after k update.now.rounds) }
+        requires within { AreWithin (switch_count update.now.net)
+            (round_after k update.now.rounds) }
         requires room { HoldsRounds (switch_count update.now.net) update.now.rounds self.old }
         requires prepared { ArePrepared update.now k self.old }
         requires fits { (s : Switch) → s.0 < switch_count update.now.net

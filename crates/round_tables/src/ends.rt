@@ -39,7 +39,8 @@ fn difference(tables: &Config, others: &Config) -> Option<SwitchId>
     requires few { length tables.now < 2 ^ 32 }
     ensures none { IfNone result ((s : Switch) → AreSameAt tables.now others.now s) }
     ensures some { IfSome result (λ s. ¬ AreSameAt tables.now others.now s) }
-    ensures below { IfSome result (λ s. (t : Switch) → t.0 < s.0 → AreSameAt tables.now others.now t) }
+    ensures below { IfSome result
+        (λ s. (t : Switch) → t.0 < s.0 → AreSameAt tables.now others.now t) }
 {
     for i in 0..tables.count() as u32 {
         let switch = SwitchId(i);
@@ -57,7 +58,8 @@ impl PreparedTables {
         requires few { length config.now < 2 ^ 32 }
         ensures none { IfNone result ((s : Switch) → AreSameAt self.now.tables config.now s) }
         ensures some { IfSome result (λ s. ¬ AreSameAt self.now.tables config.now s) }
-        ensures below { IfSome result (λ s. (t : Switch) → t.0 < s.0 → AreSameAt self.now.tables config.now t) }
+        ensures below { IfSome result
+            (λ s. (t : Switch) → t.0 < s.0 → AreSameAt self.now.tables config.now t) }
     {
         difference(&self.tables, config)
     }

@@ -73,7 +73,8 @@ fn clear_all(lists: &mut [SwitchChanges])
 /// Puts a change behind the others of its switch.
 fn put_at(lists: &mut [SwitchChanges], change: &Change)
     requires within { (switch_of change.now).0 < length lists.old }
-    requires room { let list = list_at lists.old (switch_of change.now) in length list.changes < list.room }
+    requires room { let list = list_at lists.old (switch_of change.now) in length
+        list.changes < list.room }
     ensures here { (list_at lists.new (switch_of change.now)).changes
         ≡ (list_at lists.old (switch_of change.now)).changes ++ change.now ∷ [] }
     ensures others { (s : Switch) → s.0 ≢ (switch_of change.now).0

@@ -31,7 +31,8 @@ fn number_of(round: &[Change], switch: SwitchId, nth: usize) -> usize
     requires { nth < length (changes_at switch round.now) }
     ensures within { result < length round.now }
     ensures at { slice_get round.now result ≡ slice_get (changes_at switch round.now) nth }
-    ensures before { changes_at switch (take result round.now) ≡ take nth (changes_at switch round.now) }
+    ensures before { changes_at switch (take result round.now)
+        ≡ take nth (changes_at switch round.now) }
 {
     let mut left = nth;
     for (i, change) in round.iter().enumerate() {
@@ -78,7 +79,8 @@ fn begin_good(mixes: &mut [Mixed], switch: SwitchId, table: &Table, change: &Cha
     requires within { switch.0 < length mixes.old }
     requires alone { IsMixed table.now.rules [] (mix_at mixes.old switch) }
     requires room { length table.now.rules + 1 ≤ (mix_at mixes.old switch).room }
-    ensures yes { result ≡ true → IsMixed table.now.rules (change.now ∷ []) (mix_at mixes.new switch) }
+    ensures yes { result ≡ true
+        → IsMixed table.now.rules (change.now ∷ []) (mix_at mixes.new switch) }
     ensures others { (t : Switch) → t.0 ≢ switch.0 → mix_at mixes.new t ≡ mix_at mixes.old t }
     ensures room { (mix_at mixes.old switch).room ≤ (mix_at mixes.new switch).room }
 {
@@ -117,14 +119,16 @@ fn load_at(
 ) -> Result<(), MixFault>
     requires within { switch.0 < length mixes.old }
     requires touched { switch.0 < length touched.old }
-    requires alone { is_touched touched.old switch ≡ false → IsMixed table.now.rules [] (mix_at mixes.old switch) }
+    requires alone { is_touched touched.old switch ≡ false
+        → IsMixed table.now.rules [] (mix_at mixes.old switch) }
     requires room { length table.now.rules + length changes.now ≤ (mix_at mixes.old switch).room }
     ensures ok { OnOk result (IsMixed table.now.rules changes.now (mix_at mixes.new switch)) }
     ensures few { OnOk result (is_touched touched.new switch ≡ false → length changes.now ≤ 1) }
     ensures table { IsTable table.now.rules }
     ensures err { IfErr result (λ fault. IsFault table.now.rules changes.now fault) }
     ensures others { (t : Switch) → t.0 ≢ switch.0 → mix_at mixes.new t ≡ mix_at mixes.old t }
-    ensures flags { (t : Switch) → t.0 ≢ switch.0 → is_touched touched.new t ≡ is_touched touched.old t }
+    ensures flags { (t : Switch) → t.0 ≢ switch.0 → is_touched touched.new t
+        ≡ is_touched touched.old t }
     ensures room { (mix_at mixes.old switch).room ≤ (mix_at mixes.new switch).room }
 {
     keeps_keys(table);
@@ -151,13 +155,17 @@ fn load_next(
     requires touched { length touched.old ≡ length tables.now }
     requires lists { length lists.now ≡ length tables.now }
     requires alone { AreAlone tables.now switch.0 touched.old mixes.old }
-    requires room { length (rules_there tables.now switch) + length (list_at lists.now switch).changes
+    requires room { length (rules_there tables.now switch) + length
+        (list_at lists.now switch).changes
         ≤ (mix_at mixes.old switch).room }
     requires so_far { IsLoadedTo tables.now lists.now switch.0 touched.old mixes.old unclear }
-    ensures ok { IfOk result (λ next. IsLoadedTo tables.now lists.now (switch.0 + 1) touched.new mixes.new next) }
-    ensures err { IfErr result (λ bad. (bad.0.0 < length tables.now) × IsBadAt tables.now lists.now bad.0 bad.1) }
+    ensures ok { IfOk result
+        (λ next. IsLoadedTo tables.now lists.now (switch.0 + 1) touched.new mixes.new next) }
+    ensures err { IfErr result
+        (λ bad. (bad.0.0 < length tables.now) × IsBadAt tables.now lists.now bad.0 bad.1) }
     ensures others { (t : Switch) → t.0 ≢ switch.0 → mix_at mixes.new t ≡ mix_at mixes.old t }
-    ensures flags { (t : Switch) → t.0 ≢ switch.0 → is_touched touched.new t ≡ is_touched touched.old t }
+    ensures flags { (t : Switch) → t.0 ≢ switch.0 → is_touched touched.new t
+        ≡ is_touched touched.old t }
     ensures room { (mix_at mixes.old switch).room ≤ (mix_at mixes.new switch).room }
 {
     let changes = lists[switch.0 as usize].list();
@@ -182,9 +190,13 @@ fn load_all(
     requires lists { length lists.now ≡ length tables.now }
     requires alone { AreAlone tables.now 0 touched.old mixes.old }
     requires room { (s : Switch) → s.0 < length tables.now
-        → length (rules_there tables.now s) + length (list_at lists.now s).changes ≤ (mix_at mixes.old s).room }
-    ensures ok { IfOk result (λ unclear. IsLoadedTo tables.now lists.now (length tables.now) touched.new mixes.new unclear) }
-    ensures err { IfErr result (λ bad. (bad.0.0 < length tables.now) × IsBadAt tables.now lists.now bad.0 bad.1) }
+        → length (rules_there tables.now s) + length
+        (list_at lists.now s).changes ≤ (mix_at mixes.old s).room }
+    ensures ok { IfOk result
+        (λ unclear. IsLoadedTo tables.now lists.now (length tables.now) touched.new mixes.new
+        unclear) }
+    ensures err { IfErr result
+        (λ bad. (bad.0.0 < length tables.now) × IsBadAt tables.now lists.now bad.0 bad.1) }
     ensures room { (s : Switch) → (mix_at mixes.old s).room ≤ (mix_at mixes.new s).room }
 {
     let mut unclear = None;
@@ -200,7 +212,8 @@ impl PreparedTables {
     /// sorted only where this round or the one before changes it more than once.
     pub fn load_round(&mut self, update: &Rollout<'_>, k: usize) -> Result<(), RoundFault>
         requires round { k < length update.now.rounds }
-        requires within { AreWithin (switch_count update.now.net) (round_after k update.now.rounds) }
+        requires within { AreWithin (switch_count update.now.net)
+            (round_after k update.now.rounds) }
         requires room { HoldsRounds (switch_count update.now.net) update.now.rounds self.old }
         requires stands { StandsBefore update.now k self.old }
         ensures ok { OnOk result (ArePrepared update.now k self.new) }

@@ -17,7 +17,8 @@ impl PreparedTables {
     fn need(&self, switch: SwitchId) -> u64
         requires within { switch.0 < length self.now.mixes }
         requires prepared { IsSome (mix_at self.now.mixes switch).prepared }
-        ensures { (rules : List Rule) (changes : List ChangeOf) → IsMixed rules changes (mix_at self.now.mixes switch)
+        ensures { (rules : List Rule) (changes : List ChangeOf)
+            → IsMixed rules changes (mix_at self.now.mixes switch)
             → result ≡ entries_needed rules changes }
     {
         self.mixes[switch.0 as usize].most_entries()

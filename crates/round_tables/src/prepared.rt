@@ -57,9 +57,11 @@ fn refill(table: &mut Table, source: &Table)
 fn refill_all(tables: &mut Config, sources: &Config)
     requires count { length tables.old ≡ length sources.now }
     requires few { length tables.old < 2 ^ 32 }
-    requires room { (s : Switch) → s.0 < length tables.old → length (rules_at (rules_of_all sources.now) s) ≤ room_of (table_at tables.old s) }
+    requires room { (s : Switch) → s.0 < length tables.old
+        → length (rules_at (rules_of_all sources.now) s) ≤ room_of (table_at tables.old s) }
     ensures rules { rules_of_all tables.new ≡ rules_of_all sources.now }
-    ensures room { (s : Switch) → room_of (table_at tables.new s) ≡ room_of (table_at tables.old s) }
+    ensures room { (s : Switch) → room_of (table_at tables.new s)
+        ≡ room_of (table_at tables.old s) }
 {
     for i in 0..tables.count() as u32 {
         let switch = SwitchId(i);

@@ -19,7 +19,8 @@ use update_model::{Change, Rounds};
 fn count_change(counts: &mut [usize], change: &Change)
     requires { (s : Switch) → s.0 < length counts.old → slice_index_or counts.old s.0 0 < 2 ^ 63 }
     ensures { (s : Switch) → s.0 < length counts.old
-        → slice_index_or counts.new s.0 0 ≡ slice_index_or counts.old s.0 0 + length (changes_at s (change.now ∷ [])) }
+        → slice_index_or counts.new s.0 0
+        ≡ slice_index_or counts.old s.0 0 + length (changes_at s (change.now ∷ [])) }
 {
     let i = change.switch().0 as usize;
     if i < counts.len() {
@@ -29,8 +30,10 @@ fn count_change(counts: &mut [usize], change: &Change)
 
 /// For each switch how many changes a round has there.
 fn count_round(counts: &mut [usize], round: &[Change])
-    ensures counted { (s : Switch) → s.0 < length counts.old → slice_index_or counts.new s.0 0 ≡ length (changes_at s round.now) }
-    ensures few { (s : Switch) → s.0 < length counts.old → slice_index_or counts.new s.0 0 < 2 ^ 63 }
+    ensures counted { (s : Switch) → s.0 < length counts.old → slice_index_or counts.new s.0 0
+        ≡ length (changes_at s round.now) }
+    ensures few { (s : Switch) → s.0 < length counts.old
+        → slice_index_or counts.new s.0 0 < 2 ^ 63 }
 {
     counts.fill(0);
     for change in round {
@@ -42,7 +45,8 @@ fn count_round(counts: &mut [usize], round: &[Change])
 fn raise(numbers: &mut [usize], others: &[usize])
     requires { length numbers.old ≡ length others.now }
     ensures { (i : ℕ) → i < length others.now
-        → slice_index_or numbers.new i 0 ≡ max (slice_index_or numbers.old i 0) (slice_index_or others.now i 0) }
+        → slice_index_or numbers.new i 0
+        ≡ max (slice_index_or numbers.old i 0) (slice_index_or others.now i 0) }
 {
     for (i, other) in others.iter().enumerate() {
         numbers[i] = numbers[i].max(*other);
@@ -52,8 +56,10 @@ fn raise(numbers: &mut [usize], others: &[usize])
 /// For each switch the most changes that a round has there.
 fn counts_of(alloc: Global, switches: u32, rounds: &Rounds) -> Result<Vec<usize>, Memory>
     ensures len { IfOk result (λ counts. length counts.items ≡ switches) }
-    ensures counted { IfOk result (λ counts. AreCounted counts.items (length rounds.now) rounds.now) }
-    ensures few { IfOk result (λ counts. (s : Switch) → s.0 < switches → slice_index_or counts.items s.0 0 < 2 ^ 63) }
+    ensures counted { IfOk result
+        (λ counts. AreCounted counts.items (length rounds.now) rounds.now) }
+    ensures few { IfOk result
+        (λ counts. (s : Switch) → s.0 < switches → slice_index_or counts.items s.0 0 < 2 ^ 63) }
 {
     let mut most = vec![in alloc; 0usize; switches as usize]?;
     let mut counts = vec![in alloc; 0usize; switches as usize]?;
@@ -150,7 +156,8 @@ fn roomy_rounds(
     ensures mixes { IfOk result (λ r. length r.0.items ≡ switch_count net.now) }
     ensures lists { IfOk result (λ r. length r.1.items ≡ switch_count net.now) }
     ensures for_marks { IfOk result (λ r. (s : Switch) (k : ℕ) → s.0 < switch_count net.now
-        → limit_at limits.now s + length (changes_at s (round_after k rounds.now)) ≤ (mix_at r.0.items s).room) }
+        → limit_at limits.now s + length
+        (changes_at s (round_after k rounds.now)) ≤ (mix_at r.0.items s).room) }
     ensures for_changes { IfOk result (λ r. (s : Switch) (k : ℕ) → s.0 < switch_count net.now
         → length (changes_at s (round_after k rounds.now)) ≤ (list_at r.1.items s).room) }
 {

@@ -48,8 +48,11 @@ impl PreparedTables {
         requires applies { Applies (rules_of_all self.old.tables) change.now }
         ensures rules { rules_of_all self.new.tables ≡ rules_of_all self.old.tables }
         ensures beside { IsSettledBeside net.now (switch_of change.now) self.new }
-        ensures yes { result ≡ true → IsMixed (rules_there self.new.tables (switch_of change.now)) (change.now ∷ []) (mix_at self.new.mixes (switch_of change.now)) }
-        ensures no { result ≡ false → ¬ AreClear (rules_there self.new.tables (switch_of change.now)) (change.now ∷ []) }
+        ensures yes { result ≡ true
+            → IsMixed (rules_there self.new.tables (switch_of change.now)) (change.now ∷ [])
+            (mix_at self.new.mixes (switch_of change.now)) }
+        ensures no { result ≡ false
+            → ¬ AreClear (rules_there self.new.tables (switch_of change.now)) (change.now ∷ []) }
         ensures alone { result ≡ false → IsSettled net.now self.new }
     {
         let switch = change.switch();
@@ -60,7 +63,8 @@ impl PreparedTables {
     /// Prepares the switch of a change, which is prepared for it, for its table alone again, as the others are.
     fn settle(&mut self, net: &Net, change: &Change)
         requires beside { IsSettledBeside net.now (switch_of change.now) self.old }
-        requires loaded { IsMixed (rules_there self.old.tables (switch_of change.now)) (change.now ∷ []) (mix_at self.old.mixes (switch_of change.now)) }
+        requires loaded { IsMixed (rules_there self.old.tables (switch_of change.now))
+            (change.now ∷ []) (mix_at self.old.mixes (switch_of change.now)) }
         ensures rules { rules_of_all self.new.tables ≡ rules_of_all self.old.tables }
         ensures settled { IsSettled net.now self.new }
     {
@@ -73,7 +77,8 @@ impl PreparedTables {
     fn is_within(&self, net: &Net, switch: SwitchId) -> bool
         requires beside { IsSettledBeside net.now switch self.now }
         requires prepared { IsSome (mix_at self.now.mixes switch).prepared }
-        ensures { (table : List Rule) (changes : List ChangeOf) → IsMixed table changes (mix_at self.now.mixes switch)
+        ensures { (table : List Rule) (changes : List ChangeOf)
+            → IsMixed table changes (mix_at self.now.mixes switch)
             → IsTrue result ↔ (entries_needed table changes ≤ capacity_of net.now switch) }
     {
         self.mixes[switch.0 as usize].most_entries() <= u64::from(net.capacity(switch))
@@ -87,7 +92,8 @@ impl PreparedTables {
         ensures rules { rules_of_all self.new.tables ≡ rules_of_all self.old.tables }
         ensures yes { result ≡ true → IsTrying net.now change.now self.new }
         ensures no { result ≡ false → IsSettled net.now self.new }
-        ensures never { result ≡ false → ¬ HasRoomAlone net.now (rules_of_all self.old.tables) change.now }
+        ensures never { result ≡ false
+            → ¬ HasRoomAlone net.now (rules_of_all self.old.tables) change.now }
     {
         if !self.load(net, change) {
             return false;
@@ -113,7 +119,9 @@ impl PreparedTables {
     /// What is prepared of its switch costs one look at each of its rules.
     pub fn keep(&mut self, net: &Net, change: &Change) -> Result<(), Memory>
         requires { IsTrying net.now change.now self.old }
-        ensures rules { OnOk result (rules_of_all self.new.tables ≡ tables_after_change change.now (rules_of_all self.old.tables)) }
+        ensures rules { OnOk result
+            (rules_of_all self.new.tables
+            ≡ tables_after_change change.now (rules_of_all self.old.tables)) }
         ensures settled { OnOk result (IsSettled net.now self.new) }
         ensures same { OnErr result (rules_of_all self.new.tables ≡ rules_of_all self.old.tables) }
         ensures trying { OnErr result (IsTrying net.now change.now self.new) }
