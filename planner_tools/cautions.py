@@ -5,7 +5,7 @@ import os
 import re
 
 from planner_tools import network as nets
-from planner_tools.faults import MEMBERS
+from planner_tools.faults import MEMBERS, OF_OTHERS
 from planner_tools.files import NotJson, did_you_mean, member_path, nearest, read_json
 
 # Files longer than this aren't looked at: a plan, and the others.
@@ -63,6 +63,12 @@ def member_cautions(kind, file):
     except (OSError, ValueError, NotJson, RecursionError):
         return []            # the program says what is wrong
     found = []
+    here = [name for name, _, _ in text.root.held] if text.root.kind == "object" else []
+    other = next((one for one, member in OF_OTHERS.items() if member in here and member not in MEMBERS[kind]), None)
+    if OF_OTHERS[kind] not in here:
+        return []            # the program refuses it for that
+    if other:
+        return [Caution(f"{file.shown}: it has `{OF_OTHERS[other]}`, as a {other} has, and is read as a {kind}: are the words in the right order?")]
     look_at_members(text, text.root, (), MEMBERS[kind], found)
     for list_name, inner in INNER[kind].items():
         for way, item in objects_in(text.root.member(list_name), (list_name,)):
@@ -134,6 +140,8 @@ def coverage_cautions(run, config):
     if status not in (0, 1):
         return undeclared_cautions(policy, network) if status == 2 and policy is not None else []
     lines = [PathLine(found) for found in map(PathLine.SHAPE.fullmatch, text.splitlines()) if found]
+    if not text.splitlines()[-1:] or not text.splitlines()[-1].startswith(f"{len(lines)} classes: "):
+        return []            # it isn't the answer that is expected
     shown = run.files[config].shown
     found = demand_cautions(policy, network, lines, shown) if policy is not None else []
     return found + free_cautions(run, lines, policy, config) + unserved_cautions(lines, network, shown)

@@ -2,6 +2,7 @@
 
 The sentences are made from the program's own text, its status, and the files. What the program says counts.
 """
+import json
 import os
 import re
 
@@ -50,8 +51,8 @@ class Explainer:
             return None
 
     def network(self):
-        json = self.json("TOPO")
-        return nets.Network(json) if json is not None else None
+        topology = self.json("TOPO")
+        return nets.Network(topology) if topology is not None else None
 
     def command(self, name, *words):
         """A command line for files of this run, as it can be typed: with the folder where they were taken from one."""
@@ -211,13 +212,14 @@ class Explainer:
             return
         wanted, least = command.words()
         usage = f"planner {command.name} {command.usage}"
-        have = len(given) - 1
+        behind = self.run.behind
+        have = len(behind)
         if have < least:
             self.voice.refuse(f"{', '.join(wanted[have:least])} {'is' if least - have == 1 else 'are'} missing", [usage])
         elif have > len(wanted):
             self.voice.refuse(f"{counted(have, 'word')} stand behind `{command.name}`, and it takes {counted(len(wanted), 'word')}", [usage, *option_lines(given)])
         else:
-            lines = [line for word, text in zip(wanted, given[1:]) for line in spelling(word, text)]
+            lines = [line for word, text in zip(wanted, behind) for line in spelling(word, text)]
             if not lines and command.name in all_words.NEW:
                 lines = [f"this program has no command `{command.name}`: it is older than the front end"]
             self.voice.refuse("; ".join(lines) or "the words are wrong", [usage])
@@ -266,25 +268,25 @@ class Explainer:
     def explain_member(self, word, kind, name, field, place):
         from planner_tools.faults import faults_of
 
-        json = self.json(word)
+        file = self.json(word)
         net = None if kind == "topology" else self.network()
         fault = None
-        if json is not None and (net is not None or kind == "topology"):
-            for one in faults_of(kind, json, net):
+        if file is not None and (net is not None or kind == "topology"):
+            for one in faults_of(kind, file, net):
                 if (one.name, one.field, one.place) == (name, field, place):
                     fault = one
                     break
         if fault is None:
             self.voice.refuse(f"{self.shown(word)}: {name} {field} at {place}".replace("  ", " "), ["docs/FORMATS.md has what these words mean"])
             return
-        value = json.at(fault.way)
+        value = file.at(fault.way)
         way = member_path(fault.way)
         is_short = value.kind not in ("object", "list") or value.end - value.start <= 60
-        subject = f"{way} is {json.shown(value)}: " if way and is_short and not fault.what.startswith("the member ") else f"{way}: " if way else ""
-        more = [f"{words}: {json.where(json.at(other).start)}, {member_path(other)} is {json.shown(json.at(other))}" for other, words in fault.others]
+        subject = f"{way} is {file.shown(value)}: " if way and is_short and not fault.what.startswith("the member ") else f"{way}: " if way else ""
+        more = [f"{words}: {file.where(file.at(other).start)}, {member_path(other)} is {file.shown(file.at(other))}" for other, words in fault.others]
         more += fault.more
         more += [f"right: {fault.right}"] if fault.right else []
-        self.voice.refuse(f"{json.where(value.start)}: {subject}{fault.what}", more)
+        self.voice.refuse(f"{file.where(value.start)}: {subject}{fault.what}", more)
 
     # ---- two phases, files that can't be read, no run, memory
 
@@ -294,14 +296,24 @@ class Explainer:
         more = []
         if net is not None:
             tags = net.json.root.member("tags")
-            more.append(f"{net.json.where(tags.start)}: tags is {net.json.shown(tags)}, of which {has} {'is' if has == 1 else 'are'} no declared VLAN")
-        self.voice.refuse(f"no order of single changes was found, and a two-phase plan needs {counted(need, 'tag')}, one for each declared VLAN; there {'is' if has == 1 else 'are'} {has}",
+            more.append(f"{net.json.where(tags.start)}: tags is {net.json.shown(tags)}"
+                        + (f", of which {has} {'is' if has == 1 else 'are'} no declared VLAN" if has else ""))
+        self.voice.refuse(f"{self.stuck_words()}, and a two-phase plan needs {counted(need, 'tag')}, one for each declared VLAN; there {'is' if has == 1 else 'are'} {has}",
                           [*more, f"Next: widen `tags` of {self.shown('TOPO')} to at least {counted(need, 'id')} from 1 to 4094 that the network uses for nothing else, or declare fewer `vlans`"])
+
+    def stuck_words(self):
+        """How far the search for an ordered plan came."""
+        found = re.search(r"^tried: (.*)$", self.run.text, re.M)
+        try:
+            rounds = len(json.loads(found[1]))
+        except (TypeError, ValueError):
+            return "no order of single changes was found"
+        return "no order of single changes was found: " + (f"behind {counted(rounds, 'round')} none is left that is safe" if rounds else "none of them is safe as the first one")
 
     def explain_small(self):
         found = re.match(r"too small: switch (\S+) need (\d+) capacity (\d+)", self.first)
         switch, need, capacity = found.groups()
-        self.voice.refuse(f"no order of single changes was found, and a two-phase plan needs room for {need} entries at {switch}, which has {capacity}",
+        self.voice.refuse(f"{self.stuck_words()}, and a two-phase plan needs room for {need} entries at {switch}, which has {capacity}",
                           [*self.capacity_lines(switch), f"Next: where the table of {switch} has that room, say so by `capacity` {need}; otherwise fewer rules there, "
                            "fewer VLANs or fewer host ports, or an update in two steps with a configuration in between"])
 

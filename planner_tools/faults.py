@@ -69,6 +69,7 @@ class Checks:
         guess = nearest(name, [one for one in here if one not in known])
         what = f"the member `{name}` is missing" + (f"; is `{guess}` meant for it?" if guess else "")
         other = next((kind for kind, member in OF_OTHERS.items() if member in here and member not in known), None)
+        other = other or ("configuration" if known is MEMBERS["plan"] and here == ["rules"] else None)
         if not way and not guess and other:
             what += f": the file looks like a {other}; are the words in the right order?"
         return Fault("Shape", field, place, way, what, known_words(name, known))
@@ -82,8 +83,10 @@ class Checks:
             return None
         return Fault("Shape", name, place, (*way, name), kind_fault(value, kinds), right)
 
-    def switch_fault(self, name, place, way, what=""):
-        return Fault("UnknownSwitch", "", place, way, f"{what}no switch is named `{name}`{did_you_mean(name, self.switch_names())}", self.names_words())
+    def switch_fault(self, name, place, way):
+        before = name.rpartition(":")[0]
+        guess = f"; did you mean `{before}`?" if before in self.switch_names() else did_you_mean(name, self.switch_names())
+        return Fault("UnknownSwitch", "", place, way, f"no switch is named `{name}`{guess}", self.names_words())
 
     def switch_names(self):
         return [one for one in self.network.names if one is not None]

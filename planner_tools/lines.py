@@ -32,6 +32,7 @@ def explain(explainer, kind, name, field, place):
         line = lines[place - 1] if place <= len(lines) else ""
         names = net.names if net is not None else []
         what, right = {"schedule": bad_event, "input": bad_input, "replies": bad_reply}[kind](line, names)
+        what += "; the file looks like JSON: are the words in the right order?" if line.strip().startswith(("{", "[")) else ""
         voice.refuse(f"{found.shown}, line {place}: {what}", [f"the line: {short(line)}" if line else "the line is empty", f"right: {right}"])
     elif name == "BadMessage":
         voice.refuse(f"{found.shown}, line {place}: {bad_message(lines[place - 1])}", ["right: the bytes of one whole statistics reply of OpenFlow 1.0; `planner collect` writes such lines"])

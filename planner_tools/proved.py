@@ -20,11 +20,11 @@ class Refusals:
     is_quiet, is_strict, output = True, False, None
 
 
-def say_why(*given):
-    """Runs the program, and says why it refuses what it is given, where it does. Returns its status and its text."""
-    run = Run(list(given), Refusals)
+def say_why(*given, good=(0,)):
+    """Runs the program, and says what its answer means where its status is no good one. Returns its status and its text."""
+    run = Run(list(map(str, given)), Refusals)
     run.capture()
-    if run.status not in (0, 1):
+    if run.status not in good:
         run.safely(run.explain)
     return run.status, run.text
 
@@ -65,7 +65,7 @@ class Run:
             self.command = words.Command(given[0] if given else "", "", "", "")
         self.program, self.files, self.spooled = None, {}, None
         self.status, self.text, self.fault, self.target = None, "", None, options.output or "the standard output"
-        self.passed, self.notes = list(given), []
+        self.passed, self.notes, self.behind = list(given), [], list(given[1:])
 
     def ask(self, *more):
         """The status and the text of another run of the program."""
@@ -82,6 +82,7 @@ class Run:
         folder = rest[0] if rest and wanted and wanted[0] == "TOPO" and os.path.isdir(rest[0]) else None
         if folder is not None:
             rest = self.unfolded(folder, wanted, least, rest[1:])
+        self.behind = [getattr(text, "typed", text) for text in rest]
         if not least <= len(rest) <= len(wanted):
             return
         for word, text in zip(wanted, rest):
@@ -93,7 +94,8 @@ class Run:
     def unfolded(folder, wanted, least, behind):
         """The words of a command whose first names are in a folder: as many as are left out stand for files of it."""
         behind = [inside(folder, word) for word in behind]
-        count = max(1, least - len(behind))
+        names = next((at for at, word in enumerate(wanted) if word not in words.FILES), len(wanted))
+        count = min(max(1, least - len(behind)), names)
         taken = [Given(path, path, folder) for path in (joined(folder, words.IN_FOLDER.get(word, "")) for word in wanted[:count])]
         rest = [*taken, *behind]
         for word in wanted[len(rest):]:

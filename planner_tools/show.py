@@ -72,7 +72,7 @@ class Shown:
 
     def ask(self, *given):
         """The text of a run of the program over files. Where it refuses them, it is said why, and it is Stop."""
-        status, text = say_why(*given)
+        status, text = say_why(*given, good=(0, 1))
         if status not in (0, 1):
             raise Stop(None, status)
         return text

@@ -47,7 +47,7 @@ PROVED = [
     Command("trace", "TOPO CONFIG ENTRY VLAN ADDRESS",
             "the way of one packet through a configuration, with the rule that it meets at each switch",
             "Writes the way of one packet through the configuration, a line a stop with the rule that counts there, and where it ends. ENTRY is a host port as "
-            "`s1:1`, VLAN `untagged` or 1 to 4094, ADDRESS the packet's destination."),
+            "`s1:1`, VLAN `untagged` or 1 to 4094, ADDRESS the packet's destination. Where the network has no such entry it says so, and refuses."),
     Command("plan", "TOPO OLD NEW POLICY",
             "a certified plan: rounds of one change each where a search for safe changes finds them, otherwise a two-phase plan, otherwise which tags or table "
             "entries are wanting",
@@ -77,8 +77,10 @@ PROVED = [
             "it entered, each stop, and whether it left, was dropped, was lost or is under way. Where an event can't happen it names the line of the first one "
             "that can't."),
     Command("tables", "TOPO OLD PLAN SCHEDULE",
-            "the rules that each switch has after the events of a recorded run of a plan",
-            "Carries out the events of the schedule as `replay` does, and writes the rules that each switch has then, in one line of JSON."),
+            "the rules that each switch has after the events of a recorded run of a plan, and the changes of the running round that aren't made yet",
+            "Carries out the events of the schedule as `replay` does, and writes, in one line of JSON, the rules that each switch has then, and the changes of "
+            "the running round that aren't made yet: a switch may have made any of these. Where an event can't happen it names the line of the first one that "
+            "can't."),
     Command("upgrade", "TOPO PLAN",
             "the plan in the newer of its two formats",
             "Writes the plan in format 2, whichever format it has."),

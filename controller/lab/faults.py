@@ -147,7 +147,7 @@ class Lab:
 
 def two_controllers(lab):
     first = lab.begin(wait="3")
-    lab.until("the mark of the update")
+    lab.until("the switches have the tables of")
     other = lab.dir / "other-switches"
     shutil.copy(lab.listed, other)
     told = lab.end_of(lab.begin(record=lab.dir / "other", listed=other, wait="0.4"))[1]
@@ -167,7 +167,7 @@ def emptied_switch(lab):
 def change_by_hand(lab):
     lab.fault_at = json.loads((lab.folder / "old.json").read_text())["rules"][0]["switch"]
     run = lab.begin(wait="1.5")
-    lab.until("the mark of the update", run)
+    lab.until("the switches have the tables of", run)
     lab.ofctl("add-flow", lab.fault_at, "priority=60000,ip,nw_dst=203.0.113.0/24,actions=drop")
     told = lab.end_of(run)[1]
     if "203.0.113.0/24" not in told:

@@ -102,7 +102,7 @@ def main(words):
         text = page(values_of(asked))
     except Refused as fault:
         print(fault, file=sys.stderr)
-        say_why(*words_of_refused(asked, str(fault)))
+        say_why(*words_of_refused(asked, str(fault)), good=(0, 1))
         return fault.status
     except program.NoProgram as fault:
         print(fault, file=sys.stderr)

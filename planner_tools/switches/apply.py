@@ -52,8 +52,8 @@ class Update(Comparison):
         self.is_marked = self.driven.begun and self.driven.settled < self.driven.rounds and self.record.is_marked and not self.options.no_mark
         self.compare()
         if not self.driven.begun:
-            self.compare_as_configuration("before", self.options.old)
             self.put_marks()
+            self.compare_as_configuration("before", self.options.old)
         self.settled_at = time.monotonic()
         while self.driven.settled < self.driven.rounds:
             self.pump()

@@ -48,7 +48,7 @@ class Comparison(Conversation):
         """Another update has put its mark on a switch."""
         if not self.options.take_over or any((name, mark) in self.taken_away for mark in others) and name not in self.owed:
             raise Stop(f"another update is at work: {name} has its mark, {'; '.join(map(str, others))}",
-                       "wait for its end. If nothing is at work with it any more, go on with --take-over, which takes its mark away")
+                       "wait for its end, then go on with --resume; where nothing is at work with it any more, --resume --take-over takes its mark away")
         for mark in others:
             self.taken_away.add((name, mark))
             say(f"{name}: the mark of the update {mark} is taken away")
@@ -172,7 +172,7 @@ class Comparison(Conversation):
         self.settled_at, self.asked = time.monotonic(), False       # packets that met it are under way
 
     def put_marks(self):
-        """Puts the mark of the update on every switch. Before the first round the tables are read again, so of two controllers one sees the other's."""
+        """Puts the mark of the update on every switch, and reads the tables again, so of two controllers one at least sees the other's mark."""
         if self.options.no_mark:
             return
         self.is_marked = True
@@ -181,6 +181,7 @@ class Comparison(Conversation):
             self.say_to(name, self.mark.put(), MARK_BARRIER)
         while self.owed:
             self.pump()
+        self.compare()
 
     def take_marks_away(self):
         if self.options.no_mark:

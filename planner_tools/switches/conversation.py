@@ -6,6 +6,7 @@ import struct
 import tempfile
 import time
 
+from planner_tools.proved import say_why
 from planner_tools.switches import openflow
 from planner_tools.switches.collect import Tables
 from planner_tools.switches.connections import OWN, Stop, lock, read_switches, say
@@ -72,6 +73,8 @@ class Conversation:
         status, text = self.ask("drive", *self.files, self.options.input)
         self.runs, self.seconds = self.runs + 1, self.seconds + time.monotonic() - before
         if status != 0:
+            if last is None:
+                say_why("drive", *self.files, self.options.input)
             raise Stop(f"`planner drive` ended with status {status}{f' and said: {text.strip()}' if text else ''}", self.after_refusal(status, text))
         self.driven, self.expected = Driven(text), None
         if last is not None and self.driven.settled > last.settled:

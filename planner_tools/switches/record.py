@@ -58,13 +58,21 @@ class Record:
                 self.file.close()
                 raise
         else:
-            self.token, self.begun = os.urandom(6), int(time.time())
-            self.token = bytes([self.token[0] & 0xFC | 2]) + self.token[1:]        # an address of one station, of nobody's assignment
-            self.add(f"# update {self.token.hex()} begun {self.begun} {head}")
+            self.begin()
+
+    def begin(self):
+        """Writes the first line. Where that can't be done there is no record."""
+        token = os.urandom(6)
+        self.token, self.begun = bytes([token[0] & 0xFC | 2]) + token[1:], int(time.time())        # an address of one station, of nobody's assignment
+        try:
+            self.add(f"# update {self.token.hex()} begun {self.begun} {self.head}")
             self.keep()
-            folder = os.open(os.path.dirname(os.path.abspath(path)), os.O_RDONLY)
+            folder = os.open(os.path.dirname(os.path.abspath(self.path)), os.O_RDONLY)
             os.fsync(folder)         # so that the file is found again, too
             os.close(folder)
+        except Stop as stop:
+            self.remove()
+            raise Stop(stop.what, f"make room on the disk of {self.path}; then begin again") from None
 
     # ---- what is there
 
@@ -72,8 +80,8 @@ class Record:
         """Reads the lines that are there. What was being written when the update was cut off is a last line without its end, or a sum without its
         line: nothing followed from it, and it goes."""
         whole = self.file.read()
-        if not whole:
-            raise Stop(f"the record {self.path} is empty: nothing was begun with it", f"remove {self.path}, and begin the update without --resume")
+        if not whole or whole.startswith(b"#1 ") and whole.count(b"\n") < 2:
+            raise Stop(f"the record {self.path} has no whole line: nothing was begun with it", f"remove {self.path}, and begin the update without --resume")
         lines = whole.decode("ascii", "replace").split("\n")[:-1]
         first = HEAD.fullmatch(lines[1]) if len(lines) > 1 and SUM.fullmatch(lines[0]) else None
         if first is None:

@@ -38,7 +38,8 @@ fn last_place(entry: Place, rest: &[Place]) -> Place
 /// The port and the VLAN of the first outcome by which a packet leaves.
 fn first_leave(outcomes: &[Outcome]) -> Option<(Port, Vlan)>
     ensures some { IfSome result (λ by. IsIn (Outcome.Leave by.0 by.1) outcomes.now) }
-    ensures none { IfNone result ((port : PortOf) (vlan : VlanOf) → ¬ IsIn (Outcome.Leave port vlan) outcomes.now) }
+    ensures none { IfNone result
+        ((port : PortOf) (vlan : VlanOf) → ¬ IsIn (Outcome.Leave port vlan) outcomes.now) }
 {
     for outcome in outcomes {
         if let Outcome::Leave(port, vlan) = *outcome {
@@ -57,7 +58,8 @@ fn leave_at(
 ) -> Result<(Port, Vlan), Memory>
     requires within { place.switch.0 < switch_count round.now.net }
     requires leaves { MayLeaveAt (alone round.now) 0 dst place }
-    ensures { IfOk result (λ by. IsPossible (alone round.now) 0 dst place (Outcome.Leave by.0 by.1)) }
+    ensures { IfOk result
+        (λ by. IsPossible (alone round.now) 0 dst place (Outcome.Leave by.0 by.1)) }
 {
     let outcomes = round.possible(alloc, place, dst)?;
     match first_leave(outcomes.list()) {
@@ -76,8 +78,15 @@ fn find_drop(
     requires number { numbered.number < class_count duties.now.classes }
     requires class { IsNumbered duties.now.classes numbered }
     requires entry { numbered.class.entry.switch.0 < switch_count round.now.net }
-    ensures some { IfOk result (λ found. IfSome found (λ w. IsBroken (alone round.now) 0 numbered.class.first numbered.class.entry (duties_of duties.now.demands numbered.class.entry numbered.class.first) w.rest w.end)) }
-    ensures none { IfOk result (λ found. IfNone found (IsNoneDropped (alone round.now) 0 numbered.class.first numbered.class.entry (duties_of duties.now.demands numbered.class.entry numbered.class.first))) }
+    ensures some { IfOk result
+        (λ found. IfSome found
+        (λ w. IsBroken (alone round.now) 0 numbered.class.first numbered.class.entry
+        (duties_of duties.now.demands numbered.class.entry numbered.class.first) w.rest
+        w.end)) }
+    ensures none { IfOk result
+        (λ found. IfNone found
+        (IsNoneDropped (alone round.now) 0 numbered.class.first numbered.class.entry
+        (duties_of duties.now.demands numbered.class.entry numbered.class.first))) }
 {
     if !duties.must_arrive(numbered.number) {
         return Ok(None);
@@ -99,8 +108,13 @@ fn find_unmet(
     chain: &[SwitchId],
 ) -> Result<Option<BreakingWalk>, Memory>
     requires { class.entry.switch.0 < switch_count round.now.net }
-    ensures some { IfOk result (λ found. IfSome found (λ w. (d : PacketDuties) → IsIn chain.now d.chains → IsBroken (alone round.now) 0 class.first class.entry d w.rest w.end)) }
-    ensures none { IfOk result (λ found. IfNone found (IsNoneFound (alone round.now) 0 class.first class.entry chain.now Aim.LeaveUnmet)) }
+    ensures some { IfOk result
+        (λ found. IfSome found
+        (λ w. (d : PacketDuties) → IsIn chain.now d.chains
+        → IsBroken (alone round.now) 0 class.first class.entry d w.rest w.end)) }
+    ensures none { IfOk result
+        (λ found. IfNone found
+        (IsNoneFound (alone round.now) 0 class.first class.entry chain.now Aim.LeaveUnmet)) }
 {
     match find(alloc, round, class, chain, Aim::LeaveUnmet)? {
         Some(rest) => {
@@ -126,8 +140,15 @@ fn find_miss(
     requires number { numbered.number < class_count duties.now.classes }
     requires class { IsNumbered duties.now.classes numbered }
     requires entry { numbered.class.entry.switch.0 < switch_count round.now.net }
-    ensures some { IfOk result (λ found. IfSome found (λ w. IsBroken (alone round.now) 0 numbered.class.first numbered.class.entry (duties_of duties.now.demands numbered.class.entry numbered.class.first) w.rest w.end)) }
-    ensures none { IfOk result (λ found. IfNone found (IsNoneUnmet (alone round.now) 0 numbered.class.first numbered.class.entry (duties_of duties.now.demands numbered.class.entry numbered.class.first))) }
+    ensures some { IfOk result
+        (λ found. IfSome found
+        (λ w. IsBroken (alone round.now) 0 numbered.class.first numbered.class.entry
+        (duties_of duties.now.demands numbered.class.entry numbered.class.first) w.rest
+        w.end)) }
+    ensures none { IfOk result
+        (λ found. IfNone found
+        (IsNoneUnmet (alone round.now) 0 numbered.class.first numbered.class.entry
+        (duties_of duties.now.demands numbered.class.entry numbered.class.first))) }
 {
     for i in 0..duties.chains(numbered.number) {
         let found = find_unmet(
@@ -150,8 +171,14 @@ fn find_repeat(
     class: Class,
 ) -> Result<Option<BreakingWalk>, Memory>
     requires { class.entry.switch.0 < switch_count round.now.net }
-    ensures some { IfOk result (λ found. IfSome found (λ w. (d : PacketDuties) → IsBroken (alone round.now) 0 class.first class.entry d w.rest w.end)) }
-    ensures none { IfOk result (λ found. IfNone found (IsNoneTwice (alone round.now) 0 class.first class.entry (switch_count round.now.net))) }
+    ensures some { IfOk result
+        (λ found. IfSome found
+        (λ w. (d : PacketDuties)
+        → IsBroken (alone round.now) 0 class.first class.entry d w.rest w.end)) }
+    ensures none { IfOk result
+        (λ found. IfNone found
+        (IsNoneTwice (alone round.now) 0 class.first class.entry
+        (switch_count round.now.net))) }
 {
     for i in 0..round.net().switches() {
         let switch = SwitchId(i);
@@ -175,9 +202,17 @@ fn find_seen_drop(
     requires number { numbered.number < class_count duties.now.classes }
     requires class { IsNumbered duties.now.classes numbered }
     requires entry { numbered.class.entry.switch.0 < switch_count round.now.net }
-    requires seen { seen.may_drop ≡ false → NeverDrops (alone round.now) 0 numbered.class.first numbered.class.entry }
-    ensures some { IfOk result (λ found. IfSome found (λ w. IsBroken (alone round.now) 0 numbered.class.first numbered.class.entry (duties_of duties.now.demands numbered.class.entry numbered.class.first) w.rest w.end)) }
-    ensures none { IfOk result (λ found. IfNone found (IsNoneDropped (alone round.now) 0 numbered.class.first numbered.class.entry (duties_of duties.now.demands numbered.class.entry numbered.class.first))) }
+    requires seen { seen.may_drop ≡ false
+        → NeverDrops (alone round.now) 0 numbered.class.first numbered.class.entry }
+    ensures some { IfOk result
+        (λ found. IfSome found
+        (λ w. IsBroken (alone round.now) 0 numbered.class.first numbered.class.entry
+        (duties_of duties.now.demands numbered.class.entry numbered.class.first) w.rest
+        w.end)) }
+    ensures none { IfOk result
+        (λ found. IfNone found
+        (IsNoneDropped (alone round.now) 0 numbered.class.first numbered.class.entry
+        (duties_of duties.now.demands numbered.class.entry numbered.class.first))) }
 {
     if !seen.may_drop {
         return Ok(None);
@@ -194,8 +229,14 @@ fn find_seen_repeat(
 ) -> Result<Option<BreakingWalk>, Memory>
     requires entry { class.entry.switch.0 < switch_count round.now.net }
     requires seen { seen.falls ≡ true → NeverRepeats (alone round.now) 0 class.first class.entry }
-    ensures some { IfOk result (λ found. IfSome found (λ w. (d : PacketDuties) → IsBroken (alone round.now) 0 class.first class.entry d w.rest w.end)) }
-    ensures none { IfOk result (λ found. IfNone found (IsNoneTwice (alone round.now) 0 class.first class.entry (switch_count round.now.net))) }
+    ensures some { IfOk result
+        (λ found. IfSome found
+        (λ w. (d : PacketDuties)
+        → IsBroken (alone round.now) 0 class.first class.entry d w.rest w.end)) }
+    ensures none { IfOk result
+        (λ found. IfNone found
+        (IsNoneTwice (alone round.now) 0 class.first class.entry
+        (switch_count round.now.net))) }
 {
     if seen.falls {
         return Ok(None);
@@ -214,8 +255,15 @@ pub(crate) fn find_breaking(
     requires number { numbered.number < class_count duties.now.classes }
     requires class { IsNumbered duties.now.classes numbered }
     requires entry { numbered.class.entry.switch.0 < switch_count round.now.net }
-    ensures some { IfOk result (λ found. IfSome found (λ w. IsBroken (alone round.now) 0 numbered.class.first numbered.class.entry (duties_of duties.now.demands numbered.class.entry numbered.class.first) w.rest w.end)) }
-    ensures none { IfOk result (λ found. IfNone found (¬ HasBreakingWalk (alone round.now) 0 numbered.class.first numbered.class.entry (duties_of duties.now.demands numbered.class.entry numbered.class.first))) }
+    ensures some { IfOk result
+        (λ found. IfSome found
+        (λ w. IsBroken (alone round.now) 0 numbered.class.first numbered.class.entry
+        (duties_of duties.now.demands numbered.class.entry numbered.class.first) w.rest
+        w.end)) }
+    ensures none { IfOk result
+        (λ found. IfNone found
+        (¬ HasBreakingWalk (alone round.now) 0 numbered.class.first numbered.class.entry
+        (duties_of duties.now.demands numbered.class.entry numbered.class.first))) }
 {
     let seen = look_over(alloc, round, numbered.class)?;
     let dropped = find_seen_drop(alloc, round, duties, numbered, seen)?;

@@ -31,7 +31,8 @@ fn front(places: &[Place], count: usize) -> &[Place]
 /// Whether the switch of place `i` after the entry stands earlier.
 fn is_repeat(entry: Place, rest: &[Place], i: usize) -> bool
     requires { i < length rest.now }
-    ensures { (place : PlaceOf) → slice_get rest.now i ≡ Some place → IsTrue result ↔ IsIn place.switch (switches_along entry (take i rest.now)) }
+    ensures { (place : PlaceOf) → slice_get rest.now i ≡ Some place → IsTrue result
+        ↔ IsIn place.switch (switches_along entry (take i rest.now)) }
 {
     let switch = rest[i].switch;
     if entry.switch.0 == switch.0 {
@@ -42,7 +43,8 @@ fn is_repeat(entry: Place, rest: &[Place], i: usize) -> bool
 
 /// The first place after the entry whose switch stands earlier, by its position from 0.
 fn first_repeat(entry: Place, rest: &[Place]) -> Option<usize>
-    ensures { MatchOption result (IsDistinct (switches_along entry rest.now)) (λ i. IsFirstRepeat entry rest.now i) }
+    ensures { MatchOption result (IsDistinct (switches_along entry rest.now))
+        (λ i. IsFirstRepeat entry rest.now i) }
 {
     for i in 0..rest.len() {
         if is_repeat(entry, rest, i) {
@@ -62,7 +64,8 @@ fn first_places(alloc: Global, places: &[Place], count: usize) -> Result<ListOf<
 
 /// The walk up to the first place whose switch stands earlier; the whole walk where no switch stands twice.
 pub(crate) fn cut(alloc: Global, entry: Place, walk: BreakingWalk) -> Result<BreakingWalk, Memory>
-    ensures { (u : Rollout) (k dst : ℕ) (duties : PacketDuties) → IsBroken u k dst entry duties walk.rest walk.end
+    ensures { (u : Rollout) (k dst : ℕ) (duties : PacketDuties)
+        → IsBroken u k dst entry duties walk.rest walk.end
         → IfOk result (λ w. IsBreakingWalk u k dst entry duties w.rest w.end) }
 {
     match first_repeat(entry, walk.rest.list()) {

@@ -42,8 +42,15 @@ pub fn breaking_walk(
     requires number { numbered.number < class_count duties.now.classes }
     requires class { IsNumbered duties.now.classes numbered }
     requires entry { numbered.class.entry.switch.0 < switch_count round.now.net }
-    ensures some { IfOk result (λ found. IfSome found (λ w. IsBreakingWalk (alone round.now) 0 numbered.class.first numbered.class.entry (duties_of duties.now.demands numbered.class.entry numbered.class.first) w.rest w.end)) }
-    ensures none { IfOk result (λ found. IfNone found (¬ HasBreakingWalk (alone round.now) 0 numbered.class.first numbered.class.entry (duties_of duties.now.demands numbered.class.entry numbered.class.first))) }
+    ensures some { IfOk result
+        (λ found. IfSome found
+        (λ w. IsBreakingWalk (alone round.now) 0 numbered.class.first numbered.class.entry
+        (duties_of duties.now.demands numbered.class.entry numbered.class.first) w.rest
+        w.end)) }
+    ensures none { IfOk result
+        (λ found. IfNone found
+        (¬ HasBreakingWalk (alone round.now) 0 numbered.class.first numbered.class.entry
+        (duties_of duties.now.demands numbered.class.entry numbered.class.first))) }
 {
     match find_breaking(alloc, round, duties, numbered)? {
         Some(walk) => Ok(Some(cut(alloc, numbered.class.entry, walk)?)),

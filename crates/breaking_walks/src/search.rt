@@ -98,8 +98,12 @@ pub(crate) fn find(
     aim: Aim,
 ) -> Result<Option<ListOf<Place>>, Memory>
     requires { class.entry.switch.0 < switch_count round.now.net }
-    ensures some { IfOk result (λ found. IfSome found (λ rest. IsFound (alone round.now) 0 class.first class.entry chain.now aim rest)) }
-    ensures none { IfOk result (λ found. IfNone found (IsNoneFound (alone round.now) 0 class.first class.entry chain.now aim)) }
+    ensures some { IfOk result
+        (λ found. IfSome found
+        (λ rest. IsFound (alone round.now) 0 class.first class.entry chain.now aim rest)) }
+    ensures none { IfOk result
+        (λ found. IfNone found
+        (IsNoneFound (alone round.now) 0 class.first class.entry chain.now aim)) }
 {
     round.net().keeps_rules();
     let met = met_after(chain, 0, class.entry.switch);

@@ -82,7 +82,8 @@ fn are_falling(numbers: &[u32], edges: &[Edge]) -> bool
 
 /// Whether there are numbers that fall along each step: they are raised as often as there are switches, at most.
 fn have_falling(alloc: Global, switches: u32, edges: &[Edge]) -> Result<bool, Memory>
-    ensures { IfOk result (λ found. found ≡ true → (numbers : List ℕ) × Falls (IsEdge edges.now) numbers) }
+    ensures { IfOk result
+        (λ found. found ≡ true → (numbers : List ℕ) × Falls (IsEdge edges.now) numbers) }
 {
     let mut numbers = vec![in alloc; 0; switches as usize]?;
     for _ in 0..switches {
@@ -108,8 +109,10 @@ pub(crate) fn look_over(
     class: Class,
 ) -> Result<Survey, Memory>
     requires { class.entry.switch.0 < switch_count round.now.net }
-    ensures drops { IfOk result (λ seen. seen.may_drop ≡ false → NeverDrops (alone round.now) 0 class.first class.entry) }
-    ensures falls { IfOk result (λ seen. seen.falls ≡ true → NeverRepeats (alone round.now) 0 class.first class.entry) }
+    ensures drops { IfOk result
+        (λ seen. seen.may_drop ≡ false → NeverDrops (alone round.now) 0 class.first class.entry) }
+    ensures falls { IfOk result
+        (λ seen. seen.falls ≡ true → NeverRepeats (alone round.now) 0 class.first class.entry) }
 {
     round.net().keeps_rules();
     let place = class.entry;

@@ -113,7 +113,9 @@ fn at_switch_with(
     word: &str,
     number: u64,
 ) -> Result<Vec<u8>, Memory>
-    ensures { IfOk result (λ t. t.items ≡ lines.at_switch net.now switch ++ codes " " ++ word.now ++ codes " " ++ decimal number) }
+    ensures { IfOk result
+        (λ t. t.items ≡ lines.at_switch net.now switch ++ codes " " ++ word.now ++ codes " "
+        ++ decimal number) }
 {
     let name = switch_name(net, switch);
     Ok(format!(in alloc; " switch {name} {word} {number}")?.into_bytes())
@@ -126,7 +128,9 @@ fn at_waypoint(
     waypoint: SwitchId,
     switch: SwitchId,
 ) -> Result<Vec<u8>, Memory>
-    ensures { IfOk result (λ t. t.items ≡ codes " waypoint " ++ words.switch_name net.now waypoint ++ lines.at_switch net.now switch) }
+    ensures { IfOk result
+        (λ t. t.items ≡ codes " waypoint " ++ words.switch_name net.now waypoint
+        ++ lines.at_switch net.now switch) }
 {
     let waypoint = switch_name(net, waypoint);
     let name = switch_name(net, switch);
@@ -191,7 +195,9 @@ fn add_reason(
     class: Option<Class>,
     reason: Reason,
 ) -> Result<(), Memory>
-    ensures { OnOk result (text.new.items ≡ text.old.items ++ lines.reason_head reason ++ lines.at_class net.now class ++ lines.reason_tail net.now reason) }
+    ensures { OnOk result
+        (text.new.items ≡ text.old.items ++ lines.reason_head reason ++ lines.at_class net.now class
+        ++ lines.reason_tail net.now reason) }
 {
     text.extend_from_slice(&reason_head(alloc, reason)?)?;
     text.extend_from_slice(&at_class(alloc, net, class)?)?;

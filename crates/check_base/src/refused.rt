@@ -20,7 +20,9 @@ pub fn refused_reply(
     class: Option<Class>,
     reason: Reason,
 ) -> Result<Reply, Memory>
-    ensures { IfOk result (λ r. answer_of r ≡ record { status = Status.Refused; text = lines.refused_line net.now class reason }) }
+    ensures { IfOk result
+        (λ r. answer_of r
+        ≡ record { status = Status.Refused; text = lines.refused_line net.now class reason }) }
 {
     Ok(Reply {
         status: Status::Refused,

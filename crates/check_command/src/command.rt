@@ -22,7 +22,9 @@ fn say_verdict(alloc: Global, files: &UpdateFiles, plan: &Plan) -> Result<Reply,
     requires old { IsUserConfig files.now.net (rules_of_all files.now.old) }
     requires new { IsUserConfig files.now.net (rules_of_all files.now.new) }
     requires valid { IsValidPlan files.now.net plan.now }
-    ensures said { IfOk result (λ r. IsCheckAnswer (record { update = meaning_of files.now; plan = plan.now }) (answer_of r)) }
+    ensures said { IfOk result
+        (λ r. IsCheckAnswer (record { update = meaning_of files.now; plan = plan.now })
+        (answer_of r)) }
     ensures stops { IfErr result (λ e. e ≡ Exit.Memory) }
 {
     Ok(plan_verdict(alloc, files, plan)?)
@@ -38,9 +40,13 @@ fn check_plan<S: Source>(
     requires old { IsUserConfig files.now.net (rules_of_all files.now.old) }
     requires new { IsUserConfig files.now.net (rules_of_all files.now.new) }
     ensures leads { IfOk result (λ r. (last : Option FileRead)
-        → LeadsTo IsCheckAnswer (S.held source.old) last (reading_plan_of (meaning_of files.now) name.now) (answer_of r) (S.selected source.new) (S.taken source.new)) }
+        → LeadsTo IsCheckAnswer (S.held source.old) last
+        (reading_plan_of (meaning_of files.now) name.now) (answer_of r) (S.selected source.new)
+        (S.taken source.new)) }
     ensures stops { IfErr result (λ e. (last : Option FileRead)
-        → EndsEarly (S.held source.old) last (reading_plan_of (meaning_of files.now) name.now) (S.faults source.old) (S.faults source.new) e (S.selected source.new) (S.taken source.new)) }
+        → EndsEarly (S.held source.old) last (reading_plan_of (meaning_of files.now) name.now)
+        (S.faults source.old) (S.faults source.new) e (S.selected source.new)
+        (S.taken source.new)) }
     ensures held { S.held source.new ≡ S.held source.old }
     ensures later { S.faults source.old ≤ S.faults source.new }
 {
@@ -57,7 +63,8 @@ pub fn check<S: Source>(
     names: &CheckNames<'_>,
 ) -> Result<Reply, Exit>
     ensures meets { Meets IsCheckAnswer (S.held source.old) (check_dialogue (names_seen names.now))
-        (S.faults source.old) (S.faults source.new) result (S.selected source.new) (S.taken source.new) }
+        (S.faults source.old) (S.faults source.new) result (S.selected source.new)
+        (S.taken source.new) }
     ensures held { S.held source.new ≡ S.held source.old }
     ensures later { S.faults source.old ≤ S.faults source.new }
 {

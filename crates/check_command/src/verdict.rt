@@ -21,7 +21,13 @@ use plan_checker::{CheckRoom, RoomFault, Verdict};
 use std::alloc::Global;
 
 fn accepted_reply(alloc: Global, plan: &Plan, classes: u32) -> Result<Reply, Memory>
-    ensures { IfOk result (λ r. answer_of r ≡ record { status = Status.Done; text = lines.accepted_line plan.now.evidence (length plan.now.rounds) classes }) }
+    ensures { IfOk result
+        (λ r. answer_of r
+        ≡ record {
+          status = Status.Done;
+          text = lines.accepted_line plan.now.evidence
+              (length plan.now.rounds) classes;
+        }) }
 {
     Ok(Reply {
         status: Status::Done,
@@ -41,7 +47,9 @@ fn judge_plan(
     requires valid { IsValidPlan files.now.net plan.now }
     requires fits { Fits (task_for (meaning_of files.now) plan.now) room.old }
     requires few { class_count (classes_for (task_for (meaning_of files.now) plan.now)) ≤ 8192 }
-    ensures { IfOk result (λ r. IsPlanVerdict (task_for (meaning_of files.now) plan.now) plan.now.evidence (answer_of r)) }
+    ensures { IfOk result
+        (λ r. IsPlanVerdict (task_for (meaning_of files.now) plan.now) plan.now.evidence
+        (answer_of r)) }
 {
     let verdict = plan_checker::check(
         &files.net,
@@ -65,7 +73,9 @@ pub(crate) fn plan_verdict(alloc: Global, files: &UpdateFiles, plan: &Plan) -> R
     requires old { IsUserConfig files.now.net (rules_of_all files.now.old) }
     requires new { IsUserConfig files.now.net (rules_of_all files.now.new) }
     requires valid { IsValidPlan files.now.net plan.now }
-    ensures { IfOk result (λ r. IsPlanVerdict (task_for (meaning_of files.now) plan.now) plan.now.evidence (answer_of r)) }
+    ensures { IfOk result
+        (λ r. IsPlanVerdict (task_for (meaning_of files.now) plan.now) plan.now.evidence
+        (answer_of r)) }
 {
     match CheckRoom::make(
         alloc,

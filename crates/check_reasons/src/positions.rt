@@ -14,7 +14,10 @@ use waypoint_evidence::Before;
 pub fn has_positions(duties: &Duties, numbered: NumberedClass, count: usize) -> bool
     requires number { numbered.number < class_count duties.now.classes }
     requires class { IsNumbered duties.now.classes numbered }
-    ensures { IsTrue result ↔ (count ≡ position_count (duties_of duties.now.demands numbered.class.entry numbered.class.first).chains) }
+    ensures { IsTrue result
+        ↔ (count
+        ≡ position_count
+        (duties_of duties.now.demands numbered.class.entry numbered.class.first).chains) }
 {
     let number = numbered.number;
     let mut left = count;

@@ -37,9 +37,11 @@ pub fn fetch_file<S: Source>(
 ) -> Result<Vec<u8>, Exit>
     ensures file { IfOk result (λ v. IsFile (S.held source.old) name.now v.items) }
     ensures within { IfOk result (λ v. length v.items ≤ limit_of kind) }
-    ensures whole { OnOk result (IsWhole (Some (file_read kind name.now)) (S.selected source.new) (S.taken source.new)) }
+    ensures whole { OnOk result
+        (IsWhole (Some (file_read kind name.now)) (S.selected source.new) (S.taken source.new)) }
     ensures stops { IfErr result (λ e. (last : Option FileRead)
-        → EndsEarly (S.held source.old) last (Reads kind name.now Ends) (S.faults source.old) (S.faults source.new) e (S.selected source.new) (S.taken source.new)) }
+        → EndsEarly (S.held source.old) last (Reads kind name.now Ends) (S.faults source.old)
+        (S.faults source.new) e (S.selected source.new) (S.taken source.new)) }
     ensures held { S.held source.new ≡ S.held source.old }
     ensures later { S.faults source.old ≤ S.faults source.new }
 {

@@ -35,11 +35,16 @@ pub fn read_plan_files<S: Source>(
     names: &PlanNames<'_>,
 ) -> Result<PlanFiles, Exit>
     ensures gives { IfOk result (λ v. (last : Option FileRead)
-        → Gives (S.held source.old) last (reading_plan_files (plan_names_seen names.now)) (plan_meaning_of v) (Some (file_read FileKind.Plan names.now.plan.now))) }
+        → Gives (S.held source.old) last (reading_plan_files (plan_names_seen names.now))
+        (plan_meaning_of v) (Some (file_read FileKind.Plan names.now.plan.now))) }
     ensures valid { IfOk result (λ v. IsValidPlan v.net v.plan) }
-    ensures whole { OnOk result (IsWhole (Some (file_read FileKind.Plan names.now.plan.now)) (S.selected source.new) (S.taken source.new)) }
+    ensures whole { OnOk result
+        (IsWhole (Some (file_read FileKind.Plan names.now.plan.now)) (S.selected source.new)
+        (S.taken source.new)) }
     ensures stops { IfErr result (λ e. (last : Option FileRead)
-        → EndsEarly (S.held source.old) last (reading_plan_files (plan_names_seen names.now)) (S.faults source.old) (S.faults source.new) e (S.selected source.new) (S.taken source.new)) }
+        → EndsEarly (S.held source.old) last (reading_plan_files (plan_names_seen names.now))
+        (S.faults source.old) (S.faults source.new) e (S.selected source.new)
+        (S.taken source.new)) }
     ensures held { S.held source.new ≡ S.held source.old }
     ensures later { S.faults source.old ≤ S.faults source.new }
 {

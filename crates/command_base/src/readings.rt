@@ -57,7 +57,8 @@ fn network_of(alloc: Global, bytes: &[u8]) -> Result<Net, Exit>
 fn configuration_of(alloc: Global, kind: FileKind, net: &Net, bytes: &[u8]) -> Result<Config, Exit>
     ensures ok { IfOk result (λ c. configuration_in net.now bytes.now ≡ Ok (rules_of_all c)) }
     ensures user { IfOk result (λ c. IsUserConfig net.now (rules_of_all c)) }
-    ensures bad { IfErr result (λ e. IsBad kind config_words (configuration_in net.now bytes.now) e) }
+    ensures bad { IfErr result
+        (λ e. IsBad kind config_words (configuration_in net.now bytes.now) e) }
 {
     match read_config(alloc, net, bytes) {
         Ok(config) => Ok(config),
@@ -69,7 +70,8 @@ fn configuration_of(alloc: Global, kind: FileKind, net: &Net, bytes: &[u8]) -> R
 /// The policy that the bytes mean.
 fn demands_of(alloc: Global, net: &Net, bytes: &[u8]) -> Result<Demands, Exit>
     ensures ok { IfOk result (λ d. demands_in net.now bytes.now ≡ Ok d) }
-    ensures bad { IfErr result (λ e. IsBad FileKind.Policy demand_words (demands_in net.now bytes.now) e) }
+    ensures bad { IfErr result
+        (λ e. IsBad FileKind.Policy demand_words (demands_in net.now bytes.now) e) }
 {
     match read_demands(alloc, net, bytes) {
         Ok(demands) => Ok(demands),
@@ -98,10 +100,14 @@ fn plan_of(alloc: Global, net: &Net, bytes: &[u8]) -> Result<Plan, Exit>
 /// A file that can't be read, that is too long or whose bytes mean no topology, with its line; or want of memory.
 pub fn read_topology<S: Source>(alloc: Global, source: &mut S, name: &str) -> Result<Net, Exit>
     ensures gives { IfOk result (λ v. (last : Option FileRead)
-        → Gives (S.held source.old) last (reading_topology name.now) v (Some (file_read FileKind.Topology name.now))) }
-    ensures whole { OnOk result (IsWhole (Some (file_read FileKind.Topology name.now)) (S.selected source.new) (S.taken source.new)) }
+        → Gives (S.held source.old) last (reading_topology name.now) v
+        (Some (file_read FileKind.Topology name.now))) }
+    ensures whole { OnOk result
+        (IsWhole (Some (file_read FileKind.Topology name.now)) (S.selected source.new)
+        (S.taken source.new)) }
     ensures stops { IfErr result (λ e. (last : Option FileRead)
-        → EndsEarly (S.held source.old) last (reading_topology name.now) (S.faults source.old) (S.faults source.new) e (S.selected source.new) (S.taken source.new)) }
+        → EndsEarly (S.held source.old) last (reading_topology name.now) (S.faults source.old)
+        (S.faults source.new) e (S.selected source.new) (S.taken source.new)) }
     ensures held { S.held source.new ≡ S.held source.old }
     ensures later { S.faults source.old ≤ S.faults source.new }
 {
@@ -122,11 +128,15 @@ pub fn read_configuration<S: Source>(
     name: &str,
 ) -> Result<Config, Exit>
     ensures gives { IfOk result (λ v. (last : Option FileRead)
-        → Gives (S.held source.old) last (reading_config kind net.now name.now) (rules_of_all v) (Some (file_read kind name.now))) }
+        → Gives (S.held source.old) last (reading_config kind net.now name.now) (rules_of_all v)
+        (Some (file_read kind name.now))) }
     ensures user { IfOk result (λ v. IsUserConfig net.now (rules_of_all v)) }
-    ensures whole { OnOk result (IsWhole (Some (file_read kind name.now)) (S.selected source.new) (S.taken source.new)) }
+    ensures whole { OnOk result
+        (IsWhole (Some (file_read kind name.now)) (S.selected source.new) (S.taken source.new)) }
     ensures stops { IfErr result (λ e. (last : Option FileRead)
-        → EndsEarly (S.held source.old) last (reading_config kind net.now name.now) (S.faults source.old) (S.faults source.new) e (S.selected source.new) (S.taken source.new)) }
+        → EndsEarly (S.held source.old) last (reading_config kind net.now name.now)
+        (S.faults source.old) (S.faults source.new) e (S.selected source.new)
+        (S.taken source.new)) }
     ensures held { S.held source.new ≡ S.held source.old }
     ensures later { S.faults source.old ≤ S.faults source.new }
 {
@@ -146,11 +156,19 @@ pub fn read_policy<S: Source>(
     name: Option<&str>,
 ) -> Result<Demands, Exit>
     ensures gives { let file = option_map (λ n. n.now) name.entry in
-        IfOk result (λ v. (last : Option FileRead) → Gives (S.held source.old) last (reading_policy net.now file) v (after_policy file last)) }
-    ensures whole { (last : Option FileRead) → IsWhole last (S.selected source.old) (S.taken source.old)
-        → OnOk result (IsWhole (after_policy (option_map (λ n. n.now) name.entry) last) (S.selected source.new) (S.taken source.new)) }
+        IfOk result
+        (λ v. (last : Option FileRead)
+        → Gives (S.held source.old) last (reading_policy net.now file) v
+        (after_policy file last)) }
+    ensures whole { (last : Option FileRead)
+        → IsWhole last (S.selected source.old) (S.taken source.old)
+        → OnOk result
+        (IsWhole (after_policy (option_map (λ n. n.now) name.entry) last) (S.selected source.new)
+        (S.taken source.new)) }
     ensures stops { IfErr result (λ e. (last : Option FileRead)
-        → EndsEarly (S.held source.old) last (reading_policy net.now (option_map (λ n. n.now) name.entry)) (S.faults source.old) (S.faults source.new) e (S.selected source.new) (S.taken source.new)) }
+        → EndsEarly (S.held source.old) last
+        (reading_policy net.now (option_map (λ n. n.now) name.entry)) (S.faults source.old)
+        (S.faults source.new) e (S.selected source.new) (S.taken source.new)) }
     ensures held { S.held source.new ≡ S.held source.old }
     ensures later { S.faults source.old ≤ S.faults source.new }
 {
@@ -175,11 +193,15 @@ pub fn read_plan_file<S: Source>(
     name: &str,
 ) -> Result<Plan, Exit>
     ensures gives { IfOk result (λ v. (last : Option FileRead)
-        → Gives (S.held source.old) last (reading_plan net.now name.now) v (Some (file_read FileKind.Plan name.now))) }
+        → Gives (S.held source.old) last (reading_plan net.now name.now) v
+        (Some (file_read FileKind.Plan name.now))) }
     ensures valid { IfOk result (IsValidPlan net.now) }
-    ensures whole { OnOk result (IsWhole (Some (file_read FileKind.Plan name.now)) (S.selected source.new) (S.taken source.new)) }
+    ensures whole { OnOk result
+        (IsWhole (Some (file_read FileKind.Plan name.now)) (S.selected source.new)
+        (S.taken source.new)) }
     ensures stops { IfErr result (λ e. (last : Option FileRead)
-        → EndsEarly (S.held source.old) last (reading_plan net.now name.now) (S.faults source.old) (S.faults source.new) e (S.selected source.new) (S.taken source.new)) }
+        → EndsEarly (S.held source.old) last (reading_plan net.now name.now) (S.faults source.old)
+        (S.faults source.new) e (S.selected source.new) (S.taken source.new)) }
     ensures held { S.held source.new ≡ S.held source.old }
     ensures later { S.faults source.old ≤ S.faults source.new }
 {

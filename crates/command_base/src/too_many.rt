@@ -11,7 +11,8 @@ use std::alloc::Global;
 
 /// The reply on more classes than are allowed.
 pub fn too_many_reply(alloc: Global, classes: u64) -> Result<Reply, Memory>
-    ensures { IfOk result (λ r. answer_of r ≡ record { status = Status.BadFile; text = lines.classes_line classes }) }
+    ensures { IfOk result
+        (λ r. answer_of r ≡ record { status = Status.BadFile; text = lines.classes_line classes }) }
 {
     Ok(Reply {
         status: Status::BadFile,

@@ -39,12 +39,17 @@ pub fn read_update<S: Source>(
     names: &UpdateNames<'_>,
 ) -> Result<UpdateFiles, Exit>
     ensures gives { IfOk result (λ v. (last : Option FileRead)
-        → Gives (S.held source.old) last (reading_update (names_seen names.now)) (meaning_of v) (Some (file_read FileKind.Policy names.now.policy.now))) }
+        → Gives (S.held source.old) last (reading_update (names_seen names.now)) (meaning_of v)
+        (Some (file_read FileKind.Policy names.now.policy.now))) }
     ensures old_user { IfOk result (λ v. IsUserConfig v.net (rules_of_all v.old)) }
     ensures new_user { IfOk result (λ v. IsUserConfig v.net (rules_of_all v.new)) }
-    ensures whole { OnOk result (IsWhole (Some (file_read FileKind.Policy names.now.policy.now)) (S.selected source.new) (S.taken source.new)) }
+    ensures whole { OnOk result
+        (IsWhole (Some (file_read FileKind.Policy names.now.policy.now)) (S.selected source.new)
+        (S.taken source.new)) }
     ensures stops { IfErr result (λ e. (last : Option FileRead)
-        → EndsEarly (S.held source.old) last (reading_update (names_seen names.now)) (S.faults source.old) (S.faults source.new) e (S.selected source.new) (S.taken source.new)) }
+        → EndsEarly (S.held source.old) last (reading_update (names_seen names.now))
+        (S.faults source.old) (S.faults source.new) e (S.selected source.new)
+        (S.taken source.new)) }
     ensures held { S.held source.new ≡ S.held source.old }
     ensures later { S.faults source.old ≤ S.faults source.new }
 {

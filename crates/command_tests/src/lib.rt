@@ -10,8 +10,14 @@ mod file_sizes;
 #[cfg(test)]
 mod import_command_tests;
 #[cfg(test)]
+mod paths_command_tests;
+#[cfg(test)]
 mod replay_command_tests;
 #[cfg(test)]
 mod sources;
+#[cfg(test)]
+mod tables_command_tests;
+#[cfg(test)]
+mod trace_command_tests;
 #[cfg(test)]
 mod upgrade_command_tests;

@@ -28,8 +28,11 @@ const MANY_CHAINS: u32 = 4;
 /// The waypoint that the stops don't visit of the first chain of a class that they don't meet.
 fn missed(duties: &Duties, class: u32, stops: &[Stop]) -> Option<SwitchId>
     requires { class < class_count duties.now.classes }
-    ensures none { IfNone result (OfClass duties.now class (λ d. AllByRecursion (λ chain. IsSubsequence chain (switches_of stops.now)) d.chains)) }
-    ensures some { IfSome result (λ w. OfClass duties.now class (λ d. MissesAt d.chains (switches_of stops.now) w)) }
+    ensures none { IfNone result
+        (OfClass duties.now class
+        (λ d. AllByRecursion (λ chain. IsSubsequence chain (switches_of stops.now)) d.chains)) }
+    ensures some { IfSome result
+        (λ w. OfClass duties.now class (λ d. MissesAt d.chains (switches_of stops.now) w)) }
 {
     for i in 0..duties.chains(class) {
         if let Some(waypoint) = missed_waypoint(duties.chain(class, i), stops) {
@@ -43,8 +46,11 @@ fn missed(duties: &Duties, class: u32, stops: &[Stop]) -> Option<SwitchId>
 fn first_missed(duties: &Duties, class: u32, stops: &[Stop], met: &mut MetPath) -> Option<SwitchId>
     requires number { class < class_count duties.now.classes }
     requires kept { IsMetPath duties.now met.old }
-    ensures none { IfNone result (OfClass duties.now class (λ d. AllByRecursion (λ chain. IsSubsequence chain (switches_of stops.now)) d.chains)) }
-    ensures some { IfSome result (λ w. OfClass duties.now class (λ d. MissesAt d.chains (switches_of stops.now) w)) }
+    ensures none { IfNone result
+        (OfClass duties.now class
+        (λ d. AllByRecursion (λ chain. IsSubsequence chain (switches_of stops.now)) d.chains)) }
+    ensures some { IfSome result
+        (λ w. OfClass duties.now class (λ d. MissesAt d.chains (switches_of stops.now) w)) }
     ensures kept { IsMetPath duties.now met.new }
 {
     if duties.chains(class) < MANY_CHAINS {

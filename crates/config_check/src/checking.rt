@@ -29,8 +29,10 @@ pub fn check_config(
     requires hosts { classes.now.hosts ≡ net.now.hosts }
     requires duties { duties.now.classes ≡ classes.now }
     requires room { room.old.switches ≡ switch_count net.now }
-    ensures ok { IsOk result ↔ HasGoodPaths net.now (rules_of_all config.now) duties.now.demands classes.now }
-    ensures err { IfErr result (IsFirstBreak net.now (rules_of_all config.now) duties.now.demands classes.now) }
+    ensures ok { IsOk result
+        ↔ HasGoodPaths net.now (rules_of_all config.now) duties.now.demands classes.now }
+    ensures err { IfErr result
+        (IsFirstBreak net.now (rules_of_all config.now) duties.now.demands classes.now) }
     ensures same_room { room.new.switches ≡ room.old.switches }
 {
     net.keeps_rules();

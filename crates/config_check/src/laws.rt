@@ -20,5 +20,6 @@ pub fn classes_speak_for_addresses(
 )
     requires classes { classes.now ≡ classes_of net.now classes.now.prefixes }
     requires prefixes { HasPrefixes classes.now.prefixes (rules_of_all config.now) demands.now }
-    ensures { HasGoodPaths net.now (rules_of_all config.now) demands.now classes.now → HasGoodPathEverywhere net.now (rules_of_all config.now) demands.now }
+    ensures { HasGoodPaths net.now (rules_of_all config.now) demands.now classes.now
+        → HasGoodPathEverywhere net.now (rules_of_all config.now) demands.now }
 {}

@@ -68,7 +68,8 @@ impl MetPath {
 
     /// Keeps the stops of a class whose chains they met, or no class where there are more than `MOST_STOPS`.
     pub(crate) fn keep(&mut self, class: u32, stops: &[Stop])
-        ensures { (d : ClassDuties) → class < class_count d.classes → MeetsChainsOf d class stops.now → IsMetPath d self.new }
+        ensures { (d : ClassDuties) → class < class_count d.classes
+            → MeetsChainsOf d class stops.now → IsMetPath d self.new }
     {
         if stops.len() > MOST_STOPS {
             self.class = None;

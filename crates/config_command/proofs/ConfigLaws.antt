@@ -24,14 +24,14 @@ use Rattle.config_command.specs.Promise.{ConfigPromise}
 use Rattle.config_command.proofs.StillLaws.{keeps_good}
 
 -- the dialogue means what the files mean, and nothing else
-means_config : (files : Files) (names : ConfigNames) (m : ConfigMeaning) → FilesMean files names m → Means files (config_dialogue names) m
+pub means_config : (files : Files) (names : ConfigNames) (m : ConfigMeaning) → FilesMean files names m → Means files (config_dialogue names) m
 unfolding config_dialogue
 means_config files names m is =
     means_then files _ _ m.net m (means_read files kind.Topology net_words network_in names.topology m.net is.topology_is)
     (means_then files _ _ m.tables m (means_read files kind.Config config_words (configuration_in m.net) names.config m.tables is.config_is)
     (means_then files _ _ m.demands m (means_policy files m.net names.policy m.demands is.policy_is) refl))
 
-config_means : (files : Files) (names : ConfigNames) (m : ConfigMeaning) → Means files (config_dialogue names) m → FilesMean files names m
+pub config_means : (files : Files) (names : ConfigNames) (m : ConfigMeaning) → Means files (config_dialogue names) m → FilesMean files names m
 unfolding config_dialogue
 config_means files names m means =
     let (net, topology_is, second) = means_parts files _ _ m means in

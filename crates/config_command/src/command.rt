@@ -19,7 +19,10 @@ use topology::Net;
 /// The verdict on a configuration as the end of the command.
 fn say_verdict(alloc: Global, net: &Net, tables: &Config, demands: &Demands) -> Result<Reply, Exit>
     requires user { IsUserConfig net.now (rules_of_all tables.now) }
-    ensures said { IfOk result (λ r. IsConfigAnswer (record { net = net.now; tables = rules_of_all tables.now; demands = demands.now }) (answer_of r)) }
+    ensures said { IfOk result
+        (λ r. IsConfigAnswer
+        (record { net = net.now; tables = rules_of_all tables.now; demands = demands.now })
+        (answer_of r)) }
     ensures stops { IfErr result (λ e. e ≡ Exit.Memory) }
 {
     Ok(verdict(alloc, net, tables, demands)?)
@@ -34,10 +37,17 @@ fn config_policy<S: Source>(
     tables: &Config,
 ) -> Result<Reply, Exit>
     requires user { IsUserConfig net.now (rules_of_all tables.now) }
-    ensures leads { (last : Option FileRead) → IsWhole last (S.selected source.old) (S.taken source.old)
-        → IfOk result (λ r. LeadsTo IsConfigAnswer (S.held source.old) last (behind_tables (names_seen names.now) net.now (rules_of_all tables.now)) (answer_of r) (S.selected source.new) (S.taken source.new)) }
+    ensures leads { (last : Option FileRead)
+        → IsWhole last (S.selected source.old) (S.taken source.old)
+        → IfOk result
+        (λ r. LeadsTo IsConfigAnswer (S.held source.old) last
+        (behind_tables (names_seen names.now) net.now (rules_of_all tables.now)) (answer_of r)
+        (S.selected source.new) (S.taken source.new)) }
     ensures stops { IfErr result (λ e. (last : Option FileRead)
-        → EndsEarly (S.held source.old) last (behind_tables (names_seen names.now) net.now (rules_of_all tables.now)) (S.faults source.old) (S.faults source.new) e (S.selected source.new) (S.taken source.new)) }
+        → EndsEarly (S.held source.old) last
+        (behind_tables (names_seen names.now) net.now (rules_of_all tables.now))
+        (S.faults source.old) (S.faults source.new) e (S.selected source.new)
+        (S.taken source.new)) }
     ensures held { S.held source.new ≡ S.held source.old }
     ensures later { S.faults source.old ≤ S.faults source.new }
 {
@@ -55,9 +65,13 @@ fn config_tables<S: Source>(
     net: &Net,
 ) -> Result<Reply, Exit>
     ensures leads { IfOk result (λ r. (last : Option FileRead)
-        → LeadsTo IsConfigAnswer (S.held source.old) last (behind_topology (names_seen names.now) net.now) (answer_of r) (S.selected source.new) (S.taken source.new)) }
+        → LeadsTo IsConfigAnswer (S.held source.old) last
+        (behind_topology (names_seen names.now) net.now) (answer_of r) (S.selected source.new)
+        (S.taken source.new)) }
     ensures stops { IfErr result (λ e. (last : Option FileRead)
-        → EndsEarly (S.held source.old) last (behind_topology (names_seen names.now) net.now) (S.faults source.old) (S.faults source.new) e (S.selected source.new) (S.taken source.new)) }
+        → EndsEarly (S.held source.old) last (behind_topology (names_seen names.now) net.now)
+        (S.faults source.old) (S.faults source.new) e (S.selected source.new)
+        (S.taken source.new)) }
     ensures held { S.held source.new ≡ S.held source.old }
     ensures later { S.faults source.old ≤ S.faults source.new }
 {
@@ -73,8 +87,10 @@ pub fn config<S: Source>(
     source: &mut S,
     names: &ConfigNames<'_>,
 ) -> Result<Reply, Exit>
-    ensures meets { Meets IsConfigAnswer (S.held source.old) (config_dialogue (names_seen names.now))
-        (S.faults source.old) (S.faults source.new) result (S.selected source.new) (S.taken source.new) }
+    ensures meets { Meets IsConfigAnswer (S.held source.old)
+        (config_dialogue (names_seen names.now))
+        (S.faults source.old) (S.faults source.new) result (S.selected source.new)
+        (S.taken source.new) }
     ensures held { S.held source.new ≡ S.held source.old }
     ensures later { S.faults source.old ≤ S.faults source.new }
 {

@@ -9,3 +9,4 @@ mod verdict;
 
 pub use crate::command::config;
 pub use crate::names::{ConfigNames, config_names};
+pub use crate::verdict::prefixes_of;

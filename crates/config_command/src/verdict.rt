@@ -23,9 +23,10 @@ use path_walk::PathRoom;
 use std::alloc::Global;
 use topology::Net;
 
-/// The prefixes of the configuration, and then of the demands.
-fn prefixes_of(config: &Config, demands: &Demands) -> Result<Vec<Prefix>, Memory>
-    ensures { IfOk result (λ v. v.items ≡ table_blocks (rules_of_all config.now) ++ map (λ d. d.dst) demands.now) }
+/// The prefixes of the configuration, and then of the demands: those of its classes under them.
+pub fn prefixes_of(config: &Config, demands: &Demands) -> Result<Vec<Prefix>, Memory>
+    ensures { IfOk result
+        (λ v. v.items ≡ table_blocks (rules_of_all config.now) ++ map (λ d. d.dst) demands.now) }
 {
     let mut prefixes = config.prefixes()?;
     prefixes.extend_from_slice(&demands.prefixes()?)?;
@@ -33,7 +34,8 @@ fn prefixes_of(config: &Config, demands: &Demands) -> Result<Vec<Prefix>, Memory
 }
 
 fn holds_reply(alloc: Global, classes: u32) -> Result<Reply, Memory>
-    ensures { IfOk result (λ r. answer_of r ≡ record { status = Status.Done; text = lines.holds_line classes }) }
+    ensures { IfOk result
+        (λ r. answer_of r ≡ record { status = Status.Done; text = lines.holds_line classes }) }
 {
     Ok(Reply {
         status: Status::Done,
@@ -42,7 +44,9 @@ fn holds_reply(alloc: Global, classes: u32) -> Result<Reply, Memory>
 }
 
 fn breaks_reply(alloc: Global, net: &Net, class: Class, how: How) -> Result<Reply, Memory>
-    ensures { IfOk result (λ r. answer_of r ≡ record { status = Status.Refused; text = lines.breaks_line net.now class how }) }
+    ensures { IfOk result
+        (λ r. answer_of r
+        ≡ record { status = Status.Refused; text = lines.breaks_line net.now class how }) }
 {
     Ok(Reply {
         status: Status::Refused,
@@ -61,7 +65,8 @@ fn judge(
     requires user { IsUserConfig net.now (rules_of_all config.now) }
     requires classes { classes.now ≡ classes_under net.now (rules_of_all config.now) demands.now }
     requires few { count_under net.now (rules_of_all config.now) demands.now ≤ most_classes }
-    ensures { IfOk result (λ r. IsVerdict net.now (rules_of_all config.now) demands.now (answer_of r)) }
+    ensures { IfOk result
+        (λ r. IsVerdict net.now (rules_of_all config.now) demands.now (answer_of r)) }
 {
     let duties = Duties::make(alloc, net, demands, classes)?;
     let mut room = PathRoom::make(alloc, net)?;
@@ -82,7 +87,8 @@ pub fn verdict(
     demands: &Demands,
 ) -> Result<Reply, Memory>
     requires { IsUserConfig net.now (rules_of_all config.now) }
-    ensures { IfOk result (λ r. IsVerdict net.now (rules_of_all config.now) demands.now (answer_of r)) }
+    ensures { IfOk result
+        (λ r. IsVerdict net.now (rules_of_all config.now) demands.now (answer_of r)) }
 {
     let prefixes = prefixes_of(config, demands)?;
     match class_map(alloc, net, &prefixes) {

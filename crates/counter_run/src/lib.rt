@@ -58,9 +58,15 @@ fn class_run(
     requires number { numbered.number < class_count duties.now.classes }
     requires class { IsNumbered duties.now.classes numbered }
     requires entry { IsEntry stage.net.now numbered.class.entry }
-    requires before { (k : ℕ) → k < stage.number → ¬ ClassBreaks (update_in stage) duties.now.demands k numbered.class }
-    ensures some { IfOk result (λ found. IfSome found (λ events. IsShownAt stage.entry duties.now.demands numbered.class events)) }
-    ensures none { IfOk result (λ found. IfNone found (¬ ClassBreaks (update_in stage.entry) duties.now.demands stage.entry.number numbered.class)) }
+    requires before { (k : ℕ) → k < stage.number
+        → ¬ ClassBreaks (update_in stage) duties.now.demands k numbered.class }
+    ensures some { IfOk result
+        (λ found. IfSome found
+        (λ events. IsShownAt stage.entry duties.now.demands numbered.class events)) }
+    ensures none { IfOk result
+        (λ found. IfNone found
+        (¬ ClassBreaks (update_in stage.entry) duties.now.demands stage.entry.number
+        numbered.class)) }
 {
     if is_unchanged(stage.number, view.round(), numbered.class.first) {
         return Ok(None);
@@ -84,8 +90,13 @@ fn round_run(
     requires vlans { classes.now.vlans ≡ stage.net.now.vlans }
     requires duties { duties.now.classes ≡ classes.now }
     requires before { NoneBefore stage classes.now duties.now.demands }
-    ensures some { IfOk result (λ found. IfSome found (λ events. IsFirstAt stage.entry classes.now duties.now.demands events)) }
-    ensures none { IfOk result (λ found. IfNone found (NoneBreaks (update_in stage.entry) classes.now duties.now.demands stage.entry.number)) }
+    ensures some { IfOk result
+        (λ found. IfSome found
+        (λ events. IsFirstAt stage.entry classes.now duties.now.demands events)) }
+    ensures none { IfOk result
+        (λ found. IfNone found
+        (NoneBreaks (update_in stage.entry) classes.now duties.now.demands
+        stage.entry.number)) }
 {
     let changes = stage.rounds.round(stage.number);
     let view = RoundOutcomes::prepare(alloc, stage.net, stage.tables, changes)?;
@@ -117,9 +128,15 @@ pub fn explain(
     requires hosts { classes.now.hosts ≡ net.now.hosts }
     requires vlans { classes.now.vlans ≡ net.now.vlans }
     requires duties { duties.now.classes ≡ classes.now }
-    requires good { AreGoodRounds (record { net = net.now; old = rules_of_all old.now; rounds = rounds.now }) }
-    requires clear { AreClearRounds (record { net = net.now; old = rules_of_all old.now; rounds = rounds.now }) }
-    ensures answer { IfOk result (λ found. let u : Rollout = record { net = net.now; old = rules_of_all old.now; rounds = rounds.now } in IsExplained u classes.now duties.now.demands found) }
+    requires good { AreGoodRounds
+        (record { net = net.now; old = rules_of_all old.now; rounds = rounds.now }) }
+    requires clear { AreClearRounds
+        (record { net = net.now; old = rules_of_all old.now; rounds = rounds.now }) }
+    ensures answer { IfOk result
+        (λ found.
+        let u : Rollout
+        = record { net = net.now; old = rules_of_all old.now; rounds = rounds.now }
+        in IsExplained u classes.now duties.now.demands found) }
     ensures few { IfOk result (λ found. HasFewEvents net.now rounds.now found) }
 {
     let mut tables = old.copy()?;

@@ -65,7 +65,8 @@ fn add_whole_rounds(events: &mut Events, rounds: &Rounds, number: usize) -> Resu
 
 /// Adds the start of a round and the entry of a packet, whose address has 32 bits.
 fn add_entry(events: &mut Events, entry: Place, dst: u32) -> Result<(), Memory>
-    ensures added { OnOk result (events.new ≡ events.old ++ Event.Start ∷ Event.Enter entry dst ∷ []) }
+    ensures added { OnOk result
+        (events.new ≡ events.old ++ Event.Start ∷ Event.Enter entry dst ∷ []) }
     ensures small { OnOk result (dst < 2 ^ 32) }
 {
     events.add(Event::Start)?;
@@ -96,7 +97,8 @@ fn add_hop(
     requires stage { IsStage stage }
     requires inside { place.switch.0 < switch_count stage.net.now }
     requires possible { IsPossible (update_in stage) stage.number dst place wanted }
-    ensures { OnOk result (GoOnBy (update_in stage.entry) stage.entry.number dst place wanted events.old events.new) }
+    ensures { OnOk result
+        (GoOnBy (update_in stage.entry) stage.entry.number dst place wanted events.old events.new) }
 {
     let table = stage.tables.table(place.switch);
     let round = stage.rounds.round(stage.number);
@@ -124,7 +126,9 @@ fn add_hops(
     requires entry { IsEntry stage.net.now class.entry }
     requires walk { IsMixedWalk (update_in stage) stage.number class.first class.entry rest.now }
     ensures last { IfOk result (λ place. place ≡ end_of class.entry rest.now) }
-    ensures along { OnOk result (GoOnAlong (update_in stage.entry) stage.entry.number class rest.now None events.old events.new) }
+    ensures along { OnOk result
+        (GoOnAlong (update_in stage.entry) stage.entry.number class rest.now None events.old
+        events.new) }
 {
     stage.net.keeps_rules();
     let mut place = class.entry;
@@ -145,9 +149,14 @@ fn add_walk(
 ) -> Result<(), Memory>
     requires stage { IsStage stage }
     requires entry { IsEntry stage.net.now class.entry }
-    requires walk { IsMixedWalk (update_in stage) stage.number class.first class.entry walk.now.rest }
-    requires end { IfSome walk.now.end (λ found. IsPossible (update_in stage) stage.number class.first (end_of class.entry walk.now.rest) found) }
-    ensures { OnOk result (GoOnAlong (update_in stage.entry) stage.entry.number class walk.now.rest walk.now.end events.old events.new) }
+    requires walk { IsMixedWalk (update_in stage) stage.number class.first class.entry
+        walk.now.rest }
+    requires end { IfSome walk.now.end
+        (λ found. IsPossible (update_in stage) stage.number class.first
+        (end_of class.entry walk.now.rest) found) }
+    ensures { OnOk result
+        (GoOnAlong (update_in stage.entry) stage.entry.number class walk.now.rest walk.now.end
+        events.old events.new) }
 {
     stage.net.keeps_rules();
     let last = add_hops(alloc, events, stage, class, walk.rest.list())?;
@@ -172,9 +181,13 @@ pub(crate) fn breaking_run(
     requires good { AreGoodRounds (update_in stage) }
     requires clear { AreClearRounds (update_in stage) }
     requires entry { IsEntry stage.net.now class.entry }
-    requires walk { IsBreakingWalk (update_in stage) stage.number class.first class.entry (duties_of duties.now.demands class.entry class.first) walk.now.rest walk.now.end }
-    ensures run { IfOk result (λ events. IsBreakingRun (update_in stage.entry) duties.now.demands stage.entry.number class events) }
-    ensures few { IfOk result (λ events. AreFewFor stage.entry.net.now stage.entry.rounds.now events) }
+    requires walk { IsBreakingWalk (update_in stage) stage.number class.first class.entry
+        (duties_of duties.now.demands class.entry class.first) walk.now.rest walk.now.end }
+    ensures run { IfOk result
+        (λ events. IsBreakingRun (update_in stage.entry) duties.now.demands stage.entry.number class
+        events) }
+    ensures few { IfOk result
+        (λ events. AreFewFor stage.entry.net.now stage.entry.rounds.now events) }
 {
     // A network keeps its links at its switches, so that the packet hops at no more switches than there are.
     stage.net.keeps_rules();

@@ -19,10 +19,12 @@ use Rattle.command_base.proofs.JudgementLaws.{status_of, text_of, texts_same, fi
 use Rattle.command_base.proofs.RunLaws.{settled_done, settled_refused, settled_bad, settled_not_a_run}
 use Rattle.check_base.specs.Checks.{CheckMeaning, IsRefusedLine, NamesFirstReason, check_count, check_dialogue, task_in}
 use Rattle.check_base.proofs.FileLaws.{means_check, check_means}
-use Rattle.drive_command.specs.Driving.{driven_by}
+use Rattle.driver_input.specs.declared.inputs.InputLine.{InputLine}
+use Rattle.drive_command.specs.Driving.{driven_by, DifferInPieces}
 use Rattle.drive_command.specs.Names.{DriveNames}
 use Rattle.drive_command.specs.Driven.{DriveMeaning, drive_dialogue, input_words, IsReport, SaysReport, SaysRefusedStart, IsDriven, SaysDriven, IsDriveAnswer, FilesMeanDrive, FilesAreDriven, FilesAreNoRun, FilesAreNotCertified, FilesMakeTooMany, WritesReport, NamesRefusedStart}
 use Rattle.drive_command.specs.Promise.{DrivePromise}
+use Rattle.drive_command.proofs.CarriedLaws.{report_pieces}
 use Rattle.drive_command.specs.declared.driving.DriveFault.TheVariants.{NotARun}
 
 -- the dialogue means what the files mean, and nothing else
@@ -187,10 +189,15 @@ module _ (files : Files) (names : DriveNames) (old new : Option (List ℕ)) (res
     | inr (m, mean) ↦ record { meaning = m; mean = mean; many = (bad_says m a.answer (said m mean) (a.status_is ∙ is)).many }
   ]
 
+-- a report was written, so it is that on inputs that differ in pieces
+other_pieces : (m : DriveMeaning) (inputs : List InputLine) (old new : Option (List ℕ)) → DifferInPieces m.inputs inputs → WritesReport m old new → WritesReport (record m { inputs = inputs }) old new
+other_pieces m inputs old new differ writes = record { text = writes.text; report = report_pieces (rollout (task_in m.check)) m.inputs inputs writes.text differ writes.report; written = writes.written }
+
 pub promised : (files : Files) (names : DriveNames) (old new : Option (List ℕ)) (result : Status) → (IsSettled result → Answered IsDriveAnswer files (drive_dialogue names) old new result) → DrivePromise files names old new result
 promised files names old new result answered = record {
   done = λ settled. done files names old new result (answered settled);
   report = λ m mean is. report files names old new result (answered (settled_done _ is)) is m mean;
+  pieces = λ m inputs mean differ is. other_pieces m inputs old new differ (report files names old new result (answered (settled_done _ is)) is m mean);
   not_a_run = λ settled. not_a_run files names old new result (answered settled);
   first_start = λ m mean is. first_start files names old new result (answered (settled_not_a_run _ is)) is m mean;
   refused = λ settled. refused files names old new result (answered settled);

@@ -1,4 +1,5 @@
 pub mod LogLaws
 pub mod ReportLaws
+pub mod InputLaws
 pub mod CarriedLaws
 pub mod DriveLaws

@@ -15,7 +15,8 @@ use Rattle.driver_input.specs.Inputs.{inputs_in}
 use Rattle.driver_input.specs.declared.fault.InputFault.{InputFault}
 use Rattle.driver_input.specs.declared.inputs.InputLine.{InputLine}
 use Rattle.update_driver.specs.Drivers.{DriverState}
-use Rattle.update_driver.specs.Laws.{IsOfUpdate, SendsOnly, WaitsForBarriers}
+use Rattle.update_driver.specs.Calls.{bytes_from}
+use Rattle.update_driver.specs.Laws.{IsOfUpdate, SendsOnly, WaitsForBarriers, BeginsAnswered}
 use Rattle.command_base.specs.declared.kinds.FileKind.TheVariants as kind
 use Rattle.command_base.specs.declared.status.Status.TheVariants as status
 use Rattle.command_base.specs.Answers.{Answer}
@@ -30,9 +31,9 @@ use Rattle.replay_command.specs.Replayed.{not_a_run_line}
 use Rattle.drive_command.specs.declared.readings.CheckFiles.{CheckFiles}
 use Rattle.drive_command.specs.declared.driving.DriveFault.{DriveFault}
 use Rattle.drive_command.specs.declared.driving.DriveFault.TheVariants.{NotARun}
-use Rattle.drive_command.specs.Driving.{driven_by}
+use Rattle.drive_command.specs.Driving.{driven_by, IsStep, calls_of}
 use Rattle.drive_command.specs.Names.{DriveNames}
-use Rattle.drive_command.specs.Reports.{report_text}
+use Rattle.drive_command.specs.Reports.{first_line, report_text}
 
 -- an update and a plan of it, and inputs
 pub record DriveMeaning : Type 0 where
@@ -60,22 +61,24 @@ unfoldable pub drive_dialogue : DriveNames → Dialogue DriveMeaning
 drive_dialogue names = and_then (check_dialogue names.check) (λ m. reading_inputs_for m names.input)
 
 -- The driver carries the update out as far as it is. Its log is a run of the update, without packets. To a switch it sent HELLO, and
--- then replies to echo requests and the messages of the rounds that were begun, all of them, in their order and with their xids.
--- While no round is running no barrier is outstanding: no round was begun before every barrier of the round before was answered.
-pub record CarriesOut (u : Rollout) (d : DriverState) : Type 0 where
+-- then replies to the echo requests in the bytes that came from it and the messages of the rounds that were begun, all of them, in
+-- their order and with their xids. While no round is running no barrier is outstanding; and each input begins at most the next
+-- round, and only where no barrier is outstanding: no round was begun before every barrier of the round before was answered.
+pub record CarriesOut (u : Rollout) (inputs : List InputLine) (d : DriverState) : Type 0 where
   pub run : IsRun u d.log
   pub no_packets : AllByRecursion IsOfUpdate d.log
-  pub sends : (s : SwitchId) → s.0 < switch_count u.net → SendsOnly u.net u.rounds d s
+  pub sends : (s : SwitchId) → s.0 < switch_count u.net → SendsOnly u.net u.rounds (bytes_from s (calls_of inputs)) d s
   pub waits : WaitsForBarriers d
+  pub begins : (before after : DriverState) → IsStep u.net u.rounds inputs before after → BeginsAnswered before after
 
--- the text is the report on the driver that was made with the rounds and given all inputs; read as a schedule, it is the log
+-- the text is the report on the driver that was made with the rounds and given all inputs; read as a schedule, it is the log, from the
+-- first line behind those on the switches on
 pub record IsReport (u : Rollout) (inputs : List InputLine) (text : List ℕ) : Type 0 where
   pub driver : DriverState
   pub driven : driven_by u.net u.rounds inputs ≡ Ok driver
-  pub carries_out : CarriesOut u driver
+  pub carries_out : CarriesOut u inputs driver
   pub text_is : text ≡ report_text u.net u.rounds driver
-  pub first : ℕ
-  pub means : schedule_in u.net text ≡ Ok (numbered first driver.log)
+  pub means : schedule_in u.net text ≡ Ok (numbered (first_line u.net driver) driver.log)
 
 -- the driver is given all inputs, and the answer is the report on it
 pub record SaysReport (u : Rollout) (inputs : List InputLine) (answer : Answer) : Type 0 where

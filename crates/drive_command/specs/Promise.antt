@@ -7,6 +7,8 @@ use Rattle.command_base.specs.declared.status.Status.TheVariants as status
 use Rattle.command_base.specs.Lines.{classes_line}
 use Rattle.command_base.specs.Runs.{IsSettled}
 use Rattle.check_base.specs.Checks.{NamesFirstReason, check_count}
+use Rattle.driver_input.specs.declared.inputs.InputLine.{InputLine}
+use Rattle.drive_command.specs.Driving.{DifferInPieces}
 use Rattle.drive_command.specs.Names.{DriveNames}
 use Rattle.drive_command.specs.Driven.{DriveMeaning, FilesMeanDrive, FilesAreDriven, FilesAreNoRun, FilesAreNotCertified, FilesMakeTooMany, NamesRefusedStart, WritesReport}
 
@@ -17,6 +19,9 @@ pub record DrivePromise (files : Files) (names : DriveNames) (old new : Option (
   -- Then the report on the driver was written: what it sent, its log, which is a run of the plan, and how far it is. Read as a
   -- schedule, the report is the log.
   pub report : (m : DriveMeaning) → FilesMeanDrive files names m → result ≡ status.Done → WritesReport m old new
+  -- It is the report too on other inputs that differ from these only in the pieces in which the bytes come.
+  pub pieces : (m : DriveMeaning) (inputs : List InputLine) → FilesMeanDrive files names m → DifferInPieces m.inputs inputs → result ≡ status.Done
+      → WritesReport (record m { inputs = inputs }) old new
   -- NotARun comes exactly where a start of the inputs of a certified plan is refused; the line names that of the first one.
   pub not_a_run : IsSettled result → ((result ≡ status.NotARun) ↔ FilesAreNoRun files names)
   pub first_start : (m : DriveMeaning) → FilesMeanDrive files names m → result ≡ status.NotARun → NamesRefusedStart m old new

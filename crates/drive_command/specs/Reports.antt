@@ -1,5 +1,5 @@
 -- What is written of a driver: what it sent, which sessions failed, its log and how far the update is.
-use Rattle.std.specs.Prelude.{ℕ, suc, List, [], ◌∷◌, ◌++◌, map, length, codes, decimal}
+use Rattle.std.specs.Prelude.{ℕ, suc, ◌+◌, List, [], ◌∷◌, ◌++◌, map, length, codes, decimal}
 use Rattle.hex.specs.Hex.{encode_lower}
 use Rattle.topology.specs.Networks.{Network}
 use Rattle.update_model.specs.declared.Change.{Change}
@@ -51,6 +51,10 @@ session_of d i name = session_lines name (channel_at d (switch_numbered i)).sess
 -- what was sent, and which sessions failed, each by switch, ascending
 abbrev pub front_lines : Network → DriverState → List (List ℕ)
 front_lines net d = by_switch (sent_to d) 0 net.names ++ by_switch (session_of d) 0 net.names
+
+-- the number of the first line behind these, where the log begins
+abbrev pub first_line : Network → DriverState → ℕ
+first_line net d = 1 + length (front_lines net d)
 
 -- how many of so many rounds are settled, or which is running, as a comment
 abbrev pub last_line : DriverState → ℕ → List ℕ

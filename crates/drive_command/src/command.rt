@@ -23,7 +23,9 @@ fn say_driven(alloc: Global, files: &CheckFiles, inputs: &Inputs) -> Result<Repl
     requires new { IsUserConfig files.now.update.net (rules_of_all files.now.update.new) }
     requires valid { IsValidPlan files.now.update.net files.now.plan }
     requires inputs { AreInputs files.now.update.net inputs.now }
-    ensures said { IfOk result (λ r. IsDriveAnswer (record { check = check_meaning_of files.now; inputs = inputs.now }) (answer_of r)) }
+    ensures said { IfOk result
+        (λ r. IsDriveAnswer (record { check = check_meaning_of files.now; inputs = inputs.now })
+        (answer_of r)) }
     ensures stops { IfErr result (λ e. e ≡ Exit.Memory) }
 {
     Ok(drive_verdict(alloc, &files.update, &files.plan, inputs)?)
@@ -40,9 +42,13 @@ fn drive_inputs<S: Source>(
     requires new { IsUserConfig files.now.update.net (rules_of_all files.now.update.new) }
     requires valid { IsValidPlan files.now.update.net files.now.plan }
     ensures leads { IfOk result (λ r. (last : Option FileRead)
-        → LeadsTo IsDriveAnswer (S.held source.old) last (reading_inputs_for (check_meaning_of files.now) name.now) (answer_of r) (S.selected source.new) (S.taken source.new)) }
+        → LeadsTo IsDriveAnswer (S.held source.old) last
+        (reading_inputs_for (check_meaning_of files.now) name.now) (answer_of r)
+        (S.selected source.new) (S.taken source.new)) }
     ensures stops { IfErr result (λ e. (last : Option FileRead)
-        → EndsEarly (S.held source.old) last (reading_inputs_for (check_meaning_of files.now) name.now) (S.faults source.old) (S.faults source.new) e (S.selected source.new) (S.taken source.new)) }
+        → EndsEarly (S.held source.old) last
+        (reading_inputs_for (check_meaning_of files.now) name.now) (S.faults source.old)
+        (S.faults source.new) e (S.selected source.new) (S.taken source.new)) }
     ensures held { S.held source.new ≡ S.held source.old }
     ensures later { S.faults source.old ≤ S.faults source.new }
 {
@@ -60,7 +66,8 @@ pub fn drive<S: Source>(
     names: &DriveNames<'_>,
 ) -> Result<Reply, Exit>
     ensures meets { Meets IsDriveAnswer (S.held source.old) (drive_dialogue (names_seen names.now))
-        (S.faults source.old) (S.faults source.new) result (S.selected source.new) (S.taken source.new) }
+        (S.faults source.old) (S.faults source.new) result (S.selected source.new)
+        (S.taken source.new) }
     ensures held { S.held source.new ≡ S.held source.old }
     ensures later { S.faults source.old ≤ S.faults source.new }
 {

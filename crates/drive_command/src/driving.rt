@@ -29,7 +29,8 @@ impl From<Memory> for DriveFault {
 
 /// Begins the next round, as this line wants it.
 fn give_start(driver: &mut Driver<'_>, line: u32) -> Result<(), DriveFault>
-    ensures read { let read = driving.after_input driver.old.net driver.old.rounds line Input.Start driver.old.state in
+    ensures read { let read = driving.after_input driver.old.net driver.old.rounds line Input.Start
+        driver.old.state in
         MatchResult result (λ _. read ≡ Ok driver.new.state) (λ e. Fails fault.Memory e read) }
     ensures net { driver.new.net ≡ driver.old.net }
     ensures rounds { driver.new.rounds ≡ driver.old.rounds }
@@ -46,7 +47,8 @@ fn give_start(driver: &mut Driver<'_>, line: u32) -> Result<(), DriveFault>
 /// Gives the driver the input of a line.
 fn give(driver: &mut Driver<'_>, line: &InputLine) -> Result<(), DriveFault>
     requires { IsInput driver.old.net line.now.input }
-    ensures read { let read = driving.after_input driver.old.net driver.old.rounds line.now.line line.now.input driver.old.state in
+    ensures read { let read = driving.after_input driver.old.net driver.old.rounds line.now.line
+        line.now.input driver.old.state in
         MatchResult result (λ _. read ≡ Ok driver.new.state) (λ e. Fails fault.Memory e read) }
     ensures net { driver.new.net ≡ driver.old.net }
     ensures rounds { driver.new.rounds ≡ driver.old.rounds }
@@ -63,7 +65,8 @@ fn give(driver: &mut Driver<'_>, line: &InputLine) -> Result<(), DriveFault>
 /// Gives the driver the inputs, one after the other, up to the first start that is refused.
 pub fn give_all(driver: &mut Driver<'_>, inputs: &[InputLine]) -> Result<(), DriveFault>
     requires { AreInputs driver.old.net inputs.now }
-    ensures read { let read = driving.after_inputs driver.old.net driver.old.rounds driver.old.state inputs.now in
+    ensures read { let read = driving.after_inputs driver.old.net driver.old.rounds driver.old.state
+        inputs.now in
         MatchResult result (λ _. read ≡ Ok driver.new.state) (λ e. Fails fault.Memory e read) }
     ensures net { driver.new.net ≡ driver.old.net }
     ensures rounds { driver.new.rounds ≡ driver.old.rounds }

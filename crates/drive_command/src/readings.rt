@@ -39,13 +39,18 @@ pub fn read_check_files<S: Source>(
     names: &CheckNames<'_>,
 ) -> Result<CheckFiles, Exit>
     ensures gives { IfOk result (λ v. (last : Option FileRead)
-        → Gives (S.held source.old) last (check_dialogue (check.names_seen names.now)) (check_meaning_of v) (Some (file_read FileKind.Plan names.now.plan.now))) }
+        → Gives (S.held source.old) last (check_dialogue (check.names_seen names.now))
+        (check_meaning_of v) (Some (file_read FileKind.Plan names.now.plan.now))) }
     ensures old_user { IfOk result (λ v. IsUserConfig v.update.net (rules_of_all v.update.old)) }
     ensures new_user { IfOk result (λ v. IsUserConfig v.update.net (rules_of_all v.update.new)) }
     ensures valid { IfOk result (λ v. IsValidPlan v.update.net v.plan) }
-    ensures whole { OnOk result (IsWhole (Some (file_read FileKind.Plan names.now.plan.now)) (S.selected source.new) (S.taken source.new)) }
+    ensures whole { OnOk result
+        (IsWhole (Some (file_read FileKind.Plan names.now.plan.now)) (S.selected source.new)
+        (S.taken source.new)) }
     ensures stops { IfErr result (λ e. (last : Option FileRead)
-        → EndsEarly (S.held source.old) last (check_dialogue (check.names_seen names.now)) (S.faults source.old) (S.faults source.new) e (S.selected source.new) (S.taken source.new)) }
+        → EndsEarly (S.held source.old) last (check_dialogue (check.names_seen names.now))
+        (S.faults source.old) (S.faults source.new) e (S.selected source.new)
+        (S.taken source.new)) }
     ensures held { S.held source.new ≡ S.held source.old }
     ensures later { S.faults source.old ≤ S.faults source.new }
 {
@@ -70,7 +75,8 @@ fn input_fault(fault: InputFault) -> Fault
 fn inputs_of(alloc: Global, net: &Net, bytes: &[u8]) -> Result<Inputs, Exit>
     ensures ok { IfOk result (λ s. inputs_in net.now bytes.now ≡ Ok s) }
     ensures within { IfOk result (AreInputs net.now) }
-    ensures bad { IfErr result (λ e. IsBad FileKind.Input input_words (inputs_in net.now bytes.now) e) }
+    ensures bad { IfErr result
+        (λ e. IsBad FileKind.Input input_words (inputs_in net.now bytes.now) e) }
 {
     match read_input(alloc, net, bytes) {
         Ok(inputs) => Ok(inputs),
@@ -91,11 +97,15 @@ pub fn read_input_file<S: Source>(
     name: &str,
 ) -> Result<Inputs, Exit>
     ensures gives { IfOk result (λ v. (last : Option FileRead)
-        → Gives (S.held source.old) last (reading_input net.now name.now) v (Some (file_read FileKind.Input name.now))) }
+        → Gives (S.held source.old) last (reading_input net.now name.now) v
+        (Some (file_read FileKind.Input name.now))) }
     ensures within { IfOk result (AreInputs net.now) }
-    ensures whole { OnOk result (IsWhole (Some (file_read FileKind.Input name.now)) (S.selected source.new) (S.taken source.new)) }
+    ensures whole { OnOk result
+        (IsWhole (Some (file_read FileKind.Input name.now)) (S.selected source.new)
+        (S.taken source.new)) }
     ensures stops { IfErr result (λ e. (last : Option FileRead)
-        → EndsEarly (S.held source.old) last (reading_input net.now name.now) (S.faults source.old) (S.faults source.new) e (S.selected source.new) (S.taken source.new)) }
+        → EndsEarly (S.held source.old) last (reading_input net.now name.now) (S.faults source.old)
+        (S.faults source.new) e (S.selected source.new) (S.taken source.new)) }
     ensures held { S.held source.new ≡ S.held source.old }
     ensures later { S.faults source.old ≤ S.faults source.new }
 {

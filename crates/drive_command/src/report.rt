@@ -50,7 +50,8 @@ fn add_session(
     name: &str,
     session: Session,
 ) -> Result<(), Memory>
-    ensures { OnOk result (text.new.items ≡ text.old.items ++ text_of (reports.session_lines name.now session)) }
+    ensures { OnOk result
+        (text.new.items ≡ text.old.items ++ text_of (reports.session_lines name.now session)) }
 {
     match session {
         Session::Waiting | Session::Open => Ok(()),
@@ -61,7 +62,9 @@ fn add_session(
 /// Adds what was sent to each switch.
 fn add_sent(text: &mut Vec<u8>, alloc: Global, net: &Net, driver: &Driver<'_>) -> Result<(), Memory>
     requires { driver.now.net ≡ net.now }
-    ensures { OnOk result (text.new.items ≡ text.old.items ++ text_of (reports.by_switch (reports.sent_to driver.now.state) 0 net.now.names)) }
+    ensures { OnOk result
+        (text.new.items ≡ text.old.items
+        ++ text_of (reports.by_switch (reports.sent_to driver.now.state) 0 net.now.names)) }
 {
     for number in 0..net.switches() {
         let switch = SwitchId(number);
@@ -79,7 +82,9 @@ fn add_sessions(
     driver: &Driver<'_>,
 ) -> Result<(), Memory>
     requires { driver.now.net ≡ net.now }
-    ensures { OnOk result (text.new.items ≡ text.old.items ++ text_of (reports.by_switch (reports.session_of driver.now.state) 0 net.now.names)) }
+    ensures { OnOk result
+        (text.new.items ≡ text.old.items
+        ++ text_of (reports.by_switch (reports.session_of driver.now.state) 0 net.now.names)) }
 {
     for number in 0..net.switches() {
         let switch = SwitchId(number);
@@ -101,7 +106,8 @@ fn add_log(
     driver: &Driver<'_>,
     rounds: usize,
 ) -> Result<(), Memory>
-    ensures { OnOk result (text.new.items ≡ text.old.items ++ reports.log_text net.now driver.now.state rounds) }
+    ensures { OnOk result
+        (text.new.items ≡ text.old.items ++ reports.log_text net.now driver.now.state rounds) }
 {
     text.extend_from_slice(&events_text(alloc, net, driver.log())?)?;
     text.extend_from_slice(b"# ")?;
@@ -118,7 +124,8 @@ pub fn report_text(
 ) -> Result<Vec<u8>, Memory>
     requires net { driver.now.net ≡ net.now }
     requires rounds { rounds ≡ length driver.now.rounds }
-    ensures { IfOk result (λ t. t.items ≡ reports.report_text net.now driver.now.rounds driver.now.state) }
+    ensures { IfOk result
+        (λ t. t.items ≡ reports.report_text net.now driver.now.rounds driver.now.state) }
 {
     let mut text = Vec::new(alloc);
     add_sent(&mut text, alloc, net, driver)?;

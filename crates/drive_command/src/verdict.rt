@@ -39,7 +39,8 @@ fn report_reply(
     requires certified { IsCertified (task_for (meaning_of files.now) plan.now) plan.now.evidence }
     requires net { driver.now.net ≡ files.now.net }
     requires rounds { driver.now.rounds ≡ plan.now.rounds }
-    ensures { IfOk result (λ r. (inputs : List InputLine) → driven_by files.now.net plan.now.rounds inputs ≡ Ok driver.now.state
+    ensures { IfOk result (λ r. (inputs : List InputLine) → AreInputs files.now.net inputs
+        → driven_by files.now.net plan.now.rounds inputs ≡ Ok driver.now.state
         → SaysReport (rollout (task_for (meaning_of files.now) plan.now)) inputs (answer_of r)) }
 {
     certified_begins_safely(&files.net, &files.old, &files.new, &files.demands, plan);
@@ -63,7 +64,9 @@ fn driven_reply(
     requires valid { IsValidPlan files.now.net plan.now }
     requires inputs { AreInputs files.now.net inputs.now }
     requires certified { IsCertified (task_for (meaning_of files.now) plan.now) plan.now.evidence }
-    ensures { IfOk result (λ r. IsDriven (rollout (task_for (meaning_of files.now) plan.now)) inputs.now (answer_of r)) }
+    ensures { IfOk result
+        (λ r. IsDriven (rollout (task_for (meaning_of files.now) plan.now)) inputs.now
+        (answer_of r)) }
 {
     let mut driver = Driver::make(alloc, &files.net, &plan.rounds)?;
     match give_all(&mut driver, inputs.list()) {
@@ -87,7 +90,12 @@ fn judge_plan(
     requires inputs { AreInputs files.now.net inputs.now }
     requires fits { Fits (task_for (meaning_of files.now) plan.now) room.old }
     requires few { class_count (classes_for (task_for (meaning_of files.now) plan.now)) ≤ 8192 }
-    ensures { IfOk result (λ r. IsDriveAnswer (record { check = record { update = meaning_of files.now; plan = plan.now }; inputs = inputs.now }) (answer_of r)) }
+    ensures { IfOk result
+        (λ r. IsDriveAnswer
+        (record {
+          check = record { update = meaning_of files.now; plan = plan.now };
+          inputs = inputs.now;
+        }) (answer_of r)) }
 {
     let verdict = plan_checker::check(
         &files.net,
@@ -118,7 +126,12 @@ pub fn drive_verdict(
     requires new { IsUserConfig files.now.net (rules_of_all files.now.new) }
     requires valid { IsValidPlan files.now.net plan.now }
     requires inputs { AreInputs files.now.net inputs.now }
-    ensures { IfOk result (λ r. IsDriveAnswer (record { check = record { update = meaning_of files.now; plan = plan.now }; inputs = inputs.now }) (answer_of r)) }
+    ensures { IfOk result
+        (λ r. IsDriveAnswer
+        (record {
+          check = record { update = meaning_of files.now; plan = plan.now };
+          inputs = inputs.now;
+        }) (answer_of r)) }
 {
     match CheckRoom::make(
         alloc,

@@ -31,8 +31,10 @@ pub fn emit_reply(alloc: Global, net: &Net, plan: &Plan) -> Result<Reply, Memory
 /// Writes the OpenFlow 1.0 messages that carry the plan out, one a line. In each round come the changes in order, then one barrier
 /// request for each switch with a change, ascending.
 pub fn emit<S: Source>(alloc: Global, source: &mut S, names: &PlanNames<'_>) -> Result<Reply, Exit>
-    ensures meets { Meets IsEmitAnswer (S.held source.old) (reading_plan_files (plan_names_seen names.now))
-        (S.faults source.old) (S.faults source.new) result (S.selected source.new) (S.taken source.new) }
+    ensures meets { Meets IsEmitAnswer (S.held source.old)
+        (reading_plan_files (plan_names_seen names.now))
+        (S.faults source.old) (S.faults source.new) result (S.selected source.new)
+        (S.taken source.new) }
     ensures held { S.held source.new ≡ S.held source.old }
     ensures later { S.faults source.old ≤ S.faults source.new }
 {

@@ -68,7 +68,8 @@ impl Lines {
         requires round { round < 4200 }
         requires plan { IsPlanChange net.now change.now }
         requires xid { self.old.xid + 1 < 2 ^ 32 }
-        ensures { OnOk result (AddsLines net.now (change_request round change.now ∷ []) self.old self.new) }
+        ensures { OnOk result
+            (AddsLines net.now (change_request round change.now ∷ []) self.old self.new) }
     {
         let message = encode_change(alloc, change, self.xid)?;
         let name = switch_name(net, change.switch());
@@ -87,7 +88,8 @@ impl Lines {
     ) -> Result<(), Memory>
         requires round { round < 4200 }
         requires xid { self.old.xid + 1 < 2 ^ 32 }
-        ensures { OnOk result (AddsLines net.now (barrier_request round switch ∷ []) self.old self.new) }
+        ensures { OnOk result
+            (AddsLines net.now (barrier_request round switch ∷ []) self.old self.new) }
     {
         let message = encode_barrier(self.xid);
         let name = switch_name(net, switch);
@@ -107,7 +109,8 @@ impl Lines {
         requires round { round < 4200 }
         requires plan { AllByRecursion (IsPlanChange net.now) changes.now }
         requires xids { self.old.xid + length changes.now < 2 ^ 32 }
-        ensures { OnOk result (AddsLines net.now (map (change_request round) changes.now) self.old self.new) }
+        ensures { OnOk result
+            (AddsLines net.now (map (change_request round) changes.now) self.old self.new) }
     {
         for change in changes {
             self.add_change(alloc, net, round, change)?;
@@ -126,7 +129,11 @@ impl Lines {
         requires round { round < 4200 }
         requires long { length marks.now ≡ switch_count net.now }
         requires xids { self.old.xid + 128 < 2 ^ 32 }
-        ensures { OnOk result (AddsLines net.now (map (barrier_request round) (filter (λ s. slice_index_or marks.now s.0 false) (switches_of net.now))) self.old self.new) }
+        ensures { OnOk result
+            (AddsLines net.now
+            (map (barrier_request round)
+            (filter (λ s. slice_index_or marks.now s.0 false) (switches_of net.now)))
+            self.old self.new) }
     {
         for number in 0..net.switches() {
             if marks[number as usize] {
@@ -147,7 +154,8 @@ impl Lines {
         requires round { round < 4200 }
         requires plan { AllByRecursion (IsPlanChange net.now) changes.now }
         requires xids { self.old.xid + length changes.now + 128 < 2 ^ 32 }
-        ensures { OnOk result (AddsLines net.now (round_requests net.now round changes.now) self.old self.new) }
+        ensures { OnOk result
+            (AddsLines net.now (round_requests net.now round changes.now) self.old self.new) }
     {
         let marks = changed_switches(alloc, net, changes)?;
         self.add_changes(alloc, net, round, changes)?;

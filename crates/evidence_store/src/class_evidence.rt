@@ -58,9 +58,13 @@ pub fn evidence_of(
     requires number { numbered.number < class_count duties.now.classes }
     requires class { IsNumbered duties.now.classes numbered }
     requires entry { numbered.class.entry.switch.0 < switch_count net.now }
-    requires walked { (u : Rollout) × (k : ℕ) × (u.net ≡ net.now) × IsWalked u k numbered.class.first numbered.class.entry walk.now }
-    ensures { IfOk result (λ found. (u : Rollout) (k : ℕ) → u.net ≡ net.now → IsWalked u k numbered.class.first numbered.class.entry walk.now
-        → IsFound u k numbered.class (duties_of duties.now.demands numbered.class.entry numbered.class.first) found) }
+    requires walked { (u : Rollout) × (k : ℕ) × (u.net ≡ net.now)
+        × IsWalked u k numbered.class.first numbered.class.entry walk.now }
+    ensures { IfOk result
+        (λ found. (u : Rollout) (k : ℕ) → u.net ≡ net.now
+        → IsWalked u k numbered.class.first numbered.class.entry walk.now
+        → IsFound u k numbered.class
+        (duties_of duties.now.demands numbered.class.entry numbered.class.first) found) }
 {
     let mut last = LastSets::none();
     evidence_by_last(alloc, net, walk, duties, numbered, &mut last)
@@ -79,10 +83,14 @@ pub fn evidence_by_last(
     requires number { numbered.number < class_count duties.now.classes }
     requires class { IsNumbered duties.now.classes numbered }
     requires entry { numbered.class.entry.switch.0 < switch_count net.now }
-    requires walked { (u : Rollout) × (k : ℕ) × (u.net ≡ net.now) × IsWalked u k numbered.class.first numbered.class.entry walk.now }
+    requires walked { (u : Rollout) × (k : ℕ) × (u.net ≡ net.now)
+        × IsWalked u k numbered.class.first numbered.class.entry walk.now }
     requires last { HoldsLast net.now duties.now last.old }
-    ensures found { IfOk result (λ found. (u : Rollout) (k : ℕ) → u.net ≡ net.now → IsWalked u k numbered.class.first numbered.class.entry walk.now
-        → IsFound u k numbered.class (duties_of duties.now.demands numbered.class.entry numbered.class.first) found) }
+    ensures found { IfOk result
+        (λ found. (u : Rollout) (k : ℕ) → u.net ≡ net.now
+        → IsWalked u k numbered.class.first numbered.class.entry walk.now
+        → IsFound u k numbered.class
+        (duties_of duties.now.demands numbered.class.entry numbered.class.first) found) }
     ensures last { OnOk result (HoldsLast net.now duties.now last.new) }
 {
     net.keeps_rules();
@@ -114,10 +122,16 @@ pub fn keeps_safe(
     requires entry { numbered.class.entry.switch.0 < switch_count net.now }
     requires numbering { length named.numbering.now ≡ switch_count net.now }
     requires indices { All (λ i. i < length named.befores.now) named.indices.now }
-    requires walked { (u : Rollout) × (k : ℕ) × (u.net ≡ net.now) × IsWalked u k numbered.class.first numbered.class.entry walk.now }
-    ensures { (u : Rollout) (k : ℕ) (sets : List (List ℕ)) → u.net ≡ net.now → IsWalked u k numbered.class.first numbered.class.entry walk.now
-        → AllZip (λ i set. slice_get named.entry.befores.now i ≡ Some set) named.entry.indices.now sets
-        → IsTrue result ↔ IsSafe u k numbered.class.first numbered.class.entry (duties_of duties.now.demands numbered.class.entry numbered.class.first) named.entry.numbering.now sets }
+    requires walked { (u : Rollout) × (k : ℕ) × (u.net ≡ net.now)
+        × IsWalked u k numbered.class.first numbered.class.entry walk.now }
+    ensures { (u : Rollout) (k : ℕ) (sets : List (List ℕ)) → u.net ≡ net.now
+        → IsWalked u k numbered.class.first numbered.class.entry walk.now
+        → AllZip (λ i set. slice_get named.entry.befores.now i ≡ Some set) named.entry.indices.now
+        sets
+        → IsTrue result
+        ↔ IsSafe u k numbered.class.first numbered.class.entry
+        (duties_of duties.now.demands numbered.class.entry numbered.class.first)
+        named.entry.numbering.now sets }
 {
     net.keeps_rules();
     all_lower(named.numbering, walk.steps())

@@ -41,7 +41,9 @@ impl NumberingKeys {
         alloc: Global,
         numbering: &Numbering,
     ) -> Result<(usize, bool), Memory>
-        ensures { IfOk result (λ n. MatchBool n.1 (IsAdded self.old numbering.now n.0 self.new) (IsFound self.old numbering.now n.0 self.new)) }
+        ensures { IfOk result
+            (λ n. MatchBool n.1 (IsAdded self.old numbering.now n.0 self.new)
+            (IsFound self.old numbering.now n.0 self.new)) }
     {
         let key = Vec::from_slice(alloc, numbering.list())?;
         Ok(self.keys.insert_full(key)?)
@@ -95,7 +97,9 @@ impl BeforeKeys {
 
     /// The number of the before set, and whether it is new. It is added where it isn't there.
     pub(crate) fn number(&mut self, alloc: Global, before: &Before) -> Result<(usize, bool), Memory>
-        ensures { IfOk result (λ n. MatchBool n.1 (IsAdded self.old before.now n.0 self.new) (IsFound self.old before.now n.0 self.new)) }
+        ensures { IfOk result
+            (λ n. MatchBool n.1 (IsAdded self.old before.now n.0 self.new)
+            (IsFound self.old before.now n.0 self.new)) }
     {
         let key = members(alloc, before)?;
         Ok(self.keys.insert_full(key)?)
@@ -130,7 +134,9 @@ impl UseKeys {
 
     /// The number of the use, and whether it is new. It is added where it isn't there.
     pub(crate) fn number(&mut self, alloc: Global, shared: &Shared) -> Result<(usize, bool), Memory>
-        ensures { IfOk result (λ n. MatchBool n.1 (IsAdded self.old shared.now n.0 self.new) (IsFound self.old shared.now n.0 self.new)) }
+        ensures { IfOk result
+            (λ n. MatchBool n.1 (IsAdded self.old shared.now n.0 self.new)
+            (IsFound self.old shared.now n.0 self.new)) }
     {
         let key = SharedKey::of(alloc, shared)?;
         Ok(self.keys.insert_full(key)?)

@@ -71,7 +71,14 @@ impl ClassSets {
         numbered: NumberedClass,
         befores: &Befores,
     ) -> Result<ClassSets, Memory>
-        ensures { IfOk result (λ s. s ≡ record { class = numbered; steps = walk.now.steps; leaving = walk.now.leaving; sets = befores.now }) }
+        ensures { IfOk result
+            (λ s. s
+            ≡ record {
+              class = numbered;
+              steps = walk.now.steps;
+              leaving = walk.now.leaving;
+              sets = befores.now;
+            }) }
     {
         Ok(ClassSets {
             class: numbered,
@@ -93,8 +100,10 @@ impl ClassSets {
     fn are_for(&self, duties: &Duties, numbered: NumberedClass) -> bool
         requires known { IsNumbered duties.now.classes self.now.class }
         requires number { numbered.number < class_count duties.now.classes }
-        ensures start { result ≡ true → self.now.class.class.entry.switch ≡ numbered.class.entry.switch }
-        ensures duties { result ≡ true → HaveSameDuties duties.now self.now.class.number numbered.number }
+        ensures start { result ≡ true → self.now.class.class.entry.switch
+            ≡ numbered.class.entry.switch }
+        ensures duties { result ≡ true
+            → HaveSameDuties duties.now self.now.class.number numbered.number }
     {
         self.class.class.entry.switch.0 == numbered.class.entry.switch.0
             && duties.are_shared(self.class.number, numbered.number)
@@ -122,7 +131,10 @@ impl LastSets {
         requires class { IsNumbered duties.now.classes numbered }
         requires held { (net : Network) × HoldsLast net duties.now self.now }
         ensures { IfOk result (λ found. (net : Network) → HoldsLast net duties.now self.now
-            → IfSome found (λ sets. AreGuardsFound net numbered.class.entry.switch walk.now (duties_of duties.now.demands numbered.class.entry numbered.class.first).chains (Some sets))) }
+            → IfSome found
+            (λ sets. AreGuardsFound net numbered.class.entry.switch walk.now
+            (duties_of duties.now.demands numbered.class.entry numbered.class.first).chains
+            (Some sets))) }
     {
         let Some(sets) = &self.last else {
             return Ok(None);
@@ -141,8 +153,12 @@ impl LastSets {
         numbered: NumberedClass,
         befores: &Befores,
     ) -> Result<(), Memory>
-        ensures { OnOk result ((net : Network) (d : ClassDuties) → HoldsLast net d self.old → IsNumbered d.classes numbered
-            → AreGuardsFound net numbered.class.entry.switch walk.now (duties_of d.demands numbered.class.entry numbered.class.first).chains (Some befores.now) → HoldsLast net d self.new) }
+        ensures { OnOk result
+            ((net : Network) (d : ClassDuties) → HoldsLast net d self.old
+            → IsNumbered d.classes numbered
+            → AreGuardsFound net numbered.class.entry.switch walk.now
+            (duties_of d.demands numbered.class.entry numbered.class.first).chains
+            (Some befores.now) → HoldsLast net d self.new) }
     {
         if !befores.list().is_empty() {
             self.last = Some(ClassSets::of(alloc, walk, numbered, befores)?);
@@ -165,7 +181,9 @@ impl LastSets {
         requires entry { numbered.class.entry.switch.0 < switch_count net.now }
         requires within { AreWithin (switch_count net.now) walk.now }
         requires last { HoldsLast net.now duties.now self.old }
-        ensures found { IfOk result (AreGuardsFound net.now numbered.class.entry.switch walk.now (duties_of duties.now.demands numbered.class.entry numbered.class.first).chains) }
+        ensures found { IfOk result
+            (AreGuardsFound net.now numbered.class.entry.switch walk.now
+            (duties_of duties.now.demands numbered.class.entry numbered.class.first).chains) }
         ensures last { OnOk result (HoldsLast net.now duties.now self.new) }
     {
         if let Some(befores) = self.sets_of(alloc, duties, walk, numbered)? {

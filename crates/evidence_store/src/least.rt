@@ -37,7 +37,8 @@ fn least_guard(
 ) -> Result<Option<Before>, Memory>
     requires start { start.0 < switch_count net.now }
     requires within { AreWithin (switch_count net.now) walk.now }
-    ensures { IfOk result (IsGuardFound net.now start walk.now waypoint (option_copied earlier.entry)) }
+    ensures { IfOk result
+        (IsGuardFound net.now start walk.now waypoint (option_copied earlier.entry)) }
 {
     let switches = net.switches();
     let steps = walk.steps();
@@ -61,7 +62,8 @@ fn least_guard(
 /// The set before the position that comes after so many of a chain, whose sets are the last ones.
 fn last_set(befores: &Befores, place: usize) -> Option<&Before>
     requires { place ≤ length befores.now }
-    ensures { (so_far sets : List (List ℕ)) → befores.now ≡ so_far ++ sets → length sets ≡ place → option_copied result ≡ last_or None sets }
+    ensures { (so_far sets : List (List ℕ)) → befores.now ≡ so_far ++ sets → length sets ≡ place
+        → option_copied result ≡ last_or None sets }
 {
     if place == 0 {
         None
@@ -107,7 +109,10 @@ fn add_chains(
     requires entry { numbered.class.entry.switch.0 < switch_count net.now }
     requires within { AreWithin (switch_count net.now) walk.now }
     requires none { befores.old ≡ [] }
-    ensures { IfOk result (λ all. AreGuardsFound net.now numbered.class.entry.switch walk.now (duties_of duties.now.demands numbered.class.entry numbered.class.first).chains (if_all all befores.new)) }
+    ensures { IfOk result
+        (λ all. AreGuardsFound net.now numbered.class.entry.switch walk.now
+        (duties_of duties.now.demands numbered.class.entry numbered.class.first).chains
+        (if_all all befores.new)) }
 {
     let number = numbered.number;
     let start = numbered.class.entry.switch;
@@ -132,7 +137,9 @@ pub(crate) fn least_befores(
     requires class { IsNumbered duties.now.classes numbered }
     requires entry { numbered.class.entry.switch.0 < switch_count net.now }
     requires within { AreWithin (switch_count net.now) walk.now }
-    ensures { IfOk result (AreGuardsFound net.now numbered.class.entry.switch walk.now (duties_of duties.now.demands numbered.class.entry numbered.class.first).chains) }
+    ensures { IfOk result
+        (AreGuardsFound net.now numbered.class.entry.switch walk.now
+        (duties_of duties.now.demands numbered.class.entry numbered.class.first).chains) }
 {
     let mut befores = Befores::make(alloc)?;
     match add_chains(alloc, net, walk, duties, numbered, &mut befores) {

@@ -90,7 +90,9 @@ fn add_pick_of(
     requires keys { AreKeysOf keys.old evidence.old }
     requires few_numberings { length evidence.old.numberings < 2 ^ 32 }
     requires few_uses { length evidence.old.uses < 2 ^ 32 }
-    ensures pick { IfOk result (λ shared. IsPicked evidence.old numbering befores.now (record { round = round; class = class; shared = shared }) evidence.new) }
+    ensures pick { IfOk result
+        (λ shared. IsPicked evidence.old numbering befores.now
+        (record { round = round; class = class; shared = shared }) evidence.new) }
     ensures keys { OnOk result (AreKeysOf keys.new evidence.new) }
 {
     let shared = add_use(alloc, keys, evidence, numbering, befores)?;
@@ -115,7 +117,9 @@ fn add_pick(
     requires keys { AreKeysOf keys.old evidence.old }
     requires few_numberings { length evidence.old.numberings < 2 ^ 32 }
     requires few_uses { length evidence.old.uses < 2 ^ 32 }
-    ensures pick { IfOk result (λ shared. IsPicked evidence.old numbering befores (record { round = round; class = class; shared = shared }) evidence.new) }
+    ensures pick { IfOk result
+        (λ shared. IsPicked evidence.old numbering befores
+        (record { round = round; class = class; shared = shared }) evidence.new) }
     ensures keys { OnOk result (AreKeysOf keys.new evidence.new) }
 {
     add_pick_of(alloc, keys, evidence, round, class, numbering, &befores)
@@ -154,9 +158,12 @@ impl EvidenceStore {
     /// The use of the last pick of a class, if there is a pick of it.
     pub fn in_force(&self, class: u32) -> Option<u32>
         requires { class < self.now.classes }
-        ensures none { IfNone result ((pick : OrderedPick) → IsIn pick self.now.evidence.picks → pick.class ≢ class) }
-        ensures some { IfSome result (λ use_. (round : ℕ) → AllByRecursion (λ p. p.round ≤ round) self.now.evidence.picks
-            → (pick : OrderedPick) × IsPickInForce self.now.evidence.picks round class pick × (pick.shared ≡ use_)) }
+        ensures none { IfNone result
+            ((pick : OrderedPick) → IsIn pick self.now.evidence.picks → pick.class ≢ class) }
+        ensures some { IfSome result
+            (λ use_. (round : ℕ) → AllByRecursion (λ p. p.round ≤ round) self.now.evidence.picks
+            → (pick : OrderedPick) × IsPickInForce self.now.evidence.picks round class pick
+            × (pick.shared ≡ use_)) }
     {
         self.in_force[class as usize]
     }
@@ -172,8 +179,11 @@ impl EvidenceStore {
     ) -> Result<EvidenceStore, Memory>
         requires class { class < self.classes }
         requires few_rounds { round ≤ 4200 }
-        requires behind { AllByRecursion (λ p. IsPickBefore p (record { round = round; class = class; shared = 0 })) self.evidence.picks }
-        ensures pick { IfOk result (λ s. IsWithPick self.evidence round class numbering befores s.evidence) }
+        requires behind { AllByRecursion
+            (λ p. IsPickBefore p (record { round = round; class = class; shared = 0 }))
+            self.evidence.picks }
+        ensures pick { IfOk result
+            (λ s. IsWithPick self.evidence round class numbering befores s.evidence) }
         ensures classes { IfOk result (λ s. s.classes ≡ self.classes) }
     {
         let mut store = self;

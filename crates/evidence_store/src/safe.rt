@@ -21,7 +21,8 @@ use waypoint_evidence::{Before, closed};
 
 /// Whether each step goes to a lower number.
 pub(crate) fn all_lower(numbering: &Numbering, steps: &[Edge]) -> bool
-    requires { All (λ e. (e.from.0 < length numbering.now) × (e.to.0 < length numbering.now)) steps.now }
+    requires { All (λ e. (e.from.0 < length numbering.now) × (e.to.0 < length numbering.now))
+        steps.now }
     ensures { IsTrue result ↔ Falls (IsEdge steps.now) numbering.now }
 {
     for step in steps {
@@ -40,7 +41,9 @@ pub(crate) fn drops_what_must_arrive(
 ) -> bool
     requires number { numbered.number < class_count duties.now.classes }
     requires class { IsNumbered duties.now.classes numbered }
-    ensures { IsTrue result ↔ (IsTrue (duties_of duties.now.demands numbered.class.entry numbered.class.first).arrive × ((s : SwitchId) × IsIn s walk.now.dropping)) }
+    ensures { IsTrue result
+        ↔ (IsTrue (duties_of duties.now.demands numbered.class.entry numbered.class.first).arrive
+        × ((s : SwitchId) × IsIn s walk.now.dropping)) }
 {
     duties.must_arrive(numbered.number) && !walk.dropping().is_empty()
 }
@@ -57,7 +60,9 @@ fn guards_chain(
     requires within { AreWithin 128 walk.now }
     requires indices { All (λ i. i < length befores.now) indices.now }
     requires enough { length chain.now ≤ length indices.now }
-    ensures { IsTrue result ↔ AllByRecursion (IsGuarded start walk.now) (chain_positions None chain.now (sets_of befores.now indices.now)) }
+    ensures { IsTrue result
+        ↔ AllByRecursion (IsGuarded start walk.now)
+        (chain_positions None chain.now (sets_of befores.now indices.now)) }
 {
     for (place, waypoint) in chain.iter().enumerate() {
         let set = set_at(befores, indices, place);
@@ -82,9 +87,12 @@ pub(crate) fn guards_all(
     requires start { numbered.class.entry.switch.0 < 128 }
     requires within { AreWithin 128 walk.now }
     requires indices { All (λ i. i < length befores.now) indices.now }
-    requires count { length indices.now ≡ position_count (duties_of duties.now.demands numbered.class.entry numbered.class.first).chains }
+    requires count { length indices.now
+        ≡ position_count
+        (duties_of duties.now.demands numbered.class.entry numbered.class.first).chains }
     ensures { IsTrue result ↔ AllByRecursion (IsGuarded numbered.class.entry.switch walk.now)
-        (positions (duties_of duties.now.demands numbered.class.entry numbered.class.first).chains (sets_of befores.now indices.now)) }
+        (positions (duties_of duties.now.demands numbered.class.entry numbered.class.first).chains
+        (sets_of befores.now indices.now)) }
 {
     let number = numbered.number;
     let start = numbered.class.entry.switch;

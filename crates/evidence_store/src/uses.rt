@@ -55,7 +55,8 @@ fn add_befores(
     sets: &[Before],
 ) -> Result<IndexList, Memory>
     requires { keys.old ≡ befores.old }
-    ensures numbers { IfOk result (λ numbers. AreNumbered befores.old sets.now numbers befores.new) }
+    ensures numbers { IfOk result
+        (λ numbers. AreNumbered befores.old sets.now numbers befores.new) }
     ensures keys { OnOk result (keys.new ≡ befores.new) }
 {
     let mut numbers = IndexList::make(alloc)?;
@@ -96,7 +97,8 @@ pub(crate) fn add_use(
     requires keys { AreKeysOf keys.old evidence.old }
     requires few_numberings { length evidence.old.numberings < 2 ^ 32 }
     requires few_uses { length evidence.old.uses < 2 ^ 32 }
-    ensures number { IfOk result (λ n. IsWithUse evidence.old numbering befores.now n evidence.new) }
+    ensures number { IfOk result
+        (λ n. IsWithUse evidence.old numbering befores.now n evidence.new) }
     ensures keys { OnOk result (AreKeysOf keys.new evidence.new) }
 {
     let shared = Shared {

@@ -22,7 +22,9 @@ fn say_explained(alloc: Global, files: &UpdateFiles, plan: &Plan) -> Result<Repl
     requires old { IsUserConfig files.now.net (rules_of_all files.now.old) }
     requires new { IsUserConfig files.now.net (rules_of_all files.now.new) }
     requires valid { IsValidPlan files.now.net plan.now }
-    ensures said { IfOk result (λ r. IsExplainAnswer (record { update = meaning_of files.now; plan = plan.now }) (answer_of r)) }
+    ensures said { IfOk result
+        (λ r. IsExplainAnswer (record { update = meaning_of files.now; plan = plan.now })
+        (answer_of r)) }
     ensures stops { IfErr result (λ e. e ≡ Exit.Memory) }
 {
     Ok(explain_verdict(alloc, files, plan)?)
@@ -38,9 +40,13 @@ fn explain_plan<S: Source>(
     requires old { IsUserConfig files.now.net (rules_of_all files.now.old) }
     requires new { IsUserConfig files.now.net (rules_of_all files.now.new) }
     ensures leads { IfOk result (λ r. (last : Option FileRead)
-        → LeadsTo IsExplainAnswer (S.held source.old) last (reading_plan_of (meaning_of files.now) name.now) (answer_of r) (S.selected source.new) (S.taken source.new)) }
+        → LeadsTo IsExplainAnswer (S.held source.old) last
+        (reading_plan_of (meaning_of files.now) name.now) (answer_of r) (S.selected source.new)
+        (S.taken source.new)) }
     ensures stops { IfErr result (λ e. (last : Option FileRead)
-        → EndsEarly (S.held source.old) last (reading_plan_of (meaning_of files.now) name.now) (S.faults source.old) (S.faults source.new) e (S.selected source.new) (S.taken source.new)) }
+        → EndsEarly (S.held source.old) last (reading_plan_of (meaning_of files.now) name.now)
+        (S.faults source.old) (S.faults source.new) e (S.selected source.new)
+        (S.taken source.new)) }
     ensures held { S.held source.new ≡ S.held source.old }
     ensures later { S.faults source.old ≤ S.faults source.new }
 {
@@ -57,8 +63,10 @@ pub fn explain<S: Source>(
     source: &mut S,
     names: &CheckNames<'_>,
 ) -> Result<Reply, Exit>
-    ensures meets { Meets IsExplainAnswer (S.held source.old) (check_dialogue (names_seen names.now))
-        (S.faults source.old) (S.faults source.new) result (S.selected source.new) (S.taken source.new) }
+    ensures meets { Meets IsExplainAnswer (S.held source.old)
+        (check_dialogue (names_seen names.now))
+        (S.faults source.old) (S.faults source.new) result (S.selected source.new)
+        (S.taken source.new) }
     ensures held { S.held source.new ≡ S.held source.old }
     ensures later { S.faults source.old ≤ S.faults source.new }
 {

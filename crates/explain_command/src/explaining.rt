@@ -29,9 +29,11 @@ fn breaking_schedule(
     events: &Events,
 ) -> Result<Vec<u8>, Memory>
     requires valid { IsValidPlan files.now.net plan.now }
-    requires first { let t = task_for (meaning_of files.now) plan.now in IsFirstBreakingRun (rollout t) (classes_for t) t.update.demands events.now }
+    requires first { let t = task_for (meaning_of files.now) plan.now in IsFirstBreakingRun
+        (rollout t) (classes_for t) t.update.demands events.now }
     requires few { AreFewFor files.now.net plan.now.rounds events.now }
-    ensures { IfOk result (λ text. IsBreakingSchedule (task_for (meaning_of files.now) plan.now) text.items) }
+    ensures { IfOk result
+        (λ text. IsBreakingSchedule (task_for (meaning_of files.now) plan.now) text.items) }
 {
     files.net.keeps_rules();
     runs_have_lines(&files.net, &files.old, &plan.rounds, events);
@@ -50,7 +52,8 @@ pub fn explanation(
     requires fits { Fits (task_for (meaning_of files.now) plan.now) room.now }
     requires good { AreGoodRounds (rollout (task_for (meaning_of files.now) plan.now)) }
     requires clear { AreClearRounds (rollout (task_for (meaning_of files.now) plan.now)) }
-    ensures { IfOk result (λ text. IsExplanation (task_for (meaning_of files.now) plan.now) text.items) }
+    ensures { IfOk result
+        (λ text. IsExplanation (task_for (meaning_of files.now) plan.now) text.items) }
 {
     let (classes, duties) = (room.classes(), room.duties());
     match explain(alloc, &files.net, &files.old, &plan.rounds, duties, classes)? {

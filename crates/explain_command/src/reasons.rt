@@ -20,9 +20,15 @@ pub fn round_reason(
     plan: &Plan,
 ) -> Result<Option<Reason>, Memory>
     requires valid { IsValidPlan files.now.net plan.now }
-    ensures good { IfOk result (λ found. IfNone found (AreGoodRounds (rollout (task_for (meaning_of files.now) plan.now)))) }
-    ensures clear { IfOk result (λ found. IfNone found (AreClearRounds (rollout (task_for (meaning_of files.now) plan.now)))) }
-    ensures some { IfOk result (λ found. IfSome found (IsFirstRoundReason (rollout (task_for (meaning_of files.now) plan.now)))) }
+    ensures good { IfOk result
+        (λ found. IfNone found
+        (AreGoodRounds (rollout (task_for (meaning_of files.now) plan.now)))) }
+    ensures clear { IfOk result
+        (λ found. IfNone found
+        (AreClearRounds (rollout (task_for (meaning_of files.now) plan.now)))) }
+    ensures some { IfOk result
+        (λ found. IfSome found
+        (IsFirstRoundReason (rollout (task_for (meaning_of files.now) plan.now)))) }
 {
     match sound_rounds(alloc, &files.net, &files.old, &plan.rounds) {
         Ok(()) => Ok(None),

@@ -38,7 +38,9 @@ fn judge_walks(
     requires ends { EndsAreGood (task_for (meaning_of files.now) plan.now) }
     requires good { AreGoodRounds (rollout (task_for (meaning_of files.now) plan.now)) }
     requires clear { AreClearRounds (rollout (task_for (meaning_of files.now) plan.now)) }
-    ensures { IfOk result (λ r. IsExplainAnswer (record { update = meaning_of files.now; plan = plan.now }) (answer_of r)) }
+    ensures { IfOk result
+        (λ r. IsExplainAnswer (record { update = meaning_of files.now; plan = plan.now })
+        (answer_of r)) }
 {
     match &plan.evidence {
         Evidence::Ordered(_) => Ok(Reply {
@@ -64,7 +66,9 @@ fn judge_rounds(
     requires fits { Fits (task_for (meaning_of files.now) plan.now) room.now }
     requires few { class_count (classes_for (task_for (meaning_of files.now) plan.now)) ≤ 8192 }
     requires ends { EndsAreGood (task_for (meaning_of files.now) plan.now) }
-    ensures { IfOk result (λ r. IsExplainAnswer (record { update = meaning_of files.now; plan = plan.now }) (answer_of r)) }
+    ensures { IfOk result
+        (λ r. IsExplainAnswer (record { update = meaning_of files.now; plan = plan.now })
+        (answer_of r)) }
 {
     match round_reason(alloc, files, plan)? {
         Some(reason) => refused_reply(alloc, &files.net, None, reason),
@@ -84,7 +88,9 @@ fn judge_plan(
     requires valid { IsValidPlan files.now.net plan.now }
     requires fits { Fits (task_for (meaning_of files.now) plan.now) room.old }
     requires few { class_count (classes_for (task_for (meaning_of files.now) plan.now)) ≤ 8192 }
-    ensures { IfOk result (λ r. IsExplainAnswer (record { update = meaning_of files.now; plan = plan.now }) (answer_of r)) }
+    ensures { IfOk result
+        (λ r. IsExplainAnswer (record { update = meaning_of files.now; plan = plan.now })
+        (answer_of r)) }
 {
     let case = Case {
         net: &files.net,
@@ -108,7 +114,9 @@ pub fn explain_verdict(alloc: Global, files: &UpdateFiles, plan: &Plan) -> Resul
     requires old { IsUserConfig files.now.net (rules_of_all files.now.old) }
     requires new { IsUserConfig files.now.net (rules_of_all files.now.new) }
     requires valid { IsValidPlan files.now.net plan.now }
-    ensures { IfOk result (λ r. IsExplainAnswer (record { update = meaning_of files.now; plan = plan.now }) (answer_of r)) }
+    ensures { IfOk result
+        (λ r. IsExplainAnswer (record { update = meaning_of files.now; plan = plan.now })
+        (answer_of r)) }
 {
     match CheckRoom::make(
         alloc,

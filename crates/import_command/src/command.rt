@@ -31,7 +31,9 @@ fn config_reply(alloc: Global, net: &Net, config: &Config) -> Result<Reply, Memo
 /// The text of a configuration as the end of the command.
 fn say_config(alloc: Global, net: &Net, config: &Config) -> Result<Reply, Exit>
     requires { IsUserConfig net.now (rules_of_all config.now) }
-    ensures said { IfOk result (λ r. IsImportAnswer (record { net = net.now; tables = rules_of_all config.now }) (answer_of r)) }
+    ensures said { IfOk result
+        (λ r. IsImportAnswer (record { net = net.now; tables = rules_of_all config.now })
+        (answer_of r)) }
     ensures stops { IfErr result (λ e. e ≡ Exit.Memory) }
 {
     Ok(config_reply(alloc, net, config)?)
@@ -45,9 +47,13 @@ fn import_replies<S: Source>(
     net: &Net,
 ) -> Result<Reply, Exit>
     ensures leads { IfOk result (λ r. (last : Option FileRead)
-        → LeadsTo IsImportAnswer (S.held source.old) last (behind_topology (names_seen names.now) net.now) (answer_of r) (S.selected source.new) (S.taken source.new)) }
+        → LeadsTo IsImportAnswer (S.held source.old) last
+        (behind_topology (names_seen names.now) net.now) (answer_of r) (S.selected source.new)
+        (S.taken source.new)) }
     ensures stops { IfErr result (λ e. (last : Option FileRead)
-        → EndsEarly (S.held source.old) last (behind_topology (names_seen names.now) net.now) (S.faults source.old) (S.faults source.new) e (S.selected source.new) (S.taken source.new)) }
+        → EndsEarly (S.held source.old) last (behind_topology (names_seen names.now) net.now)
+        (S.faults source.old) (S.faults source.new) e (S.selected source.new)
+        (S.taken source.new)) }
     ensures held { S.held source.new ≡ S.held source.old }
     ensures later { S.faults source.old ≤ S.faults source.new }
 {
@@ -63,8 +69,10 @@ pub fn import<S: Source>(
     source: &mut S,
     names: &ImportNames<'_>,
 ) -> Result<Reply, Exit>
-    ensures meets { Meets IsImportAnswer (S.held source.old) (import_dialogue (names_seen names.now))
-        (S.faults source.old) (S.faults source.new) result (S.selected source.new) (S.taken source.new) }
+    ensures meets { Meets IsImportAnswer (S.held source.old)
+        (import_dialogue (names_seen names.now))
+        (S.faults source.old) (S.faults source.new) result (S.selected source.new)
+        (S.taken source.new) }
     ensures held { S.held source.new ≡ S.held source.old }
     ensures later { S.faults source.old ≤ S.faults source.new }
 {

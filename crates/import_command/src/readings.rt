@@ -31,7 +31,8 @@ fn stats_fault(fault: StatsFault) -> Fault
 fn replies_of(alloc: Global, net: &Net, bytes: &[u8]) -> Result<Config, Exit>
     ensures ok { IfOk result (λ c. replies_in net.now bytes.now ≡ Ok (rules_of_all c)) }
     ensures user { IfOk result (λ c. IsUserConfig net.now (rules_of_all c)) }
-    ensures bad { IfErr result (λ e. IsBad FileKind.Replies replies_words (replies_in net.now bytes.now) e) }
+    ensures bad { IfErr result
+        (λ e. IsBad FileKind.Replies replies_words (replies_in net.now bytes.now) e) }
 {
     match read_replies(alloc, net, bytes) {
         Ok(config) => Ok(config),
@@ -52,11 +53,16 @@ pub fn read_replies_file<S: Source>(
     name: &str,
 ) -> Result<Config, Exit>
     ensures gives { IfOk result (λ v. (last : Option FileRead)
-        → Gives (S.held source.old) last (reading_replies net.now name.now) (rules_of_all v) (Some (file_read FileKind.Replies name.now))) }
+        → Gives (S.held source.old) last (reading_replies net.now name.now) (rules_of_all v)
+        (Some (file_read FileKind.Replies name.now))) }
     ensures user { IfOk result (λ v. IsUserConfig net.now (rules_of_all v)) }
-    ensures whole { OnOk result (IsWhole (Some (file_read FileKind.Replies name.now)) (S.selected source.new) (S.taken source.new)) }
+    ensures whole { OnOk result
+        (IsWhole (Some (file_read FileKind.Replies name.now)) (S.selected source.new)
+        (S.taken source.new)) }
     ensures stops { IfErr result (λ e. (last : Option FileRead)
-        → EndsEarly (S.held source.old) last (reading_replies net.now name.now) (S.faults source.old) (S.faults source.new) e (S.selected source.new) (S.taken source.new)) }
+        → EndsEarly (S.held source.old) last (reading_replies net.now name.now)
+        (S.faults source.old) (S.faults source.new) e (S.selected source.new)
+        (S.taken source.new)) }
     ensures held { S.held source.new ≡ S.held source.old }
     ensures later { S.faults source.old ≤ S.faults source.new }
 {

@@ -43,7 +43,8 @@ fn unmark_edges(list: &[Edge], marks: &mut Vec<bool>)
     requires near { All IsNear list.now }
     requires count { length marks.old.items ≡ 16384 }
     ensures count { length marks.new.items ≡ length marks.old.items }
-    ensures taken { (n : ℕ) → slice_index_or marks.new.items n false ≡ true → (slice_index_or marks.old.items n false ≡ true) × ¬ IsIn n (map edge_number list.now) }
+    ensures taken { (n : ℕ) → slice_index_or marks.new.items n false ≡ true
+        → (slice_index_or marks.old.items n false ≡ true) × ¬ IsIn n (map edge_number list.now) }
 {
     for edge in list {
         marks[edge_number(edge)] = false;

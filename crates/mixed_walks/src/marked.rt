@@ -31,7 +31,8 @@ impl Model for SwitchSet {
 fn unmark_switches(list: &[SwitchId], marks: &mut Vec<bool>)
     requires { All (λ s. s.0 < length marks.old.items) list.now }
     ensures count { length marks.new.items ≡ length marks.old.items }
-    ensures taken { (n : ℕ) → slice_index_or marks.new.items n false ≡ true → (slice_index_or marks.old.items n false ≡ true) × ¬ IsIn n (map switch_number list.now) }
+    ensures taken { (n : ℕ) → slice_index_or marks.new.items n false ≡ true
+        → (slice_index_or marks.old.items n false ≡ true) × ¬ IsIn n (map switch_number list.now) }
 {
     for switch in list {
         marks[switch.0 as usize] = false;

@@ -36,7 +36,8 @@ impl Model for Noted {
 impl Noted {
     /// Nothing noted.
     pub(crate) fn make(alloc: Global) -> Result<Noted, Memory>
-        ensures { IfOk result (λ noted. noted ≡ record { places = []; steps = []; leaving = []; dropping = [] }) }
+        ensures { IfOk result
+            (λ noted. noted ≡ record { places = []; steps = []; leaving = []; dropping = [] }) }
     {
         Ok(Noted {
             leaving: SwitchSet::make(alloc)?,
@@ -105,7 +106,8 @@ impl Noted {
         requires { entry.switch.0 < 128 }
         ensures places { (p : Place) → IsIn p self.new.places ↔ (p ≡ entry) }
         ensures once { IsDistinct self.new.places }
-        ensures nothing { (self.new.steps ≡ []) × (self.new.leaving ≡ []) × (self.new.dropping ≡ []) }
+        ensures nothing { (self.new.steps ≡ []) × (self.new.leaving ≡ [])
+            × (self.new.dropping ≡ []) }
     {
         self.clear();
         self.reached.put(entry);

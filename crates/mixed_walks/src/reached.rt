@@ -65,7 +65,8 @@ fn empty_slots(places: &[Place], slots: &mut Vec<u16>)
     requires near { All (λ p. p.switch.0 < 128) places.now }
     requires count { length slots.old.items ≡ 65536 }
     ensures count { length slots.new.items ≡ length slots.old.items }
-    ensures taken { (n : ℕ) → 0 < slice_index_or slots.new.items n 0 → (0 < slice_index_or slots.old.items n 0) × ¬ IsIn n (map slot_number places.now) }
+    ensures taken { (n : ℕ) → 0 < slice_index_or slots.new.items n 0
+        → (0 < slice_index_or slots.old.items n 0) × ¬ IsIn n (map slot_number places.now) }
 {
     for place in places {
         slots[slot_number(place)] = 0;

@@ -41,7 +41,8 @@ impl Model for WalkRoom {
 impl WalkRoom {
     /// Room for the walks, with nothing noted.
     pub fn make(alloc: Global) -> Result<WalkRoom, Memory>
-        ensures { IfOk result (λ room. room ≡ record { places = []; steps = []; leaving = []; dropping = [] }) }
+        ensures { IfOk result
+            (λ room. room ≡ record { places = []; steps = []; leaving = []; dropping = [] }) }
     {
         Ok(WalkRoom {
             outcomes: Outcomes::with_room(alloc, 8193)?,
@@ -96,9 +97,11 @@ impl WalkRoom {
 
     /// Notes the possible outcomes of the next place.
     fn expand(&mut self, net: &Net, mixes: &[Mixed], address: u32, next: usize)
-        requires round { (u : Rollout) × (k : ℕ) × IsRoundOf net.now mixes.now u k × HaveRoom u k address self.old.places }
+        requires round { (u : Rollout) × (k : ℕ) × IsRoundOf net.now mixes.now u k
+            × HaveRoom u k address self.old.places }
         requires more { next < length self.old.places }
-        ensures { (u : Rollout) (k : ℕ) → IsRoundOf net.now mixes.now u k → IsExpanded u k address next self.old self.new }
+        ensures { (u : Rollout) (k : ℕ) → IsRoundOf net.now mixes.now u k
+            → IsExpanded u k address next self.old self.new }
     {
         net.keeps_rules();
         let place = self.noted.place(next);
@@ -115,7 +118,8 @@ impl WalkRoom {
     pub fn walk(&mut self, net: &Net, mixes: &[Mixed], class: Class)
         requires round { (u : Rollout) × (k : ℕ) × IsRoundOf net.now mixes.now u k }
         requires entry { class.entry.switch.0 < switch_count net.now }
-        ensures { (u : Rollout) (k : ℕ) → IsRoundOf net.now mixes.now u k → IsWalked u k class.first class.entry self.new }
+        ensures { (u : Rollout) (k : ℕ) → IsRoundOf net.now mixes.now u k
+            → IsWalked u k class.first class.entry self.new }
     {
         net.keeps_rules();
         self.start(net, class);
@@ -128,8 +132,10 @@ impl WalkRoom {
 
     /// Forgets what was noted, before walks that are to be walked together.
     pub fn clear(&mut self)
-        ensures nothing { self.new ≡ record { places = []; steps = []; leaving = []; dropping = [] } }
-        ensures together { (u : Rollout) (k dst : ℕ) (vlan : Vlan) → AreTogether u k dst vlan self.new }
+        ensures nothing { self.new
+            ≡ record { places = []; steps = []; leaving = []; dropping = [] } }
+        ensures together { (u : Rollout) (k dst : ℕ) (vlan : Vlan)
+            → AreTogether u k dst vlan self.new }
     {
         self.noted.clear();
     }
@@ -145,8 +151,10 @@ impl WalkRoom {
 
     /// Goes on from the place with this number and those behind it, until no place is left.
     fn go_on(&mut self, net: &Net, mixes: &[Mixed], class: Class, from: usize)
-        requires round { (u : Rollout) × (k : ℕ) × IsRoundOf net.now mixes.now u k × IsTogetherTo u k class.first class.entry.vlan from self.old }
-        ensures together { (u : Rollout) (k : ℕ) → IsRoundOf net.now mixes.now u k → IsTogetherTo u k class.first class.entry.vlan from self.old
+        requires round { (u : Rollout) × (k : ℕ) × IsRoundOf net.now mixes.now u k
+            × IsTogetherTo u k class.first class.entry.vlan from self.old }
+        ensures together { (u : Rollout) (k : ℕ) → IsRoundOf net.now mixes.now u k
+            → IsTogetherTo u k class.first class.entry.vlan from self.old
             → AreTogether u k class.first class.entry.vlan self.new }
         ensures kept { (p : Place) → IsIn p self.old.places → IsIn p self.new.places }
     {
@@ -164,9 +172,12 @@ impl WalkRoom {
     /// So what is noted holds the walks of each class that was walked so since `clear`: each place, step, leaving and discard.
     /// It need not say which of them has it.
     pub fn walk_more(&mut self, net: &Net, mixes: &[Mixed], class: Class)
-        requires round { (u : Rollout) × (k : ℕ) × IsRoundOf net.now mixes.now u k × AreTogether u k class.first class.entry.vlan self.old }
+        requires round { (u : Rollout) × (k : ℕ) × IsRoundOf net.now mixes.now u k
+            × AreTogether u k class.first class.entry.vlan self.old }
         requires entry { IsUsed net.now (stop_of class.entry) }
-        ensures together { (u : Rollout) (k : ℕ) → IsRoundOf net.now mixes.now u k → AreTogether u k class.first class.entry.vlan self.old → AreTogether u k class.first class.entry.vlan self.new }
+        ensures together { (u : Rollout) (k : ℕ) → IsRoundOf net.now mixes.now u k
+            → AreTogether u k class.first class.entry.vlan self.old
+            → AreTogether u k class.first class.entry.vlan self.new }
         ensures entry { IsIn class.entry self.new.places }
         ensures kept { (p : Place) → IsIn p self.old.places → IsIn p self.new.places }
     {

@@ -42,7 +42,12 @@ fn found_by(
     trial: &Trial,
 ) -> Result<Option<ListOf<usize>>, Memory>
     requires { AreGood search.table.now.rules (changes_at trial.now.place.switch search.round.now) }
-    ensures { IfOk result (λ found. MatchOption found (¬ (outcome_after search.entry.net.now search.entry.table.now.rules search.entry.round.now trial.now ≡ search.entry.wanted)) (λ numbers. GiveOutcome search.entry.net.now search.entry.table.now.rules search.entry.round.now trial.now.place trial.now.dst search.entry.wanted numbers)) }
+    ensures { IfOk result
+        (λ found. MatchOption found
+        (¬ (outcome_after search.entry.net.now search.entry.table.now.rules
+        search.entry.round.now trial.now ≡ search.entry.wanted))
+        (λ numbers. GiveOutcome search.entry.net.now search.entry.table.now.rules
+        search.entry.round.now trial.now.place trial.now.dst search.entry.wanted numbers)) }
 {
     let tried = trial.table_after(search.table, search.round)?;
     let found = outcome(search.net, &tried, trial.place, trial.dst);
@@ -60,8 +65,15 @@ fn found_with(
     deletes: &Trial,
     change: &Change,
 ) -> Result<Option<ListOf<usize>>, Memory>
-    requires { AreGood search.table.now.rules (changes_at deletes.now.place.switch search.round.now) }
-    ensures { IfOk result (λ found. MatchOption found (FailsWith search.entry.net.now search.entry.table.now.rules search.entry.round.now deletes.now.place deletes.now.dst search.entry.wanted change.now) (λ numbers. GiveOutcome search.entry.net.now search.entry.table.now.rules search.entry.round.now deletes.now.place deletes.now.dst search.entry.wanted numbers)) }
+    requires { AreGood search.table.now.rules
+        (changes_at deletes.now.place.switch search.round.now) }
+    ensures { IfOk result
+        (λ found. MatchOption found
+        (FailsWith search.entry.net.now search.entry.table.now.rules search.entry.round.now
+        deletes.now.place deletes.now.dst search.entry.wanted change.now)
+        (λ numbers. GiveOutcome search.entry.net.now search.entry.table.now.rules
+        search.entry.round.now deletes.now.place deletes.now.dst search.entry.wanted
+        numbers)) }
 {
     if !deletes.is_here(change) || !deletes.is_covered(change) {
         return Ok(None);
@@ -87,8 +99,11 @@ pub fn changes_for(
 ) -> Result<ListOf<usize>, Memory>
     requires good { AreGood search.table.now.rules (changes_at place.switch search.round.now) }
     requires clear { AreClear search.table.now.rules (changes_at place.switch search.round.now) }
-    requires possible { MayBe search.net.now search.table.now.rules (changes_at place.switch search.round.now) place dst search.wanted }
-    ensures { IfOk result (λ numbers. GiveOutcome search.entry.net.now search.entry.table.now.rules search.entry.round.now place dst search.entry.wanted numbers) }
+    requires possible { MayBe search.net.now search.table.now.rules
+        (changes_at place.switch search.round.now) place dst search.wanted }
+    ensures { IfOk result
+        (λ numbers. GiveOutcome search.entry.net.now search.entry.table.now.rules
+        search.entry.round.now place dst search.entry.wanted numbers) }
 {
     if outcome(search.net, search.table, place, dst) == search.wanted {
         return ListOf::make(alloc);

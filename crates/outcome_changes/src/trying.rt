@@ -78,7 +78,9 @@ impl Trial {
 
     /// Whether a change that covers the packet is wanted: a delete above the turned key, or another change of it.
     fn wants(&self, change: &Change) -> bool
-        ensures { result ≡ cond (is_turned self.now.turned (rule_of change.now).key) (not (deletes change.now)) (deletes change.now && is_above self.now.turned (rule_of change.now).key) }
+        ensures { result
+            ≡ cond (is_turned self.now.turned (rule_of change.now).key) (not (deletes change.now))
+            (deletes change.now && is_above self.now.turned (rule_of change.now).key) }
     {
         let key = change.rule().key;
         if self.turns(&key) {
@@ -89,7 +91,8 @@ impl Trial {
 
     /// Whether a change is tried for the packet.
     fn tries(&self, change: &Change) -> bool
-        ensures { result ≡ is_tried (header_at self.now.place self.now.dst) self.now.turned change.now }
+        ensures { result
+            ≡ is_tried (header_at self.now.place self.now.dst) self.now.turned change.now }
     {
         self.is_covered(change) && self.wants(change)
     }
@@ -115,7 +118,9 @@ impl Trial {
     /// Makes a change in the table of the switch, if it is taken.
     fn make_one(&self, table: &mut Table, change: &Change) -> Result<(), Memory>
         requires { takes self.now change.now ≡ true → AppliesTo table.old.rules change.now }
-        ensures { OnOk result (table.new.rules ≡ rules_after (filter (takes self.now) (change.now ∷ [])) table.old.rules) }
+        ensures { OnOk result
+            (table.new.rules
+            ≡ rules_after (filter (takes self.now) (change.now ∷ [])) table.old.rules) }
     {
         if self.has(change) {
             table.reserve(1)?;
@@ -127,7 +132,8 @@ impl Trial {
     /// A copy of the table of the switch, after the changes of a round that are taken.
     pub(crate) fn table_after(&self, table: &Table, round: &[Change]) -> Result<Table, Memory>
         requires { AreGood table.now.rules (changes_at self.now.place.switch round.now) }
-        ensures { IfOk result (λ t. t.rules ≡ rules_after (filter (takes self.now) round.now) table.now.rules) }
+        ensures { IfOk result
+            (λ t. t.rules ≡ rules_after (filter (takes self.now) round.now) table.now.rules) }
     {
         let mut tried = table.copy()?;
         for change in round {

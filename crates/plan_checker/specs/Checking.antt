@@ -15,7 +15,7 @@ use Rattle.check_reasons.specs.Cases.{CaseView}
 use Rattle.plan_checker.specs.Fits.{RoomView, Fits}
 use Rattle.ordered_check.specs.Kept.{WalksStand}
 use Rattle.ordered_check.specs.Picks.{PicksStand}
-use Rattle.round_tables.specs.Present.{StandsBefore}
+use Rattle.round_tables.specs.PreparedTables.{StandsBefore}
 use Rattle.two_phase_check.specs.InForce.{LabelsStand}
 use Rattle.check_reasons.specs.declared.reason.Reason.{Reason}
 use Rattle.check_reasons.specs.declared.reason.Verdict.{Verdict}
@@ -43,5 +43,5 @@ EvidenceStands t (TwoPhase e) k room = LabelsStand t.update.net e k room.two_pha
 -- the rooms fit the case and stand before round k
 pub record IsReady (c : CaseView) (k : ℕ) (room : RoomView) : Type 0 where
   pub fits : Fits c.task room
-  pub tables : StandsBefore (rollout c.task) k room.present
+  pub tables : StandsBefore (rollout c.task) k room.tables
   pub evidence : EvidenceStands c.task c.evidence k room

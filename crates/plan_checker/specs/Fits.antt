@@ -8,7 +8,7 @@ use Rattle.dest_classes.specs.declared.ClassFault.TheVariants as class
 use Rattle.demands.specs.Duties.{ClassDuties}
 use Rattle.certificates.specs.Updates.{Task}
 use Rattle.certificates.specs.Certified.{classes_for}
-use Rattle.round_tables.specs.Present.{PresentState, HasRoom}
+use Rattle.round_tables.specs.PreparedTables.{PreparedState, HasRoom}
 use Rattle.ordered_check.specs.Kept.{OrderedState, HasClassRoom}
 use Rattle.two_phase_check.specs.declared.labels.LabelsInForce.{LabelsInForce}
 use Rattle.plan_checker.specs.declared.room.RoomFault.{RoomFault}
@@ -18,7 +18,7 @@ use Rattle.plan_checker.specs.declared.room.RoomFault.TheVariants.{TooManyClasse
 pub record RoomView : Type 0 where
   pub classes : ClassList
   pub duties : ClassDuties
-  pub present : PresentState
+  pub tables : PreparedState
   pub ordered : OrderedState
   pub two_phase : LabelsInForce
   pub path : RoomState
@@ -27,7 +27,7 @@ pub record RoomView : Type 0 where
 pub record Fits (t : Task) (room : RoomView) : Type 0 where
   pub classes : room.classes ≡ classes_for t
   pub duties : room.duties ≡ record { demands = t.update.demands; classes = room.classes }
-  pub present : HasRoom t.update.net t.rounds room.present
+  pub tables : HasRoom t.update.net t.rounds room.tables
   pub ordered : HasClassRoom (classes_for t) room.ordered
   pub path : room.path.switches ≡ switch_count t.update.net
 

@@ -1,2 +1,3 @@
 pub mod Fits
 pub mod Checking
+pub mod Rewrites

@@ -18,6 +18,7 @@ ghost use Rattle.check_reasons.specs.Passed.{ChangesPass, ClassesPass, RoundsPas
 ghost use Rattle.check_reasons.specs.Reasons.{IsFirstReason};
 
 use crate::CheckRoom;
+use crate::tables::{self, apply_round, load_round, wrong_end};
 use certificates::laws::certified_consistent;
 use certificates::{Evidence, Plan};
 use check_reasons::{Case, Reason, Verdict};
@@ -29,7 +30,8 @@ use topology::Net;
 
 /// The new or the old configuration.
 fn config_of<'a>(case: &Case<'a>, new: bool) -> &'a Config
-    ensures rules { rules_of_all result.now ≡ (if new then case.now.task.update.new else case.now.task.update.old) }
+    ensures rules { rules_of_all result.now
+        ≡ (if new then case.now.task.update.new else case.now.task.update.old) }
     ensures count { length result.now ≡ switch_count case.now.task.update.net }
 {
     if new { case.new } else { case.old }
@@ -38,8 +40,14 @@ fn config_of<'a>(case: &Case<'a>, new: bool) -> &'a Config
 /// How the first class that has no good path in the new or the old configuration breaks its duties.
 fn end_breaks(case: &Case, new: bool, room: &mut CheckRoom) -> Option<Breaks>
     requires { Fits case.now.task room.old }
-    ensures none { IfNone result (HasGoodPaths case.now.task.update.net (if new then case.now.task.update.new else case.now.task.update.old) case.now.task.update.demands (classes_for case.now.task)) }
-    ensures some { IfSome result (IsFirstBreak case.now.task.update.net (if new then case.now.task.update.new else case.now.task.update.old) case.now.task.update.demands (classes_for case.now.task)) }
+    ensures none { IfNone result
+        (HasGoodPaths case.now.task.update.net
+        (if new then case.now.task.update.new else case.now.task.update.old)
+        case.now.task.update.demands (classes_for case.now.task)) }
+    ensures some { IfSome result
+        (IsFirstBreak case.now.task.update.net
+        (if new then case.now.task.update.new else case.now.task.update.old)
+        case.now.task.update.demands (classes_for case.now.task)) }
     ensures fits { Fits case.now.task room.new }
 {
     let config = config_of(case, new);
@@ -77,15 +85,16 @@ fn classes_reason(case: &Case, k: usize, room: &mut CheckRoom) -> Option<Reason>
     requires within { k < length case.now.task.rounds }
     requires fits { Fits case.now.task room.old }
     requires evidence { EvidenceStands case.now.task case.now.evidence k room.old }
-    requires loaded { AreLoaded (rollout case.now.task) k room.old.present.mixes }
+    requires loaded { AreLoaded (rollout case.now.task) k room.old.tables.mixes }
     requires ends { EndsAreGood case.now.task }
     requires before { RoundsPass case.now.task case.now.evidence k }
     requires pass { ChangesPass case.now.task case.now.evidence k }
     ensures none { IfNone result (ClassesPass case.now.task case.now.evidence k) }
     ensures some { IfSome result (IsFirstFrom case.now.task case.now.evidence (classes_start k)) }
     ensures fits { Fits case.now.task room.new }
-    ensures evidence { IfNone result (EvidenceStands case.now.task case.now.evidence (suc k) room.new) }
-    ensures present { room.new.present ≡ room.old.present }
+    ensures evidence { IfNone result
+        (EvidenceStands case.now.task case.now.evidence (suc k) room.new) }
+    ensures tables { room.new.tables ≡ room.old.tables }
 {
     match &case.plan.evidence {
         Evidence::Ordered(evidence) => {
@@ -95,11 +104,11 @@ fn classes_reason(case: &Case, k: usize, room: &mut CheckRoom) -> Option<Reason>
                 classes: &room.classes,
                 duties: &room.duties,
             };
-            room.ordered.judge_round(&of, room.present.mixes(), k)
+            room.ordered.judge_round(&of, room.tables.mixes(), k)
         }
         Evidence::TwoPhase(evidence) => room
             .two_phase
-            .judge_round(case, evidence, &room.classes, room.present.mixes(), k),
+            .judge_round(case, evidence, &room.classes, room.tables.mixes(), k),
     }
 }
 
@@ -109,18 +118,19 @@ fn round_reason(case: &Case, k: usize, room: &mut CheckRoom) -> Option<Reason>
     requires ready { IsReady case.now k room.old }
     requires ends { EndsAreGood case.now.task }
     requires before { RoundsPass case.now.task case.now.evidence k }
-    ensures none { IfNone result (RoundsPass case.now.task case.now.evidence (suc k) × IsReady case.now (suc k) room.new) }
+    ensures none { IfNone result (RoundsPass case.now.task case.now.evidence (suc k)
+        × IsReady case.now (suc k) room.new) }
     ensures some { IfSome result (IsFirstReason case.now.task case.now.evidence) }
     ensures fits { Fits case.now.task room.new }
 {
     case.keeps_rules();
-    if let Some(reason) = room.present.load_round(case, k) {
+    if let Some(reason) = load_round(case, k, &mut room.tables) {
         return Some(reason);
     }
     if let Some(reason) = classes_reason(case, k, room) {
         return Some(reason);
     }
-    room.present.apply_round(case, k);
+    apply_round(case, k, &mut room.tables);
     None
 }
 
@@ -129,7 +139,7 @@ fn start(case: &Case, room: &mut CheckRoom)
     requires { Fits case.now.task room.old }
     ensures { IsReady case.now 0 room.new }
 {
-    room.present.start(case);
+    tables::start(case, &mut room.tables);
     match &case.plan.evidence {
         Evidence::Ordered(evidence) => {
             let of = OrderedCase {
@@ -148,7 +158,9 @@ fn start(case: &Case, room: &mut CheckRoom)
 fn rounds_reason(case: &Case, room: &mut CheckRoom) -> Option<Reason>
     requires fits { Fits case.now.task room.old }
     requires ends { EndsAreGood case.now.task }
-    ensures none { IfNone result (RoundsPass case.now.task case.now.evidence (length case.now.task.rounds) × IsReady case.now (length case.now.task.rounds) room.new) }
+    ensures none { IfNone result
+        (RoundsPass case.now.task case.now.evidence (length case.now.task.rounds)
+        × IsReady case.now (length case.now.task.rounds) room.new) }
     ensures some { IfSome result (IsFirstReason case.now.task case.now.evidence) }
     ensures fits { Fits case.now.task room.new }
 {
@@ -175,7 +187,7 @@ fn first_reason(case: &Case, room: &mut CheckRoom) -> Option<Reason>
     if let Some(reason) = rounds_reason(case, room) {
         return Some(reason);
     }
-    room.present.wrong_end(case)
+    wrong_end(case, &room.tables)
 }
 
 /// Checks a plan that leads from an old to a new configuration under demands: whether it is certified, and so every
@@ -192,9 +204,13 @@ pub fn check(
     requires new { IsUserConfig net.now (rules_of_all new.now) }
     requires plan { IsValidPlan net.now plan.now }
     requires room { Fits (task_of net.now old.now new.now demands.now plan.now) room.old }
-    ensures accepted { (result ≡ Verdict.Accepted) ↔ IsCertified (task_of net.now old.now new.now demands.now plan.now) plan.now.evidence }
-    ensures consistent { result ≡ Verdict.Accepted → IsConsistent (update_of net.now old.now new.now demands.now) plan.now.rounds (is_two_phase plan.now.evidence) }
-    ensures refused { IfRefused result (IsFirstReason (task_of net.now old.now new.now demands.now plan.now) plan.now.evidence) }
+    ensures accepted { (result ≡ Verdict.Accepted)
+        ↔ IsCertified (task_of net.now old.now new.now demands.now plan.now) plan.now.evidence }
+    ensures consistent { result ≡ Verdict.Accepted
+        → IsConsistent (update_of net.now old.now new.now demands.now) plan.now.rounds
+        (is_two_phase plan.now.evidence) }
+    ensures refused { IfRefused result
+        (IsFirstReason (task_of net.now old.now new.now demands.now plan.now) plan.now.evidence) }
     ensures fits { Fits (task_of net.now old.now new.now demands.now plan.now) room.new }
 {
     certified_consistent(net, old, new, demands, plan);

@@ -3,7 +3,9 @@
 
 mod checking;
 mod prefixes;
+mod rewriting;
 mod room;
+mod tables;
 
 pub use check_reasons::{Reason, Verdict};
 pub use checking::{check, end_reason};

@@ -11,7 +11,9 @@ use update_model::{Change, Rounds};
 
 /// Adds the prefixes of the changes.
 fn add_changes(prefixes: &mut Vec<Prefix>, changes: &[Change]) -> Result<(), Memory>
-    ensures { OnOk result (prefixes.new.items ≡ prefixes.old.items ++ map (λ c. (rule_of c).key.pattern.dst) changes.now) }
+    ensures { OnOk result
+        (prefixes.new.items ≡ prefixes.old.items
+        ++ map (λ c. (rule_of c).key.pattern.dst) changes.now) }
 {
     for change in changes {
         prefixes.push(change.rule().key.pattern.dst)?;
@@ -36,7 +38,9 @@ pub(crate) fn prefixes_of(
     demands: &Demands,
     rounds: &Rounds,
 ) -> Result<Vec<Prefix>, Memory>
-    ensures { IfOk result (λ v. v.items ≡ blocks_of (rules_of_all old.now) (rules_of_all new.now) demands.now rounds.now) }
+    ensures { IfOk result
+        (λ v. v.items
+        ≡ blocks_of (rules_of_all old.now) (rules_of_all new.now) demands.now rounds.now) }
 {
     let mut prefixes = old.prefixes()?;
     prefixes.extend_from_slice(&new.prefixes()?)?;

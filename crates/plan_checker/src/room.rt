@@ -4,7 +4,7 @@ ghost use Rattle.topology.specs.Networks.{switch_count};
 ghost use Rattle.dest_classes.specs.Classes.{class_count};
 ghost use Rattle.certificates.specs.Certified.{classes_for};
 ghost use Rattle.certificates.specs.Laws.{task_of};
-ghost use Rattle.round_tables.specs.Present.{HasRoom};
+ghost use Rattle.round_tables.specs.PreparedTables.{HasRoom};
 ghost use Rattle.ordered_check.specs.Kept.{HasClassRoom};
 ghost use Rattle.plan_checker.specs.Fits.{Fits, IsCauseFor};
 
@@ -16,7 +16,7 @@ use flow_rules::Config;
 use net_base::Memory;
 use ordered_check::OrderedRoom;
 use path_walk::PathRoom;
-use round_tables::Present;
+use round_tables::PreparedTables;
 use std::alloc::Global;
 use std::marker::Model;
 use topology::Net;
@@ -27,7 +27,7 @@ use two_phase_check::TwoPhaseRoom;
 pub struct CheckRoom {
     pub(crate) classes: ClassMap,
     pub(crate) duties: Duties,
-    pub(crate) present: Present,
+    pub(crate) tables: PreparedTables,
     pub(crate) ordered: OrderedRoom,
     pub(crate) two_phase: TwoPhaseRoom,
     pub(crate) path: PathRoom,
@@ -38,7 +38,7 @@ impl Model for CheckRoom {
 
     ghost Value = { RoomView };
 
-    ghost view = { λ r. record { classes = r.classes; duties = r.duties; present = r.present; ordered = r.ordered; two_phase = r.two_phase; path = r.path } };
+    ghost view = { λ r. record { classes = r.classes; duties = r.duties; tables = r.tables; ordered = r.ordered; two_phase = r.two_phase; path = r.path } };
 }
 
 /// Why there is no room for a check.
@@ -78,7 +78,7 @@ impl From<ClassFault> for RoomFault {
 /// The rooms of a check beside its classes and duties.
 #[derive(Drop)]
 struct Rooms {
-    present: Present,
+    tables: PreparedTables,
     ordered: OrderedRoom,
     two_phase: TwoPhaseRoom,
     path: PathRoom,
@@ -86,16 +86,16 @@ struct Rooms {
 
 impl Rooms {
     fn make(alloc: Global, net: &Net, plan: &Plan, classes: &ClassMap) -> Result<Rooms, Memory>
-        ensures present { IfOk result (λ r. HasRoom net.now plan.now.rounds r.present) }
+        ensures tables { IfOk result (λ r. HasRoom net.now plan.now.rounds r.tables) }
         ensures ordered { IfOk result (λ r. HasClassRoom classes.now r.ordered) }
         ensures path { IfOk result (λ r. r.path.switches ≡ switch_count net.now) }
     {
         let path = PathRoom::make(alloc, net)?;
-        let present = Present::make(alloc, net, &plan.rounds)?;
+        let tables = PreparedTables::make(alloc, net, &plan.rounds)?;
         let two_phase = TwoPhaseRoom::make(alloc)?;
         let ordered = OrderedRoom::make(alloc, classes)?;
         Ok(Rooms {
-            present,
+            tables,
             ordered,
             two_phase,
             path,
@@ -114,9 +114,11 @@ fn classes_of_plan(
 ) -> Result<ClassMap, RoomFault>
     requires old { length old.now ≡ switch_count net.now }
     requires new { length new.now ≡ switch_count net.now }
-    ensures classes { IfOk result (λ classes. classes ≡ classes_for (task_of net.now old.now new.now demands.now plan.now)) }
+    ensures classes { IfOk result
+        (λ classes. classes ≡ classes_for (task_of net.now old.now new.now demands.now plan.now)) }
     ensures few { IfOk result (λ classes. class_count classes ≤ 8192) }
-    ensures too_many { IfErr result (IsCauseFor (classes_for (task_of net.now old.now new.now demands.now plan.now))) }
+    ensures too_many { IfErr result
+        (IsCauseFor (classes_for (task_of net.now old.now new.now demands.now plan.now))) }
 {
     let prefixes = prefixes_of(old, new, demands, &plan.rounds)?;
     Ok(class_map(alloc, net, &prefixes)?)
@@ -137,13 +139,16 @@ impl CheckRoom {
         requires old { length old.now ≡ switch_count net.now }
         requires new { length new.now ≡ switch_count net.now }
         ensures fits { IfOk result (Fits (task_of net.now old.now new.now demands.now plan.now)) }
-        ensures few { IfOk result (λ _. class_count (classes_for (task_of net.now old.now new.now demands.now plan.now)) ≤ 8192) }
-        ensures too_many { IfErr result (IsCauseFor (classes_for (task_of net.now old.now new.now demands.now plan.now))) }
+        ensures few { IfOk result
+            (λ _. class_count
+            (classes_for (task_of net.now old.now new.now demands.now plan.now)) ≤ 8192) }
+        ensures too_many { IfErr result
+            (IsCauseFor (classes_for (task_of net.now old.now new.now demands.now plan.now))) }
     {
         let classes = classes_of_plan(alloc, net, old, new, demands, plan)?;
         let duties = Duties::make(alloc, net, demands, &classes)?;
         let Rooms {
-            present,
+            tables,
             ordered,
             two_phase,
             path,
@@ -151,7 +156,7 @@ impl CheckRoom {
         Ok(CheckRoom {
             classes,
             duties,
-            present,
+            tables,
             ordered,
             two_phase,
             path,

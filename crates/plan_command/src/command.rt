@@ -35,7 +35,8 @@ pub fn plan<S: Source>(
     names: &UpdateNames<'_>,
 ) -> Result<Reply, Exit>
     ensures meets { Meets IsPlanned (S.held source.old) (reading_update (names_seen names.now))
-        (S.faults source.old) (S.faults source.new) result (S.selected source.new) (S.taken source.new) }
+        (S.faults source.old) (S.faults source.new) result (S.selected source.new)
+        (S.taken source.new) }
     ensures held { S.held source.new ≡ S.held source.old }
     ensures later { S.faults source.old ≤ S.faults source.new }
 {

@@ -43,7 +43,8 @@ pub fn too_small_lines(
     capacity: u32,
     tried: &Rounds,
 ) -> Result<Vec<u8>, Memory>
-    ensures { IfOk result (λ t. t.items ≡ lines.too_small_lines net.now switch need capacity tried.now) }
+    ensures { IfOk result
+        (λ t. t.items ≡ lines.too_small_lines net.now switch need capacity tried.now) }
 {
     let name = switch_name(net, switch);
     let mut text = format!(in alloc;

@@ -47,7 +47,9 @@ fn end_reply(
     requires few { update_count (meaning_of files.now) ≤ most_classes }
     requires broken { ¬ EndsAreGood (meaning_of files.now) }
     requires first { IsFirstEndBreak (meaning_of files.now) new breaks }
-    ensures { IfOk result (λ r. SaysWhyNot (update_count (meaning_of files.now)) (EndsAreGood (meaning_of files.now)) (IsEndLine (meaning_of files.now)) (answer_of r)) }
+    ensures { IfOk result
+        (λ r. SaysWhyNot (update_count (meaning_of files.now)) (EndsAreGood (meaning_of files.now))
+        (IsEndLine (meaning_of files.now)) (answer_of r)) }
 {
     let class = classes.class(breaks.class);
     refused_reply(
@@ -65,7 +67,8 @@ fn new_plan_reply(alloc: Global, files: &UpdateFiles, plan: &Plan) -> Result<Rep
     requires valid { IsValidPlan files.now.net plan.now }
     requires is_new { IsNewPlan (meaning_of files.now) plan.now }
     requires certified { IsCertified (task_for (meaning_of files.now) plan.now) plan.now.evidence }
-    requires classes { HasSameClasses (classes_for (task_for (meaning_of files.now) plan.now)) (update_classes (meaning_of files.now)) }
+    requires classes { HasSameClasses (classes_for (task_for (meaning_of files.now) plan.now))
+        (update_classes (meaning_of files.now)) }
     ensures new { IfOk result (λ r. SaysNewPlan (meaning_of files.now) (answer_of r)) }
     ensures says { IfOk result (λ r. SaysPlan files.now.net plan.now (answer_of r)) }
 {
@@ -81,7 +84,8 @@ fn too_few_reply(
     need: u32,
     has: u32,
 ) -> Result<Reply, Memory>
-    requires stuck { AreStuck (update_aim (meaning_of files.now)) (rules_of_all files.now.old) tried.now }
+    requires stuck { AreStuck (update_aim (meaning_of files.now)) (rules_of_all files.now.old)
+        tried.now }
     requires few { AreTooFew files.now.net need has }
     ensures { IfOk result (λ r. SaysTooFew (meaning_of files.now) (answer_of r)) }
 {
@@ -100,8 +104,10 @@ fn too_small_reply(
     need: u64,
     capacity: u32,
 ) -> Result<Reply, Memory>
-    requires stuck { AreStuck (update_aim (meaning_of files.now)) (rules_of_all files.now.old) tried.now }
-    requires small { IsFirstTooSmall files.now.net (rules_of_all files.now.old) (rules_of_all files.now.new) switch need capacity }
+    requires stuck { AreStuck (update_aim (meaning_of files.now)) (rules_of_all files.now.old)
+        tried.now }
+    requires small { IsFirstTooSmall files.now.net (rules_of_all files.now.old)
+        (rules_of_all files.now.new) switch need capacity }
     ensures { IfOk result (λ r. SaysTooSmall (meaning_of files.now) (answer_of r)) }
 {
     Ok(Reply {
@@ -115,7 +121,8 @@ fn two_phase_reply(alloc: Global, files: &UpdateFiles, tried: &Rounds) -> Result
     requires old { IsUserConfig files.now.net (rules_of_all files.now.old) }
     requires new { IsUserConfig files.now.net (rules_of_all files.now.new) }
     requires good { EndsAreGood (meaning_of files.now) }
-    requires stuck { AreStuck (update_aim (meaning_of files.now)) (rules_of_all files.now.old) tried.now }
+    requires stuck { AreStuck (update_aim (meaning_of files.now)) (rules_of_all files.now.old)
+        tried.now }
     requires tried { AreTried files.now.net tried.now }
     ensures { IfOk result (λ r. SaysSearched (meaning_of files.now) (answer_of r)) }
 {
@@ -146,7 +153,8 @@ fn search_reply(
     requires duties { duties.now ≡ record { demands = files.now.demands; classes = classes.now } }
     requires good { EndsAreGood (meaning_of files.now) }
     ensures searched { IfOk result (λ r. SaysSearched (meaning_of files.now) (answer_of r)) }
-    ensures tree { IsTreeUpdate (bare_task (meaning_of files.now)) → IfOk result (λ r. SaysOrdered (meaning_of files.now) (answer_of r)) }
+    ensures tree { IsTreeUpdate (bare_task (meaning_of files.now))
+        → IfOk result (λ r. SaysOrdered (meaning_of files.now) (answer_of r)) }
 {
     match order(alloc, &files.net, &files.old, &files.new, duties, classes)? {
         Ordered::Rounds(plan) => new_plan_reply(alloc, files, &plan),

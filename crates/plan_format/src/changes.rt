@@ -178,7 +178,8 @@ fn read_object(
     tree: &Tree<'_>,
     item: &Node,
 ) -> Result<Change, PlanFault>
-    ensures { Gives Memory (λ c. c) result (plan.object_change net.now list place (data_of tree.now item.now)) }
+    ensures { Gives Memory (λ c. c) result
+        (plan.object_change net.now list place (data_of tree.now item.now)) }
 {
     if !tree.is_object(item) {
         return Err(PlanFault::Shape(list, place));
@@ -210,7 +211,8 @@ fn read_numbered(
     tree: &Tree<'_>,
     item: &Node,
 ) -> Result<Change, PlanFault>
-    ensures { Gives Memory (λ c. c) result (plan.numbered_change rules.now list place (data_of tree.now item.now)) }
+    ensures { Gives Memory (λ c. c) result
+        (plan.numbered_change rules.now list place (data_of tree.now item.now)) }
 {
     let (kind, number) = kind_and_number(tree, item).ok_or(PlanFault::Shape(list, place))?;
     let rule = rules.get(number).ok_or(PlanFault::BadIndex(place))?;
@@ -224,7 +226,9 @@ fn read_spelled(
     tree: &Tree<'_>,
     item: &Node,
 ) -> Result<Change, PlanFault>
-    ensures { Gives Memory (λ c. c) result (plan.change_in list.entry.net.now list.entry.spelling.now list.entry.name place (data_of tree.now item.now)) }
+    ensures { Gives Memory (λ c. c) result
+        (plan.change_in list.entry.net.now list.entry.spelling.now list.entry.name place
+        (data_of tree.now item.now)) }
 {
     match list.spelling {
         Spelling::Objects => read_object(list.net, list.name, place, tree, item),
@@ -242,8 +246,11 @@ fn read_change(
     item: &Node,
 ) -> Result<(), PlanFault>
     ensures value { MatchResult result
-        (λ _. plan.change_at list.entry.net.now list.entry.spelling.now list.entry.name place changes.old.items (data_of tree.now item.now) ≡ Ok changes.new.items)
-        (λ e. Fails Memory e (plan.change_at list.entry.net.now list.entry.spelling.now list.entry.name place changes.old.items (data_of tree.now item.now))) }
+        (λ _. plan.change_at list.entry.net.now list.entry.spelling.now list.entry.name place
+        changes.old.items (data_of tree.now item.now) ≡ Ok changes.new.items)
+        (λ e. Fails Memory e
+        (plan.change_at list.entry.net.now list.entry.spelling.now list.entry.name place
+        changes.old.items (data_of tree.now item.now))) }
     ensures few { OnOk result (place < 2200000) }
     ensures one { OnOk result (length changes.new.items ≡ length changes.old.items + 1) }
 {
@@ -263,7 +270,8 @@ fn read_changes(
     items: &[Node],
 ) -> Result<Vec<Change>, PlanFault>
     ensures value { Gives Memory (λ v. v.items) result
-        (in_turn (plan.change_at list.entry.net.now list.entry.spelling.now list.entry.name) first [] (map (data_of tree.now) items.now)) }
+        (in_turn (plan.change_at list.entry.net.now list.entry.spelling.now list.entry.name) first
+        [] (map (data_of tree.now) items.now)) }
     ensures few { IfOk result (λ v. length v.items ≤ 2200000 - first) }
 {
     let mut changes = Vec::new(alloc);
@@ -286,7 +294,8 @@ fn read_round(
     item: &Node,
 ) -> Result<Vec<Change>, PlanFault>
     ensures value { Gives Memory (λ v. v.items) result
-        (plan.round_in list.entry.net.now list.entry.spelling.now list.entry.name place number (data_of tree.now item.now)) }
+        (plan.round_in list.entry.net.now list.entry.spelling.now list.entry.name place number
+        (data_of tree.now item.now)) }
     ensures few { IfOk result (λ v. length v.items ≤ 2200000 - number) }
 {
     let items = tree
@@ -308,8 +317,11 @@ fn read_next_round(
 ) -> Result<(), PlanFault>
     requires { first ≤ 2200000 }
     ensures value { MatchResult result
-        (λ _. plan.round_at list.entry.net.now list.entry.spelling.now list.entry.name first place rounds.old (data_of tree.now item.now) ≡ Ok rounds.new)
-        (λ e. Fails Memory e (plan.round_at list.entry.net.now list.entry.spelling.now list.entry.name first place rounds.old (data_of tree.now item.now))) }
+        (λ _. plan.round_at list.entry.net.now list.entry.spelling.now list.entry.name first place
+        rounds.old (data_of tree.now item.now) ≡ Ok rounds.new)
+        (λ e. Fails Memory e
+        (plan.round_at list.entry.net.now list.entry.spelling.now list.entry.name first place
+        rounds.old (data_of tree.now item.now))) }
     ensures one { OnOk result (length rounds.new ≡ length rounds.old + 1) }
 {
     let number = first + rounds.changes();
@@ -327,7 +339,8 @@ fn read_each_round(
 ) -> Result<CountedRounds, PlanFault>
     requires { first ≤ 2200000 }
     ensures value { Gives Memory (λ r. r) result
-        (in_turn (plan.round_at list.entry.net.now list.entry.spelling.now list.entry.name first) 0 [] (map (data_of tree.now) items.now)) }
+        (in_turn (plan.round_at list.entry.net.now list.entry.spelling.now list.entry.name first) 0
+        [] (map (data_of tree.now) items.now)) }
     ensures count { IfOk result (λ r. length r ≡ length items.now) }
 {
     let mut rounds = CountedRounds::make(alloc)?;
@@ -349,7 +362,8 @@ pub(crate) fn read_rounds(
 ) -> Result<CountedRounds, PlanFault>
     requires { first ≤ 2200000 }
     ensures value { Gives Memory (λ r. r) result
-        (plan.rounds_in list.entry.net.now list.entry.spelling.now list.entry.name most first (data_of tree.now top.now)) }
+        (plan.rounds_in list.entry.net.now list.entry.spelling.now list.entry.name most first
+        (data_of tree.now top.now)) }
     ensures few { IfOk result (λ r. length r ≤ most) }
 {
     let items = tree
@@ -391,7 +405,8 @@ fn read_each_rule(
     tree: &Tree<'_>,
     items: &[Node],
 ) -> Result<PlanRules, PlanFault>
-    ensures { Gives Memory (λ r. r) result (in_turn (plan.rule_at net.now) 0 [] (map (data_of tree.now) items.now)) }
+    ensures { Gives Memory (λ r. r) result
+        (in_turn (plan.rule_at net.now) 0 [] (map (data_of tree.now) items.now)) }
 {
     let mut rules = PlanRules::empty(alloc);
     for (i, item) in items.iter().enumerate() {

@@ -45,7 +45,8 @@ fn read_each_height(
     tree: &Tree<'_>,
     items: &[Node],
 ) -> Result<Numbering, PlanFault>
-    ensures { Gives Memory (λ n. n) result (in_turn (λ i. plan.height_at place) 0 [] (map (data_of tree.now) items.now)) }
+    ensures { Gives Memory (λ n. n) result
+        (in_turn (λ i. plan.height_at place) 0 [] (map (data_of tree.now) items.now)) }
 {
     let mut numbering = Numbering::make(alloc)?;
     for item in items {
@@ -63,7 +64,8 @@ fn read_numbering(
     tree: &Tree<'_>,
     item: &Node,
 ) -> Result<Numbering, PlanFault>
-    ensures { Gives Memory (λ n. n) result (plan.numbering_in net.now place (data_of tree.now item.now)) }
+    ensures { Gives Memory (λ n. n) result
+        (plan.numbering_in net.now place (data_of tree.now item.now)) }
 {
     let items = tree
         .list_in(item)
@@ -85,8 +87,10 @@ fn read_next_numbering(
     item: &Node,
 ) -> Result<(), PlanFault>
     ensures { MatchResult result
-        (λ _. plan.numbering_at net.now place numberings.old (data_of tree.now item.now) ≡ Ok numberings.new)
-        (λ e. Fails Memory e (plan.numbering_at net.now place numberings.old (data_of tree.now item.now))) }
+        (λ _. plan.numbering_at net.now place numberings.old (data_of tree.now item.now)
+        ≡ Ok numberings.new)
+        (λ e. Fails Memory e
+        (plan.numbering_at net.now place numberings.old (data_of tree.now item.now))) }
 {
     let numbering = read_numbering(alloc, net, place, tree, item)?;
     numberings.add(numbering)?;
@@ -99,7 +103,8 @@ fn read_each_numbering(
     tree: &Tree<'_>,
     items: &[Node],
 ) -> Result<Numberings, PlanFault>
-    ensures { Gives Memory (λ n. n) result (in_turn (plan.numbering_at net.now) 0 [] (map (data_of tree.now) items.now)) }
+    ensures { Gives Memory (λ n. n) result
+        (in_turn (plan.numbering_at net.now) 0 [] (map (data_of tree.now) items.now)) }
 {
     let mut numberings = Numberings::make(alloc)?;
     for (i, item) in items.iter().enumerate() {
@@ -157,7 +162,8 @@ fn read_before(
 ) -> Result<(), PlanFault>
     ensures { MatchResult result
         (λ _. plan.before_at net.now place befores.old (data_of tree.now item.now) ≡ Ok befores.new)
-        (λ e. Fails Memory e (plan.before_at net.now place befores.old (data_of tree.now item.now))) }
+        (λ e. Fails Memory e
+        (plan.before_at net.now place befores.old (data_of tree.now item.now))) }
 {
     let numbers = read_numbers(alloc, Field::Befores, place, tree, item)?;
     if !are_below(&numbers, net.switches() as usize) {
@@ -176,7 +182,8 @@ fn read_each_before(
     tree: &Tree<'_>,
     items: &[Node],
 ) -> Result<Befores, PlanFault>
-    ensures { Gives Memory (λ b. b) result (in_turn (plan.before_at net.now) 0 [] (map (data_of tree.now) items.now)) }
+    ensures { Gives Memory (λ b. b) result
+        (in_turn (plan.before_at net.now) 0 [] (map (data_of tree.now) items.now)) }
 {
     let mut befores = Befores::make(alloc)?;
     for (i, item) in items.iter().enumerate() {
@@ -212,7 +219,9 @@ pub(crate) fn read_shared(
     tree: &Tree<'_>,
     item: &Node,
 ) -> Result<Shared, PlanFault>
-    ensures { Gives Memory (λ s. s) result (plan.shared_in field place counts.numberings counts.befores numbering (data_of tree.now item.now)) }
+    ensures { Gives Memory (λ s. s) result
+        (plan.shared_in field place counts.numberings counts.befores numbering
+        (data_of tree.now item.now)) }
 {
     let numbers = read_numbers(alloc, field, place, tree, item)?;
     if !is_index(counts.numberings, numbering) {

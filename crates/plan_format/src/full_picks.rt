@@ -109,7 +109,8 @@ fn add_full_pick(
 
 /// Three whole numbers, and what comes fourth.
 fn numbers_and_list<'t>(tree: &'t Tree<'_>, item: &Node) -> Option<((u64, u64, u64), &'t Node)>
-    ensures { option_map (λ p. (p.0, data_of tree.now p.1.now)) result ≡ option_and_then plan.numbers_and_list (list_in (data_of tree.now item.now)) }
+    ensures { option_map (λ p. (p.0, data_of tree.now p.1.now)) result
+        ≡ option_and_then plan.numbers_and_list (list_in (data_of tree.now item.now)) }
 {
     match tree.list_in(item)? {
         [a, b, c, list] => Some((three_numbers(tree, a, b, c)?, list)),
@@ -132,8 +133,11 @@ fn read_full_pick(
     requires keys { keys.old ≡ table.old.uses }
     requires few { HasFew table.old }
     ensures value { MatchResult result
-        (λ _. plan.full_pick_at counts.rounds counts.numberings counts.befores place table.old (data_of tree.now item.now) ≡ Ok table.new)
-        (λ e. Fails Memory e (plan.full_pick_at counts.rounds counts.numberings counts.befores place table.old (data_of tree.now item.now))) }
+        (λ _. plan.full_pick_at counts.rounds counts.numberings counts.befores place table.old
+        (data_of tree.now item.now) ≡ Ok table.new)
+        (λ e. Fails Memory e
+        (plan.full_pick_at counts.rounds counts.numberings counts.befores place table.old
+        (data_of tree.now item.now))) }
     ensures keys { OnOk result (keys.new ≡ table.new.uses) }
     ensures few { OnOk result (HasFew table.new) }
 {
@@ -155,7 +159,9 @@ fn read_each_full_pick(
     items: &[Node],
 ) -> Result<PickTable, PlanFault>
     requires { counts.rounds ≤ 4200 }
-    ensures { Gives Memory (λ t. t) result (in_turn (plan.full_pick_at counts.rounds counts.numberings counts.befores) 0 (record { uses = []; picks = [] }) (map (data_of tree.now) items.now)) }
+    ensures { Gives Memory (λ t. t) result
+        (in_turn (plan.full_pick_at counts.rounds counts.numberings counts.befores) 0
+        (record { uses = []; picks = [] }) (map (data_of tree.now) items.now)) }
 {
     let mut keys = SharedKeys::empty(alloc);
     let mut table = PickTable::empty(alloc)?;
@@ -182,7 +188,9 @@ pub(crate) fn read_full_picks(
     top: &Node,
 ) -> Result<PickTable, PlanFault>
     requires { counts.rounds ≤ 4200 }
-    ensures { Gives Memory (λ t. t) result (plan.full_picks_in counts.rounds counts.numberings counts.befores (data_of tree.now top.now)) }
+    ensures { Gives Memory (λ t. t) result
+        (plan.full_picks_in counts.rounds counts.numberings counts.befores
+        (data_of tree.now top.now)) }
 {
     let items = tree
         .list_at(top, "picks")

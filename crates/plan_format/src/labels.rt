@@ -80,7 +80,8 @@ fn read_each_label(
     tree: &Tree<'_>,
     items: &[Node],
 ) -> Result<Labels, PlanFault>
-    ensures { Gives Memory (λ l. l) result (in_turn (λ i. plan.label_at place) 0 [] (map (data_of tree.now) items.now)) }
+    ensures { Gives Memory (λ l. l) result
+        (in_turn (λ i. plan.label_at place) 0 [] (map (data_of tree.now) items.now)) }
 {
     let mut labels = Labels::make(alloc)?;
     for item in items {
@@ -159,7 +160,8 @@ fn read_next_table(
 }
 
 fn read_each_table(alloc: Global, tree: &Tree<'_>, items: &[Node]) -> Result<LabelTables, PlanFault>
-    ensures { Gives Memory (λ t. t) result (in_turn plan.table_at 0 [] (map (data_of tree.now) items.now)) }
+    ensures { Gives Memory (λ t. t) result
+        (in_turn plan.table_at 0 [] (map (data_of tree.now) items.now)) }
 {
     let mut tables = LabelTables::make(alloc)?;
     for (i, item) in items.iter().enumerate() {
@@ -229,8 +231,10 @@ fn read_label_pick(
 ) -> Result<(), PlanFault>
     requires { rounds ≤ 4200 }
     ensures { MatchResult result
-        (λ _. plan.label_pick_at rounds tables place picks.old (data_of tree.now item.now) ≡ Ok picks.new)
-        (λ e. Fails Memory e (plan.label_pick_at rounds tables place picks.old (data_of tree.now item.now))) }
+        (λ _. plan.label_pick_at rounds tables place picks.old (data_of tree.now item.now)
+        ≡ Ok picks.new)
+        (λ e. Fails Memory e
+        (plan.label_pick_at rounds tables place picks.old (data_of tree.now item.now))) }
 {
     let (round, labels) = list_of_two(tree, item).ok_or(PlanFault::Shape(Field::Picks, place))?;
     if !is_round(rounds, round) {
@@ -254,7 +258,8 @@ fn read_each_label_pick(
     items: &[Node],
 ) -> Result<LabelPicks, PlanFault>
     requires { rounds ≤ 4200 }
-    ensures { Gives Memory (λ p. p) result (in_turn (plan.label_pick_at rounds tables) 0 [] (map (data_of tree.now) items.now)) }
+    ensures { Gives Memory (λ p. p) result
+        (in_turn (plan.label_pick_at rounds tables) 0 [] (map (data_of tree.now) items.now)) }
 {
     let mut picks = LabelPicks::make(alloc)?;
     for (i, item) in items.iter().enumerate() {
@@ -273,7 +278,8 @@ pub(crate) fn read_label_picks(
     top: &Node,
 ) -> Result<LabelPicks, PlanFault>
     requires { rounds ≤ 4200 }
-    ensures { Gives Memory (λ p. p) result (plan.label_picks_in rounds tables (data_of tree.now top.now)) }
+    ensures { Gives Memory (λ p. p) result
+        (plan.label_picks_in rounds tables (data_of tree.now top.now)) }
 {
     let items = tree
         .list_at(top, "picks")

@@ -44,7 +44,8 @@ fn read_each_number(
     tree: &Tree<'_>,
     items: &[Node],
 ) -> Result<IndexList, PlanFault>
-    ensures { Gives Memory (λ l. l) result (in_turn (λ i. plan.number_at field place) 0 [] (map (data_of tree.now) items.now)) }
+    ensures { Gives Memory (λ l. l) result
+        (in_turn (λ i. plan.number_at field place) 0 [] (map (data_of tree.now) items.now)) }
 {
     let mut numbers = IndexList::make(alloc)?;
     for item in items {
@@ -62,7 +63,8 @@ pub(crate) fn read_numbers(
     tree: &Tree<'_>,
     item: &Node,
 ) -> Result<IndexList, PlanFault>
-    ensures { Gives Memory (λ l. l) result (plan.numbers_in field place (data_of tree.now item.now)) }
+    ensures { Gives Memory (λ l. l) result
+        (plan.numbers_in field place (data_of tree.now item.now)) }
 {
     let items = tree.list_in(item).ok_or(PlanFault::Shape(field, place))?;
     read_each_number(alloc, field, place, tree, items)
@@ -117,7 +119,9 @@ pub(crate) fn three_numbers(
     b: &Node,
     c: &Node,
 ) -> Option<(u64, u64, u64)>
-    ensures { result ≡ plan.three_numbers (data_of tree.now a.now) (data_of tree.now b.now) (data_of tree.now c.now) }
+    ensures { result
+        ≡ plan.three_numbers (data_of tree.now a.now) (data_of tree.now b.now)
+        (data_of tree.now c.now) }
 {
     Some((tree.whole(a)?, tree.whole(b)?, tree.whole(c)?))
 }

@@ -39,7 +39,8 @@ impl PickTable {
 
 /// A whole number, and what comes second.
 fn number_and_list<'t>(tree: &'t Tree<'_>, item: &Node) -> Option<(u64, &'t Node)>
-    ensures { option_map (λ p. (p.0, data_of tree.now p.1.now)) result ≡ option_and_then plan.number_and_list (list_in (data_of tree.now item.now)) }
+    ensures { option_map (λ p. (p.0, data_of tree.now p.1.now)) result
+        ≡ option_and_then plan.number_and_list (list_in (data_of tree.now item.now)) }
 {
     match tree.list_in(item)? {
         [number, list] => Some((tree.whole(number)?, list)),
@@ -58,8 +59,11 @@ fn read_use(
     item: &Node,
 ) -> Result<(), PlanFault>
     ensures { MatchResult result
-        (λ _. plan.use_at counts.numberings counts.befores place uses.old (data_of tree.now item.now) ≡ Ok uses.new)
-        (λ e. Fails Memory e (plan.use_at counts.numberings counts.befores place uses.old (data_of tree.now item.now))) }
+        (λ _. plan.use_at counts.numberings counts.befores place uses.old
+        (data_of tree.now item.now) ≡ Ok uses.new)
+        (λ e. Fails Memory e
+        (plan.use_at counts.numberings counts.befores place uses.old
+        (data_of tree.now item.now))) }
 {
     let (numbering, list) = number_and_list(tree, item).ok_or(PlanFault::Shape(
         Field::Uses,
@@ -76,7 +80,9 @@ fn read_each_use(
     tree: &Tree<'_>,
     items: &[Node],
 ) -> Result<Uses, PlanFault>
-    ensures { Gives Memory (λ u. u) result (in_turn (plan.use_at counts.numberings counts.befores) 0 [] (map (data_of tree.now) items.now)) }
+    ensures { Gives Memory (λ u. u) result
+        (in_turn (plan.use_at counts.numberings counts.befores) 0 []
+        (map (data_of tree.now) items.now)) }
 {
     let mut uses = Uses::make(alloc)?;
     for (i, item) in items.iter().enumerate() {
@@ -88,7 +94,8 @@ fn read_each_use(
 /// Reads the member `uses`.
 #[tactic(auto, unfolding(crate::specs::Evidence::uses_in))]
 fn read_uses(alloc: Global, counts: Counts, tree: &Tree<'_>, top: &Node) -> Result<Uses, PlanFault>
-    ensures { Gives Memory (λ u. u) result (plan.uses_in counts.numberings counts.befores (data_of tree.now top.now)) }
+    ensures { Gives Memory (λ u. u) result
+        (plan.uses_in counts.numberings counts.befores (data_of tree.now top.now)) }
 {
     let items = tree
         .list_at(top, "uses")
@@ -163,7 +170,8 @@ fn read_pick(
     requires { rounds ≤ 4200 }
     ensures { MatchResult result
         (λ _. plan.pick_at rounds uses place picks.old (data_of tree.now item.now) ≡ Ok picks.new)
-        (λ e. Fails Memory e (plan.pick_at rounds uses place picks.old (data_of tree.now item.now))) }
+        (λ e. Fails Memory e
+        (plan.pick_at rounds uses place picks.old (data_of tree.now item.now))) }
 {
     let (round, class, shared) = list_of_three(tree, item).ok_or(PlanFault::Shape(
         Field::Picks,
@@ -191,7 +199,8 @@ fn read_each_pick(
     items: &[Node],
 ) -> Result<OrderedPicks, PlanFault>
     requires { rounds ≤ 4200 }
-    ensures { Gives Memory (λ p. p) result (in_turn (plan.pick_at rounds uses) 0 [] (map (data_of tree.now) items.now)) }
+    ensures { Gives Memory (λ p. p) result
+        (in_turn (plan.pick_at rounds uses) 0 [] (map (data_of tree.now) items.now)) }
 {
     let mut picks = OrderedPicks::make(alloc)?;
     for (i, item) in items.iter().enumerate() {
@@ -227,7 +236,9 @@ pub(crate) fn read_uses_and_picks(
     top: &Node,
 ) -> Result<PickTable, PlanFault>
     requires { counts.rounds ≤ 4200 }
-    ensures { Gives Memory (λ t. t) result (plan.uses_and_picks_in counts.rounds counts.numberings counts.befores (data_of tree.now top.now)) }
+    ensures { Gives Memory (λ t. t) result
+        (plan.uses_and_picks_in counts.rounds counts.numberings counts.befores
+        (data_of tree.now top.now)) }
 {
     let uses = read_uses(alloc, counts, tree, top)?;
     let picks = read_picks(alloc, counts.rounds, uses.list().len(), tree, top)?;

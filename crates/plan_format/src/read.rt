@@ -78,7 +78,8 @@ fn read_spelling(
     tree: &Tree<'_>,
     top: &Node,
 ) -> Result<Spelling, PlanFault>
-    ensures { Gives Memory (λ s. s) result (plan.spelling_in net.now format (data_of tree.now top.now)) }
+    ensures { Gives Memory (λ s. s) result
+        (plan.spelling_in net.now format (data_of tree.now top.now)) }
 {
     match format {
         Format::One => Ok(Spelling::Objects),
@@ -98,7 +99,9 @@ fn read_pick_table(
     top: &Node,
 ) -> Result<PickTable, PlanFault>
     requires { counts.rounds ≤ 4200 }
-    ensures { Gives Memory (λ t. t) result (plan.pick_table_in format counts.rounds counts.numberings counts.befores (data_of tree.now top.now)) }
+    ensures { Gives Memory (λ t. t) result
+        (plan.pick_table_in format counts.rounds counts.numberings counts.befores
+        (data_of tree.now top.now)) }
 {
     match format {
         Format::One => read_full_picks(alloc, counts, tree, top),
@@ -117,7 +120,8 @@ fn read_ordered(
     top: &Node,
 ) -> Result<OrderedEvidence, PlanFault>
     requires { rounds ≤ 4200 }
-    ensures { Gives Memory (λ e. e) result (plan.ordered_in net.now format rounds (data_of tree.now top.now)) }
+    ensures { Gives Memory (λ e. e) result
+        (plan.ordered_in net.now format rounds (data_of tree.now top.now)) }
 {
     let numberings = read_numberings(alloc, net, tree, top)?;
     let befores = read_befores(alloc, net, tree, top)?;
@@ -146,7 +150,8 @@ fn read_two_phase(
     top: &Node,
 ) -> Result<TwoPhaseEvidence, PlanFault>
     requires { length rounds.now ≤ 4200 }
-    ensures { Gives Memory (λ e. e) result (plan.two_phase_in net.now spelling.now rounds.now (data_of tree.now top.now)) }
+    ensures { Gives Memory (λ e. e) result
+        (plan.two_phase_in net.now spelling.now rounds.now (data_of tree.now top.now)) }
 {
     let labels = read_labels(alloc, tree, top)?;
     let picks = read_label_picks(alloc, rounds.count(), labels.list().len(), tree, top)?;
@@ -175,7 +180,9 @@ fn read_evidence(
     top: &Node,
 ) -> Result<Evidence, PlanFault>
     requires { length rounds.now ≤ 4200 }
-    ensures { Gives Memory (λ e. e) result (plan.evidence_in net.now head.format head.kind spelling.now rounds.now (data_of tree.now top.now)) }
+    ensures { Gives Memory (λ e. e) result
+        (plan.evidence_in net.now head.format head.kind spelling.now rounds.now
+        (data_of tree.now top.now)) }
 {
     match head.kind {
         PlanKind::Ordered => {

@@ -224,7 +224,8 @@ pub(crate) fn read_rule(
     tree: &Tree<'_>,
     item: &Node,
 ) -> Result<PlanRule, PlanFault>
-    ensures { Gives Memory (λ r. r) result (plan.rule_in net.now place (data_of tree.now item.now)) }
+    ensures { Gives Memory (λ r. r) result
+        (plan.rule_in net.now place (data_of tree.now item.now)) }
 {
     let name = tree
         .text_at(item, "switch")

@@ -1,3 +1,4 @@
 pub mod PlanText
+pub mod TablesText
 pub mod Uses
 pub mod Tokens

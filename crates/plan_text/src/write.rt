@@ -18,7 +18,8 @@ use update_model::{Change, Rounds};
 
 /// Writes a change: its word and the number of its rule.
 fn write_numbered_change(out: &mut Writer, rules: &UsedRules, change: &Change) -> Result<(), Memory>
-    ensures { OnOk result (Adds out.old out.new (tokens_of (numbered_change_tree rules.now change.now))) }
+    ensures { OnOk result
+        (Adds out.old out.new (tokens_of (numbered_change_tree rules.now change.now))) }
 {
     out.begin_array()?;
     out.string(word_of(change))?;
@@ -28,7 +29,8 @@ fn write_numbered_change(out: &mut Writer, rules: &UsedRules, change: &Change) -
 
 /// Writes the list of a round's changes.
 fn write_numbered_round(out: &mut Writer, rules: &UsedRules, round: &[Change]) -> Result<(), Memory>
-    ensures { OnOk result (Adds out.old out.new (tokens_of (numbered_round_tree rules.now round.now))) }
+    ensures { OnOk result
+        (Adds out.old out.new (tokens_of (numbered_round_tree rules.now round.now))) }
 {
     out.begin_array()?;
     for change in round {
@@ -39,7 +41,8 @@ fn write_numbered_round(out: &mut Writer, rules: &UsedRules, round: &[Change]) -
 
 /// Writes the list of rounds, each the list of its changes.
 fn write_numbered_rounds(out: &mut Writer, rules: &UsedRules, rounds: &Rounds) -> Result<(), Memory>
-    ensures { OnOk result (Adds out.old out.new (tokens_of (numbered_rounds_tree rules.now rounds.now))) }
+    ensures { OnOk result
+        (Adds out.old out.new (tokens_of (numbered_rounds_tree rules.now rounds.now))) }
 {
     out.begin_array()?;
     for k in 0..rounds.count() {

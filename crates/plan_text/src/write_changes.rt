@@ -17,7 +17,8 @@ use update_model::{Change, Rounds};
 
 /// Writes the destinations of the rule.
 fn write_dst(out: &mut Writer, alloc: Global, dst: Prefix) -> Result<(), Memory>
-    ensures { OnOk result (Adds out.old out.new (member_tokens (codes "dst") (string (prefix_text dst)))) }
+    ensures { OnOk result
+        (Adds out.old out.new (member_tokens (codes "dst") (string (prefix_text dst)))) }
 {
     let text = prefix_string(alloc, dst)?;
     write_text_at(out, "dst", &text)
@@ -25,7 +26,8 @@ fn write_dst(out: &mut Writer, alloc: Global, dst: Prefix) -> Result<(), Memory>
 
 /// Writes the priority of the rule.
 fn write_priority(out: &mut Writer, priority: u16) -> Result<(), Memory>
-    ensures { OnOk result (Adds out.old out.new (member_tokens (codes "priority") (whole_tree priority))) }
+    ensures { OnOk result
+        (Adds out.old out.new (member_tokens (codes "priority") (whole_tree priority))) }
 {
     write_number_at(out, "priority", u64::from(priority))
 }
@@ -51,7 +53,8 @@ fn write_switch(out: &mut Writer, net: &Net, s: SwitchId) -> Result<(), Memory>
 
 /// Writes the ingress port, where the rule has one.
 fn write_in_port(out: &mut Writer, port: Option<Port>) -> Result<(), Memory>
-    ensures { OnOk result (Adds out.old out.new (some_tokens (codes "in_port") (in_port_tree port))) }
+    ensures { OnOk result
+        (Adds out.old out.new (some_tokens (codes "in_port") (in_port_tree port))) }
 {
     match port {
         Some(port) => write_number_at(out, "in_port", u64::from(port.0)),
@@ -175,7 +178,8 @@ fn write_worded(
     placed: &PlanRule,
 ) -> Result<(), Memory>
     ensures { OnOk result (Adds out.old out.new
-        (tokens_of (object (put (codes "do") (string word.now) (rule_members net.now placed.now))))) }
+        (tokens_of
+        (object (put (codes "do") (string word.now) (rule_members net.now placed.now))))) }
 {
     out.begin_object()?;
     write_text_at(out, "do", word)?;
@@ -190,7 +194,12 @@ fn write_change(out: &mut Writer, alloc: Global, net: &Net, change: &Change) -> 
 }
 
 /// Writes the list of the objects of a round's changes.
-fn write_round(out: &mut Writer, alloc: Global, net: &Net, round: &[Change]) -> Result<(), Memory>
+pub fn write_round(
+    out: &mut Writer,
+    alloc: Global,
+    net: &Net,
+    round: &[Change],
+) -> Result<(), Memory>
     ensures { OnOk result (Adds out.old out.new (tokens_of (round_tree net.now round.now))) }
 {
     out.begin_array()?;

@@ -13,7 +13,8 @@ use waypoint_evidence::Before;
 
 /// Writes the list of the numbers of the marked places.
 fn write_marked(out: &mut Writer, marks: &[bool]) -> Result<(), Memory>
-    ensures { OnOk result (Adds out.old out.new (tokens_of (numbers_tree (marked_from 0 marks.now)))) }
+    ensures { OnOk result
+        (Adds out.old out.new (tokens_of (numbers_tree (marked_from 0 marks.now)))) }
 {
     out.begin_array()?;
     for (number, marked) in marks.iter().enumerate() {

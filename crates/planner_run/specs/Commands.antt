@@ -11,12 +11,16 @@ use Rattle.certificates.specs.Updates.{Update}
 use Rattle.command_base.specs.Updates.{PlanMeaning}
 use Rattle.config_command.specs.Names as config
 use Rattle.config_command.specs.Configs.{ConfigMeaning, config_dialogue, IsConfigAnswer}
+use Rattle.paths_command.specs.Listed.{IsPathsAnswer}
 use Rattle.check_base.specs.Names as check
 use Rattle.check_base.specs.Checks.{CheckMeaning, check_dialogue}
 use Rattle.check_command.specs.Checks.{IsCheckAnswer}
 use Rattle.plan_command.specs.Planned.{IsPlanned}
 use Rattle.replay_command.specs.Names as replay
 use Rattle.replay_command.specs.Replayed.{ReplayMeaning, replay_dialogue, IsReplayAnswer}
+use Rattle.tables_command.specs.Listed.{IsTablesAnswer}
+use Rattle.trace_command.specs.Names as trace
+use Rattle.trace_command.specs.Traced.{TraceMeaning, trace_dialogue, IsTraceAnswer}
 use Rattle.simulate_command.specs.Names as simulate
 use Rattle.simulate_command.specs.Simulated.{IsSimulateAnswer}
 use Rattle.sample_command.specs.Sizes as sample
@@ -34,11 +38,14 @@ use Rattle.planner_run.specs.declared.command.Command.TheVariants as command
 -- a command, with the names of its files, or the number of switches of a sample
 pub data Asked : Type 0 where
   Config : config.ConfigNames → Asked
+  Paths : config.ConfigNames → Asked
   Check : check.CheckNames → Asked
   Plan : UpdateNames → Asked
   Upgrade : PlanNames → Asked
   Emit : PlanNames → Asked
   Replay : replay.ReplayNames → Asked
+  Tables : replay.ReplayNames → Asked
+  Trace : trace.TraceNames → Asked
   Simulate : simulate.SimulateNames → Asked
   Explain : check.CheckNames → Asked
   Import : imports.ImportNames → Asked
@@ -50,11 +57,14 @@ abbrev pub asked : List (List ℕ) → Option Asked
 asked [] = None
 asked (name ∷ words) =
     if bytes_eq name (codes "config") then option_map Config (config.names_in words)
+    else if bytes_eq name (codes "paths") then option_map Paths (config.names_in words)
     else if bytes_eq name (codes "check") then option_map Check (check.names_in words)
     else if bytes_eq name (codes "plan") then option_map Plan (base.update_names_in words)
     else if bytes_eq name (codes "upgrade") then option_map Upgrade (base.plan_names_in words)
     else if bytes_eq name (codes "emit") then option_map Emit (base.plan_names_in words)
     else if bytes_eq name (codes "replay") then option_map Replay (replay.names_in words)
+    else if bytes_eq name (codes "tables") then option_map Tables (replay.names_in words)
+    else if bytes_eq name (codes "trace") then option_map Trace (trace.names_in words)
     else if bytes_eq name (codes "simulate") then option_map Simulate (simulate.names_in words)
     else if bytes_eq name (codes "explain") then option_map Explain (check.names_in words)
     else if bytes_eq name (codes "import") then option_map Import (imports.names_in words)
@@ -65,11 +75,14 @@ asked (name ∷ words) =
 -- a command without where its names lie in memory
 abbrev pub seen : Command → Asked
 seen (command.Config names) = Config (config.names_seen names)
+seen (command.Paths names) = Paths (config.names_seen names)
 seen (command.Check names) = Check (check.names_seen names)
 seen (command.Plan names) = Plan (base.names_seen names)
 seen (command.Upgrade names) = Upgrade (base.plan_names_seen names)
 seen (command.Emit names) = Emit (base.plan_names_seen names)
 seen (command.Replay names) = Replay (replay.names_seen names)
+seen (command.Tables names) = Tables (replay.names_seen names)
+seen (command.Trace names) = Trace (trace.names_seen names)
 seen (command.Simulate names) = Simulate (simulate.names_seen names)
 seen (command.Explain names) = Explain (check.names_seen names)
 seen (command.Import names) = Import (imports.names_seen names)
@@ -79,11 +92,14 @@ seen (command.Sample size) = Sample size.switches
 -- of what a command says its answer
 pub data Ending : Type 0 where
   OfConfig : ConfigMeaning → Ending
+  OfPaths : ConfigMeaning → Ending
   OfCheck : CheckMeaning → Ending
   OfPlan : Update → Ending
   OfUpgrade : PlanMeaning → Ending
   OfEmit : PlanMeaning → Ending
   OfReplay : ReplayMeaning → Ending
+  OfTables : ReplayMeaning → Ending
+  OfTrace : TraceMeaning → Ending
   OfSimulate : ℕ → ℕ → CheckMeaning → Ending
   OfExplain : CheckMeaning → Ending
   OfImport : ImportMeaning → Ending
@@ -98,11 +114,14 @@ usage_line = codes "unknown command or wrong words\n"
 -- what each command says of it
 abbrev pub IsSaid : Ending → Answer → Type 0
 IsSaid (OfConfig m) answer = IsConfigAnswer m answer
+IsSaid (OfPaths m) answer = IsPathsAnswer m answer
 IsSaid (OfCheck m) answer = IsCheckAnswer m answer
 IsSaid (OfPlan u) answer = IsPlanned u answer
 IsSaid (OfUpgrade m) answer = IsUpgradeAnswer m answer
 IsSaid (OfEmit m) answer = IsEmitAnswer m answer
 IsSaid (OfReplay m) answer = IsReplayAnswer m answer
+IsSaid (OfTables m) answer = IsTablesAnswer m answer
+IsSaid (OfTrace m) answer = IsTraceAnswer m answer
 IsSaid (OfSimulate start count m) answer = IsSimulateAnswer start count m answer
 IsSaid (OfExplain m) answer = IsExplainAnswer m answer
 IsSaid (OfImport m) answer = IsImportAnswer m answer
@@ -113,11 +132,14 @@ IsSaid OfUsage answer = answer ≡ record { status = status.Usage; text = usage_
 -- the dialogue of a command
 abbrev pub dialogue_of : Asked → Dialogue Ending
 dialogue_of (Config names) = and_then (config_dialogue names) (λ m. Ends (OfConfig m))
+dialogue_of (Paths names) = and_then (config_dialogue names) (λ m. Ends (OfPaths m))
 dialogue_of (Check names) = and_then (check_dialogue names) (λ m. Ends (OfCheck m))
 dialogue_of (Plan names) = and_then (reading_update names) (λ u. Ends (OfPlan u))
 dialogue_of (Upgrade names) = and_then (reading_plan_files names) (λ m. Ends (OfUpgrade m))
 dialogue_of (Emit names) = and_then (reading_plan_files names) (λ m. Ends (OfEmit m))
 dialogue_of (Replay names) = and_then (replay_dialogue names) (λ m. Ends (OfReplay m))
+dialogue_of (Tables names) = and_then (replay_dialogue names) (λ m. Ends (OfTables m))
+dialogue_of (Trace names) = and_then (trace_dialogue names) (λ m. Ends (OfTrace m))
 dialogue_of (Simulate names) = and_then (check_dialogue names.check) (λ m. Ends (OfSimulate names.start names.count m))
 dialogue_of (Explain names) = and_then (check_dialogue names) (λ m. Ends (OfExplain m))
 dialogue_of (Import names) = and_then (import_dialogue names) (λ m. Ends (OfImport m))

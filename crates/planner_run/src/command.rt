@@ -10,16 +10,20 @@ use import_command::{ImportNames, import_names};
 use replay_command::{ReplayNames, replay_names};
 use sample_command::{RingSize, ring_size};
 use simulate_command::{SimulateNames, simulate_names};
+use trace_command::{TraceNames, trace_names};
 
 /// A command, with the names of its files, or the number of switches of a sample.
 #[derive(Clone, Copy)]
 pub enum Command<'a> {
     Config(ConfigNames<'a>),
+    Paths(ConfigNames<'a>),
     Check(CheckNames<'a>),
     Plan(UpdateNames<'a>),
     Upgrade(PlanNames<'a>),
     Emit(PlanNames<'a>),
     Replay(ReplayNames<'a>),
+    Tables(ReplayNames<'a>),
+    Trace(TraceNames<'a>),
     Simulate(SimulateNames<'a>),
     Explain(CheckNames<'a>),
     Import(ImportNames<'a>),
@@ -36,11 +40,14 @@ pub fn command_of(words: &[String]) -> Option<Command<'_>>
     };
     match name.as_str() {
         "config" => config_names(rest).map(Command::Config),
+        "paths" => config_names(rest).map(Command::Paths),
         "check" => check_names(rest).map(Command::Check),
         "plan" => update_names(rest).map(Command::Plan),
         "upgrade" => plan_names(rest).map(Command::Upgrade),
         "emit" => plan_names(rest).map(Command::Emit),
         "replay" => replay_names(rest).map(Command::Replay),
+        "tables" => replay_names(rest).map(Command::Tables),
+        "trace" => trace_names(rest).map(Command::Trace),
         "simulate" => simulate_names(rest).map(Command::Simulate),
         "explain" => check_names(rest).map(Command::Explain),
         "import" => import_names(rest).map(Command::Import),

@@ -9,6 +9,7 @@ ghost use Rattle.command_base.specs.Replies.{answer_of, Meets};
 ghost use Rattle.command_base.specs.Runs.{IsSettled, EndsAs, AnswersAll, AnswersFront};
 ghost use Rattle.config_command.specs.Names.{ConfigNames};
 ghost use Rattle.config_command.specs.Promise.{ConfigPromise};
+ghost use Rattle.paths_command.specs.Promise.{PathsPromise};
 ghost use Rattle.check_base.specs.Names.{CheckNames};
 ghost use Rattle.check_command.specs.Promise.{CheckPromise};
 ghost use Rattle.plan_command.specs.Promise.{PlanPromise};
@@ -16,6 +17,9 @@ ghost use Rattle.upgrade_command.specs.Promise.{UpgradePromise};
 ghost use Rattle.emit_command.specs.Promise.{EmitPromise};
 ghost use Rattle.replay_command.specs.Names.{ReplayNames};
 ghost use Rattle.replay_command.specs.Promise.{ReplayPromise};
+ghost use Rattle.tables_command.specs.Promise.{TablesPromise};
+ghost use Rattle.trace_command.specs.Names.{TraceNames};
+ghost use Rattle.trace_command.specs.Promise.{TracePromise};
 ghost use Rattle.simulate_command.specs.Names.{SimulateNames};
 ghost use Rattle.simulate_command.specs.Promise.{SimulatePromise};
 ghost use Rattle.explain_command.specs.Promise.{ExplainPromise};
@@ -25,7 +29,7 @@ ghost use Rattle.drive_command.specs.Names.{DriveNames};
 ghost use Rattle.drive_command.specs.Promise.{DrivePromise};
 ghost use Rattle.sample_command.specs.Summaries.{SaysSummary};
 ghost use Rattle.sample_command.specs.Promise.{SamplePromise};
-ghost use Rattle.planner_run.specs.Commands.{Config, Check, Plan, Upgrade, Emit, Replay, Simulate, Explain, Import, Drive, Sample, asked, seen, dialogue, dialogue_of, IsSaid, usage_line};
+ghost use Rattle.planner_run.specs.Commands.{Config, Paths, Check, Plan, Upgrade, Emit, Replay, Tables, Trace, Simulate, Explain, Import, Drive, Sample, asked, seen, dialogue, dialogue_of, IsSaid, usage_line};
 
 use crate::command::{Command, command_of};
 use check_command::check;
@@ -43,6 +47,8 @@ use file_access::{Sink, Source, WriteFault, pour};
 use import_command::import;
 use import_command::laws::import_promised;
 use net_base::Memory;
+use paths_command::laws::paths_promised;
+use paths_command::paths;
 use plan_command::laws::plan_promised;
 use plan_command::plan;
 use replay_command::laws::replay_promised;
@@ -52,6 +58,10 @@ use sample_command::{RingSize, sample};
 use simulate_command::laws::simulate_promised;
 use simulate_command::simulate;
 use std::alloc::Global;
+use tables_command::laws::tables_promised;
+use tables_command::tables;
+use trace_command::laws::trace_promised;
+use trace_command::trace;
 use upgrade_command::laws::upgrade_promised;
 use upgrade_command::upgrade;
 
@@ -70,18 +80,24 @@ fn sample_reply(alloc: Global, size: RingSize) -> Result<Reply, Exit>
 
 /// The reply to a command. A sample leaves the source as it is, so it has no fault of reading.
 fn reply_to<S: Source>(alloc: Global, command: &Command<'_>, source: &mut S) -> Result<Reply, Exit>
-    ensures meets { Meets IsSaid (S.held source.old) (dialogue_of (seen command.now)) (S.faults source.old) (S.faults source.new) result (S.selected source.new) (S.taken source.new) }
+    ensures meets { Meets IsSaid (S.held source.old) (dialogue_of (seen command.now))
+        (S.faults source.old) (S.faults source.new) result (S.selected source.new)
+        (S.taken source.new) }
     ensures later { S.faults source.old ≤ S.faults source.new }
     ensures unread { (n : ℕ) → seen command.now ≡ Sample n → source.new ≡ source.old }
-    ensures no_read_fault { (n : ℕ) → seen command.now ≡ Sample n → IfErr result (λ e. e ≢ Exit.ReadFault) }
+    ensures no_read_fault { (n : ℕ) → seen command.now ≡ Sample n
+        → IfErr result (λ e. e ≢ Exit.ReadFault) }
 {
     match command {
         Command::Config(names) => config(alloc, source, names),
+        Command::Paths(names) => paths(alloc, source, names),
         Command::Check(names) => check(alloc, source, names),
         Command::Plan(names) => plan(alloc, source, names),
         Command::Upgrade(names) => upgrade(alloc, source, names),
         Command::Emit(names) => emit(alloc, source, names),
         Command::Replay(names) => replay(alloc, source, names),
+        Command::Tables(names) => tables(alloc, source, names),
+        Command::Trace(names) => trace(alloc, source, names),
         Command::Simulate(names) => simulate(alloc, source, names),
         Command::Explain(names) => explain(alloc, source, names),
         Command::Import(names) => import(alloc, source, names),
@@ -93,8 +109,10 @@ fn reply_to<S: Source>(alloc: Global, command: &Command<'_>, source: &mut S) -> 
 /// Writes an answer, whose status is no fault of writing, and says how the run ends.
 fn write_answer<K: Sink>(sink: &mut K, status: Status, text: &[u8]) -> Status
     requires { status ≢ Status.WriteFault }
-    ensures done { result ≡ Status.WriteFault ⊎ ((result ≡ status) × Appends (K.written sink.old) (K.written sink.new) text.now) }
-    ensures front { result ≡ Status.WriteFault → AppendsFront (K.written sink.old) (K.written sink.new) text.now }
+    ensures done { result ≡ Status.WriteFault
+        ⊎ ((result ≡ status) × Appends (K.written sink.old) (K.written sink.new) text.now) }
+    ensures front { result ≡ Status.WriteFault
+        → AppendsFront (K.written sink.old) (K.written sink.new) text.now }
     ensures cause { result ≡ Status.WriteFault → Rose (K.faults sink.old) (K.faults sink.new) }
     ensures later { K.faults sink.old ≤ K.faults sink.new }
 {
@@ -112,23 +130,35 @@ fn respond<S: Source, K: Sink>(
     sink: &mut K,
 ) -> Status
     // The status and the text are where the dialogue of the words leads.
-    ensures ends { EndsAs IsSaid (S.held source.old) (dialogue (map string_bytes words.now)) (K.written sink.old) (K.written sink.new) (S.selected source.new) (S.taken source.new) result }
+    ensures ends { EndsAs IsSaid (S.held source.old) (dialogue (map string_bytes words.now))
+        (K.written sink.old) (K.written sink.new) (S.selected source.new) (S.taken source.new)
+        result }
 
     // Where the source tells, a settled run has the status and the whole text of the answer over its files.
-    ensures all { IsSettled result → AnswersAll IsSaid (S.held source.old) (dialogue (map string_bytes words.now)) (K.written sink.old) (K.written sink.new) result }
-    ensures front { result ≡ Status.WriteFault → AnswersFront IsSaid (S.held source.old) (dialogue (map string_bytes words.now)) (K.written sink.old) (K.written sink.new) }
-    ensures nothing { (result ≡ Status.ReadFault) ⊎ (result ≡ Status.Memory) → Keeps (K.written sink.old) (K.written sink.new) }
+    ensures all { IsSettled result
+        → AnswersAll IsSaid (S.held source.old) (dialogue (map string_bytes words.now))
+        (K.written sink.old) (K.written sink.new) result }
+    ensures front { result ≡ Status.WriteFault
+        → AnswersFront IsSaid (S.held source.old) (dialogue (map string_bytes words.now))
+        (K.written sink.old) (K.written sink.new) }
+    ensures nothing { (result ≡ Status.ReadFault) ⊎ (result ≡ Status.Memory)
+        → Keeps (K.written sink.old) (K.written sink.new) }
 
     // Usage comes exactly for words that are none of the listed forms.
-    ensures usage { IsSettled result → ((result ≡ Status.Usage) ↔ (asked (map string_bytes words.now) ≡ None)) }
+    ensures usage { IsSettled result
+        → ((result ≡ Status.Usage) ↔ (asked (map string_bytes words.now) ≡ None)) }
 
     ensures read_fault { result ≡ Status.ReadFault
-        → Rose (S.faults source.old) (S.faults source.new) ⊎ Lacks (S.held source.old) (dialogue (map string_bytes words.now)) }
-    ensures write_fault { result ≡ Status.WriteFault → Rose (K.faults sink.old) (K.faults sink.new) }
+        → Rose (S.faults source.old) (S.faults source.new)
+        ⊎ Lacks (S.held source.old) (dialogue (map string_bytes words.now)) }
+    ensures write_fault { result ≡ Status.WriteFault
+        → Rose (K.faults sink.old) (K.faults sink.new) }
 
     // A sample leaves the source as it is.
-    ensures unread { (n : ℕ) → asked (map string_bytes words.now) ≡ Some (Sample n) → source.new ≡ source.old }
-    ensures no_read_fault { (n : ℕ) → asked (map string_bytes words.now) ≡ Some (Sample n) → result ≢ Status.ReadFault }
+    ensures unread { (n : ℕ) → asked (map string_bytes words.now) ≡ Some (Sample n) → source.new
+        ≡ source.old }
+    ensures no_read_fault { (n : ℕ) → asked (map string_bytes words.now) ≡ Some (Sample n)
+        → result ≢ Status.ReadFault }
 {
     match command_of(words) {
         None => write_answer(sink, Status::Usage, USAGE_LINE),
@@ -151,54 +181,89 @@ pub fn run<S: Source, K: Sink>(
     sink: &mut K,
 ) -> Status
     // The status and the text are where the dialogue of the words leads.
-    ensures ends { EndsAs IsSaid (S.held source.old) (dialogue (map string_bytes words.now)) (K.written sink.old) (K.written sink.new) (S.selected source.new) (S.taken source.new) result }
+    ensures ends { EndsAs IsSaid (S.held source.old) (dialogue (map string_bytes words.now))
+        (K.written sink.old) (K.written sink.new) (S.selected source.new) (S.taken source.new)
+        result }
 
     // Where the source tells, a settled run has the status and the whole text of the answer over its files.
-    ensures all { IsSettled result → AnswersAll IsSaid (S.held source.old) (dialogue (map string_bytes words.now)) (K.written sink.old) (K.written sink.new) result }
-    ensures front { result ≡ Status.WriteFault → AnswersFront IsSaid (S.held source.old) (dialogue (map string_bytes words.now)) (K.written sink.old) (K.written sink.new) }
-    ensures nothing { (result ≡ Status.ReadFault) ⊎ (result ≡ Status.Memory) → Keeps (K.written sink.old) (K.written sink.new) }
+    ensures all { IsSettled result
+        → AnswersAll IsSaid (S.held source.old) (dialogue (map string_bytes words.now))
+        (K.written sink.old) (K.written sink.new) result }
+    ensures front { result ≡ Status.WriteFault
+        → AnswersFront IsSaid (S.held source.old) (dialogue (map string_bytes words.now))
+        (K.written sink.old) (K.written sink.new) }
+    ensures nothing { (result ≡ Status.ReadFault) ⊎ (result ≡ Status.Memory)
+        → Keeps (K.written sink.old) (K.written sink.new) }
 
     // Usage comes exactly for words that are none of the listed forms.
-    ensures usage { IsSettled result → ((result ≡ Status.Usage) ↔ (asked (map string_bytes words.now) ≡ None)) }
+    ensures usage { IsSettled result
+        → ((result ≡ Status.Usage) ↔ (asked (map string_bytes words.now) ≡ None)) }
 
     ensures read_fault { result ≡ Status.ReadFault
-        → Rose (S.faults source.old) (S.faults source.new) ⊎ Lacks (S.held source.old) (dialogue (map string_bytes words.now)) }
-    ensures write_fault { result ≡ Status.WriteFault → Rose (K.faults sink.old) (K.faults sink.new) }
+        → Rose (S.faults source.old) (S.faults source.new)
+        ⊎ Lacks (S.held source.old) (dialogue (map string_bytes words.now)) }
+    ensures write_fault { result ≡ Status.WriteFault
+        → Rose (K.faults sink.old) (K.faults sink.new) }
 
     // Over a source that tells, each command keeps its promise.
-    ensures config { (files : Files) (names : ConfigNames) → S.held source.old ≡ Some files → asked (map string_bytes words.now) ≡ Some (Config names)
+    ensures config { (files : Files) (names : ConfigNames) → S.held source.old ≡ Some files
+        → asked (map string_bytes words.now) ≡ Some (Config names)
         → ConfigPromise files names (K.written sink.old) (K.written sink.new) result }
 
+    ensures paths { (files : Files) (names : ConfigNames) → S.held source.old ≡ Some files
+        → asked (map string_bytes words.now) ≡ Some (Paths names)
+        → PathsPromise files names (K.written sink.old) (K.written sink.new) result }
+
     // The headline is the field `keeps` of this promise.
-    ensures check { (files : Files) (names : CheckNames) → S.held source.old ≡ Some files → asked (map string_bytes words.now) ≡ Some (Check names)
+    ensures check { (files : Files) (names : CheckNames) → S.held source.old ≡ Some files
+        → asked (map string_bytes words.now) ≡ Some (Check names)
         → CheckPromise files names (K.written sink.old) (K.written sink.new) result }
-    ensures plan { (files : Files) (names : UpdateNames) → S.held source.old ≡ Some files → asked (map string_bytes words.now) ≡ Some (Plan names)
+    ensures plan { (files : Files) (names : UpdateNames) → S.held source.old ≡ Some files
+        → asked (map string_bytes words.now) ≡ Some (Plan names)
         → PlanPromise files names (K.written sink.old) (K.written sink.new) result }
-    ensures upgrade { (files : Files) (names : PlanNames) → S.held source.old ≡ Some files → asked (map string_bytes words.now) ≡ Some (Upgrade names)
+    ensures upgrade { (files : Files) (names : PlanNames) → S.held source.old ≡ Some files
+        → asked (map string_bytes words.now) ≡ Some (Upgrade names)
         → UpgradePromise files names (K.written sink.old) (K.written sink.new) result }
-    ensures emit { (files : Files) (names : PlanNames) → S.held source.old ≡ Some files → asked (map string_bytes words.now) ≡ Some (Emit names)
+    ensures emit { (files : Files) (names : PlanNames) → S.held source.old ≡ Some files
+        → asked (map string_bytes words.now) ≡ Some (Emit names)
         → EmitPromise files names (K.written sink.old) (K.written sink.new) result }
-    ensures replay { (files : Files) (names : ReplayNames) → S.held source.old ≡ Some files → asked (map string_bytes words.now) ≡ Some (Replay names)
+    ensures replay { (files : Files) (names : ReplayNames) → S.held source.old ≡ Some files
+        → asked (map string_bytes words.now) ≡ Some (Replay names)
         → ReplayPromise files names (K.written sink.old) (K.written sink.new) result }
-    ensures simulate { (files : Files) (names : SimulateNames) → S.held source.old ≡ Some files → asked (map string_bytes words.now) ≡ Some (Simulate names)
+    ensures tables { (files : Files) (names : ReplayNames) → S.held source.old ≡ Some files
+        → asked (map string_bytes words.now) ≡ Some (Tables names)
+        → TablesPromise files names (K.written sink.old) (K.written sink.new) result }
+    ensures trace { (files : Files) (names : TraceNames) → S.held source.old ≡ Some files
+        → asked (map string_bytes words.now) ≡ Some (Trace names)
+        → TracePromise files names (K.written sink.old) (K.written sink.new) result }
+    ensures simulate { (files : Files) (names : SimulateNames) → S.held source.old ≡ Some files
+        → asked (map string_bytes words.now) ≡ Some (Simulate names)
         → SimulatePromise files names (K.written sink.old) (K.written sink.new) result }
-    ensures explain { (files : Files) (names : CheckNames) → S.held source.old ≡ Some files → asked (map string_bytes words.now) ≡ Some (Explain names)
+    ensures explain { (files : Files) (names : CheckNames) → S.held source.old ≡ Some files
+        → asked (map string_bytes words.now) ≡ Some (Explain names)
         → ExplainPromise files names (K.written sink.old) (K.written sink.new) result }
-    ensures import { (files : Files) (names : ImportNames) → S.held source.old ≡ Some files → asked (map string_bytes words.now) ≡ Some (Import names)
+    ensures import { (files : Files) (names : ImportNames) → S.held source.old ≡ Some files
+        → asked (map string_bytes words.now) ≡ Some (Import names)
         → ImportPromise files names (K.written sink.old) (K.written sink.new) result }
-    ensures drive { (files : Files) (names : DriveNames) → S.held source.old ≡ Some files → asked (map string_bytes words.now) ≡ Some (Drive names)
+    ensures drive { (files : Files) (names : DriveNames) → S.held source.old ≡ Some files
+        → asked (map string_bytes words.now) ≡ Some (Drive names)
         → DrivePromise files names (K.written sink.old) (K.written sink.new) result }
 
     // A sample reads no file: its promise holds over every source, which it leaves as it is.
-    ensures sample { (n : ℕ) → asked (map string_bytes words.now) ≡ Some (Sample n) → SamplePromise n (K.written sink.old) (K.written sink.new) result }
-    ensures unread { (n : ℕ) → asked (map string_bytes words.now) ≡ Some (Sample n) → source.new ≡ source.old }
+    ensures sample { (n : ℕ) → asked (map string_bytes words.now) ≡ Some (Sample n)
+        → SamplePromise n (K.written sink.old) (K.written sink.new) result }
+    ensures unread { (n : ℕ) → asked (map string_bytes words.now) ≡ Some (Sample n) → source.new
+        ≡ source.old }
 {
     config_promised();
+    paths_promised();
     check_promised();
     plan_promised();
     upgrade_promised();
     emit_promised();
     replay_promised();
+    tables_promised();
+    trace_promised();
     simulate_promised();
     explain_promised();
     import_promised();

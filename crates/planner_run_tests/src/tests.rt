@@ -18,6 +18,21 @@ const SQUARE_LINES: &str =
 2 s3 0112000800000004
 ";
 
+/// Where the classes of the square go, and which of them its demands cover.
+const SQUARE_LISTING: &[u8] = b"s1:1 untagged 0.0.0.0: s1:1 dropped s1 free\n\
+s1:1 untagged 10.0.0.0: s1:1 s2:1 s3:1 s4:1 left s4:3 untagged good\n\
+s1:1 untagged 10.0.1.0: s1:1 dropped s1 free\n\
+s2:3 untagged 0.0.0.0: s2:3 dropped s2 free\n\
+s2:3 untagged 10.0.0.0: s2:3 s3:1 s4:1 left s4:3 untagged good\n\
+s2:3 untagged 10.0.1.0: s2:3 dropped s2 free\n\
+s3:4 untagged 0.0.0.0: s3:4 dropped s3 free\n\
+s3:4 untagged 10.0.0.0: s3:4 s4:1 left s4:3 untagged good\n\
+s3:4 untagged 10.0.1.0: s3:4 dropped s3 free\n\
+s4:3 untagged 0.0.0.0: s4:3 dropped s4 free\n\
+s4:3 untagged 10.0.0.0: s4:3 dropped s4 free\n\
+s4:3 untagged 10.0.1.0: s4:3 dropped s4 free\n\
+12 classes: 3 good, 9 free, 0 break\n";
+
 /// A simulation without packets.
 const SQUARE_RECORD: &[u8] =
     b"start\nchange 0\nsettle\nstart\nchange 0\nsettle\n# settled 2 of 2\n";
@@ -91,6 +106,7 @@ fn ran_over(rt: &impl Abort, alloc: Global, texts: &[&str], source: &mut MemoryS
 fn each_command_runs(rt: HostRuntime) {
     let rows: [(&[&str], &[u8]); 8] = [
         (&["config", "topology", "old"], b"holds: 12 classes\n"),
+        (&["paths", "topology", "old", "policy"], SQUARE_LISTING),
         (
             &["check", "topology", "old", "new", "policy", "plan"],
             b"accepted: ordered, 2 rounds, 12 classes\n",
@@ -126,6 +142,23 @@ const REPLAY: [&str; 5] = ["replay", "topology", "old", "plan", "policy"];
 fn replay_runs(rt: HostRuntime) {
     let mut source = held_beside(&rt, rt.alloc(), b"start\nstart\n");
     let answer = ran_over(&rt, rt.alloc(), &REPLAY, &mut source);
+    assert!(rt; answer.is(Status::NotARun, b"not a run: line 2\n"));
+}
+
+#[test]
+fn trace_runs(rt: HostRuntime) {
+    let mut source = held_beside(&rt, rt.alloc(), b"");
+    let words = ["trace", "topology", "old", "s4:3", "untagged", "10.0.1.0"];
+    let answer = ran_over(&rt, rt.alloc(), &words, &mut source);
+    let lines = b"s4:3 untagged: no rule\ndropped s4\n";
+    assert!(rt; answer.is(Status::Done, lines));
+}
+
+#[test]
+fn tables_runs(rt: HostRuntime) {
+    let mut source = held_beside(&rt, rt.alloc(), b"start\nstart\n");
+    let words = ["tables", "topology", "old", "plan", "policy"];
+    let answer = ran_over(&rt, rt.alloc(), &words, &mut source);
     assert!(rt; answer.is(Status::NotARun, b"not a run: line 2\n"));
 }
 

@@ -4,7 +4,7 @@ ghost use Rattle.round_tables.specs.Trials.{IsSettled};
 use crate::empty_tables::no_rules;
 use flow_rules::{Action, Config, Key, Pattern, Rewrite, Rule, VlanTest};
 use net_base::{Port, Prefix, SwitchId};
-use round_tables::TrialTables;
+use round_tables::PreparedTables;
 use std::process::Abort;
 use topology::Net;
 use topology_files::read_net;
@@ -62,7 +62,7 @@ fn turned() -> Rule {
 /// Whether a change may be made. Then it is made, or given up.
 fn tries(
     rt: &impl Abort,
-    trial: &mut TrialTables,
+    trial: &mut PreparedTables,
     net: &Net,
     change: &Change,
     is_kept: bool,
@@ -84,7 +84,7 @@ fn tries(
 /// The position of the first change of which it is wrong whether it may be made. All before it are made, or given up.
 fn first_wrong(
     rt: &impl Abort,
-    trial: &mut TrialTables,
+    trial: &mut PreparedTables,
     net: &Net,
     steps: &[(Change, bool, bool)],
 ) -> Option<usize>
@@ -124,7 +124,10 @@ fn has_rules(rt: &impl Abort, tables: &Config) {
 fn a_change_is_made_only_where_it_is_clear_and_has_room(rt: HostRuntime) {
     let net = read_net(rt.alloc(), PAIR).expect(&rt, "a network");
     let config = no_rules(rt.alloc(), &net).expect(&rt, "tables");
-    let mut trial = TrialTables::make(rt.alloc(), &net, &config).expect(&rt, "trial tables");
+    let mut trial = PreparedTables::for_trials(rt.alloc(), &net, &config).expect(
+        &rt,
+        "trial tables",
+    );
     assert_eq!(rt; first_wrong(&rt, &mut trial, &net, &steps()), None);
     assert!(rt; trial.mixes().len() == 2);
     has_rules(&rt, trial.tables());

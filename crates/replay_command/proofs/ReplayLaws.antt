@@ -1,4 +1,4 @@
--- What a run of `replay` says of the files of a source that tells.
+-- What a run of `replay`, or of a command that writes another text of a recorded run, says of the files of a source that tells.
 use Rattle.std.proofs.Common.{◌≡◌, ◌⊎◌, ◌↔◌, ◌≢◌, ℕ, List, [], ◌∷◌, ◌++◌, map, Some, refl, sym, ap, ◌∙◌, subst, inl, inr}
 use Rattle.std.specs.declared.option.Option.{Option}
 use Rattle.std.specs.Io.KnownBytes.{Appends}
@@ -13,7 +13,6 @@ use Rattle.update_model.specs.Runs.{IsRun, AreEnabled, state_after}
 use Rattle.update_model.specs.States.{State, IsEnabled, state_after_event}
 use Rattle.schedule_replay.specs.Schedules.{schedule_in, events_of}
 use Rattle.schedule_replay.specs.Replays.{StopsAt}
-use Rattle.schedule_replay.specs.Traces.{traces_text}
 use Rattle.schedule_replay.specs.declared.schedule.ScheduleLine.{ScheduleLine}
 use Rattle.command_base.specs.declared.status.Status.{Status}
 use Rattle.command_base.specs.declared.status.Status.TheVariants as status
@@ -26,7 +25,7 @@ use Rattle.command_base.proofs.MeaningLaws.{said_over, over_splits, means_then, 
 use Rattle.command_base.proofs.JudgementLaws.{status_of, text_of}
 use Rattle.command_base.proofs.RunLaws.{settled_done, settled_not_a_run}
 use Rattle.replay_command.specs.Names.{ReplayNames}
-use Rattle.replay_command.specs.Replayed.{ReplayMeaning, replay_dialogue, schedule_words, IsReplayAnswer, SaysTraces, SaysNotARun, FilesMeanReplay, FilesAreARun, FilesAreNoRun, FirstStopsAt, NamesFirstLine, update_in, begun, ended, not_a_run_line}
+use Rattle.replay_command.specs.Replayed.{ReplayMeaning, replay_dialogue, schedule_words, traces_of, IsRunAnswer, IsReplayAnswer, SaysOfRun, SaysNotARun, FilesMeanReplay, FilesAreARun, FilesAreNoRun, FirstStopsAt, NamesFirstLine, update_in, begun}
 use Rattle.replay_command.specs.Promise.{ReplayPromise}
 
 -- the dialogue means what the files mean, and nothing else
@@ -68,65 +67,65 @@ stops_no_run m number at run =
     s.not_enabled (subst (λ w. IsEnabled w.net w.rounds w.state s.line.event) (sym s.before.after) next)
 
 -- what is said of a schedule, by the status
-module _ (m : ReplayMeaning) (answer : Answer) where
-  done_says : IsReplayAnswer m answer → answer.status ≡ status.Done → SaysTraces m answer
+module _ (text : ReplayMeaning → List ℕ) (m : ReplayMeaning) (answer : Answer) where
+  done_says : IsRunAnswer text m answer → answer.status ≡ status.Done → SaysOfRun text m answer
   done_says (inl v) is = v
   done_says (inr v) is = absurd (let e = status_of answer _ _ v.answer_is in cc)
 
-  stop_says : IsReplayAnswer m answer → answer.status ≡ status.NotARun → SaysNotARun m answer
+  stop_says : IsRunAnswer text m answer → answer.status ≡ status.NotARun → SaysNotARun m answer
   stop_says (inl v) is = absurd (let e = status_of answer _ _ v.answer_is in cc)
   stop_says (inr v) is = v
 
-  run_says : IsReplayAnswer m answer → IsRun (update_in m) (events_of m.schedule) → SaysTraces m answer
+  run_says : IsRunAnswer text m answer → IsRun (update_in m) (events_of m.schedule) → SaysOfRun text m answer
   run_says (inl v) run = v
   run_says (inr v) run = absurd (stops_no_run m v.line v.first run)
 
-  no_run_says : IsReplayAnswer m answer → ¬ IsRun (update_in m) (events_of m.schedule) → SaysNotARun m answer
+  no_run_says : IsRunAnswer text m answer → ¬ IsRun (update_in m) (events_of m.schedule) → SaysNotARun m answer
   no_run_says (inl v) none = absurd (none v.run)
   no_run_says (inr v) none = v
 
--- of a settled run of `replay` over a source that tells
-module _ (files : Files) (names : ReplayNames) (old new : Option (List ℕ)) (result : Status) (a : Answered IsReplayAnswer files (replay_dialogue names) old new result) where
-  said : (m : ReplayMeaning) → FilesMeanReplay files names m → IsReplayAnswer m a.answer
-  said m mean = said_over IsReplayAnswer files (replay_dialogue names) a.answer m a.over (means_replay files names m mean)
+-- of a settled run, over a source that tells, of a command that writes this text of a run
+module _ (text : ReplayMeaning → List ℕ) (files : Files) (names : ReplayNames) (old new : Option (List ℕ)) (result : Status) (a : Answered (IsRunAnswer text) files (replay_dialogue names) old new result) where
+  said : (m : ReplayMeaning) → FilesMeanReplay files names m → IsRunAnswer text m a.answer
+  said m mean = said_over (IsRunAnswer text) files (replay_dialogue names) a.answer m a.over (means_replay files names m mean)
 
   meant : (s : Status) → s ≢ status.BadFile → result ≡ s → (m : ReplayMeaning) × FilesMeanReplay files names m
-  meant s other is = elim (over_splits IsReplayAnswer files (replay_dialogue names) a.answer a.over) [
+  meant s other is = elim (over_splits (IsRunAnswer text) files (replay_dialogue names) a.answer a.over) [
     | inl bad ↦ absurd (other (sym is ∙ sym a.status_is ∙ status_of a.answer _ _ bad.is))
     | inr (m, means, says) ↦ (m, replay_means files names m means)
   ]
 
-  done : (result ≡ status.Done) ↔ FilesAreARun files names
+  pub done : (result ≡ status.Done) ↔ FilesAreARun files names
   done = (
     λ is.
         let (m, mean) = meant status.Done (λ e. cc) is in
-        record { meaning = m; mean = mean; run = (done_says m a.answer (said m mean) (a.status_is ∙ is)).run },
-    λ h. sym a.status_is ∙ status_of a.answer _ _ (run_says h.meaning a.answer (said h.meaning h.mean) h.run).answer_is,
+        record { meaning = m; mean = mean; run = (done_says text m a.answer (said m mean) (a.status_is ∙ is)).run },
+    λ h. sym a.status_is ∙ status_of a.answer _ _ (run_says text h.meaning a.answer (said h.meaning h.mean) h.run).answer_is,
   )
 
-  traces : result ≡ status.Done → (m : ReplayMeaning) → FilesMeanReplay files names m → Appends old new (traces_text m.net (ended m))
-  traces is m mean =
-      let says = done_says m a.answer (said m mean) (a.status_is ∙ is) in
+  pub written_of : result ≡ status.Done → (m : ReplayMeaning) → FilesMeanReplay files names m → Appends old new (text m)
+  written_of is m mean =
+      let says = done_says text m a.answer (said m mean) (a.status_is ∙ is) in
       subst (λ t. Appends old new t) (text_of a.answer _ _ says.answer_is) a.written
 
-  not_a_run : (result ≡ status.NotARun) ↔ FilesAreNoRun files names
+  pub not_a_run : (result ≡ status.NotARun) ↔ FilesAreNoRun files names
   not_a_run = (
     λ is.
         let (m, mean) = meant status.NotARun (λ e. cc) is in
-        let says = stop_says m a.answer (said m mean) (a.status_is ∙ is) in
+        let says = stop_says text m a.answer (said m mean) (a.status_is ∙ is) in
         record { meaning = m; mean = mean; stops = stops_no_run m says.line says.first },
-    λ h. sym a.status_is ∙ status_of a.answer _ _ (no_run_says h.meaning a.answer (said h.meaning h.mean) h.stops).answer_is,
+    λ h. sym a.status_is ∙ status_of a.answer _ _ (no_run_says text h.meaning a.answer (said h.meaning h.mean) h.stops).answer_is,
   )
 
-  first_line : result ≡ status.NotARun → (m : ReplayMeaning) → FilesMeanReplay files names m → NamesFirstLine m old new
+  pub first_line : result ≡ status.NotARun → (m : ReplayMeaning) → FilesMeanReplay files names m → NamesFirstLine m old new
   first_line is m mean =
-      let says = stop_says m a.answer (said m mean) (a.status_is ∙ is) in
+      let says = stop_says text m a.answer (said m mean) (a.status_is ∙ is) in
       record { line = says.line; first = says.first; written = subst (λ t. Appends old new t) (text_of a.answer _ _ says.answer_is) a.written }
 
 pub promised : (files : Files) (names : ReplayNames) (old new : Option (List ℕ)) (result : Status) → (IsSettled result → Answered IsReplayAnswer files (replay_dialogue names) old new result) → ReplayPromise files names old new result
 promised files names old new result answered = record {
-  done = λ settled. done files names old new result (answered settled);
-  traces = λ m mean is. traces files names old new result (answered (settled_done _ is)) is m mean;
-  not_a_run = λ settled. not_a_run files names old new result (answered settled);
-  first = λ m mean is. first_line files names old new result (answered (settled_not_a_run _ is)) is m mean;
+  done = λ settled. done traces_of files names old new result (answered settled);
+  traces = λ m mean is. written_of traces_of files names old new result (answered (settled_done _ is)) is m mean;
+  not_a_run = λ settled. not_a_run traces_of files names old new result (answered settled);
+  first = λ m mean is. first_line traces_of files names old new result (answered (settled_not_a_run _ is)) is m mean;
 }

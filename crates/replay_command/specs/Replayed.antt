@@ -4,6 +4,7 @@ use Rattle.std.specs.Io.KnownBytes.{Appends}
 use Rattle.file_access.specs.Outside.{Files}
 use Rattle.topology.specs.Networks.{Network}
 use Rattle.topology_files.specs.Topology.{network_in}
+use Rattle.flow_rules.specs.Tables.{rules_of_all}
 use Rattle.flow_rules.specs.declared.rules.Rule.{Rule}
 use Rattle.config_files.specs.Configuration.{configuration_in}
 use Rattle.update_model.specs.Mixtures.{Rollout}
@@ -25,6 +26,7 @@ use Rattle.command_base.specs.Dialogues.{Dialogue, Ends, and_then}
 use Rattle.command_base.specs.Lines.{FaultWords}
 use Rattle.command_base.specs.Meanings.{IsReadAs}
 use Rattle.command_base.specs.Readings.{reading, reading_topology, reading_config, reading_plan}
+use Rattle.replay_command.specs.declared.files.ReplayFiles.{ReplayFiles}
 use Rattle.replay_command.specs.Names.{ReplayNames}
 
 -- a network, a configuration and a plan of it, and a schedule
@@ -34,6 +36,11 @@ pub record ReplayMeaning : Type 0 where
   pub plan : Plan
   pub schedule : List ScheduleLine
 
+-- what files that were read mean
+abbrev pub meaning_of : ReplayFiles → ReplayMeaning
+meaning_of files =
+    record { net = files.net; old = rules_of_all files.old; plan = files.plan; schedule = files.schedule }
+
 -- what is printed of a schedule's fault
 abbrev pub schedule_words : ScheduleFault → FaultWords
 schedule_words f = record { number = schedule_fault.fault_number f; name = schedule_fault.fault_name f; field = schedule_fault.fault_field f; place = schedule_fault.fault_place f }
@@ -42,21 +49,12 @@ schedule_words f = record { number = schedule_fault.fault_number f; name = sched
 abbrev pub reading_schedule : Network → List ℕ → Dialogue (List ScheduleLine)
 reading_schedule net name = reading kind.Schedule schedule_words (schedule_in net) name
 
--- reads the schedule, behind the network, the old configuration and the plan
-abbrev pub behind_plan : ReplayNames → Network → List (List Rule) → Plan → Dialogue ReplayMeaning
-behind_plan names net old plan = and_then (reading_schedule net names.schedule) (λ schedule. Ends (record { net = net; old = old; plan = plan; schedule = schedule }))
-
--- reads the plan and the schedule, behind the network and the old configuration
-abbrev pub behind_old : ReplayNames → Network → List (List Rule) → Dialogue ReplayMeaning
-behind_old names net old = and_then (reading_plan net names.plan) (λ plan. behind_plan names net old plan)
-
--- reads the old configuration, the plan and the schedule, behind the network
-abbrev pub behind_topology : ReplayNames → Network → Dialogue ReplayMeaning
-behind_topology names net = and_then (reading_config kind.Old net names.old) (λ old. behind_old names net old)
-
 -- reads the network, the old configuration, the plan and the schedule
 unfoldable pub replay_dialogue : ReplayNames → Dialogue ReplayMeaning
-replay_dialogue names = and_then (reading_topology names.topology) (λ net. behind_topology names net)
+replay_dialogue names =
+    and_then (reading_topology names.topology) (λ net. and_then (reading_config kind.Old net names.old) (λ old.
+    and_then (reading_plan net names.plan) (λ plan. and_then (reading_schedule net names.schedule) (λ schedule.
+    Ends (record { net = net; old = old; plan = plan; schedule = schedule })))))
 
 -- the old tables and the rounds of the plan
 abbrev pub update_in : ReplayMeaning → Rollout
@@ -74,10 +72,10 @@ ended m = record { net = m.net; rounds = m.plan.rounds; state = state_after_run 
 abbrev pub not_a_run_line : ℕ → List ℕ
 not_a_run_line line = codes "not a run: line " ++ decimal line ++ codes "\n"
 
--- the events are a run, and the answer is the traces at its end
-pub record SaysTraces (m : ReplayMeaning) (answer : Answer) : Type 0 where
+-- the events are a run, and the answer is this text of it
+pub record SaysOfRun (text : ReplayMeaning → List ℕ) (m : ReplayMeaning) (answer : Answer) : Type 0 where
   pub run : IsRun (update_in m) (events_of m.schedule)
-  pub answer_is : answer ≡ record { status = status.Done; text = traces_text m.net (ended m) }
+  pub answer_is : answer ≡ record { status = status.Done; text = text m }
 
 -- the first event that isn't enabled stands in this line
 pub record FirstStopsAt (m : ReplayMeaning) (number : ℕ) : Type 0 where
@@ -90,9 +88,17 @@ pub record SaysNotARun (m : ReplayMeaning) (answer : Answer) : Type 0 where
   pub first : FirstStopsAt m line
   pub answer_is : answer ≡ record { status = status.NotARun; text = not_a_run_line line }
 
+-- the answer of a command that writes this text of a run
+abbrev pub IsRunAnswer : (ReplayMeaning → List ℕ) → ReplayMeaning → Answer → Type 0
+IsRunAnswer text m answer = SaysOfRun text m answer ⊎ SaysNotARun m answer
+
+-- the traces at the end of a run
+abbrev pub traces_of : ReplayMeaning → List ℕ
+traces_of m = traces_text m.net (ended m)
+
 -- the answer of `replay`
 abbrev pub IsReplayAnswer : ReplayMeaning → Answer → Type 0
-IsReplayAnswer m answer = SaysTraces m answer ⊎ SaysNotARun m answer
+IsReplayAnswer m answer = IsRunAnswer traces_of m answer
 
 -- the files mean this network, configuration, plan and schedule
 pub record FilesMeanReplay (files : Files) (names : ReplayNames) (m : ReplayMeaning) : Type 0 where

@@ -2,11 +2,13 @@
 #![tactic(auto)]
 
 mod command;
+mod files;
 pub mod laws;
 mod names;
 mod readings;
 mod replaying;
 
 pub use crate::command::replay;
+pub use crate::files::{ReplayFiles, read_replay_files};
 pub use crate::names::{ReplayNames, replay_names};
 pub use crate::replaying::not_a_run_reply;

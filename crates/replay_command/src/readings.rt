@@ -27,7 +27,8 @@ fn schedule_fault(fault: ScheduleFault) -> Fault
 /// The schedule that the bytes mean.
 fn schedule_of(alloc: Global, net: &Net, bytes: &[u8]) -> Result<Schedule, Exit>
     ensures ok { IfOk result (λ s. schedule_in net.now bytes.now ≡ Ok s) }
-    ensures bad { IfErr result (λ e. IsBad FileKind.Schedule schedule_words (schedule_in net.now bytes.now) e) }
+    ensures bad { IfErr result
+        (λ e. IsBad FileKind.Schedule schedule_words (schedule_in net.now bytes.now) e) }
 {
     match read_schedule(alloc, net, bytes) {
         Ok(schedule) => Ok(schedule),
@@ -48,10 +49,15 @@ pub fn read_schedule_file<S: Source>(
     name: &str,
 ) -> Result<Schedule, Exit>
     ensures gives { IfOk result (λ v. (last : Option FileRead)
-        → Gives (S.held source.old) last (reading_schedule net.now name.now) v (Some (file_read FileKind.Schedule name.now))) }
-    ensures whole { OnOk result (IsWhole (Some (file_read FileKind.Schedule name.now)) (S.selected source.new) (S.taken source.new)) }
+        → Gives (S.held source.old) last (reading_schedule net.now name.now) v
+        (Some (file_read FileKind.Schedule name.now))) }
+    ensures whole { OnOk result
+        (IsWhole (Some (file_read FileKind.Schedule name.now)) (S.selected source.new)
+        (S.taken source.new)) }
     ensures stops { IfErr result (λ e. (last : Option FileRead)
-        → EndsEarly (S.held source.old) last (reading_schedule net.now name.now) (S.faults source.old) (S.faults source.new) e (S.selected source.new) (S.taken source.new)) }
+        → EndsEarly (S.held source.old) last (reading_schedule net.now name.now)
+        (S.faults source.old) (S.faults source.new) e (S.selected source.new)
+        (S.taken source.new)) }
     ensures held { S.held source.new ≡ S.held source.old }
     ensures later { S.faults source.old ≤ S.faults source.new }
 {

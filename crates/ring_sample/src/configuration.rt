@@ -41,7 +41,8 @@ fn put_rule(
 ) -> Result<(), Memory>
     requires none { members_view members.old.entries ≡ no_members }
     requires destination { destination < 4 }
-    ensures { OnOk result (object (members_view members.new.entries) ≡ rule_tree port switch destination) }
+    ensures { OnOk result
+        (object (members_view members.new.entries) ≡ rule_tree port switch destination) }
 {
     put(members, alloc, "switch", name_value(alloc, switch)?)?;
     put(members, alloc, "priority", Value::from(PRIORITY))?;
@@ -63,7 +64,9 @@ fn rule_value(alloc: Global, port: u16, switch: u32, destination: u32) -> Result
 
 /// Adds the rules of a switch, by destination.
 fn add_rules(alloc: Global, values: &mut Vec<Value>, port: u16, switch: u32) -> Result<(), Memory>
-    ensures { OnOk result (map view values.new.items ≡ map view values.old.items ++ map (rule_tree port switch) destinations) }
+    ensures { OnOk result
+        (map view values.new.items ≡ map view values.old.items
+        ++ map (rule_tree port switch) destinations) }
 {
     for j in 0..DESTINATIONS {
         push(values, rule_value(alloc, port, switch, j)?)?;
@@ -72,7 +75,9 @@ fn add_rules(alloc: Global, values: &mut Vec<Value>, port: u16, switch: u32) -> 
 }
 
 fn rules_value(alloc: Global, switches: u32, port: u16) -> Result<Value, Memory>
-    ensures { IfOk result (λ v. view v ≡ list_tree (flat_map (λ i. map (rule_tree port i) destinations) (below switches))) }
+    ensures { IfOk result
+        (λ v. view v
+        ≡ list_tree (flat_map (λ i. map (rule_tree port i) destinations) (below switches))) }
 {
     let mut values = Vec::new(alloc);
     for i in 0..switches {
@@ -95,7 +100,9 @@ fn configuration_value(alloc: Global, switches: u32, port: u16) -> Result<Value,
 pub fn configuration_text(alloc: Global, size: RingSize, port: u16) -> Result<Vec<u8>, Memory>
     requires least { 2 ≤ port }
     requires most { port ≤ 3 }
-    ensures { IfOk result (λ t. configuration_in (ring_network size.switches) t.items ≡ Ok (ring_tables size.switches port)) }
+    ensures { IfOk result
+        (λ t. configuration_in (ring_network size.switches) t.items
+        ≡ Ok (ring_tables size.switches port)) }
 {
     write_line(alloc, &configuration_value(alloc, size.switches, port)?)
 }

@@ -24,7 +24,8 @@ fn put_demand(
 ) -> Result<(), Memory>
     requires none { members_view members.old.entries ≡ no_members }
     requires destination { destination < 4 }
-    ensures { OnOk result (object (members_view members.new.entries) ≡ demand_tree switch destination) }
+    ensures { OnOk result
+        (object (members_view members.new.entries) ≡ demand_tree switch destination) }
 {
     put(
         members,
@@ -49,7 +50,9 @@ fn demand_value(alloc: Global, switch: u32, destination: u32) -> Result<Value, M
 
 /// Adds the demands of a switch, to each destination but its own.
 fn add_demands(alloc: Global, values: &mut Vec<Value>, switch: u32) -> Result<(), Memory>
-    ensures { OnOk result (map view values.new.items ≡ map view values.old.items ++ map (demand_tree switch) (others switch)) }
+    ensures { OnOk result
+        (map view values.new.items ≡ map view values.old.items
+        ++ map (demand_tree switch) (others switch)) }
 {
     for j in 0..DESTINATIONS {
         if j != switch {
@@ -60,7 +63,9 @@ fn add_demands(alloc: Global, values: &mut Vec<Value>, switch: u32) -> Result<()
 }
 
 fn demands_value(alloc: Global, switches: u32) -> Result<Value, Memory>
-    ensures { IfOk result (λ v. view v ≡ list_tree (flat_map (λ i. map (demand_tree i) (others i)) (below switches))) }
+    ensures { IfOk result
+        (λ v. view v
+        ≡ list_tree (flat_map (λ i. map (demand_tree i) (others i)) (below switches))) }
 {
     let mut values = Vec::new(alloc);
     for i in 0..switches {
@@ -81,7 +86,8 @@ fn policy_value(alloc: Global, switches: u32) -> Result<Value, Memory>
 
 /// The text of the policy.
 pub fn policy_text(alloc: Global, size: RingSize) -> Result<Vec<u8>, Memory>
-    ensures { IfOk result (λ t. demands_in (ring_network size.switches) t.items ≡ Ok (ring_demands size.switches)) }
+    ensures { IfOk result
+        (λ t. demands_in (ring_network size.switches) t.items ≡ Ok (ring_demands size.switches)) }
 {
     write_line(alloc, &policy_value(alloc, size.switches)?)
 }

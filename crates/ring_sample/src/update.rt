@@ -66,8 +66,12 @@ pub fn ring_update(alloc: Global, size: RingSize) -> Result<UpdateFiles, Memory>
 
     // It is an update of destination trees, with six classes for each switch, and 4 * (n - 1) rules of it differ.
     ensures tree { IfOk result (λ u. IsTreeUpdate (record { update = meaning_of u; rounds = [] })) }
-    ensures classes { IfOk result (λ u. class_count (classes_before u.net (rules_of_all u.old) (rules_of_all u.new) u.demands) ≡ 6 * size.switches) }
-    ensures differ { IfOk result (λ u. length (remaining (rules_of_all u.old) (rules_of_all u.new)) ≡ 4 * (size.switches - 1)) }
+    ensures classes { IfOk result
+        (λ u. class_count (classes_before u.net (rules_of_all u.old) (rules_of_all u.new) u.demands)
+        ≡ 6 * size.switches) }
+    ensures differ { IfOk result
+        (λ u. length (remaining (rules_of_all u.old) (rules_of_all u.new))
+        ≡ 4 * (size.switches - 1)) }
     ensures old_user { IfOk result (λ u. IsUserConfig u.net (rules_of_all u.old)) }
     ensures new_user { IfOk result (λ u. IsUserConfig u.net (rules_of_all u.new)) }
 {

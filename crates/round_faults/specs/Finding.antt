@@ -1,9 +1,9 @@
 -- What one round gives: its first bad change, or its first switch with a mixture that isn't clear.
-use Rattle.std.specs.Prelude.{◌≡◌, ◌≢◌, ◌⊎◌, ℕ, suc, ◌<◌, ◌≤◌, List, Option, Some, MatchOption, slice_get, length}
+use Rattle.std.specs.Prelude.{◌≡◌, ◌≢◌, ◌⊎◌, ℕ, suc, ◌<◌, ◌≤◌, List, Option, Some, MatchOption, slice_get, length, take}
 use Rattle.net_base.specs.declared.ids.SwitchId.{SwitchId}
 use Rattle.flow_rules.specs.Tables.{IsClear, rules_at}
 use Rattle.flow_rules.specs.declared.rules.Rule.{Rule}
-use Rattle.update_model.specs.Changes.{switch_of, Applies, entry_named, changes_at, IsGoodRound}
+use Rattle.update_model.specs.Changes.{switch_of, Applies, entry_named, changes_at, tables_after, IsGoodRound}
 use Rattle.update_model.specs.Mixtures.{IsMixture}
 use Rattle.update_model.specs.declared.Change.{Change}
 use Rattle.round_mix.specs.Prepared.{AreClear}
@@ -76,3 +76,8 @@ IsFirstOf tables round k (BadChange number s i) =
     (number ≡ suc k) × ((bad : IsLeastBad tables round (length round) i) × (switch_of bad.change ≡ s))
 IsFirstOf tables round k (Ambiguous number s) = (number ≡ suc k) × (IsGoodRound tables round × IsFirstUnclear tables round s)
 IsFirstOf tables round k Memory = Unit {0}
+
+-- the changes of a front of the round are made
+pub record MakesFront (round : List Change) (old new : List (List Rule)) : Type 0 where
+  pub count : ℕ
+  pub made : new ≡ tables_after (take count round) old

@@ -16,8 +16,12 @@ use update_model::{Change, applies};
 fn is_bad(tables: &Config, round: &[Change], i: usize, named: &mut Entries) -> Result<bool, Memory>
     requires within { i < length round.now }
     requires so_far { AreNamed round.now i named.old }
-    ensures bad { IfOk result (λ bad. bad ≡ true → (c : ChangeOf) → slice_get round.now i ≡ Some c → IsBadAt (rules_of_all tables.now) round.now i c) }
-    ensures good { IfOk result (λ bad. bad ≡ false → (c : ChangeOf) → slice_get round.now i ≡ Some c → IsGoodAt (rules_of_all tables.now) round.now i c) }
+    ensures bad { IfOk result
+        (λ bad. bad ≡ true → (c : ChangeOf) → slice_get round.now i ≡ Some c
+        → IsBadAt (rules_of_all tables.now) round.now i c) }
+    ensures good { IfOk result
+        (λ bad. bad ≡ false → (c : ChangeOf) → slice_get round.now i ≡ Some c
+        → IsGoodAt (rules_of_all tables.now) round.now i c) }
     ensures named { OnOk result (AreNamed round.now (i + 1) named.new) }
 {
     let change = &round[i];
@@ -32,8 +36,10 @@ fn first_of(round: &[Change], j: usize, i: usize) -> usize
     requires one { i < length round.now }
     requires other { j < i }
     ensures one { (result ≡ j) ⊎ (result ≡ i) }
-    ensures earlier { result ≡ j → (c d : ChangeOf) → slice_get round.now j ≡ Some c → slice_get round.now i ≡ Some d → (switch_of c).0 ≤ (switch_of d).0 }
-    ensures later { result ≡ i → (c d : ChangeOf) → slice_get round.now j ≡ Some c → slice_get round.now i ≡ Some d → (switch_of d).0 < (switch_of c).0 }
+    ensures earlier { result ≡ j → (c d : ChangeOf) → slice_get round.now j ≡ Some c
+        → slice_get round.now i ≡ Some d → (switch_of c).0 ≤ (switch_of d).0 }
+    ensures later { result ≡ i → (c d : ChangeOf) → slice_get round.now j ≡ Some c
+        → slice_get round.now i ≡ Some d → (switch_of d).0 < (switch_of c).0 }
 {
     if round[j].switch().0 <= round[i].switch().0 {
         return j;
@@ -52,7 +58,8 @@ fn with_next(
     requires within { i < length round.now }
     requires named { AreNamed round.now i named.old }
     requires so_far { AreJudged (rules_of_all tables.now) round.now i best }
-    ensures judged { IfOk result (λ next. AreJudged (rules_of_all tables.now) round.now (i + 1) next) }
+    ensures judged { IfOk result
+        (λ next. AreJudged (rules_of_all tables.now) round.now (i + 1) next) }
     ensures named { OnOk result (AreNamed round.now (i + 1) named.new) }
 {
     if !is_bad(tables, round, i, named)? {
@@ -71,7 +78,8 @@ pub(crate) fn first_bad(
     tables: &Config,
     round: &[Change],
 ) -> Result<Option<usize>, Memory>
-    ensures { IfOk result (λ found. AreJudged (rules_of_all tables.now) round.now (length round.now) found) }
+    ensures { IfOk result
+        (λ found. AreJudged (rules_of_all tables.now) round.now (length round.now) found) }
 {
     let mut named = Entries::make(alloc);
     let mut best = None;

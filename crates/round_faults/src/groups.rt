@@ -26,7 +26,8 @@ impl Model for Groups {
 
 /// One more list, with one change.
 fn push_list(lists: &mut Vec<Vec<Change>>, alloc: Global, change: &Change) -> Result<(), Memory>
-    ensures { OnOk result (lists_of lists.new.items ≡ lists_of lists.old.items ++ (change.now ∷ []) ∷ []) }
+    ensures { OnOk result
+        (lists_of lists.new.items ≡ lists_of lists.old.items ++ (change.now ∷ []) ∷ []) }
 {
     let mut list = Vec::new(alloc);
     list.push(*change)?;
@@ -37,7 +38,10 @@ fn push_list(lists: &mut Vec<Vec<Change>>, alloc: Global, change: &Change) -> Re
 /// One more change in list n.
 fn push_to(lists: &mut Vec<Vec<Change>>, n: usize, change: &Change) -> Result<(), Memory>
     requires { n < length lists.old.items }
-    ensures { OnOk result (lists_of lists.new.items ≡ slice_set (lists_of lists.old.items) n (slice_index_or (lists_of lists.old.items) n [] ++ change.now ∷ [])) }
+    ensures { OnOk result
+        (lists_of lists.new.items
+        ≡ slice_set (lists_of lists.old.items) n
+        (slice_index_or (lists_of lists.old.items) n [] ++ change.now ∷ [])) }
 {
     lists[n].push(*change)?;
     Ok(())
@@ -58,7 +62,9 @@ impl Groups {
     /// One change more.
     fn add(&mut self, alloc: Global, change: &Change) -> Result<(), Memory>
         requires { length self.old.lists ≡ length self.old.switches }
-        ensures { OnOk result ((seen : List ChangeOf) → AreGroups seen self.old → AreGroups (seen ++ change.now ∷ []) self.new) }
+        ensures { OnOk result
+            ((seen : List ChangeOf) → AreGroups seen self.old
+            → AreGroups (seen ++ change.now ∷ []) self.new) }
     {
         let (n, is_new) = self.switches.insert_full(change.switch())?;
         if is_new {

@@ -1,11 +1,11 @@
 //! Whether the changes of each round can be made in any order, with one answer at each lookup.
 #![tactic(auto)]
 
-ghost use Rattle.std.specs.Prelude.{◌≡◌, ◌+◌, ◌<◌, ◌^◌, [], ℕ, length, IfErr, OnOk};
+ghost use Rattle.std.specs.Prelude.{◌≡◌, ◌+◌, ◌<◌, ◌^◌, [], ℕ, length, IfErr, OnErr, OnOk};
 ghost use Rattle.flow_rules.specs.Tables.{rules_of_all};
 ghost use Rattle.update_model.specs.Changes.{round_after, tables_after, IsGoodRound};
 ghost use Rattle.update_model.specs.Mixtures.{Rollout, AreGoodRounds, AreClearRounds};
-ghost use Rattle.round_faults.specs.Finding.{AreClearOr, IsSound, IsFirstOf};
+ghost use Rattle.round_faults.specs.Finding.{AreClearOr, IsSound, IsFirstOf, MakesFront};
 ghost use Rattle.round_faults.specs.Sound.{IsFault};
 
 mod bad_changes;
@@ -83,11 +83,14 @@ fn check_round(
     }
 }
 
-/// Makes the changes of a good round in the tables, one after the other. After a refusal some of them are made.
+/// Makes the changes of a good round in the tables, one after the other. After a refusal those of a front of it are made.
 pub fn make_round(tables: &mut Config, round: &[Change]) -> Result<(), Memory>
     requires { IsGoodRound (rules_of_all tables.old) round.now }
-    ensures rules { OnOk result (rules_of_all tables.new ≡ tables_after round.now (rules_of_all tables.old)) }
+    ensures rules { OnOk result
+        (rules_of_all tables.new ≡ tables_after round.now (rules_of_all tables.old)) }
     ensures count { OnOk result (length tables.new ≡ length tables.old) }
+    ensures err { OnErr result
+        (MakesFront round.now (rules_of_all tables.old) (rules_of_all tables.new)) }
 {
     for change in round {
         change_tables(tables, change)?;
@@ -108,9 +111,17 @@ pub fn sound_rounds(
 ) -> Result<(), SoundFault>
     requires few_rounds { length rounds.now < 2 ^ 32 }
     requires few_changes { (k : ℕ) → length (round_after k rounds.now) < 2 ^ 32 }
-    ensures good { OnOk result (AreGoodRounds (record { net = net.now; old = rules_of_all old.now; rounds = rounds.now })) }
-    ensures clear { OnOk result (AreClearRounds (record { net = net.now; old = rules_of_all old.now; rounds = rounds.now })) }
-    ensures err { IfErr result (λ fault. let u : Rollout = record { net = net.now; old = rules_of_all old.now; rounds = rounds.now } in IsFault u fault) }
+    ensures good { OnOk result
+        (AreGoodRounds
+        (record { net = net.now; old = rules_of_all old.now; rounds = rounds.now })) }
+    ensures clear { OnOk result
+        (AreClearRounds
+        (record { net = net.now; old = rules_of_all old.now; rounds = rounds.now })) }
+    ensures err { IfErr result
+        (λ fault.
+        let u : Rollout
+        = record { net = net.now; old = rules_of_all old.now; rounds = rounds.now } in IsFault u
+        fault) }
 {
     let _ = net;
     let mut tables = old.copy()?;

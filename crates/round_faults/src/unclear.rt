@@ -32,7 +32,8 @@ fn room_for(alloc: Global, rules: usize, changes: usize) -> Result<Mixed, Memory
 fn is_clear(alloc: Global, table: &Table, changes: &[Change]) -> Result<bool, Memory>
     requires { AreGood table.now.rules changes.now }
     ensures clear { IfOk result (λ clear. clear ≡ true → AreClear table.now.rules changes.now) }
-    ensures unclear { IfOk result (λ clear. clear ≡ false → IsUnclearMix table.now.rules changes.now) }
+    ensures unclear { IfOk result
+        (λ clear. clear ≡ false → IsUnclearMix table.now.rules changes.now) }
 {
     keeps_keys(table);
     let mut mixed = room_for(alloc, table.rules().len(), changes.len())?;
@@ -51,8 +52,11 @@ fn is_clear_at(
 ) -> Result<bool, Memory>
     requires within { switch.0 < length tables.now }
     requires good { AreGood (rules_at (rules_of_all tables.now) switch) changes.now }
-    ensures clear { IfOk result (λ clear. clear ≡ true → AreClear (rules_at (rules_of_all tables.now) switch) changes.now) }
-    ensures unclear { IfOk result (λ clear. clear ≡ false → IsUnclearMix (rules_at (rules_of_all tables.now) switch) changes.now) }
+    ensures clear { IfOk result
+        (λ clear. clear ≡ true → AreClear (rules_at (rules_of_all tables.now) switch) changes.now) }
+    ensures unclear { IfOk result
+        (λ clear. clear ≡ false
+        → IsUnclearMix (rules_at (rules_of_all tables.now) switch) changes.now) }
 {
     is_clear(alloc, tables.table(switch), changes)
 }
@@ -105,7 +109,8 @@ fn with_next(
 ) -> Result<Option<SwitchId>, Memory>
     requires within { switch.0 < length tables.now }
     requires good { AreGood (rules_at (rules_of_all tables.now) switch) changes.now }
-    ensures { IfOk result (λ next. IsNext (rules_at (rules_of_all tables.now) switch) changes.now switch found next) }
+    ensures { IfOk result
+        (λ next. IsNext (rules_at (rules_of_all tables.now) switch) changes.now switch found next) }
 {
     if !is_below(found, switch) {
         return Ok(found);

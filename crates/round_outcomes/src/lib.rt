@@ -54,7 +54,9 @@ impl<'a> RoundOutcomes<'a> {
         requires count { length tables.now ≡ switch_count net.now }
         requires good { IsGoodRound (rules_of_all tables.now) round.now }
         requires clear { IsClearRound (rules_of_all tables.now) round.now }
-        ensures { IfOk result (λ r. r ≡ record { net = net.now; tables = rules_of_all tables.now; round = round.now }) }
+        ensures { IfOk result
+            (λ r. r
+            ≡ record { net = net.now; tables = rules_of_all tables.now; round = round.now }) }
     {
         let mut mixes = Vec::new(alloc);
         for i in 0..net.switches() {
@@ -94,7 +96,9 @@ impl<'a> RoundOutcomes<'a> {
     /// It looks at each rule and change of the switch at most once.
     pub fn possible(&self, alloc: Global, place: Place, dst: u32) -> Result<Outcomes, Memory>
         requires { place.switch.0 < switch_count self.now.net }
-        ensures { IfOk result (λ out. (found : OutcomeOf) → IsIn found out.list ↔ IsPossible (alone self.now) 0 dst place found) }
+        ensures { IfOk result
+            (λ out. (found : OutcomeOf) → IsIn found out.list
+            ↔ IsPossible (alone self.now) 0 dst place found) }
     {
         let mixed = &self.mixes[place.switch.0 as usize];
         let mut out = outcomes_for(alloc, mixed.most_entries() as usize)?;

@@ -64,7 +64,9 @@ pub(crate) fn mix_at(
     requires within { switch.0 < length tables.now }
     requires good { IsGoodRound (rules_of_all tables.now) round.now }
     requires clear { IsClearRound (rules_of_all tables.now) round.now }
-    ensures { IfOk result (λ mixed. IsMixed (rules_at (rules_of_all tables.now) switch) (changes_at switch round.now) mixed) }
+    ensures { IfOk result
+        (λ mixed. IsMixed (rules_at (rules_of_all tables.now) switch) (changes_at switch round.now)
+        mixed) }
 {
     let changes = changes_of(alloc, round, switch)?;
     mix(alloc, tables.table(switch), &changes)

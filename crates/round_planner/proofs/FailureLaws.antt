@@ -23,7 +23,8 @@ use Rattle.check_reasons.specs.Touched.{may_cover}
 use Rattle.check_reasons.proofs.TouchLaws.{not_covered}
 use Rattle.mixed_walks.specs.Walks.{TablesKeepVlans}
 use Rattle.mixed_walks.proofs.PlaceLaws.{on_walk_vlan}
-use Rattle.round_tables.specs.Trials.{TrialState, single, HasRoomAlone, IsSettled}
+use Rattle.round_tables.specs.PreparedTables.{PreparedState}
+use Rattle.round_tables.specs.Trials.{single, HasRoomAlone, IsSettled}
 use Rattle.round_tables.proofs.TrialLaws.{changes_here, changes_there}
 use Rattle.round_mix.proofs.TriedLaws.{clear_none}
 use Rattle.round_planner.specs.Search.{Aim, duties_in, CanBeSafe, Qualifies}
@@ -87,7 +88,7 @@ module _ (net : Network) (tables : List (List Rule)) (c : Change) where
       }
 
 -- where no room was found for a change that is tried there is none in its table
-pub no_room : (net : Network) (t : TrialState) (tables : List (List Rule)) (c : Change) → IsSettled net t → rules_of_all t.tables ≡ tables → ¬ HasRoomAlone net tables c → ¬ HasRoomThere net tables c
+pub no_room : (net : Network) (t : PreparedState) (tables : List (List Rule)) (c : Change) → IsSettled net t → rules_of_all t.tables ≡ tables → ¬ HasRoomAlone net tables c → ¬ HasRoomThere net tables c
 no_room net t tables c settled are none there =
     none (room_alone_from net tables c (λ s. subst (λ (ts : List (List Rule)). IsClear (rules_at ts s)) are (settled.fit.clear s))
     (λ s within. subst (λ (ts : List (List Rule)). length (rules_at ts s) ≤ capacity_of net s) are (settled.fit.fits s within)) there)

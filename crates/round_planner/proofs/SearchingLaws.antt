@@ -27,7 +27,8 @@ use Rattle.mixed_walks.specs.Walks.{IsRoundOf}
 use Rattle.mixed_walks.proofs.PlaceLaws.{tables_keep}
 use Rattle.evidence_store.specs.State.{StoreState}
 use Rattle.evidence_store.specs.Stored.{IsStored, no_evidence}
-use Rattle.round_tables.specs.Trials.{TrialState, single, HasRoomAlone, IsSettled, IsTrying}
+use Rattle.round_tables.specs.PreparedTables.{PreparedState}
+use Rattle.round_tables.specs.Trials.{single, HasRoomAlone, IsSettled, IsTrying}
 use Rattle.round_planner.specs.declared.judging.Found.{Found}
 use Rattle.round_planner.specs.Search.{Aim, duties_in, update_by, single_rounds, CanBeSafe, Qualifies, IsFirstQualifying}
 use Rattle.round_planner.specs.Standing.{Stands, IsCertifiedClass, IsNextRound, AreSafeBelow, HasUnsafe, AreWithPicks}
@@ -254,7 +255,7 @@ picks_before aim old changes c s round between after at added_round put counted 
 
 -- ---- a change that is tried
 
-module _ (aim : Aim) (old : List (List Rule)) (old_user : IsUserConfig aim.net old) (new_user : IsUserConfig aim.net aim.new) (changes : List Change) (c : Change) (s : SearchState) (trial : TrialState)
+module _ (aim : Aim) (old : List (List Rule)) (old_user : IsUserConfig aim.net old) (new_user : IsUserConfig aim.net aim.new) (changes : List Change) (c : Change) (s : SearchState) (trial : PreparedState)
     (at : IsAt aim old changes s) (remains : IsIn c (remaining (tables_after changes old) aim.new)) (rules : rules_of_all trial.tables ≡ rules_of_all s.trial.tables) (trying : IsTrying aim.net c trial) where
   -- the switches are prepared for it
   pub tried_round : IsRoundOf aim.net trial.mixes (update_by aim old (changes ++ c ∷ [])) (length changes)
@@ -294,7 +295,7 @@ module _ (aim : Aim) (old : List (List Rule)) (old_user : IsUserConfig aim.net o
   tried_fails f unsafe = fails_by aim old old_user new_user changes c s.store.evidence at.stands remains f unsafe
 
 -- the tables are those before again
-pub given_up : (aim : Aim) (old : List (List Rule)) (changes : List Change) (s : SearchState) (trial : TrialState) (came : List ℕ) (looked : List Bool) → IsAt aim old changes s
+pub given_up : (aim : Aim) (old : List (List Rule)) (changes : List Change) (s : SearchState) (trial : PreparedState) (came : List ℕ) (looked : List Bool) → IsAt aim old changes s
     → rules_of_all trial.tables ≡ rules_of_all s.trial.tables → IsSettled aim.net trial → HoldTables aim (tables_after changes old) came → length looked ≡ length s.looked
     → IsAt aim old changes (record { trial = trial; rounds = s.rounds; store = s.store; came = came; looked = looked })
 given_up aim old changes s trial came looked at rules settled held atoms = record {

@@ -16,7 +16,8 @@ use Rattle.certificates.specs.declared.OrderedEvidence.{OrderedEvidence}
 use Rattle.evidence_store.specs.State.{StoreState}
 use Rattle.evidence_store.specs.Stored.{IsStored}
 use Rattle.class_watch.specs.Classes.{AreClasses}
-use Rattle.round_tables.specs.Trials.{TrialState, IsSettled, IsTrying}
+use Rattle.round_tables.specs.PreparedTables.{PreparedState}
+use Rattle.round_tables.specs.Trials.{IsSettled, IsTrying}
 use Rattle.round_planner.specs.declared.Ordered.{Ordered}
 use Rattle.round_planner.specs.declared.Ordered.TheVariants.{Rounds, Stuck}
 use Rattle.round_planner.specs.declared.failing.Failure.{Failure}
@@ -37,7 +38,7 @@ pub record IsGoal (net : Network) (new : List TableState) (duties : ClassDuties)
 -- the tables with what is prepared of them, the rounds, their evidence, for each class the switches that its packets come to,
 -- and for each atom whether its classes are looked at
 pub record SearchState : Type 0 where
-  pub trial : TrialState
+  pub trial : PreparedState
   pub rounds : List (List Change)
   pub store : StoreState
   pub came : List ℕ

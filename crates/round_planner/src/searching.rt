@@ -33,7 +33,7 @@ use dest_classes::ClassMap;
 use evidence_store::EvidenceStore;
 use flow_rules::Config;
 use net_base::Memory;
-use round_tables::TrialTables;
+use round_tables::PreparedTables;
 use std::alloc::Global;
 use std::marker::Model;
 use table_difference::remaining;
@@ -44,7 +44,7 @@ use update_model::{Change, Rounds};
 /// switches that its packets come to, and which atoms are looked at.
 #[derive(Drop)]
 struct Search {
-    trial: TrialTables,
+    trial: PreparedTables,
     rounds: Rounds,
     store: EvidenceStore,
     watch: ClassWatch,
@@ -77,7 +77,7 @@ fn begun(
     net: &Net,
     old: &Config,
     count: u32,
-) -> Result<(TrialTables, Rounds, EvidenceStore), Memory>
+) -> Result<(PreparedTables, Rounds, EvidenceStore), Memory>
     requires old { IsUserConfig net.now (rules_of_all old.now) }
     requires few { count ≤ 8192 }
     ensures rules { IfOk result (λ r. rules_of_all r.0.tables ≡ rules_of_all old.now) }
@@ -86,14 +86,14 @@ fn begun(
     ensures store { IfOk result (λ r. r.2 ≡ record { evidence = no_evidence; classes = count }) }
 {
     let rounds = Rounds::make(alloc)?;
-    let trial = TrialTables::make(alloc, net, old)?;
+    let trial = PreparedTables::for_trials(alloc, net, old)?;
     let store = EvidenceStore::make(alloc, count)?;
     Ok((trial, rounds, store))
 }
 
 /// Makes a change that was tried, as one round more. After a refusal the tables and the rounds may differ.
 fn keep_change(
-    trial: &mut TrialTables,
+    trial: &mut PreparedTables,
     rounds: &mut Rounds,
     net: &Net,
     change: &Change,

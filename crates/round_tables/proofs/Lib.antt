@@ -1,10 +1,9 @@
-pub mod PresentLaws
-pub mod FirstReasons
+pub mod TableLaws
+pub mod GatherLaws
 pub mod EndLaws
 pub mod LoadLaws
+pub mod FaultLaws
 pub mod ApplyLaws
-pub mod PassLaws
 pub mod AloneLaws
 pub mod TrialLaws
 pub mod ByKindLaws
-pub mod MeetLaws

@@ -20,8 +20,8 @@ use Rattle.round_mix.specs.declared.MarkedRule.{MarkedRule}
 use Rattle.round_mix.proofs.ClearLaws.{prepared_needed}
 use Rattle.round_mix.proofs.TriedLaws.{clear_none}
 use Rattle.check_reasons.specs.Loaded.{IsLoaded}
-use Rattle.round_tables.specs.Trials.{TrialState, IsSettled, IsTrying, HasRoomAlone, single}
-use Rattle.round_tables.specs.Present.{mix_at, IsMixed, rules_there}
+use Rattle.round_tables.specs.Trials.{IsSettled, IsTrying, HasRoomAlone, single}
+use Rattle.round_tables.specs.PreparedTables.{PreparedState, mix_at, IsMixed, rules_there}
 use Rattle.round_tables.specs.Steps.{IsSettledBeside}
 
 -- a switch by its number
@@ -96,7 +96,7 @@ after_few (Replace s r) rules = let len = length-map rules (λ q. cond (key_eq q
 count_rules : (tables : List TableState) → length (rules_of_all tables) ≡ length tables
 count_rules tables = length-map tables (λ (t : TableState). t.rules)
 
-module _ (net : Network) (s : SwitchId) (p q : TrialState) where
+module _ (net : Network) (s : SwitchId) (p q : PreparedState) where
   -- where one switch is prepared anew the others stay settled
   pub beside_next : IsSettledBeside net s p → rules_of_all q.tables ≡ rules_of_all p.tables → length q.mixes ≡ length p.mixes
       → ((o : SwitchId) → o.0 ≢ s.0 → mix_at q.mixes o ≡ mix_at p.mixes o) → (mix_at p.mixes s).room ≤ (mix_at q.mixes s).room → IsSettledBeside net s q
@@ -118,14 +118,14 @@ module _ (net : Network) (s : SwitchId) (p q : TrialState) where
   }
 
 -- the same where the list of them is lent
-pub beside_lent : (net : Network) (s : SwitchId) (p q : TrialState) (old new : List MixedState) → IsSettledBeside net s p → rules_of_all q.tables ≡ rules_of_all p.tables → old ≡ p.mixes → q.mixes ≡ new
+pub beside_lent : (net : Network) (s : SwitchId) (p q : PreparedState) (old new : List MixedState) → IsSettledBeside net s p → rules_of_all q.tables ≡ rules_of_all p.tables → old ≡ p.mixes → q.mixes ≡ new
     → length new ≡ length old → ((o : SwitchId) → o.0 ≢ s.0 → mix_at new o ≡ mix_at old o) → (mix_at old s).room ≤ (mix_at new s).room → IsSettledBeside net s q
 beside_lent net s p q old new beside rules lent same count others room =
     beside_next net s p q beside rules (ap length same ∙ count ∙ ap length lent)
     (λ o ne. ap (λ (ms : List MixedState). mix_at ms o) same ∙ others o ne ∙ ap (λ (ms : List MixedState). mix_at ms o) lent)
     (let had = ap (λ (ms : List MixedState). (mix_at ms s).room) lent in let has = ap (λ (ms : List MixedState). (mix_at ms s).room) same in omega arith)
 
-module _ (net : Network) (p : TrialState) where
+module _ (net : Network) (p : PreparedState) where
   -- where the last one is too, all are
   pub settled_last : (s : SwitchId) → IsSettledBeside net s p → IsMixed (rules_there p.tables s) [] (mix_at p.mixes s) → IsSettled net p
   settled_last s beside here = record {
@@ -194,7 +194,7 @@ module _ (net : Network) (tables : List (List Rule)) (c : Change) where
   never_over within over stands =
       over (subst (λ (cs : List Change). entries_needed (rules_at tables (switch_of c)) cs ≤ capacity_of net (switch_of c)) (changes_here c) (stands.fits (switch_of c) within))
 
-module _ (net : Network) (c : Change) (p : TrialState) (trying : IsTrying net c p) where
+module _ (net : Network) (c : Change) (p : PreparedState) (trying : IsTrying net c p) where
   within_net : (switch_of c).0 < switch_count net
   within_net = let first = trying.applies.0 in let count = count_rules p.tables in omega (arith, trying.fit.tables)
 
@@ -211,7 +211,7 @@ module _ (net : Network) (c : Change) (p : TrialState) (trying : IsTrying net c 
   }
 
   -- and after it is made too
-  pub beside_kept : (q : TrialState) → q.mixes ≡ p.mixes → rules_of_all q.tables ≡ tables_after_change c (rules_of_all p.tables) → IsSettledBeside net (switch_of c) q
+  pub beside_kept : (q : PreparedState) → q.mixes ≡ p.mixes → rules_of_all q.tables ≡ tables_after_change c (rules_of_all p.tables) → IsSettledBeside net (switch_of c) q
   beside_kept q mixes tables = record {
     fit = record {
       tables = sym (count_rules q.tables) ∙ ap length tables ∙ length-set (rules_of_all p.tables) (switch_of c).0 (rules_after_change c (rules_there p.tables (switch_of c)))
@@ -255,7 +255,7 @@ pub rules_kept : (c : Change) (tables : List (List Rule)) → (switch_of c).0 < 
 rules_kept c tables within = get_or-set_same tables (switch_of c).0 (rules_after_change c (rules_at tables (switch_of c))) [] within
 
 -- a change of settled tables
-module _ (net : Network) (c : Change) (p : TrialState) (settled : IsSettled net p) (applies : Applies (rules_of_all p.tables) c) where
+module _ (net : Network) (c : Change) (p : PreparedState) (settled : IsSettled net p) (applies : Applies (rules_of_all p.tables) c) where
   inside : (switch_of c).0 < switch_count net
   inside = let first = applies.0 in let count = count_rules p.tables in omega (arith, settled.fit.tables)
 
@@ -275,7 +275,7 @@ module _ (net : Network) (c : Change) (p : TrialState) (settled : IsSettled net 
           omega arith
 
 -- while a change is tried its switch is prepared for it
-pub tried_here : (net : Network) (c : Change) (p : TrialState) → IsTrying net c p → IsMixed (rules_there p.tables (switch_of c)) (c ∷ []) (mix_at p.mixes (switch_of c))
+pub tried_here : (net : Network) (c : Change) (p : PreparedState) → IsTrying net c p → IsMixed (rules_there p.tables (switch_of c)) (c ∷ []) (mix_at p.mixes (switch_of c))
 tried_here net c p trying =
     let s = switch_of c in
     let count = count_rules p.tables in

@@ -1,7 +1,6 @@
-pub mod Present
+pub mod PreparedTables
 pub mod Loading
 pub mod Ends
 pub mod Trials
 pub mod Steps
 pub mod ByKind
-pub mod Meeting

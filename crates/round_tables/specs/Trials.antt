@@ -1,15 +1,14 @@
--- Tables between rounds, on which single changes are tried.
+-- Tables on which single changes are tried.
 use Rattle.std.specs.Prelude.{◌≡◌, ◌+◌, ◌<◌, ◌≤◌, List, [], ◌∷◌, length}
 use Rattle.net_base.specs.declared.ids.SwitchId.{SwitchId}
 use Rattle.topology.specs.Networks.{Network, switch_count, capacity_of}
-use Rattle.flow_rules.specs.Tables.{TableState, IsClear, rules_of_all}
+use Rattle.flow_rules.specs.Tables.{IsClear, rules_of_all}
 use Rattle.flow_rules.specs.declared.rules.Rule.{Rule}
 use Rattle.update_model.specs.Changes.{Applies}
 use Rattle.update_model.specs.Mixtures.{Rollout, MayHold, need_of}
 use Rattle.update_model.specs.declared.Change.{Change}
-use Rattle.round_mix.specs.Prepared.{MixedState}
 use Rattle.check_reasons.specs.Loaded.{AreLoaded}
-use Rattle.round_tables.specs.Present.{IsMixed, mix_at, rules_there}
+use Rattle.round_tables.specs.PreparedTables.{PreparedState, IsMixed, mix_at, rules_there}
 
 -- the update of one round of one change
 abbrev pub single : Network → List (List Rule) → Change → Rollout
@@ -20,13 +19,8 @@ pub record HasRoomAlone (net : Network) (tables : List (List Rule)) (c : Change)
   pub clear : (s : SwitchId) (mixed : List Rule) → MayHold (single net tables c) 0 s mixed → IsClear mixed
   pub fits : (s : SwitchId) → s.0 < switch_count net → need_of (single net tables c) 0 s ≤ capacity_of net s
 
--- the tables, and what is prepared of each switch
-pub record TrialState : Type 0 where
-  pub tables : List TableState
-  pub mixes : List MixedState
-
 -- each switch has a clear table within its capacity, and what is prepared of it has room for one entry more than that
-pub record Fit (net : Network) (t : TrialState) : Type 0 where
+pub record Fit (net : Network) (t : PreparedState) : Type 0 where
   pub tables : length t.tables ≡ switch_count net
   pub mixes : length t.mixes ≡ switch_count net
   pub room : (s : SwitchId) → s.0 < switch_count net → capacity_of net s + 1 ≤ (mix_at t.mixes s).room
@@ -34,12 +28,12 @@ pub record Fit (net : Network) (t : TrialState) : Type 0 where
   pub clear : (s : SwitchId) → IsClear (rules_there t.tables s)
 
 -- no change is tried: each switch is prepared for its table alone
-pub record IsSettled (net : Network) (t : TrialState) : Type 0 where
+pub record IsSettled (net : Network) (t : PreparedState) : Type 0 where
   pub fit : Fit net t
   pub alone : (s : SwitchId) → s.0 < switch_count net → IsMixed (rules_there t.tables s) [] (mix_at t.mixes s)
 
 -- a change is tried: each switch is prepared for it as a round of its own, which is clear and within capacity
-pub record IsTrying (net : Network) (c : Change) (t : TrialState) : Type 0 where
+pub record IsTrying (net : Network) (c : Change) (t : PreparedState) : Type 0 where
   pub fit : Fit net t
   pub applies : Applies (rules_of_all t.tables) c
   pub stands : HasRoomAlone net (rules_of_all t.tables) c

@@ -4,7 +4,7 @@ ghost use Rattle.net_base.specs.declared.ids.SwitchId.{SwitchId as Switch};
 ghost use Rattle.topology.specs.Networks.{switch_count, capacity_of};
 ghost use Rattle.flow_rules.specs.Tables.{IsClear, rules_at, rules_of_all};
 ghost use Rattle.path_walk.specs.UserConfigs.{IsUserConfig};
-ghost use Rattle.round_tables.specs.Present.{mix_at, IsMixed};
+ghost use Rattle.round_tables.specs.PreparedTables.{mix_at, IsMixed};
 
 use flow_rules::{Config, Table};
 use net_base::{Memory, SwitchId};
@@ -41,8 +41,12 @@ fn alone(alloc: Global, capacity: u32, table: &Table) -> Result<Mixed, Memory>
 pub(crate) fn all_alone(alloc: Global, net: &Net, tables: &Config) -> Result<Vec<Mixed>, Memory>
     requires { IsUserConfig net.now (rules_of_all tables.now) }
     ensures len { IfOk result (λ mixes. length mixes.items ≡ switch_count net.now) }
-    ensures prepared { IfOk result (λ mixes. (s : Switch) → s.0 < switch_count net.now → IsMixed (rules_at (rules_of_all tables.now) s) [] (mix_at mixes.items s)) }
-    ensures room { IfOk result (λ mixes. (s : Switch) → s.0 < switch_count net.now → capacity_of net.now s + 1 ≤ (mix_at mixes.items s).room) }
+    ensures prepared { IfOk result
+        (λ mixes. (s : Switch) → s.0 < switch_count net.now
+        → IsMixed (rules_at (rules_of_all tables.now) s) [] (mix_at mixes.items s)) }
+    ensures room { IfOk result
+        (λ mixes. (s : Switch) → s.0 < switch_count net.now
+        → capacity_of net.now s + 1 ≤ (mix_at mixes.items s).room) }
 {
     let mut mixes = Vec::new(alloc);
     for i in 0..net.switches() {

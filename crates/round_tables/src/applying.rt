@@ -1,17 +1,19 @@
 //! The changes of a round are made in the tables, switch by switch.
-ghost use Rattle.std.specs.Prelude.{◌≡◌, ◌≢◌, ◌<◌, ◌≤◌, ◌^◌, [], ◌∷◌, true, false, length, vec_capacity};
+ghost use Rattle.std.specs.Prelude.{◌≡◌, ◌≢◌, suc, ◌<◌, ◌≤◌, ◌^◌, [], true, false, length, vec_capacity};
 ghost use Rattle.net_base.specs.declared.ids.SwitchId.{SwitchId as Switch};
-ghost use Rattle.update_model.specs.Changes.{changes_at, rules_after, rules_after_change, switch_of};
-ghost use Rattle.update_model.specs.Mixtures.{is_insert};
+ghost use Rattle.topology.specs.Networks.{switch_count};
+ghost use Rattle.update_model.specs.Changes.{AppliesTo, rules_after, rules_after_change, round_after, spare_after_change};
+ghost use Rattle.update_model.specs.Mixtures.{is_insert, need_of};
 ghost use Rattle.round_mix.specs.Prepared.{AreGood};
-ghost use Rattle.round_tables.specs.Present.{IsMixed, is_touched, mix_at, room_of, rules_there, table_at};
-ghost use Rattle.round_tables.specs.Loading.{AreWithin, insert_count};
-ghost use Rattle.round_tables.specs.Meeting.{AreMet};
+ghost use Rattle.round_tables.specs.PreparedTables.{HoldsRounds, StandsBefore, IsMixed, is_touched, limit_at, list_at, mix_at, room_of, rules_there, table_at};
+ghost use Rattle.round_tables.specs.Loading.{ArePrepared, AreWithin, insert_count};
 ghost use Rattle.round_tables.specs.ByKind.{is_delete, is_replace, deleted, replacing, inserts};
 
 use crate::changed::keep_at;
-use crate::loading::{collect, keeps_keys};
-use crate::rounds::change_table;
+use crate::gathering::SwitchChanges;
+use crate::loading::keeps_keys;
+use crate::prepared::PreparedTables;
+use crate::rollout::Rollout;
 use flow_rules::{Config, Rule, Table};
 use net_base::SwitchId;
 use round_mix::Mixed;
@@ -66,6 +68,18 @@ fn collect_replacing(changes: &[Change], rules: &mut Vec<Rule>)
     }
 }
 
+/// Makes a change in a table that has room for it.
+fn change_table(table: &mut Table, change: &Change)
+    requires applies { AppliesTo table.old.rules change.now }
+    requires room { is_insert change.now ≡ true → 1 ≤ table.old.spare }
+    ensures rules { table.new.rules ≡ rules_after_change change.now table.old.rules }
+    ensures spare { table.new.spare ≡ spare_after_change change.now table.old.spare }
+    ensures room { room_of table.new ≡ room_of table.old }
+{
+    keeps_keys(table);
+    change.apply_to(table);
+}
+
 /// Makes the inserts among the changes of a table.
 fn insert_rules(table: &mut Table, changes: &[Change])
     requires good { AreGood table.old.rules (inserts changes.now) }
@@ -97,87 +111,130 @@ fn change_rules(table: &mut Table, changes: &[Change], rules: &mut Vec<Rule>)
     insert_rules(table, changes);
 }
 
-/// Makes the changes of a round at one switch.
-fn change_switch(
-    tables: &mut Config,
-    switch: SwitchId,
-    round: &[Change],
-    changes: &mut Vec<Change>,
-    rules: &mut Vec<Rule>,
-)
+/// Makes its changes at one of the switches.
+fn change_switch(tables: &mut Config, switch: SwitchId, changes: &[Change], rules: &mut Vec<Rule>)
     requires within { switch.0 < length tables.old }
-    requires good { AreGood (rules_there tables.old switch) (changes_at switch round.now) }
-    requires fits { insert_count (changes_at switch round.now) ≤ (table_at tables.old switch).spare }
-    requires changes { length round.now ≤ vec_capacity changes.old }
-    requires list { length round.now ≤ vec_capacity rules.old }
-    ensures rules { rules_there tables.new switch ≡ rules_after (changes_at switch round.now) (rules_there tables.old switch) }
+    requires good { AreGood (rules_there tables.old switch) changes.now }
+    requires fits { insert_count changes.now ≤ (table_at tables.old switch).spare }
+    requires list { length changes.now ≤ vec_capacity rules.old }
+    ensures rules { rules_there tables.new switch
+        ≡ rules_after changes.now (rules_there tables.old switch) }
     ensures room { room_of (table_at tables.new switch) ≡ room_of (table_at tables.old switch) }
     ensures others { (t : Switch) → t.0 ≢ switch.0 → table_at tables.new t ≡ table_at tables.old t }
     ensures count { length tables.new ≡ length tables.old }
-    ensures changes { vec_capacity changes.old ≤ vec_capacity changes.new }
     ensures list { vec_capacity rules.old ≤ vec_capacity rules.new }
 {
-    collect(round, switch, changes);
     if changes.is_empty() {
         return;
     }
     change_rules(tables.table_mut(switch), changes, rules);
 }
 
-/// Makes the changes of a round in the tables.
-pub(crate) fn change_all(
-    tables: &mut Config,
-    round: &[Change],
-    changes: &mut Vec<Change>,
-    rules: &mut Vec<Rule>,
-)
+/// Makes their changes at all switches.
+fn change_all(tables: &mut Config, lists: &[SwitchChanges], rules: &mut Vec<Rule>)
     requires few { length tables.old < 2 ^ 32 }
-    requires good { (s : Switch) → s.0 < length tables.old → AreGood (rules_there tables.old s) (changes_at s round.now) }
-    requires fits { (s : Switch) → s.0 < length tables.old → insert_count (changes_at s round.now) ≤ (table_at tables.old s).spare }
-    requires changes { length round.now ≤ vec_capacity changes.old }
-    requires list { length round.now ≤ vec_capacity rules.old }
-    ensures rules { (s : Switch) → s.0 < length tables.old → rules_there tables.new s ≡ rules_after (changes_at s round.now) (rules_there tables.old s) }
-    ensures room { (s : Switch) → room_of (table_at tables.new s) ≡ room_of (table_at tables.old s) }
+    requires lists { length lists.now ≡ length tables.old }
+    requires good { (s : Switch) → s.0 < length tables.old
+        → AreGood (rules_there tables.old s) (list_at lists.now s).changes }
+    requires fits { (s : Switch) → s.0 < length tables.old
+        → insert_count (list_at lists.now s).changes ≤ (table_at tables.old s).spare }
+    requires list { (s : Switch) → s.0 < length tables.old
+        → length (list_at lists.now s).changes ≤ vec_capacity rules.old }
+    ensures rules { (s : Switch) → s.0 < length tables.old
+        → rules_there tables.new s
+        ≡ rules_after (list_at lists.now s).changes (rules_there tables.old s) }
+    ensures room { (s : Switch) → room_of (table_at tables.new s)
+        ≡ room_of (table_at tables.old s) }
     ensures count { length tables.new ≡ length tables.old }
-    ensures changes { vec_capacity changes.old ≤ vec_capacity changes.new }
     ensures list { vec_capacity rules.old ≤ vec_capacity rules.new }
 {
     for i in 0..tables.count() as u32 {
-        change_switch(tables, SwitchId(i), round, changes, rules);
+        change_switch(tables, SwitchId(i), lists[i as usize].list(), rules);
     }
 }
 
-/// Prepares the switch of a change, if it isn't touched and so is prepared for the change, for its table after it.
-fn keep_change(mixes: &mut [Mixed], touched: &[bool], tables: &Config, change: &Change)
-    requires within { (switch_of change.now).0 < length tables.now }
+/// Prepares one of the switches, which is prepared for at most one change of its table, for the table after it.
+fn keep_few(mixes: &mut [Mixed], switch: SwitchId, table: &Table, changes: &[Change])
+    requires within { switch.0 < length mixes.old }
+    requires few { length changes.now ≤ 1 }
+    requires prepared { IsMixed table.now.rules changes.now (mix_at mixes.old switch) }
+    ensures after { IsMixed (rules_after changes.now table.now.rules) [] (mix_at mixes.new switch) }
+    ensures others { (t : Switch) → t.0 ≢ switch.0 → mix_at mixes.new t ≡ mix_at mixes.old t }
+    ensures room { (mix_at mixes.old switch).room ≤ (mix_at mixes.new switch).room }
+{
+    keeps_keys(table);
+    if let [change] = changes {
+        keep_at(mixes, switch, change);
+    }
+}
+
+/// Prepares a switch, if it isn't touched and so is prepared for at most one change of its table, for the table after it.
+fn keep_switch(
+    mixes: &mut [Mixed],
+    touched: &[bool],
+    tables: &Config,
+    lists: &[SwitchChanges],
+    switch: SwitchId,
+)
+    requires within { switch.0 < length tables.now }
     requires mixes { length mixes.old ≡ length tables.now }
     requires touched { length touched.now ≡ length tables.now }
-    requires prepared { is_touched touched.now (switch_of change.now) ≡ false
-        → IsMixed (rules_there tables.now (switch_of change.now)) (change.now ∷ []) (mix_at mixes.old (switch_of change.now)) }
-    ensures after { is_touched touched.now (switch_of change.now) ≡ false
-        → IsMixed (rules_after_change change.now (rules_there tables.now (switch_of change.now))) [] (mix_at mixes.new (switch_of change.now)) }
-    ensures others { (o : Switch) → o.0 ≢ (switch_of change.now).0 → mix_at mixes.new o ≡ mix_at mixes.old o }
-    ensures room { (s : Switch) → (mix_at mixes.old s).room ≤ (mix_at mixes.new s).room }
+    requires lists { length lists.now ≡ length tables.now }
+    requires few { is_touched touched.now switch ≡ false
+        → length (list_at lists.now switch).changes ≤ 1 }
+    requires prepared { IsMixed (rules_there tables.now switch) (list_at lists.now switch).changes
+        (mix_at mixes.old switch) }
+    ensures after { is_touched touched.now switch ≡ false
+        → IsMixed (rules_after (list_at lists.now switch).changes (rules_there tables.now switch))
+        [] (mix_at mixes.new switch) }
+    ensures others { (t : Switch) → t.0 ≢ switch.0 → mix_at mixes.new t ≡ mix_at mixes.old t }
+    ensures room { (mix_at mixes.old switch).room ≤ (mix_at mixes.new switch).room }
 {
-    let switch = change.switch();
     if touched[switch.0 as usize] {
         return;
     }
-    keeps_keys(tables.table(switch));
-    keep_at(mixes, switch, change);
+    let changes = lists[switch.0 as usize].list();
+    keep_few(mixes, switch, tables.table(switch), changes);
 }
 
-/// Prepares each switch that isn't touched, and so is prepared for the only change that a round has there, for its table
-/// after the round.
-pub(crate) fn keep_round(mixes: &mut [Mixed], touched: &[bool], tables: &Config, round: &[Change])
-    requires within { AreWithin (length tables.now) round.now }
+/// Prepares each switch that isn't touched for its table after its changes.
+fn keep_all(mixes: &mut [Mixed], touched: &[bool], tables: &Config, lists: &[SwitchChanges])
+    requires few { length tables.now < 2 ^ 32 }
     requires mixes { length mixes.old ≡ length tables.now }
     requires touched { length touched.now ≡ length tables.now }
-    requires met { AreMet tables.now round.now touched.now mixes.old }
-    ensures after { (s : Switch) → is_touched touched.now s ≡ false → IsMixed (rules_after (changes_at s round.now) (rules_there tables.now s)) [] (mix_at mixes.new s) }
+    requires lists { length lists.now ≡ length tables.now }
+    requires once { (s : Switch) → is_touched touched.now s ≡ false
+        → length (list_at lists.now s).changes ≤ 1 }
+    requires prepared { (s : Switch) → s.0 < length tables.now
+        → IsMixed (rules_there tables.now s) (list_at lists.now s).changes (mix_at mixes.old s) }
+    ensures after { (s : Switch) → s.0 < length tables.now → is_touched touched.now s ≡ false
+        → IsMixed (rules_after (list_at lists.now s).changes (rules_there tables.now s)) []
+        (mix_at mixes.new s) }
     ensures room { (s : Switch) → (mix_at mixes.old s).room ≤ (mix_at mixes.new s).room }
 {
-    for change in round {
-        keep_change(mixes, touched, tables, change);
+    for i in 0..tables.count() as u32 {
+        keep_switch(mixes, touched, tables, lists, SwitchId(i));
+    }
+}
+
+impl PreparedTables {
+    /// Makes the changes of round k, for which all switches are prepared. Each switch that it changes more than once is to
+    /// be prepared anew. The changes at a switch take time n log n together.
+    pub fn apply_round(&mut self, update: &Rollout<'_>, k: usize)
+        requires round { k < length update.now.rounds }
+        requires within { AreWithin (switch_count update.now.net)
+            (round_after k update.now.rounds) }
+        requires room { HoldsRounds (switch_count update.now.net) update.now.rounds self.old }
+        requires prepared { ArePrepared update.now k self.old }
+        requires fits { (s : Switch) → s.0 < switch_count update.now.net
+            → need_of update.now k s ≤ limit_at self.old.limits s }
+        ensures stands { StandsBefore update.now (suc k) self.new }
+        ensures room { HoldsRounds (switch_count update.now.net) update.now.rounds self.new }
+        ensures limits { self.new.limits ≡ self.old.limits }
+    {
+        update.net.keeps_rules();
+        let _ = k;
+        keep_all(&mut self.mixes, &self.touched, &self.tables, &self.changes);
+        change_all(&mut self.tables, &self.changes, &mut self.rules);
     }
 }

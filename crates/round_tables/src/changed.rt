@@ -5,7 +5,7 @@ ghost use Rattle.flow_rules.specs.Tables.{IsTable};
 ghost use Rattle.flow_rules.specs.declared.rules.Rule.{Rule};
 ghost use Rattle.update_model.specs.Changes.{AppliesTo, rules_after_change};
 ghost use Rattle.round_mix.specs.Prepared.{AreClear};
-ghost use Rattle.round_tables.specs.Present.{mix_at, IsMixed};
+ghost use Rattle.round_tables.specs.PreparedTables.{mix_at, IsMixed};
 
 use net_base::SwitchId;
 use round_mix::Mixed;
@@ -14,12 +14,16 @@ use update_model::Change;
 /// Prepares one of the switches, which is prepared for its table alone, for one change of it, if each mixture is clear.
 pub(crate) fn begin_at(mixes: &mut [Mixed], switch: SwitchId, change: &Change) -> bool
     requires within { switch.0 < length mixes.old }
-    requires room { IsSomeAnd (mix_at mixes.old switch).prepared (λ marks. length marks < (mix_at mixes.old switch).room) }
-    ensures yes { (rules : List Rule) → IsTable rules → AppliesTo rules change.now → IsMixed rules [] (mix_at mixes.old switch)
+    requires room { IsSomeAnd (mix_at mixes.old switch).prepared
+        (λ marks. length marks < (mix_at mixes.old switch).room) }
+    ensures yes { (rules : List Rule) → IsTable rules → AppliesTo rules change.now
+        → IsMixed rules [] (mix_at mixes.old switch)
         → result ≡ true → IsMixed rules (change.now ∷ []) (mix_at mixes.new switch) }
-    ensures no { (rules : List Rule) → AppliesTo rules change.now → IsMixed rules [] (mix_at mixes.old switch)
+    ensures no { (rules : List Rule) → AppliesTo rules change.now
+        → IsMixed rules [] (mix_at mixes.old switch)
         → result ≡ false → ¬ AreClear rules (change.now ∷ []) }
-    ensures same { result ≡ false → (mix_at mixes.new switch).prepared ≡ (mix_at mixes.old switch).prepared }
+    ensures same { result ≡ false → (mix_at mixes.new switch).prepared
+        ≡ (mix_at mixes.old switch).prepared }
     ensures others { (o : Switch) → o.0 ≢ switch.0 → mix_at mixes.new o ≡ mix_at mixes.old o }
     ensures room { (mix_at mixes.old switch).room ≤ (mix_at mixes.new switch).room }
 {
@@ -29,7 +33,9 @@ pub(crate) fn begin_at(mixes: &mut [Mixed], switch: SwitchId, change: &Change) -
 /// Prepares one of the switches, which is prepared for one change of its table, for the table alone again.
 pub(crate) fn give_up_at(mixes: &mut [Mixed], switch: SwitchId, change: &Change)
     requires { switch.0 < length mixes.old }
-    ensures alone { (rules : List Rule) → IsTable rules → IsMixed rules (change.now ∷ []) (mix_at mixes.old switch) → IsMixed rules [] (mix_at mixes.new switch) }
+    ensures alone { (rules : List Rule) → IsTable rules
+        → IsMixed rules (change.now ∷ []) (mix_at mixes.old switch)
+        → IsMixed rules [] (mix_at mixes.new switch) }
     ensures others { (o : Switch) → o.0 ≢ switch.0 → mix_at mixes.new o ≡ mix_at mixes.old o }
     ensures room { (mix_at mixes.old switch).room ≤ (mix_at mixes.new switch).room }
 {
@@ -39,7 +45,8 @@ pub(crate) fn give_up_at(mixes: &mut [Mixed], switch: SwitchId, change: &Change)
 /// Prepares one of the switches, which is prepared for one change of its table, for the table after it.
 pub(crate) fn keep_at(mixes: &mut [Mixed], switch: SwitchId, change: &Change)
     requires { switch.0 < length mixes.old }
-    ensures after { (rules : List Rule) → IsTable rules → IsMixed rules (change.now ∷ []) (mix_at mixes.old switch)
+    ensures after { (rules : List Rule) → IsTable rules
+        → IsMixed rules (change.now ∷ []) (mix_at mixes.old switch)
         → IsMixed (rules_after_change change.now rules) [] (mix_at mixes.new switch) }
     ensures others { (o : Switch) → o.0 ≢ switch.0 → mix_at mixes.new o ≡ mix_at mixes.old o }
     ensures room { (mix_at mixes.old switch).room ≤ (mix_at mixes.new switch).room }

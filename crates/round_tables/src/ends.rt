@@ -1,18 +1,11 @@
-//! The comparison of the tables after the last round with the new ones.
-ghost use Rattle.certificates.specs.Updates.{rollout};
-ghost use Rattle.std.specs.Prelude.{◌≡◌, ◌↔◌, ℕ, ◌<◌, ◌^◌, length, IsTrue, IfNone, IfSome, MatchOption};
+//! The comparison of the tables with a configuration.
+ghost use Rattle.std.specs.Prelude.{◌≡◌, ◌↔◌, ◌<◌, ◌^◌, length, IsTrue, IfNone, IfSome};
 ghost use Rattle.std.specs.List.{AllByRecursion};
 ghost use Rattle.net_base.specs.Members.{IsIn, IsSameSet};
 ghost use Rattle.net_base.specs.declared.ids.SwitchId.{SwitchId as Switch};
-ghost use Rattle.flow_rules.specs.Tables.{rules_at};
-ghost use Rattle.update_model.specs.Mixtures.{tables_before};
-ghost use Rattle.check_reasons.specs.Ranks.{end_start};
-ghost use Rattle.check_reasons.specs.Passed.{IsFirstFrom};
-ghost use Rattle.round_tables.specs.Present.{StandsBefore};
 ghost use Rattle.round_tables.specs.Ends.{AreSameAt};
 
-use crate::present::Present;
-use check_reasons::{Case, Reason};
+use crate::prepared::PreparedTables;
 use flow_rules::{Config, Rule, Table};
 use net_base::SwitchId;
 
@@ -41,12 +34,13 @@ fn are_same_at(tables: &Config, others: &Config, switch: SwitchId) -> bool
 }
 
 /// The first switch at which the tables differ.
-fn first_difference(tables: &Config, others: &Config) -> Option<SwitchId>
+fn difference(tables: &Config, others: &Config) -> Option<SwitchId>
     requires count { length tables.now ≡ length others.now }
     requires few { length tables.now < 2 ^ 32 }
     ensures none { IfNone result ((s : Switch) → AreSameAt tables.now others.now s) }
     ensures some { IfSome result (λ s. ¬ AreSameAt tables.now others.now s) }
-    ensures below { IfSome result (λ s. (t : Switch) → t.0 < s.0 → AreSameAt tables.now others.now t) }
+    ensures below { IfSome result
+        (λ s. (t : Switch) → t.0 < s.0 → AreSameAt tables.now others.now t) }
 {
     for i in 0..tables.count() as u32 {
         let switch = SwitchId(i);
@@ -57,17 +51,16 @@ fn first_difference(tables: &Config, others: &Config) -> Option<SwitchId>
     None
 }
 
-impl Present {
-    /// The first switch whose table isn't the new one after the last round, as a reason.
-    pub fn wrong_end(&self, case: &Case) -> Option<Reason>
-        requires { StandsBefore (rollout case.now.task) (length case.now.task.rounds) self.now }
-        ensures none { IfNone result ((s : Switch) → IsSameSet (rules_at (tables_before (rollout case.now.task) (length case.now.task.rounds)) s) (rules_at case.now.task.update.new s)) }
-        ensures some { IfSome result (IsFirstFrom case.now.task case.now.evidence end_start) }
+impl PreparedTables {
+    /// The first switch whose table hasn't the rules that a configuration has there.
+    pub fn first_difference(&self, config: &Config) -> Option<SwitchId>
+        requires count { length self.now.tables ≡ length config.now }
+        requires few { length config.now < 2 ^ 32 }
+        ensures none { IfNone result ((s : Switch) → AreSameAt self.now.tables config.now s) }
+        ensures some { IfSome result (λ s. ¬ AreSameAt self.now.tables config.now s) }
+        ensures below { IfSome result
+            (λ s. (t : Switch) → t.0 < s.0 → AreSameAt self.now.tables config.now t) }
     {
-        case.net.keeps_rules();
-        match first_difference(&self.tables, case.new) {
-            Some(switch) => Some(Reason::WrongEnd { switch }),
-            None => None,
-        }
+        difference(&self.tables, config)
     }
 }

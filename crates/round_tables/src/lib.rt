@@ -1,16 +1,18 @@
-//! The tables before each round of a plan, or between rounds on which single changes are tried, and each switch prepared
-//! for its changes.
+//! The tables of a network with each switch prepared for the changes of a round, or for a single change that is tried.
 #![tactic(auto)]
 
 mod alone;
 mod applying;
 mod changed;
 mod ends;
+mod gathering;
 mod loading;
-mod meeting;
-mod present;
-mod rounds;
+mod over;
+mod prepared;
+mod rollout;
+mod room;
 mod trials;
 
-pub use present::Present;
-pub use trials::TrialTables;
+pub use loading::RoundFault;
+pub use prepared::PreparedTables;
+pub use rollout::Rollout;

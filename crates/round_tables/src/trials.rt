@@ -1,4 +1,4 @@
-//! The tables of a network between rounds, on which single changes are tried.
+//! Single changes are tried on the tables of a network.
 ghost use Rattle.std.specs.Prelude.{◌≡◌, ◌∷◌, [], List, true, false, ◌↔◌, ◌≤◌, IsTrue, IsSome, IfOk, OnOk, OnErr};
 ghost use Rattle.topology.specs.Networks.{capacity_of};
 ghost use Rattle.flow_rules.specs.Tables.{rules_of_all};
@@ -9,59 +9,37 @@ ghost use Rattle.update_model.specs.Mixtures.{entries_needed};
 ghost use Rattle.update_model.specs.declared.Change.{Change as ChangeOf};
 ghost use Rattle.round_mix.specs.Prepared.{AreClear};
 ghost use Rattle.round_tables.specs.Trials.{IsSettled, IsTrying, HasRoomAlone};
-ghost use Rattle.round_tables.specs.Present.{mix_at, IsMixed, rules_there};
+ghost use Rattle.round_tables.specs.PreparedTables.{mix_at, IsMixed, rules_there};
 ghost use Rattle.round_tables.specs.Steps.{IsSettledBeside};
 
 use crate::alone::all_alone;
 use crate::changed::{begin_at, give_up_at, keep_at};
 use crate::loading::keeps_keys;
+use crate::prepared::PreparedTables;
 use flow_rules::Config;
 use net_base::{Memory, SwitchId};
-use round_mix::Mixed;
 use std::alloc::Global;
-use std::marker::Model;
 use topology::Net;
 use update_model::{Change, change_tables};
 
-/// The tables between rounds, and each switch prepared for its table, or for a change of it that is tried.
-#[derive(Drop)]
-pub struct TrialTables {
-    tables: Config,
-    mixes: Vec<Mixed>,
-}
-
-impl Model for TrialTables {
-    ghost use Rattle.round_tables.specs.Trials.{TrialState};
-
-    ghost Value = { TrialState };
-
-    ghost view = { λ t. record { tables = t.tables; mixes = t.mixes.items } };
-}
-
-impl TrialTables {
-    /// The tables of a configuration.
-    pub fn make(alloc: Global, net: &Net, config: &Config) -> Result<TrialTables, Memory>
+impl PreparedTables {
+    /// The tables of a configuration, each switch prepared for its table alone, to try single changes on them. There is no room
+    /// for the changes of a round.
+    pub fn for_trials(alloc: Global, net: &Net, config: &Config) -> Result<PreparedTables, Memory>
         requires { IsUserConfig net.now (rules_of_all config.now) }
         ensures rules { IfOk result (λ t. rules_of_all t.tables ≡ rules_of_all config.now) }
         ensures settled { IfOk result (IsSettled net.now) }
     {
         let tables = config.copy()?;
         let mixes = all_alone(alloc, net, &tables)?;
-        Ok(TrialTables { tables, mixes })
-    }
-
-    /// The tables.
-    pub fn tables(&self) -> &Config
-        ensures { result.now ≡ self.now.tables }
-    {
-        &self.tables
-    }
-
-    /// What is prepared of each switch.
-    pub fn mixes(&self) -> &[Mixed]
-        ensures { result.now ≡ self.now.mixes }
-    {
-        &self.mixes
+        Ok(PreparedTables {
+            tables,
+            mixes,
+            touched: Vec::new(alloc),
+            changes: Vec::new(alloc),
+            limits: Vec::new(alloc),
+            rules: Vec::new(alloc),
+        })
     }
 
     /// Prepares the switch of a change for it, if each mixture is clear.
@@ -70,8 +48,11 @@ impl TrialTables {
         requires applies { Applies (rules_of_all self.old.tables) change.now }
         ensures rules { rules_of_all self.new.tables ≡ rules_of_all self.old.tables }
         ensures beside { IsSettledBeside net.now (switch_of change.now) self.new }
-        ensures yes { result ≡ true → IsMixed (rules_there self.new.tables (switch_of change.now)) (change.now ∷ []) (mix_at self.new.mixes (switch_of change.now)) }
-        ensures no { result ≡ false → ¬ AreClear (rules_there self.new.tables (switch_of change.now)) (change.now ∷ []) }
+        ensures yes { result ≡ true
+            → IsMixed (rules_there self.new.tables (switch_of change.now)) (change.now ∷ [])
+            (mix_at self.new.mixes (switch_of change.now)) }
+        ensures no { result ≡ false
+            → ¬ AreClear (rules_there self.new.tables (switch_of change.now)) (change.now ∷ []) }
         ensures alone { result ≡ false → IsSettled net.now self.new }
     {
         let switch = change.switch();
@@ -82,7 +63,8 @@ impl TrialTables {
     /// Prepares the switch of a change, which is prepared for it, for its table alone again, as the others are.
     fn settle(&mut self, net: &Net, change: &Change)
         requires beside { IsSettledBeside net.now (switch_of change.now) self.old }
-        requires loaded { IsMixed (rules_there self.old.tables (switch_of change.now)) (change.now ∷ []) (mix_at self.old.mixes (switch_of change.now)) }
+        requires loaded { IsMixed (rules_there self.old.tables (switch_of change.now))
+            (change.now ∷ []) (mix_at self.old.mixes (switch_of change.now)) }
         ensures rules { rules_of_all self.new.tables ≡ rules_of_all self.old.tables }
         ensures settled { IsSettled net.now self.new }
     {
@@ -95,7 +77,8 @@ impl TrialTables {
     fn is_within(&self, net: &Net, switch: SwitchId) -> bool
         requires beside { IsSettledBeside net.now switch self.now }
         requires prepared { IsSome (mix_at self.now.mixes switch).prepared }
-        ensures { (table : List Rule) (changes : List ChangeOf) → IsMixed table changes (mix_at self.now.mixes switch)
+        ensures { (table : List Rule) (changes : List ChangeOf)
+            → IsMixed table changes (mix_at self.now.mixes switch)
             → IsTrue result ↔ (entries_needed table changes ≤ capacity_of net.now switch) }
     {
         self.mixes[switch.0 as usize].most_entries() <= u64::from(net.capacity(switch))
@@ -109,7 +92,8 @@ impl TrialTables {
         ensures rules { rules_of_all self.new.tables ≡ rules_of_all self.old.tables }
         ensures yes { result ≡ true → IsTrying net.now change.now self.new }
         ensures no { result ≡ false → IsSettled net.now self.new }
-        ensures never { result ≡ false → ¬ HasRoomAlone net.now (rules_of_all self.old.tables) change.now }
+        ensures never { result ≡ false
+            → ¬ HasRoomAlone net.now (rules_of_all self.old.tables) change.now }
     {
         if !self.load(net, change) {
             return false;
@@ -135,7 +119,9 @@ impl TrialTables {
     /// What is prepared of its switch costs one look at each of its rules.
     pub fn keep(&mut self, net: &Net, change: &Change) -> Result<(), Memory>
         requires { IsTrying net.now change.now self.old }
-        ensures rules { OnOk result (rules_of_all self.new.tables ≡ tables_after_change change.now (rules_of_all self.old.tables)) }
+        ensures rules { OnOk result
+            (rules_of_all self.new.tables
+            ≡ tables_after_change change.now (rules_of_all self.old.tables)) }
         ensures settled { OnOk result (IsSettled net.now self.new) }
         ensures same { OnErr result (rules_of_all self.new.tables ≡ rules_of_all self.old.tables) }
         ensures trying { OnErr result (IsTrying net.now change.now self.new) }

@@ -17,19 +17,22 @@ use Rattle.table_difference.specs.SameClasses.{HasSameClasses}
 use Rattle.round_planner.specs.Ends.{IsPlanOf}
 use Rattle.round_planner.specs.Updates.{update_aim, KeepsConsistent}
 use Rattle.ring_sample.specs.Ring.{ring_tables, ring_update}
-use Rattle.sample_command.specs.Summaries.{sample_line, IsSummary, SaysSummary}
+use Rattle.sample_command.specs.Summaries.{sample_line, ring_classes, IsSummary, SaysSummary}
 use Rattle.sample_command.specs.Promise.{WritesSummary, WritesFront, SamplePromise}
 
 -- the line on the evidence of the plan
-pub summary_of : (n : ℕ) (plan : Plan) (searched : IsPlanOf (update_aim (ring_update n)) (ring_tables n 2) plan) → KeepsConsistent (ring_update n) plan → (rounds classes : ℕ) → rounds ≡ 4 * (n - 1) → classes ≡ 6 * n
+pub summary_of : (n : ℕ) (plan : Plan) (searched : IsPlanOf (update_aim (ring_update n)) (ring_tables n 2) plan) → KeepsConsistent (ring_update n) plan → (rounds classes : ℕ) → rounds ≡ length plan.rounds → length plan.rounds ≡ 4 * (n - 1) → classes ≡ ring_classes n plan → classes ≡ 6 * n
     → (e : OrderedEvidence) → plan.evidence ≡ Ordered e → (text : List ℕ) → text ≡ sample_line n rounds classes (length e.numberings) (length e.picks) → IsSummary n text
-summary_of n plan searched keeps rounds classes rounds_are classes_are e is text text_is =
+summary_of n plan searched keeps rounds classes counted_rounds many_rounds counted_classes classes_are e is text text_is =
+    let rounds_are : rounds ≡ 4 * (n - 1) = counted_rounds ∙ many_rounds in
     let same : Ordered e ≡ Ordered searched.evidence = sym is ∙ ap (λ (p : Plan). p.evidence) searched.plan_is in
     let one : e ≡ searched.evidence = cc in
     record {
       plan = plan;
       searched = searched;
       keeps = keeps;
+      rounds = many_rounds;
+      classes = sym counted_classes ∙ classes_are;
       text_is =
           text_is ∙ ap (λ (r : ℕ). sample_line n r classes (length e.numberings) (length e.picks)) rounds_are
           ∙ ap (λ (c : ℕ). sample_line n (4 * (n - 1)) c (length e.numberings) (length e.picks)) classes_are

@@ -13,7 +13,7 @@ ghost use Rattle.command_base.specs.Replies.{answer_of};
 ghost use Rattle.command_base.specs.Updates.{meaning_of};
 ghost use Rattle.round_planner.specs.Updates.{update_aim, update_count, bare_task, KeepsConsistent};
 ghost use Rattle.ring_sample.specs.Ring.{ring_tables, ring_update as the_ring};
-ghost use Rattle.sample_command.specs.Summaries.{IsSummary, SaysSummary};
+ghost use Rattle.sample_command.specs.Summaries.{ring_classes, IsSummary, SaysSummary};
 
 use crate::planning::{checked_classes, tree_plan};
 use crate::summary::sample_line;
@@ -26,9 +26,11 @@ use std::alloc::Global;
 
 /// The line on a plan of the ring and its classes.
 fn summary(alloc: Global, size: RingSize, plan: &Plan, classes: u32) -> Result<Vec<u8>, Memory>
-    requires searched { IsPlanOf (update_aim (the_ring size.switches)) (ring_tables size.switches 2) plan.now }
+    requires searched { IsPlanOf (update_aim (the_ring size.switches))
+        (ring_tables size.switches 2) plan.now }
     requires keeps { KeepsConsistent (the_ring size.switches) plan.now }
     requires rounds { length plan.now.rounds ≡ 4 * (size.switches - 1) }
+    requires counted { classes ≡ ring_classes size.switches plan.now }
     requires classes { classes ≡ 6 * size.switches }
     ensures { IfOk result (λ t. IsSummary size.switches t.items) }
 {
@@ -54,11 +56,13 @@ fn checked_reply(
     requires meaning { meaning_of files.now ≡ the_ring size.switches }
     requires old { IsUserConfig files.now.net (rules_of_all files.now.old) }
     requires new { IsUserConfig files.now.net (rules_of_all files.now.new) }
-    requires searched { IsPlanOf (update_aim (the_ring size.switches)) (ring_tables size.switches 2) plan.now }
+    requires searched { IsPlanOf (update_aim (the_ring size.switches))
+        (ring_tables size.switches 2) plan.now }
     requires valid { IsValidPlan files.now.net plan.now }
     requires certified { IsCertified (task_for (meaning_of files.now) plan.now) plan.now.evidence }
     requires rounds { length plan.now.rounds ≡ 4 * (size.switches - 1) }
-    requires classes { class_count (classes_for (task_for (meaning_of files.now) plan.now)) ≡ 6 * size.switches }
+    requires classes { class_count (classes_for (task_for (meaning_of files.now) plan.now))
+        ≡ 6 * size.switches }
     ensures { IfOk result (λ r. SaysSummary size.switches (answer_of r)) }
 {
     let classes = checked_classes(alloc, files, plan)?;
@@ -74,7 +78,8 @@ fn planned_reply(alloc: Global, size: RingSize, files: &UpdateFiles) -> Result<R
     requires meaning { meaning_of files.now ≡ the_ring size.switches }
     requires tree { IsTreeUpdate (bare_task (meaning_of files.now)) }
     requires classes { update_count (meaning_of files.now) ≡ 6 * size.switches }
-    requires differ { length (remaining (rules_of_all files.now.old) (rules_of_all files.now.new)) ≡ 4 * (size.switches - 1) }
+    requires differ { length (remaining (rules_of_all files.now.old) (rules_of_all files.now.new))
+        ≡ 4 * (size.switches - 1) }
     requires old { IsUserConfig files.now.net (rules_of_all files.now.old) }
     requires new { IsUserConfig files.now.net (rules_of_all files.now.new) }
     ensures { IfOk result (λ r. SaysSummary size.switches (answer_of r)) }

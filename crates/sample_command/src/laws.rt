@@ -9,6 +9,8 @@ ghost use Rattle.sample_command.specs.Promise.{SamplePromise};
 
 /// A run that ends as the command's dialogue, which reads no file, and not for a fault of reading, keeps the promise of `sample`.
 pub fn sample_promised()
-    ensures { (n : ℕ) (held : Option Files) (old new : Option (List ℕ)) (selected : List ℕ) (taken : ℕ) (result : Status)
-        → EndsAs SaysSummary held (Ends n) old new selected taken result → result ≢ Status.ReadFault → SamplePromise n old new result }
+    ensures { (n : ℕ) (held : Option Files) (old new : Option (List ℕ))
+        (selected : List ℕ) (taken : ℕ) (result : Status)
+        → EndsAs SaysSummary held (Ends n) old new selected taken result
+        → result ≢ Status.ReadFault → SamplePromise n old new result }
 {}

@@ -51,11 +51,15 @@ fn searched_plan(
     requires tree { IsTreeUpdate (bare_task (meaning_of files.now)) }
     requires classes { classes.now ≡ update_classes (meaning_of files.now) }
     requires duties { duties.now ≡ record { demands = files.now.demands; classes = classes.now } }
-    ensures searched { IfOk result (IsPlanOf (update_aim (meaning_of files.now)) (rules_of_all files.now.old)) }
+    ensures searched { IfOk result
+        (IsPlanOf (update_aim (meaning_of files.now)) (rules_of_all files.now.old)) }
     ensures valid { IfOk result (IsValidPlan files.now.net) }
-    ensures certified { IfOk result (λ p. IsCertified (task_for (meaning_of files.now) p) p.evidence) }
-    ensures classes { IfOk result (λ p. HasSameClasses (classes_for (task_for (meaning_of files.now) p)) (update_classes (meaning_of files.now))) }
-    ensures count { IfOk result (λ p. length p.rounds ≡ length (remaining (rules_of_all files.now.old) (rules_of_all files.now.new))) }
+    ensures certified { IfOk result
+        (λ p. IsCertified (task_for (meaning_of files.now) p) p.evidence) }
+    ensures classes { IfOk result (λ p. HasSameClasses
+        (classes_for (task_for (meaning_of files.now) p)) (update_classes (meaning_of files.now))) }
+    ensures count { IfOk result (λ p. length p.rounds
+        ≡ length (remaining (rules_of_all files.now.old) (rules_of_all files.now.new))) }
 {
     match order(alloc, &files.net, &files.old, &files.new, duties, classes)? {
         Ordered::Rounds(plan) => Ok(plan),
@@ -69,11 +73,15 @@ pub fn tree_plan(alloc: Global, files: &UpdateFiles) -> Result<Plan, Memory>
     requires new { IsUserConfig files.now.net (rules_of_all files.now.new) }
     requires tree { IsTreeUpdate (bare_task (meaning_of files.now)) }
     requires few { update_count (meaning_of files.now) ≤ most_classes }
-    ensures searched { IfOk result (IsPlanOf (update_aim (meaning_of files.now)) (rules_of_all files.now.old)) }
+    ensures searched { IfOk result
+        (IsPlanOf (update_aim (meaning_of files.now)) (rules_of_all files.now.old)) }
     ensures valid { IfOk result (IsValidPlan files.now.net) }
-    ensures certified { IfOk result (λ p. IsCertified (task_for (meaning_of files.now) p) p.evidence) }
-    ensures classes { IfOk result (λ p. HasSameClasses (classes_for (task_for (meaning_of files.now) p)) (update_classes (meaning_of files.now))) }
-    ensures count { IfOk result (λ p. length p.rounds ≡ length (remaining (rules_of_all files.now.old) (rules_of_all files.now.new))) }
+    ensures certified { IfOk result
+        (λ p. IsCertified (task_for (meaning_of files.now) p) p.evidence) }
+    ensures classes { IfOk result (λ p. HasSameClasses
+        (classes_for (task_for (meaning_of files.now) p)) (update_classes (meaning_of files.now))) }
+    ensures count { IfOk result (λ p. length p.rounds
+        ≡ length (remaining (rules_of_all files.now.old) (rules_of_all files.now.new))) }
 {
     let classes = few_classes(alloc, files)?;
     let duties = Duties::make(alloc, &files.net, &files.demands, &classes)?;
@@ -87,7 +95,8 @@ pub fn tree_plan(alloc: Global, files: &UpdateFiles) -> Result<Plan, Memory>
 fn check_room(alloc: Global, files: &UpdateFiles, plan: &Plan) -> Result<CheckRoom, Memory>
     requires old { IsUserConfig files.now.net (rules_of_all files.now.old) }
     requires new { IsUserConfig files.now.net (rules_of_all files.now.new) }
-    requires few { class_count (classes_for (task_for (meaning_of files.now) plan.now)) ≤ most_classes }
+    requires few { class_count (classes_for (task_for (meaning_of files.now) plan.now))
+        ≤ most_classes }
     ensures { IfOk result (Fits (task_for (meaning_of files.now) plan.now)) }
 {
     match CheckRoom::make(
@@ -131,9 +140,11 @@ pub fn checked_classes(alloc: Global, files: &UpdateFiles, plan: &Plan) -> Resul
     requires old { IsUserConfig files.now.net (rules_of_all files.now.old) }
     requires new { IsUserConfig files.now.net (rules_of_all files.now.new) }
     requires valid { IsValidPlan files.now.net plan.now }
-    requires few { class_count (classes_for (task_for (meaning_of files.now) plan.now)) ≤ most_classes }
+    requires few { class_count (classes_for (task_for (meaning_of files.now) plan.now))
+        ≤ most_classes }
     requires certified { IsCertified (task_for (meaning_of files.now) plan.now) plan.now.evidence }
-    ensures { IfOk result (λ n. n ≡ class_count (classes_for (task_for (meaning_of files.now) plan.now))) }
+    ensures { IfOk result (λ n. n
+        ≡ class_count (classes_for (task_for (meaning_of files.now) plan.now))) }
 {
     let mut room = check_room(alloc, files, plan)?;
     let classes = classes_in_room(files, plan, &mut room);

@@ -30,7 +30,8 @@ pub fn sample_line(
     classes: u32,
     evidence: &OrderedEvidence,
 ) -> Result<Vec<u8>, Memory>
-    ensures { IfOk result (λ t. t.items ≡ lines.sample_line switches rounds classes (length evidence.now.numberings) (length evidence.now.picks)) }
+    ensures { IfOk result (λ t. t.items ≡ lines.sample_line switches rounds classes
+        (length evidence.now.numberings) (length evidence.now.picks)) }
 {
     let numberings = evidence.numberings.list().len();
     let picks = evidence.picks.list().len();

@@ -127,7 +127,8 @@ impl Agenda {
         requires may { IsEnabled world.old.net world.old.rounds world.old.state event }
         requires kept { IsAgenda world.old.state self.old.pending.items self.old.under_way.items }
         ensures world { OnOk result (world.new ≡ world_after world.old event) }
-        ensures kept { OnOk result (IsAgenda world.new.state self.new.pending.items self.new.under_way.items) }
+        ensures kept { OnOk result
+            (IsAgenda world.new.state self.new.pending.items self.new.under_way.items) }
     {
         happen(world, event)?;
         match event {

@@ -52,7 +52,8 @@ fn run_on<F: Fn(u64, u64) -> u64>(
     requires entries { AreEntries world.old.net entries.now }
     requires agenda { IsAgenda world.old.state agenda.old.pending.items agenda.old.under_way.items }
     requires none { events.old ≡ [] }
-    ensures run { OnOk result (IsRunFrom world.old (F.post pilot.now) entries.now events.new world.new) }
+    ensures run { OnOk result
+        (IsRunFrom world.old (F.post pilot.now) entries.now events.new world.new) }
     ensures ends { IfOk result (EndsAs world.old entries.now budget events.new) }
 {
     let mut rest = entries;
@@ -91,10 +92,14 @@ pub fn drive<'a, F: Fn(u64, u64) -> u64>(
 ) -> Result<Driven<'a>, Memory>
     requires names_one { IsPilot (F.pre pilot.now) (F.post pilot.now) }
     requires entries { AreEntries world.net entries.now }
-    ensures run { IfOk result (λ d. IsRunFrom world.entry (F.post pilot.now) entries.now d.events d.world) }
+    ensures run { IfOk result
+        (λ d. IsRunFrom world.entry (F.post pilot.now) entries.now d.events d.world) }
     ensures ends { IfOk result (λ d. EndsAs world.entry entries.now budget d.events d.ending) }
-    ensures unblocked { BeginsSafely world.entry → IfOk result (λ d. ¬ (d.ending ≡ Ending.Blocked)) }
-    ensures finished { BeginsSafely world.entry → full_budget (update_of world.entry) entries.now ≤ budget → IfOk result (λ d. d.ending ≡ Ending.Finished) }
+    ensures unblocked { BeginsSafely world.entry
+        → IfOk result (λ d. ¬ (d.ending ≡ Ending.Blocked)) }
+    ensures finished { BeginsSafely world.entry
+        → full_budget (update_of world.entry) entries.now ≤ budget
+        → IfOk result (λ d. d.ending ≡ Ending.Finished) }
 {
     // A network keeps its links at its switches, so a packet visits no more switches than there are.
     world.net().keeps_rules();

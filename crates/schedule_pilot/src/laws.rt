@@ -20,5 +20,6 @@ pub fn certified_begins_safely(
 )
     requires old { IsUserConfig net.now (rules_of_all old.now) }
     requires new { IsUserConfig net.now (rules_of_all new.now) }
-    ensures { CertifiedBeginsSafely (task_of net.now old.now new.now demands.now plan.now) plan.now.evidence }
+    ensures { CertifiedBeginsSafely (task_of net.now old.now new.now demands.now plan.now)
+        plan.now.evidence }
 {}

@@ -25,7 +25,9 @@ fn is_young(packets: &[Packet], i: usize, k: u32) -> bool
 
 /// Whether none of the packets of these numbers entered when fewer than k rounds were settled.
 fn are_young_at(packets: &[Packet], numbers: &[usize], k: u32) -> bool
-    ensures { IsTrue result ↔ AllByRecursion (λ i. (p : _) → slice_get packets.now i ≡ Some p → k ≤ p.born) numbers.now }
+    ensures { IsTrue result
+        ↔ AllByRecursion (λ i. (p : _) → slice_get packets.now i ≡ Some p → k ≤ p.born)
+        numbers.now }
 {
     numbers.iter().all(|i| is_young(packets, *i, k))
 }
@@ -61,14 +63,16 @@ fn is_running(phase: Phase) -> bool
 /// Whether the running round may be settled.
 fn may_settle(world: &World, pending: &[usize]) -> bool
     requires { pending.now ≡ numbers_on 0 world.now.state.pending }
-    ensures { IsTrue result ↔ IsEnabled world.now.net world.now.rounds world.now.state Event.Settle }
+    ensures { IsTrue result
+        ↔ IsEnabled world.now.net world.now.rounds world.now.state Event.Settle }
 {
     is_running(world.phase()) && pending.is_empty()
 }
 
 /// Adds an event if it may happen.
 fn add_if(offered: &mut Vec<Event>, may: bool, event: Event) -> Result<(), Memory>
-    ensures { OnOk result (AddsThose (λ _. IsTrue may) (event ∷ []) offered.old.items offered.new.items) }
+    ensures { OnOk result
+        (AddsThose (λ _. IsTrue may) (event ∷ []) offered.old.items offered.new.items) }
 {
     if may {
         offered.push(event)?;
@@ -78,7 +82,9 @@ fn add_if(offered: &mut Vec<Event>, may: bool, event: Event) -> Result<(), Memor
 
 /// Adds a change if it may be made.
 fn add_change(offered: &mut Vec<Event>, world: &World, i: usize) -> Result<(), Memory>
-    ensures { OnOk result (AddsThose (IsEnabled world.now.net world.now.rounds world.now.state) (Event.Change i ∷ []) offered.old.items offered.new.items) }
+    ensures { OnOk result
+        (AddsThose (IsEnabled world.now.net world.now.rounds world.now.state) (Event.Change i ∷ [])
+        offered.old.items offered.new.items) }
 {
     let change = Event::Change(i);
     add_if(offered, world.enabled(&change), change)
@@ -86,7 +92,9 @@ fn add_change(offered: &mut Vec<Event>, world: &World, i: usize) -> Result<(), M
 
 /// Adds those of the pending changes that may be made.
 fn add_changes(offered: &mut Vec<Event>, world: &World, pending: &[usize]) -> Result<(), Memory>
-    ensures { OnOk result (AddsThose (IsEnabled world.now.net world.now.rounds world.now.state) (map Event.Change pending.now) offered.old.items offered.new.items) }
+    ensures { OnOk result
+        (AddsThose (IsEnabled world.now.net world.now.rounds world.now.state)
+        (map Event.Change pending.now) offered.old.items offered.new.items) }
 {
     for i in pending {
         add_change(offered, world, *i)?;
@@ -123,7 +131,8 @@ pub(crate) fn offered_of(
 ) -> Result<Vec<Event>, Memory>
     requires kept { IsAgenda world.now.state agenda.now.pending.items agenda.now.under_way.items }
     requires entries { AreEntries world.now.net entries.now }
-    ensures { IfOk result (λ v. AreOffered (update_of world.now) world.now.state entries.now v.items) }
+    ensures { IfOk result
+        (λ v. AreOffered (update_of world.now) world.now.state entries.now v.items) }
 {
     let mut offered = Vec::new(alloc);
     add_if(

@@ -1,5 +1,5 @@
 //! The texts of places and events.
-ghost use Rattle.std.specs.Prelude.{◌≡◌, ◌≤◌, ◌^◌, ◌++◌, ◌∷◌, [], IfOk, OnOk, Ok, length, decimal};
+ghost use Rattle.std.specs.Prelude.{◌≡◌, ◌≤◌, ◌^◌, ◌++◌, ◌∷◌, [], IfOk, OnOk, OnErr, Ok, length, decimal};
 ghost use Rattle.std.specs.List.{AllByRecursion};
 ghost use Rattle.flow_rules.specs.Tables.{rules_of_all};
 ghost use Rattle.update_model.specs.Runs.{IsRun};
@@ -93,7 +93,8 @@ fn add_enter(
     place: Place,
     dst: u32,
 ) -> Result<(), Memory>
-    ensures { OnOk result (text.new.items ≡ text.old.items ++ texts.event_text net.now (Event.Enter place dst)) }
+    ensures { OnOk result
+        (text.new.items ≡ text.old.items ++ texts.event_text net.now (Event.Enter place dst)) }
 {
     add_word(text, "enter ")?;
     add_entry(text, alloc, net, place, dst)
@@ -113,10 +114,12 @@ fn add_event(text: &mut Vec<u8>, alloc: Global, net: &Net, event: Event) -> Resu
     }
 }
 
-/// One more line of a text.
+/// One more line of a text. After a refusal the text is as before.
 pub fn add_line(text: &mut Vec<u8>, line: &[u8]) -> Result<(), Memory>
-    ensures { OnOk result (text.new.items ≡ text.old.items ++ line.now ++ 10 ∷ []) }
+    ensures ok { OnOk result (text.new.items ≡ text.old.items ++ line.now ++ 10 ∷ []) }
+    ensures err { OnErr result (text.new.items ≡ text.old.items) }
 {
+    text.reserve(line.len() + 1)?;
     text.extend_from_slice(line)?;
     text.push(b'\n')?;
     Ok(())
@@ -124,7 +127,8 @@ pub fn add_line(text: &mut Vec<u8>, line: &[u8]) -> Result<(), Memory>
 
 /// Does nothing: its contract says that a line has room for each event of a run, for crates that record runs.
 pub fn runs_have_lines(net: &Net, old: &Config, rounds: &Rounds, events: &Events)
-    requires run { IsRun (record { net = net.now; old = rules_of_all old.now; rounds = rounds.now }) events.now }
+    requires run { IsRun (record { net = net.now; old = rules_of_all old.now; rounds = rounds.now })
+        events.now }
     requires short { AllByRecursion (λ round. length round ≤ 2 ^ 32) rounds.now }
     requires few { length events.now ≤ 4000000 }
     ensures { AllByRecursion (HasLine net.now) events.now }
@@ -146,7 +150,8 @@ pub fn schedule_text(alloc: Global, net: &Net, events: &Events) -> Result<Vec<u8
 
 /// Adds an event in a line of its own.
 fn add_event_line(text: &mut Vec<u8>, alloc: Global, net: &Net, event: Event) -> Result<(), Memory>
-    ensures { OnOk result (text.new.items ≡ text.old.items ++ texts.event_text net.now event ++ 10 ∷ []) }
+    ensures { OnOk result
+        (text.new.items ≡ text.old.items ++ texts.event_text net.now event ++ 10 ∷ []) }
 {
     add_event(text, alloc, net, event)?;
     text.push(b'\n')?;
@@ -155,7 +160,8 @@ fn add_event_line(text: &mut Vec<u8>, alloc: Global, net: &Net, event: Event) ->
 
 /// Adds events, each in a line of its own.
 fn add_events(text: &mut Vec<u8>, alloc: Global, net: &Net, events: &[Event]) -> Result<(), Memory>
-    ensures { OnOk result (text.new.items ≡ text.old.items ++ texts.schedule_text net.now events.now) }
+    ensures { OnOk result
+        (text.new.items ≡ text.old.items ++ texts.schedule_text net.now events.now) }
 {
     for event in events {
         add_event_line(text, alloc, net, *event)?;

@@ -25,7 +25,8 @@ fn add_packet(
     i: usize,
     packet: &Packet,
 ) -> Result<(), Memory>
-    ensures { OnOk result (text.new.items ≡ text.old.items ++ texts.packet_text net.now i packet.now) }
+    ensures { OnOk result
+        (text.new.items ≡ text.old.items ++ texts.packet_text net.now i packet.now) }
 {
     add_numbered(text, alloc, "packet ", i)?;
     text.push(b' ')?;
@@ -55,7 +56,9 @@ fn add_stops(text: &mut Vec<u8>, alloc: Global, net: &Net, stops: &[Stop]) -> Re
 
 /// Adds that a packet left, and where.
 fn add_left(text: &mut Vec<u8>, alloc: Global, net: &Net, place: Place) -> Result<(), Memory>
-    ensures { OnOk result (text.new.items ≡ text.old.items ++ texts.end_text net.now (Ended.Left place.switch place.port place.vlan)) }
+    ensures { OnOk result
+        (text.new.items ≡ text.old.items
+        ++ texts.end_text net.now (Ended.Left place.switch place.port place.vlan)) }
 {
     add_word(text, " left ")?;
     add_place(text, alloc, net, place)
@@ -63,7 +66,8 @@ fn add_left(text: &mut Vec<u8>, alloc: Global, net: &Net, place: Place) -> Resul
 
 /// Adds that a packet was dropped, and where.
 fn add_dropped(text: &mut Vec<u8>, net: &Net, switch: SwitchId) -> Result<(), Memory>
-    ensures { OnOk result (text.new.items ≡ text.old.items ++ texts.end_text net.now (Ended.Dropped switch)) }
+    ensures { OnOk result
+        (text.new.items ≡ text.old.items ++ texts.end_text net.now (Ended.Dropped switch)) }
 {
     add_word(text, " dropped ")?;
     add_word(text, switch_text(net, switch))
@@ -89,7 +93,8 @@ fn add_trace(
     i: usize,
     packet: &Packet,
 ) -> Result<(), Memory>
-    ensures { OnOk result (text.new.items ≡ text.old.items ++ texts.packet_line net.now i packet.now) }
+    ensures { OnOk result
+        (text.new.items ≡ text.old.items ++ texts.packet_line net.now i packet.now) }
 {
     add_packet(text, alloc, net, i, packet)?;
     add_stops(text, alloc, net, packet.visits.stops())?;
@@ -123,7 +128,9 @@ fn add_trace_line(
     i: usize,
     packet: &Packet,
 ) -> Result<(), Memory>
-    ensures { OnOk result (text.new.items ≡ text.old.items ++ (mark.now ++ texts.packet_line net.now i packet.now ++ 10 ∷ [])) }
+    ensures { OnOk result
+        (text.new.items ≡ text.old.items
+        ++ (mark.now ++ texts.packet_line net.now i packet.now ++ 10 ∷ [])) }
 {
     add_word(text, mark)?;
     add_trace(text, alloc, net, i, packet)?;
@@ -139,7 +146,9 @@ fn add_packets(
     net: &Net,
     packets: &[Packet],
 ) -> Result<(), Memory>
-    ensures { OnOk result (text.new.items ≡ text.old.items ++ text_of (marked mark.now (texts.packet_lines net.now 0 packets.now))) }
+    ensures { OnOk result
+        (text.new.items ≡ text.old.items
+        ++ text_of (marked mark.now (texts.packet_lines net.now 0 packets.now))) }
 {
     for (i, packet) in packets.iter().enumerate() {
         add_trace_line(text, mark, alloc, net, i, packet)?;
@@ -155,7 +164,9 @@ fn add_traces(
     net: &Net,
     world: &World,
 ) -> Result<(), Memory>
-    ensures { OnOk result (text.new.items ≡ text.old.items ++ text_of (marked mark.now (texts.trace_lines net.now world.now))) }
+    ensures { OnOk result
+        (text.new.items ≡ text.old.items
+        ++ text_of (marked mark.now (texts.trace_lines net.now world.now))) }
 {
     add_packets(text, mark, alloc, net, world.packets())?;
     let phase = phase_line(alloc, world.phase(), world.rounds().count())?;

@@ -27,7 +27,9 @@ fn say_simulation(
     requires old { IsUserConfig files.now.net (rules_of_all files.now.old) }
     requires new { IsUserConfig files.now.net (rules_of_all files.now.new) }
     requires valid { IsValidPlan files.now.net plan.now }
-    ensures said { IfOk result (λ r. IsSimulateAnswer names.now.start names.now.count (record { update = meaning_of files.now; plan = plan.now }) (answer_of r)) }
+    ensures said { IfOk result
+        (λ r. IsSimulateAnswer names.now.start names.now.count
+        (record { update = meaning_of files.now; plan = plan.now }) (answer_of r)) }
     ensures stops { IfErr result (λ e. e ≡ Exit.Memory) }
 {
     Ok(simulation_verdict(alloc, files, plan, names)?)
@@ -43,9 +45,13 @@ fn simulate_plan<S: Source>(
     requires old { IsUserConfig files.now.net (rules_of_all files.now.old) }
     requires new { IsUserConfig files.now.net (rules_of_all files.now.new) }
     ensures leads { IfOk result (λ r. (last : Option FileRead)
-        → LeadsTo (IsSimulateAnswer names.now.start names.now.count) (S.held source.old) last (reading_plan_of (meaning_of files.now) names.now.check.plan.now) (answer_of r) (S.selected source.new) (S.taken source.new)) }
+        → LeadsTo (IsSimulateAnswer names.now.start names.now.count) (S.held source.old) last
+        (reading_plan_of (meaning_of files.now) names.now.check.plan.now) (answer_of r)
+        (S.selected source.new) (S.taken source.new)) }
     ensures stops { IfErr result (λ e. (last : Option FileRead)
-        → EndsEarly (S.held source.old) last (reading_plan_of (meaning_of files.now) names.now.check.plan.now) (S.faults source.old) (S.faults source.new) e (S.selected source.new) (S.taken source.new)) }
+        → EndsEarly (S.held source.old) last
+        (reading_plan_of (meaning_of files.now) names.now.check.plan.now) (S.faults source.old)
+        (S.faults source.new) e (S.selected source.new) (S.taken source.new)) }
     ensures held { S.held source.new ≡ S.held source.old }
     ensures later { S.faults source.old ≤ S.faults source.new }
 {
@@ -62,8 +68,10 @@ pub fn simulate<S: Source>(
     source: &mut S,
     names: &SimulateNames<'_>,
 ) -> Result<Reply, Exit>
-    ensures meets { Meets (IsSimulateAnswer names.now.start names.now.count) (S.held source.old) (check_dialogue (files.names_seen names.now.check))
-        (S.faults source.old) (S.faults source.new) result (S.selected source.new) (S.taken source.new) }
+    ensures meets { Meets (IsSimulateAnswer names.now.start names.now.count) (S.held source.old)
+        (check_dialogue (files.names_seen names.now.check))
+        (S.faults source.old) (S.faults source.new) result (S.selected source.new)
+        (S.taken source.new) }
     ensures held { S.held source.new ≡ S.held source.old }
     ensures later { S.faults source.old ≤ S.faults source.new }
 {

@@ -11,6 +11,8 @@ ghost use Rattle.simulate_command.specs.Promise.{SimulatePromise};
 /// A run whose answer, where it is settled, is that of the command's dialogue over the files keeps the promise of `simulate`.
 pub fn simulate_promised()
     ensures { (files : Files) (names : SimulateNames) (old new : Option (List ℕ)) (result : Status)
-        → (IsSettled result → Answered (IsSimulateAnswer names.start names.count) files (check_dialogue names.check) old new result)
+        → (IsSettled result
+        → Answered (IsSimulateAnswer names.start names.count) files (check_dialogue names.check)
+        old new result)
         → SimulatePromise files names old new result }
 {}

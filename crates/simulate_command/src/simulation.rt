@@ -51,7 +51,9 @@ fn budget_of(net: &Net, rounds: &Rounds, entries: &[Entry]) -> u64
     requires rounds { length rounds.now ≤ 4200 }
     requires changes { sum_by length rounds.now ≤ 2200000 }
     requires entries { length entries.now ≤ 1000 }
-    ensures is { result ≡ length entries.now * (switch_count net.now + 1) + sum_by length rounds.now + 2 * length rounds.now }
+    ensures is { result
+        ≡ length entries.now * (switch_count net.now + 1) + sum_by length rounds.now + 2 * length
+        rounds.now }
     ensures few { result ≤ 4000000 }
 {
     let visits = entries.len() as u64 * (u64::from(net.switches()) + 1);
@@ -70,8 +72,10 @@ fn driven_by<'a>(
     requires changes { sum_by length world.rounds ≤ 2200000 }
     requires entries { AreEntries world.net entries.now }
     requires few { length entries.now ≤ 1000 }
-    ensures run { IfOk result (λ d. IsRunFrom world.entry (Names start) entries.now d.events d.world) }
-    ensures within { IfOk result (λ d. length d.events ≤ full_budget (update_of world.entry) entries.now) }
+    ensures run { IfOk result
+        (λ d. IsRunFrom world.entry (Names start) entries.now d.events d.world) }
+    ensures within { IfOk result
+        (λ d. length d.events ≤ full_budget (update_of world.entry) entries.now) }
     ensures short { IfOk result (λ d. length d.events ≤ 4000000) }
     ensures lines { IfOk result (λ d. AllByRecursion (HasLine world.entry.net) d.events) }
     ensures over { IfOk result (λ d. IsOverAfter world.entry entries.now d.events) }
@@ -102,7 +106,8 @@ pub fn simulation_text(
     requires certified { IsCertified (task_for (meaning_of files.now) plan.now) plan.now.evidence }
     requires classes { classes.now ≡ classes_for (task_for (meaning_of files.now) plan.now) }
     requires few { count ≤ 1000 }
-    ensures { IfOk result (λ t. IsRecord start count (task_for (meaning_of files.now) plan.now) t.items) }
+    ensures { IfOk result
+        (λ t. IsRecord start count (task_for (meaning_of files.now) plan.now) t.items) }
 {
     certified_begins_safely(&files.net, &files.old, &files.new, &files.demands, plan);
     let entries = entries_of(alloc, classes, count)?;

@@ -33,7 +33,9 @@ fn judge_plan(
     requires valid { IsValidPlan files.now.net plan.now }
     requires fits { Fits (task_for (meaning_of files.now) plan.now) room.old }
     requires few { class_count (classes_for (task_for (meaning_of files.now) plan.now)) ≤ 8192 }
-    ensures { IfOk result (λ r. IsSimulateAnswer names.now.start names.now.count (record { update = meaning_of files.now; plan = plan.now }) (answer_of r)) }
+    ensures { IfOk result
+        (λ r. IsSimulateAnswer names.now.start names.now.count
+        (record { update = meaning_of files.now; plan = plan.now }) (answer_of r)) }
 {
     let verdict = plan_checker::check(
         &files.net,
@@ -67,7 +69,9 @@ pub fn simulation_verdict(
     requires old { IsUserConfig files.now.net (rules_of_all files.now.old) }
     requires new { IsUserConfig files.now.net (rules_of_all files.now.new) }
     requires valid { IsValidPlan files.now.net plan.now }
-    ensures { IfOk result (λ r. IsSimulateAnswer names.now.start names.now.count (record { update = meaning_of files.now; plan = plan.now }) (answer_of r)) }
+    ensures { IfOk result
+        (λ r. IsSimulateAnswer names.now.start names.now.count
+        (record { update = meaning_of files.now; plan = plan.now }) (answer_of r)) }
 {
     match CheckRoom::make(
         alloc,

@@ -13,7 +13,9 @@ const MAX_COUNT: u64 = 1000;
 
 /// The names with the numbers that the two words spell.
 fn with_numbers<'a>(check: CheckNames<'a>, start: &str, count: &str) -> Option<SimulateNames<'a>>
-    ensures { option_map spelled.names_seen result ≡ spelled.with_numbers (files.names_seen check.entry) (decimal_in start.now 18446744073709551615) (decimal_in count.now 1000) }
+    ensures { option_map spelled.names_seen result
+        ≡ spelled.with_numbers (files.names_seen check.entry)
+        (decimal_in start.now 18446744073709551615) (decimal_in count.now 1000) }
 {
     let start = read_decimal(start, u64::MAX)?;
     let count = read_decimal(count, MAX_COUNT)?;

@@ -1,6 +1,6 @@
 -- What stands at the front of bytes stays there when more come.
-use Rattle.std.proofs.Common.{◌≡◌, ℕ, ◌+◌, ◌<◌, ◌≤◌, Bool, true, false, cond, ltb, ◌||◌, List, [], ◌∷◌, ◌++◌, length, refl, sym, ap, ◌∙◌, subst, ◌⊎◌, inl, inr, length-append, arith}
-use Rattle.std.proofs.lemmas.Bool.{ltb-true, ltb-false, lt-ltb, le-ltb, cases_Bool, cond-true, cond-false}
+use Rattle.std.proofs.Common.{◌≡◌, ℕ, ◌+◌, ◌<◌, ◌≤◌, Bool, true, false, cond, eqb, ltb, ◌||◌, List, [], ◌∷◌, ◌++◌, length, refl, sym, ap, ◌∙◌, subst, ◌⊎◌, inl, inr, length-append, arith}
+use Rattle.std.proofs.lemmas.Bool.{eqb-true, ltb-true, ltb-false, lt-ltb, le-ltb, cases_Bool, cond-true, cond-false}
 use Rattle.std.proofs.lemmas.List.{take_at}
 use Rattle.byteorder.specs.Endian.{big_from}
 use Rattle.byteorder.specs.Numbers.{big_from-take}
@@ -12,7 +12,7 @@ use Rattle.switch_session.specs.declared.fronts.Front.{Front}
 use Rattle.switch_session.specs.declared.fronts.Front.TheVariants.{Short, Fault, Message}
 
 -- a number in the first bytes
-number_at-front : (o n : ℕ) (x y : List ℕ) → o + n ≤ length x → number_at o n (x ++ y) ≡ number_at o n x
+pub number_at-front : (o n : ℕ) (x y : List ℕ) → o + n ≤ length x → number_at o n (x ++ y) ≡ number_at o n x
 unfolding number_at
 number_at-front o n x y h = sym (big_from-take o n (length x) (x ++ y) h) ∙ ap (big_from o n) (take_at x y (length x) refl)
 
@@ -136,6 +136,18 @@ at_least_header type said e =
     elim (cases_Bool (ltb said 8)) [
       | inl wrong ↦ absurd (let f : is_wrong_length type said ≡ true = rw wrong refl in cc)
       | inr right ↦ ltb-false said 8 right
+    ]
+
+-- a version that isn't wrong is 1, in a message of another type than HELLO
+pub right_version : (version type : ℕ) → is_wrong_version version type ≡ false → type ≡ 2 → version ≡ 1
+right_version version type e is =
+    let here : is_wrong_version version 2 ≡ false = subst (λ t. is_wrong_version version t ≡ false) is e in
+    elim (cases_Bool (eqb version 1)) [
+      | inl one ↦ eqb-true version 1 one
+      | inr other ↦ elim (cases_Bool (eqb version 0)) [
+        | inl zero ↦ absurd (let f : is_wrong_version version 2 ≡ true = rw zero refl in cc)
+        | inr some ↦ absurd (let f : is_wrong_version version 2 ≡ true = rw (some, other) refl in cc)
+      ]
     ]
 
 -- an error's is at least 12

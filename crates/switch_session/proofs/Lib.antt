@@ -1,3 +1,4 @@
 pub mod FrontLaws
 pub mod ByteLaws
 pub mod TalkLaws
+pub mod RequestLaws

@@ -1,7 +1,7 @@
 -- What holds of every channel.
-use Rattle.std.specs.Prelude.{◌≡◌, ◌⊎◌, ℕ, false, List, [], ◌++◌, take, drop, flat_map, None}
-use Rattle.std.specs.List.{AllByRecursion}
-use Rattle.switch_session.specs.Fronts.{front_of, type_in}
+use Rattle.std.specs.Prelude.{◌≡◌, ◌≤◌, ◌⊎◌, ℕ, ◌==◌, Bool, false, List, [], ◌++◌, length, take, drop, filter, flat_map, None}
+use Rattle.std.specs.List.{AllByRecursion, concat}
+use Rattle.switch_session.specs.Fronts.{front_of, version_in, type_in, length_in}
 use Rattle.switch_session.specs.Channels.{ChannelState, is_failed, failed, echo_reply, taken, after_bytes}
 use Rattle.switch_session.specs.declared.fronts.Front.{Front}
 use Rattle.switch_session.specs.declared.fronts.Front.TheVariants.{Short, Fault, Message}
@@ -19,13 +19,48 @@ TakesFront bytes channel (Fault c) = after_bytes bytes channel ≡ failed c chan
 TakesFront bytes channel (Message n) =
     after_bytes bytes channel ≡ after_bytes (drop n (channel.unread ++ bytes)) (taken (take n (channel.unread ++ bytes)) (record channel { unread = [] }))
 
--- an echo request
-abbrev pub IsEchoRequest : List ℕ → Type 0
-IsEchoRequest message = type_in message ≡ 2
+-- a whole message: at least a header, and as long as its length field says
+pub record IsWhole (message : List ℕ) : Type 0 where
+  pub header : 8 ≤ length message
+  pub size : length_in message ≡ length message
 
--- the most that bytes from a switch do to what the controller said: echo requests are answered, and maybe the outstanding barrier
-pub record OnlyReplies (before after : ChannelState) : Type 0 where
+-- an echo request: a whole message of version 1 and of type OFPT_ECHO_REQUEST (2)
+pub record IsEchoRequest (message : List ℕ) : Type 0 where
+  pub whole : IsWhole message
+  pub version : version_in message ≡ 1
+  pub echo : type_in message ≡ 2
+
+-- whether a message is of that type
+abbrev pub is_echo : List ℕ → Bool
+is_echo message = type_in message == 2
+
+-- bytes, cut from their front into whole messages; the rest stays
+pub record AreCut (bytes : List ℕ) (messages : List (List ℕ)) (rest : List ℕ) : Type 0 where
+  pub whole : AllByRecursion IsWhole messages
+  pub bytes_are : bytes ≡ concat messages ++ rest
+
+-- the echo requests among the messages in bytes that came on a channel, in their order: all of them where its session hasn't failed,
+-- so that the rest is what is unread; otherwise those of the messages before it failed
+pub record AreRequests (bytes : List ℕ) (channel : ChannelState) (requests : List (List ℕ)) : Type 0 where
+  pub messages : List (List ℕ)
+  pub rest : List ℕ
+  pub cut : AreCut bytes messages rest
+  pub left : is_failed channel.session ≡ false → rest ≡ channel.unread
+  pub requests_are : requests ≡ filter is_echo messages
+  pub each : AllByRecursion IsEchoRequest requests
+
+-- no whole message is left unread on a channel whose session hasn't failed
+abbrev pub ReadsAll : ChannelState → Type 0
+ReadsAll channel = is_failed channel.session ≡ false → front_of channel.unread ≡ Short
+
+-- the barrier that is outstanding is as before, or answered
+abbrev pub KeepsBarrier : ChannelState → ChannelState → Type 0
+KeepsBarrier before after = (after.outstanding ≡ before.outstanding) ⊎ (after.outstanding ≡ None)
+
+-- the most that bytes from a switch do to what the controller said: the echo requests in them and in the unread bytes before them are
+-- answered, each once and in their order, and maybe the outstanding barrier
+pub record OnlyReplies (bytes : List ℕ) (before after : ChannelState) : Type 0 where
   pub requests : List (List ℕ)
-  pub are_requests : AllByRecursion IsEchoRequest requests
+  pub came : AreRequests (before.unread ++ bytes) after requests
   pub sent : after.sent ≡ before.sent ++ flat_map echo_reply requests
-  pub outstanding : (after.outstanding ≡ before.outstanding) ⊎ (after.outstanding ≡ None)
+  pub barrier : KeepsBarrier before after

@@ -120,7 +120,8 @@ impl Talk {
     /// The first message comes.
     fn begin(&mut self, message: &[u8])
         requires header { 8 ≤ length message.now }
-        ensures state { channel_of self.new [] ≡ taken_by Session.Waiting message.now (channel_of self.old []) }
+        ensures state { channel_of self.new []
+            ≡ taken_by Session.Waiting message.now (channel_of self.old []) }
         ensures sent { self.new.sent ≡ self.old.sent }
     {
         if u8_at(message, 1) == HELLO {
@@ -178,7 +179,8 @@ impl Talk {
         requires room { vec_len self.old.sent + length bytes.now ≤ vec_capacity self.old.sent }
         ensures within { result ≤ length bytes.now }
         ensures short { front_of (drop result bytes.now) ≡ Short }
-        ensures state { after_bytes bytes.now (channel_of self.old []) ≡ channel_of self.new (drop result bytes.now) }
+        ensures state { after_bytes bytes.now (channel_of self.old [])
+            ≡ channel_of self.new (drop result bytes.now) }
     {
         let mut at = 0;
         while let Some(count) = self.take_front(&bytes[at..]) {

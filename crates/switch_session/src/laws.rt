@@ -16,7 +16,9 @@ pub fn messages_are_taken_from_the_front()
         → TakesFront bytes channel (front_of (channel.unread ++ bytes)) }
 {}
 
-/// Bytes from a switch make the controller send echo replies at most, and answer the outstanding barrier at most.
+/// Bytes from a switch make the controller reply to the echo requests in them, once each and in their order, until the session
+/// fails; and at most the outstanding barrier is answered. Nothing else is sent.
 pub fn bytes_are_only_replied_to()
-    ensures { (bytes : List ℕ) (channel : ChannelState) → OnlyReplies channel (after_bytes bytes channel) }
+    ensures { (bytes : List ℕ) (channel : ChannelState)
+        → OnlyReplies bytes channel (after_bytes bytes channel) }
 {}

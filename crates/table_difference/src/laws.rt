@@ -10,6 +10,8 @@ ghost use Rattle.update_model.specs.declared.Change.{Change};
 /// After one of the changes that remain has been made the others remain, in the same order. So a list of them need not be
 /// found anew after each change.
 pub fn others_remain()
-    ensures { (now new : List (List Rule)) → AllByRecursion IsTable now → AllByRecursion IsTable new → (front back : List Change) (c : Change)
-        → remaining now new ≡ front ++ c ∷ back → remaining (tables_after_change c now) new ≡ front ++ back }
+    ensures { (now new : List (List Rule)) → AllByRecursion IsTable now → AllByRecursion IsTable new
+        → (front back : List Change) (c : Change)
+        → remaining now new ≡ front ++ c ∷ back → remaining (tables_after_change c now) new ≡ front
+        ++ back }
 {}

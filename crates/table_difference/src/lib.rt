@@ -22,7 +22,8 @@ use update_model::Change;
 /// different actions is replaced by the new one. It sorts the rules of each switch.
 pub fn remaining(alloc: Global, now: &Config, new: &Config) -> Result<Vec<Change>, Memory>
     requires { length now.now < 2 ^ 32 }
-    ensures { IfOk result (λ changes. changes.items ≡ remaining (rules_of_all now.now) (rules_of_all new.now)) }
+    ensures { IfOk result
+        (λ changes. changes.items ≡ remaining (rules_of_all now.now) (rules_of_all new.now)) }
 {
     let mut changes = Vec::new(alloc);
     for number in 0..now.count().min(new.count()) {

@@ -37,7 +37,8 @@ fn next_step<'a>(switch: SwitchId, now: &'a [Rule], new: &'a [Rule]) -> Option<S
     requires now { AreAscending now.now }
     requires new { AreAscending new.now }
     ensures none { IfNone result ((now.now ≡ []) × (new.now ≡ [])) }
-    ensures some { IfSome result (λ step. IsStep switch now.now new.now step.change step.now.now step.new.now) }
+    ensures some { IfSome result
+        (λ step. IsStep switch now.now new.now step.change step.now.now step.new.now) }
 {
     match (now.split_first(), new.split_first()) {
         (None, None) => None,
@@ -90,7 +91,8 @@ fn add_between<'a>(
 ) -> Result<(), Memory>
     requires now { AreAscending now.now }
     requires new { AreAscending new.now }
-    ensures { OnOk result (changes.new.items ≡ changes.old.items ++ changes_between switch now.now new.now) }
+    ensures { OnOk result
+        (changes.new.items ≡ changes.old.items ++ changes_between switch now.now new.now) }
 {
     let mut now = now;
     let mut new = new;
@@ -120,7 +122,9 @@ pub fn add_differences(
     now: &Table,
     new: &Table,
 ) -> Result<(), Memory>
-    ensures { OnOk result (changes.new.items ≡ changes.old.items ++ changes_between switch now.now.rules new.now.rules) }
+    ensures { OnOk result
+        (changes.new.items ≡ changes.old.items
+        ++ changes_between switch now.now.rules new.now.rules) }
 {
     let alloc = *changes.allocator();
     let now_rules = sorted_rules(alloc, now)?;

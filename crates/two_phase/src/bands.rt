@@ -32,7 +32,10 @@ fn add_tagged_copies(
     new: &Rule,
 ) -> Result<(), Memory>
     requires { new.now.key.priority ≤ 16383 }
-    ensures { OnOk result (rules.new.items ≡ rules.old.items ++ cond (is_host_bound net.now s new.now) [] (flat_map (tagged_copy net.now s new.now) tags.now)) }
+    ensures { OnOk result
+        (rules.new.items ≡ rules.old.items
+        ++ cond (is_host_bound net.now s new.now) []
+        (flat_map (tagged_copy net.now s new.now) tags.now)) }
 {
     if is_host_bound(net, s, new) {
         return Ok(());
@@ -45,7 +48,9 @@ fn add_tagged_copies(
 
 /// Adds the default of each tag.
 fn add_tag_defaults(rules: &mut Vec<Rule>, tags: &[VlanTag]) -> Result<(), Memory>
-    ensures { OnOk result (rules.new.items ≡ rules.old.items ++ map (λ v. rule 16384 None (test.Id v.tag) every_address Discard) tags.now) }
+    ensures { OnOk result
+        (rules.new.items ≡ rules.old.items
+        ++ map (λ v. rule 16384 None (test.Id v.tag) every_address Discard) tags.now) }
 {
     for v in tags {
         rules.push(default_rule(TAGGED_BASE, None, VlanTest::Id(v.tag)))?;
@@ -96,7 +101,9 @@ fn add_ingress_copies(
     new: &Rule,
 ) -> Result<(), Memory>
     requires { new.now.key.priority ≤ 16383 }
-    ensures { OnOk result (rules.new.items ≡ rules.old.items ++ flat_map (ingress_copy net.now s host new.now) tags.now) }
+    ensures { OnOk result
+        (rules.new.items ≡ rules.old.items
+        ++ flat_map (ingress_copy net.now s host new.now) tags.now) }
 {
     if !admits_port(new.key.pattern.in_port, host) {
         return Ok(());
@@ -117,7 +124,9 @@ fn add_host_copies(
     new: &[Rule],
 ) -> Result<(), Memory>
     requires { AllByRecursion (λ r. r.key.priority ≤ 16383) new.now }
-    ensures { OnOk result (rules.new.items ≡ rules.old.items ++ flat_map (λ r. flat_map (ingress_copy net.now s host r) tags.now) new.now) }
+    ensures { OnOk result
+        (rules.new.items ≡ rules.old.items
+        ++ flat_map (λ r. flat_map (ingress_copy net.now s host r) tags.now) new.now) }
 {
     for rule in new {
         add_ingress_copies(rules, net, s, tags, host, rule)?;
@@ -127,7 +136,9 @@ fn add_host_copies(
 
 /// Adds the default of each host port.
 fn add_host_defaults(rules: &mut Vec<Rule>, hosts: &[Port]) -> Result<(), Memory>
-    ensures { OnOk result (rules.new.items ≡ rules.old.items ++ map (λ host. rule 32768 (Some host) test.Any every_address Discard) hosts.now) }
+    ensures { OnOk result
+        (rules.new.items ≡ rules.old.items
+        ++ map (λ host. rule 32768 (Some host) test.Any every_address Discard) hosts.now) }
 {
     for host in hosts {
         rules.push(default_rule(INGRESS_BASE, Some(*host), VlanTest::Any))?;

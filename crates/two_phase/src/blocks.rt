@@ -18,7 +18,8 @@ pub(crate) fn put_in_key_order(rules: &mut Vec<Rule>)
 /// The rules of one priority among rules in key order, where they stand together. It takes time by the logarithm of the
 /// number of rules.
 pub(crate) fn of_priority(rules: &[Rule], priority: u16) -> &[Rule]
-    ensures { (all : List Rule) → IsTable all → rules.now ≡ in_key_order all → result.now ≡ in_key_order (filter (λ r. r.key.priority == priority) all) }
+    ensures { (all : List Rule) → IsTable all → rules.now ≡ in_key_order all → result.now
+        ≡ in_key_order (filter (λ r. r.key.priority == priority) all) }
 {
     let end = rules.partition_point(|rule| priority <= rule.key.priority);
     let from = &rules[..end];

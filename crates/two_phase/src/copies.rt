@@ -136,7 +136,8 @@ pub(crate) fn add_tagged_copy(
     v: &VlanTag,
 ) -> Result<(), Memory>
     requires { new.now.key.priority ≤ 16383 }
-    ensures { OnOk result (rules.new.items ≡ rules.old.items ++ tagged_copy net.now s new.now v.now) }
+    ensures { OnOk result
+        (rules.new.items ≡ rules.old.items ++ tagged_copy net.now s new.now v.now) }
 {
     let pattern = &new.key.pattern;
     if admits_vlan(pattern.vlan, v.user) {
@@ -162,7 +163,8 @@ pub(crate) fn add_ingress_copy(
 ) -> Result<(), Memory>
     requires priority { new.now.key.priority ≤ 16383 }
     requires port { IsTrue (admits_port new.now.key.pattern.in_port host) }
-    ensures { OnOk result (rules.new.items ≡ rules.old.items ++ ingress_copy net.now s host new.now v.now) }
+    ensures { OnOk result
+        (rules.new.items ≡ rules.old.items ++ ingress_copy net.now s host new.now v.now) }
 {
     let pattern = &new.key.pattern;
     if admits_vlan(pattern.vlan, v.user) {

@@ -22,7 +22,9 @@ fn vlan_place(vlan: Vlan) -> u32
 
 /// Adds the labels of a declared VLAN and of its tag.
 fn add_labels(list: &mut Vec<Label>, user: Vlan, tag: u16, version: bool) -> Result<(), Memory>
-    ensures { OnOk result (list.new.items ≡ list.old.items ++ (label user version user ∷ label (vlan.Id tag) true user ∷ [])) }
+    ensures { OnOk result
+        (list.new.items ≡ list.old.items
+        ++ (label user version user ∷ label (vlan.Id tag) true user ∷ [])) }
 {
     list.push(Label {
         vlan: user,
@@ -41,7 +43,10 @@ fn add_labels(list: &mut Vec<Label>, user: Vlan, tag: u16, version: bool) -> Res
 fn list_labels(alloc: Global, net: &Net, tags: &TagMap, version: bool) -> Result<Vec<Label>, Memory>
     requires tags { tags.now ≡ map (λ t. t.tag) (tags_of net.now) }
     requires enough { length net.now.vlans ≤ length (available_tags net.now) }
-    ensures { IfOk result (λ list. list.items ≡ flat_map (λ v. label v.user version v.user ∷ label (vlan.Id v.tag) true v.user ∷ []) (tags_of net.now)) }
+    ensures { IfOk result
+        (λ list. list.items
+        ≡ flat_map (λ v. label v.user version v.user ∷ label (vlan.Id v.tag) true v.user ∷ [])
+        (tags_of net.now)) }
 {
     net.keeps_rules();
     let mut list = Vec::new(alloc);
@@ -111,7 +116,9 @@ pub(crate) fn make_label_tables(
 /// round for the tagged rules and one for each rank.
 pub(crate) fn make_label_picks(alloc: Global, ranks: usize) -> Result<LabelPicks, Memory>
     requires { ranks ≤ 2049 }
-    ensures { IfOk result (λ picks. picks ≡ record { round = 1; labels = 0 } ∷ record { round = ranks + 2; labels = 1 } ∷ []) }
+    ensures { IfOk result
+        (λ picks. picks
+        ≡ record { round = 1; labels = 0 } ∷ record { round = ranks + 2; labels = 1 } ∷ []) }
 {
     let mut picks = LabelPicks::make(alloc)?;
     picks.add(LabelPick {

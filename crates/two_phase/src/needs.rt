@@ -25,7 +25,9 @@ fn count_vlans(net: &Net, test: VlanTest) -> u64
 
 /// How many tagged copies a new rule has.
 fn count_copies(net: &Net, s: SwitchId, rule: &Rule) -> u64
-    ensures value { result ≡ cond (is_host_bound net.now s rule.now) 0 (count_by (admits_vlan rule.now.key.pattern.vlan) net.now.vlans) }
+    ensures value { result
+        ≡ cond (is_host_bound net.now s rule.now) 0
+        (count_by (admits_vlan rule.now.key.pattern.vlan) net.now.vlans) }
     ensures few { result ≤ 64 }
 {
     if is_host_bound(net, s, rule) {
@@ -50,7 +52,9 @@ fn count_tagged(net: &Net, s: SwitchId, rules: &[Rule]) -> u64
 
 /// How many ingress copies a new rule has at a host port.
 fn count_entering(net: &Net, host: Port, rule: &Rule) -> u64
-    ensures value { result ≡ cond (admits_port rule.now.key.pattern.in_port host) (count_by (admits_vlan rule.now.key.pattern.vlan) net.now.vlans) 0 }
+    ensures value { result
+        ≡ cond (admits_port rule.now.key.pattern.in_port host)
+        (count_by (admits_vlan rule.now.key.pattern.vlan) net.now.vlans) 0 }
     ensures few { result ≤ 64 }
 {
     if !admits_port(rule.key.pattern.in_port, host) {
@@ -62,7 +66,10 @@ fn count_entering(net: &Net, host: Port, rule: &Rule) -> u64
 /// How many ingress copies the new rules have at a host port.
 fn count_at_host(net: &Net, host: Port, rules: &[Rule]) -> u64
     requires { length rules.now ≤ 8192 }
-    ensures value { result ≡ sum_by (λ r. cond (admits_port r.key.pattern.in_port host) (count_by (admits_vlan r.key.pattern.vlan) net.now.vlans) 0) rules.now }
+    ensures value { result
+        ≡ sum_by
+        (λ r. cond (admits_port r.key.pattern.in_port host)
+        (count_by (admits_vlan r.key.pattern.vlan) net.now.vlans) 0) rules.now }
     ensures few { result ≤ 64 * 8192 }
 {
     let mut count = 0;

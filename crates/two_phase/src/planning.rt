@@ -62,7 +62,8 @@ impl From<Memory> for TwoFault {
 fn allot_tags(alloc: Global, net: &Net) -> Result<TagMap, TwoFault>
     ensures tags { IfOk result (λ tags. tags ≡ map (λ t. t.tag) (tags_of net.now)) }
     ensures enough { IfOk result (λ _. length net.now.vlans ≤ length (available_tags net.now)) }
-    ensures cause { IfErr result (λ e. (old new : List (List Rule)) → IsTwoCause net.now old new e) }
+    ensures cause { IfErr result
+        (λ e. (old new : List (List Rule)) → IsTwoCause net.now old new e) }
 {
     match allot(alloc, net) {
         Ok(tags) => Ok(tags),
@@ -76,8 +77,10 @@ fn check_room(net: &Net, old: &Config, new: &Config) -> Result<(), TwoFault>
     requires old { IsUserConfig net.now (rules_of_all old.now) }
     requires new { IsUserConfig net.now (rules_of_all new.now) }
     requires tags { length net.now.vlans ≤ length (available_tags net.now) }
-    ensures fits { OnOk result (FitsTwoPhase net.now (rules_of_all old.now) (rules_of_all new.now)) }
-    ensures cause { IfErr result (IsTwoCause net.now (rules_of_all old.now) (rules_of_all new.now)) }
+    ensures fits { OnOk result
+        (FitsTwoPhase net.now (rules_of_all old.now) (rules_of_all new.now)) }
+    ensures cause { IfErr result
+        (IsTwoCause net.now (rules_of_all old.now) (rules_of_all new.now)) }
 {
     for number in 0..net.switches() {
         let switch = SwitchId(number);
@@ -117,7 +120,9 @@ fn make_evidence(
     requires enough { length net.now.vlans ≤ length (available_tags net.now) }
     requires few { ranks ≤ 2049 }
     ensures labels { IfOk result (λ e. e.labels ≡ label_tables net.now) }
-    ensures picks { IfOk result (λ e. e.picks ≡ record { round = 1; labels = 0 } ∷ record { round = ranks + 2; labels = 1 } ∷ []) }
+    ensures picks { IfOk result
+        (λ e. e.picks
+        ≡ record { round = 1; labels = 0 } ∷ record { round = ranks + 2; labels = 1 } ∷ []) }
     ensures tried { IfOk result (λ e. e.tried ≡ tried.now) }
 {
     let labels = make_label_tables(alloc, net, tags)?;
@@ -142,7 +147,8 @@ fn make_plan(
     requires new { IsUserConfig net.now (rules_of_all new.now) }
     requires tags { tags.now ≡ map (λ t. t.tag) (tags_of net.now) }
     requires fits { FitsTwoPhase net.now (rules_of_all old.now) (rules_of_all new.now) }
-    ensures { IfOk result (λ p. p ≡ two_phase_plan net.now (rules_of_all old.now) (rules_of_all new.now) tried.now) }
+    ensures { IfOk result
+        (λ p. p ≡ two_phase_plan net.now (rules_of_all old.now) (rules_of_all new.now) tried.now) }
 {
     let (rounds, ranks) = make_rounds(alloc, net, old, new, tags)?;
     match make_evidence(alloc, net, tags, ranks, tried) {
@@ -170,9 +176,12 @@ fn plan_in_room(
     requires new { IsUserConfig net.now (rules_of_all new.now) }
     requires tags { tags.now ≡ map (λ t. t.tag) (tags_of net.now) }
     requires enough { length net.now.vlans ≤ length (available_tags net.now) }
-    ensures plan { IfOk result (λ p. p ≡ two_phase_plan net.now (rules_of_all old.now) (rules_of_all new.now) tried.now) }
-    ensures fits { IfOk result (λ _. FitsTwoPhase net.now (rules_of_all old.now) (rules_of_all new.now)) }
-    ensures cause { IfErr result (IsTwoCause net.now (rules_of_all old.now) (rules_of_all new.now)) }
+    ensures plan { IfOk result
+        (λ p. p ≡ two_phase_plan net.now (rules_of_all old.now) (rules_of_all new.now) tried.now) }
+    ensures fits { IfOk result
+        (λ _. FitsTwoPhase net.now (rules_of_all old.now) (rules_of_all new.now)) }
+    ensures cause { IfErr result
+        (IsTwoCause net.now (rules_of_all old.now) (rules_of_all new.now)) }
 {
     check_room(net, old, new)?;
     Ok(make_plan(alloc, net, old, new, tags, tried)?)
@@ -196,13 +205,19 @@ pub fn two_phase(
     requires old { IsUserConfig net.now (rules_of_all old.now) }
     requires new { IsUserConfig net.now (rules_of_all new.now) }
     requires tried { AreTried net.now tried.now }
-    ensures plan { IfOk result (λ p. p ≡ two_phase_plan net.now (rules_of_all old.now) (rules_of_all new.now) tried.now) }
-    ensures fits { IfOk result (λ _. FitsTwoPhase net.now (rules_of_all old.now) (rules_of_all new.now)) }
+    ensures plan { IfOk result
+        (λ p. p ≡ two_phase_plan net.now (rules_of_all old.now) (rules_of_all new.now) tried.now) }
+    ensures fits { IfOk result
+        (λ _. FitsTwoPhase net.now (rules_of_all old.now) (rules_of_all new.now)) }
     ensures valid { IfOk result (IsValidPlan net.now) }
-    ensures certified { IfOk result (IsCertifiedTwoPhase net.now (rules_of_all old.now) (rules_of_all new.now)) }
-    ensures classes { (demands : List DemandView) → HasSameClasses (classes_for (two_phase_task net.now (rules_of_all old.now) (rules_of_all new.now) demands))
+    ensures certified { IfOk result
+        (IsCertifiedTwoPhase net.now (rules_of_all old.now) (rules_of_all new.now)) }
+    ensures classes { (demands : List DemandView)
+        → HasSameClasses
+        (classes_for (two_phase_task net.now (rules_of_all old.now) (rules_of_all new.now) demands))
         (classes_before net.now (rules_of_all old.now) (rules_of_all new.now) demands) }
-    ensures cause { IfErr result (IsTwoCause net.now (rules_of_all old.now) (rules_of_all new.now)) }
+    ensures cause { IfErr result
+        (IsTwoCause net.now (rules_of_all old.now) (rules_of_all new.now)) }
 {
     net.keeps_rules();
     rounds_make_no_classes(net, old, new);

@@ -31,7 +31,9 @@ fn band_at(
     requires new { IsUserConfig net.now (rules_of_all new.now) }
     requires tags { tags.now ≡ tags_of net.now }
     requires enough { length net.now.vlans ≤ length (available_tags net.now) }
-    ensures { IfOk result (λ v. v.items ≡ in_key_order (band_rules band net.now s (rules_at (rules_of_all new.now) s))) }
+    ensures { IfOk result
+        (λ v. v.items
+        ≡ in_key_order (band_rules band net.now s (rules_at (rules_of_all new.now) s))) }
 {
     net.keeps_rules();
     let table = new.table(s);
@@ -51,7 +53,8 @@ pub(crate) fn make_band(
     requires new { IsUserConfig net.now (rules_of_all new.now) }
     requires tags { tags.now ≡ tags_of net.now }
     requires enough { length net.now.vlans ≤ length (available_tags net.now) }
-    ensures ordered { IfOk result (AreOrdered net.now (λ s. band_rules band net.now s (rules_at (rules_of_all new.now) s))) }
+    ensures ordered { IfOk result
+        (AreOrdered net.now (λ s. band_rules band net.now s (rules_at (rules_of_all new.now) s))) }
     ensures count { IfOk result (λ all. length all ≡ switch_count net.now) }
 {
     net.keeps_rules();
@@ -64,7 +67,9 @@ pub(crate) fn make_band(
 
 /// The ranks: the priorities of ingress rules, that of the defaults in any case, ascending and each once.
 pub(crate) fn ranks_of(ingress: &SwitchRules) -> Result<Vec<u16>, Memory>
-    ensures { IfOk result (λ v. v.items ≡ ascending (32768 ∷ flat_map (λ rules. map (λ r. r.key.priority) rules) ingress.now)) }
+    ensures { IfOk result
+        (λ v. v.items
+        ≡ ascending (32768 ∷ flat_map (λ rules. map (λ r. r.key.priority) rules) ingress.now)) }
 {
     let mut ranks = ingress.priorities(INGRESS_BASE)?;
     ranks.sort_unstable();

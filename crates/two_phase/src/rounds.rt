@@ -46,7 +46,8 @@ fn add_rank_rounds(
 ) -> Result<(), Memory>
     requires { length ingress.now ≡ switch_count net.now }
     ensures { (rules : SwitchId → List Rule) → AreOrdered net.now rules ingress.now
-        → OnOk result (rounds.new ≡ rounds.old ++ map (by_rank net.now (change_by step) rules) ranks.now) }
+        → OnOk result
+        (rounds.new ≡ rounds.old ++ map (by_rank net.now (change_by step) rules) ranks.now) }
 {
     for rank in ranks {
         rounds.push_round(ingress.round_of(alloc, net, step, *rank)?)?;
@@ -82,7 +83,9 @@ fn others(alloc: Global, changes: &[Change]) -> Result<Vec<Change>, Memory>
 
 /// Adds a round of what deletes and replaces rules, and then one of what inserts them.
 fn add_halves(alloc: Global, rounds: &mut Rounds, changes: &[Change]) -> Result<(), Memory>
-    ensures { OnOk result (rounds.new ≡ rounds.old ++ filter (λ c. not (is_insert c)) changes.now ∷ filter is_insert changes.now ∷ []) }
+    ensures { OnOk result
+        (rounds.new ≡ rounds.old
+        ++ filter (λ c. not (is_insert c)) changes.now ∷ filter is_insert changes.now ∷ []) }
 {
     rounds.push_round(others(alloc, changes)?)?;
     rounds.push_round(inserts(alloc, changes)?)?;
@@ -98,7 +101,9 @@ fn add_exchange(
 ) -> Result<(), Memory>
     requires { length old.now < 2 ^ 32 }
     ensures { OnOk result (rounds.new ≡ rounds.old
-        ++ filter (λ c. not (is_insert c)) (remaining (rules_of_all old.now) (rules_of_all new.now)) ∷ filter is_insert (remaining (rules_of_all old.now) (rules_of_all new.now)) ∷ []) }
+        ++ filter (λ c. not (is_insert c))
+        (remaining (rules_of_all old.now) (rules_of_all new.now)) ∷ filter is_insert
+        (remaining (rules_of_all old.now) (rules_of_all new.now)) ∷ []) }
 {
     let changes = remaining(alloc, old, new)?;
     let added = add_halves(alloc, rounds, &changes);
@@ -115,7 +120,8 @@ fn add_round(
     lists: &SwitchRules,
 ) -> Result<(), Memory>
     requires { length lists.now ≡ switch_count net.now }
-    ensures { (rules : SwitchId → List Rule) → AreOrdered net.now rules lists.now → OnOk result (rounds.new ≡ rounds.old ++ (by_switch net.now (change_by step) rules ∷ [])) }
+    ensures { (rules : SwitchId → List Rule) → AreOrdered net.now rules lists.now
+        → OnOk result (rounds.new ≡ rounds.old ++ (by_switch net.now (change_by step) rules ∷ [])) }
 {
     rounds.push_round(lists.round(alloc, net, step)?)?;
     Ok(())
@@ -132,8 +138,11 @@ fn add_laying(
 ) -> Result<(), Memory>
     requires tagged { length tagged.now ≡ switch_count net.now }
     requires ingress { length ingress.now ≡ switch_count net.now }
-    ensures { (first rest : SwitchId → List Rule) → AreOrdered net.now first tagged.now → AreOrdered net.now rest ingress.now
-        → OnOk result (rounds.new ≡ rounds.old ++ (by_switch net.now Insert first ∷ []) ++ map (by_rank net.now Insert rest) (reverse ranks.now)) }
+    ensures { (first rest : SwitchId → List Rule) → AreOrdered net.now first tagged.now
+        → AreOrdered net.now rest ingress.now
+        → OnOk result
+        (rounds.new ≡ rounds.old ++ (by_switch net.now Insert first ∷ [])
+        ++ map (by_rank net.now Insert rest) (reverse ranks.now)) }
 {
     add_round(alloc, rounds, net, Step::Lay, tagged)?;
     let falling = reversed(alloc, ranks)?;
@@ -153,8 +162,11 @@ fn add_taking(
 ) -> Result<(), Memory>
     requires tagged { length tagged.now ≡ switch_count net.now }
     requires ingress { length ingress.now ≡ switch_count net.now }
-    ensures { (first rest : SwitchId → List Rule) → AreOrdered net.now first tagged.now → AreOrdered net.now rest ingress.now
-        → OnOk result (rounds.new ≡ rounds.old ++ map (by_rank net.now Delete rest) ranks.now ++ (by_switch net.now Delete first ∷ [])) }
+    ensures { (first rest : SwitchId → List Rule) → AreOrdered net.now first tagged.now
+        → AreOrdered net.now rest ingress.now
+        → OnOk result
+        (rounds.new ≡ rounds.old ++ map (by_rank net.now Delete rest) ranks.now
+        ++ (by_switch net.now Delete first ∷ [])) }
 {
     add_rank_rounds(alloc, rounds, net, Step::Take, ingress, ranks)?;
     add_round(alloc, rounds, net, Step::Take, tagged)
@@ -173,10 +185,13 @@ fn rounds_from_ranks(
     requires few { length old.now < 2 ^ 32 }
     requires tagged_count { length tagged.now ≡ switch_count net.now }
     requires ingress_count { length ingress.now ≡ switch_count net.now }
-    requires tagged { AreOrdered net.now (λ s. tagged_rules net.now s (rules_at (rules_of_all new.now) s)) tagged.now }
-    requires ingress { AreOrdered net.now (λ s. ingress_rules net.now s (rules_at (rules_of_all new.now) s)) ingress.now }
+    requires tagged { AreOrdered net.now
+        (λ s. tagged_rules net.now s (rules_at (rules_of_all new.now) s)) tagged.now }
+    requires ingress { AreOrdered net.now
+        (λ s. ingress_rules net.now s (rules_at (rules_of_all new.now) s)) ingress.now }
     requires ranks { rising.now ≡ ranks net.now (rules_of_all new.now) }
-    ensures { IfOk result (λ r. r ≡ two_phase_rounds net.now (rules_of_all old.now) (rules_of_all new.now)) }
+    ensures { IfOk result
+        (λ r. r ≡ two_phase_rounds net.now (rules_of_all old.now) (rules_of_all new.now)) }
 {
     let mut rounds = Rounds::make(alloc)?;
     add_laying(alloc, &mut rounds, net, tagged, ingress, rising)?;
@@ -197,9 +212,12 @@ fn rounds_from_bands(
     requires few { length old.now < 2 ^ 32 }
     requires tagged_count { length tagged.now ≡ switch_count net.now }
     requires ingress_count { length ingress.now ≡ switch_count net.now }
-    requires tagged { AreOrdered net.now (λ s. tagged_rules net.now s (rules_at (rules_of_all new.now) s)) tagged.now }
-    requires ingress { AreOrdered net.now (λ s. ingress_rules net.now s (rules_at (rules_of_all new.now) s)) ingress.now }
-    ensures rounds { IfOk result (λ r. r.0 ≡ two_phase_rounds net.now (rules_of_all old.now) (rules_of_all new.now)) }
+    requires tagged { AreOrdered net.now
+        (λ s. tagged_rules net.now s (rules_at (rules_of_all new.now) s)) tagged.now }
+    requires ingress { AreOrdered net.now
+        (λ s. ingress_rules net.now s (rules_at (rules_of_all new.now) s)) ingress.now }
+    ensures rounds { IfOk result
+        (λ r. r.0 ≡ two_phase_rounds net.now (rules_of_all old.now) (rules_of_all new.now)) }
     ensures ranks { IfOk result (λ r. r.1 ≡ length (ranks net.now (rules_of_all new.now))) }
 {
     let rising = ranks_of(ingress)?;
@@ -221,7 +239,8 @@ pub(crate) fn make_rounds(
     requires new { IsUserConfig net.now (rules_of_all new.now) }
     requires tags { tags.now ≡ map (λ t. t.tag) (tags_of net.now) }
     requires fits { FitsTwoPhase net.now (rules_of_all old.now) (rules_of_all new.now) }
-    ensures rounds { IfOk result (λ r. r.0 ≡ two_phase_rounds net.now (rules_of_all old.now) (rules_of_all new.now)) }
+    ensures rounds { IfOk result
+        (λ r. r.0 ≡ two_phase_rounds net.now (rules_of_all old.now) (rules_of_all new.now)) }
     ensures ranks { IfOk result (λ r. r.1 ≡ length (ranks net.now (rules_of_all new.now))) }
 {
     net.keeps_rules();

@@ -65,7 +65,8 @@ impl SwitchRules {
 
     /// All priorities of the rules, with repetitions, and one more before them.
     pub(crate) fn priorities(&self, first: u16) -> Result<Vec<u16>, Memory>
-        ensures { IfOk result (λ v. v.items ≡ first ∷ flat_map (λ rules. map (λ r. r.key.priority) rules) self.now) }
+        ensures { IfOk result
+            (λ v. v.items ≡ first ∷ flat_map (λ rules. map (λ r. r.key.priority) rules) self.now) }
     {
         let mut priorities = Vec::new(*self.lists.allocator());
         priorities.push(first)?;
@@ -78,7 +79,8 @@ impl SwitchRules {
 
 /// Adds the priorities of rules.
 fn add_priorities(priorities: &mut Vec<u16>, rules: &[Rule]) -> Result<(), Memory>
-    ensures { OnOk result (priorities.new.items ≡ priorities.old.items ++ map (λ r. r.key.priority) rules.now) }
+    ensures { OnOk result
+        (priorities.new.items ≡ priorities.old.items ++ map (λ r. r.key.priority) rules.now) }
 {
     for rule in rules {
         priorities.push(rule.key.priority)?;
@@ -115,7 +117,8 @@ impl SwitchRules {
     /// The round that lays all rules, or takes them away, by switch and then in key order.
     pub(crate) fn round(&self, alloc: Global, net: &Net, step: Step) -> Result<Vec<Change>, Memory>
         requires { length self.now ≡ switch_count net.now }
-        ensures { (rules : SwitchId → List Rule) → AreOrdered net.now rules self.now → IfOk result (λ v. v.items ≡ by_switch net.now (change_by step) rules) }
+        ensures { (rules : SwitchId → List Rule) → AreOrdered net.now rules self.now
+            → IfOk result (λ v. v.items ≡ by_switch net.now (change_by step) rules) }
     {
         let mut round = Vec::new(alloc);
         for number in 0..net.switches() {
@@ -136,7 +139,10 @@ impl SwitchRules {
     ) -> Result<Vec<Change>, Memory>
         requires { length self.now ≡ switch_count net.now }
         ensures { (rules : SwitchId → List Rule) → AreOrdered net.now rules self.now
-            → IfOk result (λ v. v.items ≡ by_switch net.now (change_by step) (λ s. filter (λ r. r.key.priority == priority) (rules s))) }
+            → IfOk result
+            (λ v. v.items
+            ≡ by_switch net.now (change_by step)
+            (λ s. filter (λ r. r.key.priority == priority) (rules s))) }
     {
         let mut round = Vec::new(alloc);
         for number in 0..net.switches() {

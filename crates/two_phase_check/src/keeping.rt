@@ -86,7 +86,8 @@ fn is_known(known: &[Option<KeptPlace>], kept: KeptPlace) -> bool
 
 /// Puts a place into its slot, instead of the one that is known there.
 fn note(known: &mut [Option<KeptPlace>], kept: KeptPlace)
-    ensures { (t : Task) (k : ℕ) → AreKept t k known.old → KeepsFrom t k kept → AreKept t k known.new }
+    ensures { (t : Task) (k : ℕ) → AreKept t k known.old → KeepsFrom t k kept
+        → AreKept t k known.new }
 {
     let slot = slot_of(kept);
     if slot < known.len() {
@@ -129,7 +130,8 @@ pub(crate) fn keeps_way(
     requires switch { place.switch.0 < switch_count round.now.task.update.net }
     requires room { 8192 < length room.old.list + room.old.spare }
     requires known { AreKept round.now.task round.now.number known.old }
-    ensures keeps { result ≡ true → KeepsFrom round.now.task round.now.number (record { way = way; place = place }) }
+    ensures keeps { result ≡ true
+        → KeepsFrom round.now.task round.now.number (record { way = way; place = place }) }
     ensures room { 8192 < length room.new.list + room.new.spare }
     ensures known { AreKept round.now.task round.now.number known.new }
 {

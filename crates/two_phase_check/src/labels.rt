@@ -95,7 +95,8 @@ fn are_declared(net: &Net, labels: &[Label]) -> bool
 fn begun_by(picks: &[LabelPick], known: usize, round: usize) -> usize
     requires within { known ≤ length picks.now }
     requires ascending { IsChain (λ p q. p.round < q.round) picks.now }
-    requires known { (i : ℕ) (pick : LabelPick) → slice_get picks.now i ≡ Some pick → i < known → pick.round ≤ round }
+    requires known { (i : ℕ) (pick : LabelPick) → slice_get picks.now i ≡ Some pick → i < known
+        → pick.round ≤ round }
     ensures begun { AreBegun picks.now round result }
     ensures more { known ≤ result }
 {

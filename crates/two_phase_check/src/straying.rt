@@ -65,14 +65,16 @@ pub(crate) fn find_outcomes(round: &RoundCase, place: Place, dst: u32, room: &mu
 
 /// Whether each outcome of a list is this one.
 fn are_all(list: &[Outcome], expected: Outcome) -> bool
-    ensures { MatchBool result (AllWithin (λ found. found ≡ expected) list.now 0 (length list.now)) ((i : ℕ) × (i < length list.now) × HoldsAt (λ found. found ≢ expected) list.now i) }
+    ensures { MatchBool result (AllWithin (λ found. found ≡ expected) list.now 0 (length list.now))
+        ((i : ℕ) × (i < length list.now) × HoldsAt (λ found. found ≢ expected) list.now i) }
 {
     list.iter().all(|found| *found == expected)
 }
 
 /// The tables of a version.
 pub(crate) fn tables_of<'a>(round: &RoundCase<'a>, new: bool) -> &'a Config
-    ensures rules { rules_of_all result.now ≡ tables_of (rollout round.now.task) round.now.task.update.new new }
+    ensures rules { rules_of_all result.now
+        ≡ tables_of (rollout round.now.task) round.now.task.update.new new }
     ensures count { length result.now ≡ switch_count round.now.task.update.net }
 {
     let case = round.case;
@@ -91,8 +93,10 @@ impl<'a> RoundCase<'a> {
     /// Whether a change of the round covers the address of the class with this number.
     pub(crate) fn is_touched(&self, classes: &ClassMap, number: u32) -> bool
         requires number { number < class_count classes.now }
-        requires touched { AreTouched classes.now (round_after self.now.number self.now.task.rounds) self.now.touched }
-        ensures { (class : Class) → IsClass classes.now number class → result ≡ touches (round_after self.now.number self.now.task.rounds) class.first }
+        requires touched { AreTouched classes.now (round_after self.now.number self.now.task.rounds)
+            self.now.touched }
+        ensures { (class : Class) → IsClass classes.now number class → result
+            ≡ touches (round_after self.now.number self.now.task.rounds) class.first }
     {
         self.touched.has(number % classes.atoms())
     }
@@ -125,7 +129,9 @@ pub(crate) fn stays(
 ) -> bool
     requires switch { place.switch.0 < switch_count round.now.task.update.net }
     requires room { 8192 < length room.old.list + room.old.spare }
-    ensures exact { MatchBool result (HasOutcomeAlone (rollout round.now.task) round.now.number dst place expected) (HasOtherOutcome (rollout round.now.task) round.now.number dst place expected) }
+    ensures exact { MatchBool result
+        (HasOutcomeAlone (rollout round.now.task) round.now.number dst place expected)
+        (HasOtherOutcome (rollout round.now.task) round.now.number dst place expected) }
     ensures room { 8192 < length room.new.list + room.new.spare }
 {
     find_outcomes(round, place, dst, room);
@@ -136,8 +142,10 @@ pub(crate) fn stays(
 pub(crate) fn outcome_at(round: &RoundCase, tables: &Config, place: Place, dst: u32) -> Outcome
     requires tables { length tables.now ≡ switch_count round.now.task.update.net }
     requires switch { place.switch.0 < switch_count round.now.task.update.net }
-    ensures value { result ≡ outcome_in round.now.task.update.net (rules_of_all tables.now) place dst }
-    ensures within { (next : Place) → result ≡ Go next → next.switch.0 < switch_count round.now.task.update.net }
+    ensures value { result
+        ≡ outcome_in round.now.task.update.net (rules_of_all tables.now) place dst }
+    ensures within { (next : Place) → result ≡ Go next
+        → next.switch.0 < switch_count round.now.task.update.net }
 {
     let case = round.case;
     case.net.keeps_rules();
@@ -168,8 +176,12 @@ pub(crate) fn first_stray(
     requires switch { first.switch.0 < switch_count round.now.task.update.net }
     requires soon { EndsSoon round.now.task.update.net (rules_of_all tables.now) dst first }
     requires room { 8192 < length room.old.list + room.old.spare }
-    ensures none { IfNone result (KeepsPath (rollout round.now.task) round.now.number dst (rules_of_all tables.now) first tag) }
-    ensures some { IfSome result (IsFirstStray (rollout round.now.task) round.now.number dst (rules_of_all tables.now) first tag) }
+    ensures none { IfNone result
+        (KeepsPath (rollout round.now.task) round.now.number dst (rules_of_all tables.now) first
+        tag) }
+    ensures some { IfSome result
+        (IsFirstStray (rollout round.now.task) round.now.number dst (rules_of_all tables.now) first
+        tag) }
     ensures room { 8192 < length room.new.list + room.new.spare }
 {
     let mut place = first;

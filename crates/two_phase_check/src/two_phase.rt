@@ -94,10 +94,13 @@ fn follow_version(
     known: &mut [Option<KeptPlace>],
 ) -> Follow
     requires entry { class.entry.switch.0 < switch_count round.now.task.update.net }
-    requires good { HasGoodPath round.now.task.update.net (tables_of (rollout round.now.task) round.now.task.update.new version) round.now.task.update.demands class.entry class.first }
+    requires good { HasGoodPath round.now.task.update.net
+        (tables_of (rollout round.now.task) round.now.task.update.new version)
+        round.now.task.update.demands class.entry class.first }
     requires room { 8192 < length room.old.list + room.old.spare }
     requires known { AreKept round.now.task round.now.number known.old }
-    ensures tells { Tells round.now.task round.now.number class round.now.labels version found result }
+    ensures tells { Tells round.now.task round.now.number class round.now.labels version found
+        result }
     ensures room { 8192 < length room.new.list + room.new.spare }
     ensures known { AreKept round.now.task round.now.number known.new }
 {
@@ -136,12 +139,16 @@ fn mixed_by(
     known: &mut [Option<KeptPlace>],
 ) -> Option<SwitchId>
     requires entry { class.entry.switch.0 < switch_count round.now.task.update.net }
-    requires old_good { HasGoodPath round.now.task.update.net round.now.task.update.old round.now.task.update.demands class.entry class.first }
-    requires new_good { HasGoodPath round.now.task.update.net round.now.task.update.new round.now.task.update.demands class.entry class.first }
+    requires old_good { HasGoodPath round.now.task.update.net round.now.task.update.old
+        round.now.task.update.demands class.entry class.first }
+    requires new_good { HasGoodPath round.now.task.update.net round.now.task.update.new
+        round.now.task.update.demands class.entry class.first }
     requires room { 8192 < length room.old.list + room.old.spare }
     requires known { AreKept round.now.task round.now.number known.old }
-    ensures none { IfNone result (IsKept round.now.task round.now.number class round.now.labels found) }
-    ensures some { IfSome result (IsLeastSwitch (MixesBy round.now.task round.now.number class round.now.labels found)) }
+    ensures none { IfNone result
+        (IsKept round.now.task round.now.number class round.now.labels found) }
+    ensures some { IfSome result
+        (IsLeastSwitch (MixesBy round.now.task round.now.number class round.now.labels found)) }
     ensures room { 8192 < length room.new.list + room.new.spare }
     ensures known { AreKept round.now.task round.now.number known.new }
 {
@@ -160,13 +167,17 @@ fn least_mixed(
     known: &mut [Option<KeptPlace>],
 ) -> Option<SwitchId>
     requires entry { class.entry.switch.0 < switch_count round.now.task.update.net }
-    requires old_good { HasGoodPath round.now.task.update.net round.now.task.update.old round.now.task.update.demands class.entry class.first }
-    requires new_good { HasGoodPath round.now.task.update.net round.now.task.update.new round.now.task.update.demands class.entry class.first }
+    requires old_good { HasGoodPath round.now.task.update.net round.now.task.update.old
+        round.now.task.update.demands class.entry class.first }
+    requires new_good { HasGoodPath round.now.task.update.net round.now.task.update.new
+        round.now.task.update.demands class.entry class.first }
     requires entry_room { 8192 < length at_entry.old.list + at_entry.old.spare }
     requires path_room { 8192 < length on_path.old.list + on_path.old.spare }
     requires known { AreKept round.now.task round.now.number known.old }
-    ensures none { IfNone result (KeepsVersions round.now.task round.now.number class round.now.labels) }
-    ensures some { IfSome result (IsLeastSwitch (MixesAt round.now.task round.now.number class round.now.labels)) }
+    ensures none { IfNone result
+        (KeepsVersions round.now.task round.now.number class round.now.labels) }
+    ensures some { IfSome result
+        (IsLeastSwitch (MixesAt round.now.task round.now.number class round.now.labels)) }
     ensures entry_room { 8192 < length at_entry.new.list + at_entry.new.spare }
     ensures path_room { 8192 < length on_path.new.list + on_path.new.spare }
     ensures known { AreKept round.now.task round.now.number known.new }
@@ -191,15 +202,21 @@ fn judge_class(
     known: &mut [Option<KeptPlace>],
 ) -> Option<SwitchId>
     requires entry { class.entry.switch.0 < switch_count round.now.task.update.net }
-    requires old_good { HasGoodPath round.now.task.update.net round.now.task.update.old round.now.task.update.demands class.entry class.first }
-    requires new_good { HasGoodPath round.now.task.update.net round.now.task.update.new round.now.task.update.demands class.entry class.first }
-    requires touched { touched ≡ touches (round_after round.now.number round.now.task.rounds) class.first }
-    requires stands { round.now.stands ≡ true → StandsUntouched round.now.task round.now.number class round.now.labels }
+    requires old_good { HasGoodPath round.now.task.update.net round.now.task.update.old
+        round.now.task.update.demands class.entry class.first }
+    requires new_good { HasGoodPath round.now.task.update.net round.now.task.update.new
+        round.now.task.update.demands class.entry class.first }
+    requires touched { touched
+        ≡ touches (round_after round.now.number round.now.task.rounds) class.first }
+    requires stands { round.now.stands ≡ true
+        → StandsUntouched round.now.task round.now.number class round.now.labels }
     requires entry_room { 8192 < length at_entry.old.list + at_entry.old.spare }
     requires path_room { 8192 < length on_path.old.list + on_path.old.spare }
     requires known { AreKept round.now.task round.now.number known.old }
-    ensures none { IfNone result (KeepsVersions round.now.task round.now.number class round.now.labels) }
-    ensures some { IfSome result (IsLeastSwitch (MixesAt round.now.task round.now.number class round.now.labels)) }
+    ensures none { IfNone result
+        (KeepsVersions round.now.task round.now.number class round.now.labels) }
+    ensures some { IfSome result
+        (IsLeastSwitch (MixesAt round.now.task round.now.number class round.now.labels)) }
     ensures entry_room { 8192 < length at_entry.new.list + at_entry.new.spare }
     ensures path_room { 8192 < length on_path.new.list + on_path.new.spare }
     ensures known { AreKept round.now.task round.now.number known.new }
@@ -219,15 +236,21 @@ fn first_mixed(
     known: &mut [Option<KeptPlace>],
 ) -> Option<MixedClass>
     requires hosts { classes.now.hosts ≡ round.now.task.update.net.hosts }
-    requires old_good { HasGoodPaths round.now.task.update.net round.now.task.update.old round.now.task.update.demands classes.now }
-    requires new_good { HasGoodPaths round.now.task.update.net round.now.task.update.new round.now.task.update.demands classes.now }
-    requires touched { AreTouched classes.now (round_after round.now.number round.now.task.rounds) round.now.touched }
-    requires stands { round.now.stands ≡ true → StandUntouched round.now.task round.now.number classes.now round.now.labels }
+    requires old_good { HasGoodPaths round.now.task.update.net round.now.task.update.old
+        round.now.task.update.demands classes.now }
+    requires new_good { HasGoodPaths round.now.task.update.net round.now.task.update.new
+        round.now.task.update.demands classes.now }
+    requires touched { AreTouched classes.now (round_after round.now.number round.now.task.rounds)
+        round.now.touched }
+    requires stands { round.now.stands ≡ true
+        → StandUntouched round.now.task round.now.number classes.now round.now.labels }
     requires entry_room { 8192 < length at_entry.old.list + at_entry.old.spare }
     requires path_room { 8192 < length on_path.old.list + on_path.old.spare }
     requires known { AreKept round.now.task round.now.number known.old }
-    ensures none { IfNone result (AllKeepVersions round.now.task round.now.number classes.now round.now.labels) }
-    ensures some { IfSome result (IsFirstMixed round.now.task round.now.number classes.now round.now.labels) }
+    ensures none { IfNone result
+        (AllKeepVersions round.now.task round.now.number classes.now round.now.labels) }
+    ensures some { IfSome result
+        (IsFirstMixed round.now.task round.now.number classes.now round.now.labels) }
     ensures entry_room { 8192 < length at_entry.new.list + at_entry.new.spare }
     ensures path_room { 8192 < length on_path.new.list + on_path.new.spare }
     ensures known { AreKept round.now.task round.now.number known.new }
@@ -266,14 +289,19 @@ fn all_keep(
     known: &mut [Option<KeptPlace>],
 ) -> bool
     requires hosts { classes.now.hosts ≡ round.now.task.update.net.hosts }
-    requires old_good { HasGoodPaths round.now.task.update.net round.now.task.update.old round.now.task.update.demands classes.now }
-    requires new_good { HasGoodPaths round.now.task.update.net round.now.task.update.new round.now.task.update.demands classes.now }
-    requires touched { AreTouched classes.now (round_after round.now.number round.now.task.rounds) round.now.touched }
-    requires stands { round.now.stands ≡ true → StandUntouched round.now.task round.now.number classes.now round.now.labels }
+    requires old_good { HasGoodPaths round.now.task.update.net round.now.task.update.old
+        round.now.task.update.demands classes.now }
+    requires new_good { HasGoodPaths round.now.task.update.net round.now.task.update.new
+        round.now.task.update.demands classes.now }
+    requires touched { AreTouched classes.now (round_after round.now.number round.now.task.rounds)
+        round.now.touched }
+    requires stands { round.now.stands ≡ true
+        → StandUntouched round.now.task round.now.number classes.now round.now.labels }
     requires entry_room { 8192 < length at_entry.old.list + at_entry.old.spare }
     requires path_room { 8192 < length on_path.old.list + on_path.old.spare }
     requires known { AreKept round.now.task round.now.number known.old }
-    ensures keep { result ≡ true → AllKeepVersions round.now.task round.now.number classes.now round.now.labels }
+    ensures keep { result ≡ true
+        → AllKeepVersions round.now.task round.now.number classes.now round.now.labels }
     ensures entry_room { 8192 < length at_entry.new.list + at_entry.new.spare }
     ensures path_room { 8192 < length on_path.new.list + on_path.new.spare }
     ensures known { AreKept round.now.task round.now.number known.new }
@@ -301,14 +329,20 @@ fn judge_classes(
     known: &mut [Option<KeptPlace>],
 ) -> Option<MixedClass>
     requires hosts { classes.now.hosts ≡ round.now.task.update.net.hosts }
-    requires old_good { HasGoodPaths round.now.task.update.net round.now.task.update.old round.now.task.update.demands classes.now }
-    requires new_good { HasGoodPaths round.now.task.update.net round.now.task.update.new round.now.task.update.demands classes.now }
-    requires touched { AreTouched classes.now (round_after round.now.number round.now.task.rounds) round.now.touched }
-    requires stands { round.now.stands ≡ true → StandUntouched round.now.task round.now.number classes.now round.now.labels }
+    requires old_good { HasGoodPaths round.now.task.update.net round.now.task.update.old
+        round.now.task.update.demands classes.now }
+    requires new_good { HasGoodPaths round.now.task.update.net round.now.task.update.new
+        round.now.task.update.demands classes.now }
+    requires touched { AreTouched classes.now (round_after round.now.number round.now.task.rounds)
+        round.now.touched }
+    requires stands { round.now.stands ≡ true
+        → StandUntouched round.now.task round.now.number classes.now round.now.labels }
     requires entry_room { 8192 < length at_entry.old.list + at_entry.old.spare }
     requires path_room { 8192 < length on_path.old.list + on_path.old.spare }
-    ensures none { IfNone result (AllKeepVersions round.now.task round.now.number classes.now round.now.labels) }
-    ensures some { IfSome result (IsFirstMixed round.now.task round.now.number classes.now round.now.labels) }
+    ensures none { IfNone result
+        (AllKeepVersions round.now.task round.now.number classes.now round.now.labels) }
+    ensures some { IfSome result
+        (IsFirstMixed round.now.task round.now.number classes.now round.now.labels) }
     ensures entry_room { 8192 < length at_entry.new.list + at_entry.new.spare }
     ensures path_room { 8192 < length on_path.new.list + on_path.new.spare }
 {
@@ -351,7 +385,8 @@ impl Model for TwoPhaseRoom {
 impl TwoPhaseRoom {
     /// Room for the rounds of a plan, before the first of them.
     pub fn make(alloc: Global) -> Result<TwoPhaseRoom, Memory>
-        ensures { IfOk result (λ room. (net : Network) (e : TwoPhaseEvidence) → LabelsStand net e 0 room) }
+        ensures { IfOk result
+            (λ room. (net : Network) (e : TwoPhaseEvidence) → LabelsStand net e 0 room) }
     {
         Ok(TwoPhaseRoom {
             at_entry: Outcomes::with_room(alloc, MOST_MARKS + 1)?,
@@ -384,13 +419,16 @@ impl TwoPhaseRoom {
         requires classes { classes.now ≡ classes_for case.now.task }
         requires loaded { AreLoaded (rollout case.now.task) k mixes.now }
         requires round { k < length case.now.task.rounds }
-        requires old_good { HasGoodPaths case.now.task.update.net case.now.task.update.old case.now.task.update.demands (classes_for case.now.task) }
-        requires new_good { HasGoodPaths case.now.task.update.net case.now.task.update.new case.now.task.update.demands (classes_for case.now.task) }
+        requires old_good { HasGoodPaths case.now.task.update.net case.now.task.update.old
+            case.now.task.update.demands (classes_for case.now.task) }
+        requires new_good { HasGoodPaths case.now.task.update.net case.now.task.update.new
+            case.now.task.update.demands (classes_for case.now.task) }
         requires before { RoundsPass case.now.task case.now.evidence k }
         requires pass { ChangesPass case.now.task case.now.evidence k }
         requires stands { LabelsStand case.now.task.update.net evidence.now k self.old }
         ensures none { IfNone result (ClassesPass case.now.task (TwoPhase evidence.now) k) }
-        ensures some { IfSome result (IsFirstFrom case.now.task (TwoPhase evidence.now) (classes_start k)) }
+        ensures some { IfSome result
+            (IsFirstFrom case.now.task (TwoPhase evidence.now) (classes_start k)) }
         ensures stands { LabelsStand case.now.task.update.net evidence.now (suc k) self.new }
     {
         let begun = self.labels.begun;

@@ -22,9 +22,9 @@ use Rattle.update_model.specs.declared.Phase.TheVariants.{Settled, Running}
 use Rattle.round_messages.specs.Requests.{switches_changed, switch_numbered, first_xid, requests_from, round_requests, sent_from}
 use Rattle.round_messages.proofs.Requests.{request_count, requests_from-push}
 use Rattle.switch_session.specs.Channels.{ChannelState, first_channel, after_bytes}
-use Rattle.switch_session.specs.Laws.{OnlyReplies}
+use Rattle.switch_session.specs.Laws.{KeepsBarrier}
 use Rattle.switch_session.specs.Seen.{ChannelView}
-use Rattle.switch_session.proofs.ByteLaws.{only_replies}
+use Rattle.switch_session.proofs.ByteLaws.{keeps_barrier}
 use Rattle.update_driver.specs.Drivers.{DriverState, first_driver, first_not_open, start_fault_in, channel_at, with_channel, none_outstanding, settled_if_answered, change_events, made, is_answered, heard, fed, told_all, started_driver, start_fault, started}
 use Rattle.update_driver.specs.Calls.{Call, Start, Feed, IsCall, after_call, after_calls, driver_after, AreDrivable, DriverView, IsReached}
 use Rattle.update_driver.specs.Laws.{LogIsRun, begun_count}
@@ -34,7 +34,7 @@ use Rattle.update_driver.specs.declared.StartFault.{StartFault}
 use Rattle.update_driver.specs.declared.StartFault.TheVariants as fault
 use Rattle.update_driver.specs.declared.turns.Turn.{Turn}
 use Rattle.update_driver.proofs.ListLaws.{all_at}
-use Rattle.update_driver.proofs.SoundLaws.{no_barrier, IsSound, sound_driver, begun}
+use Rattle.update_driver.proofs.SoundLaws.{no_barrier, IsSound, sound_driver, begun, settled_begun}
 use Rattle.update_driver.proofs.PieceLaws.{parts}
 use Rattle.update_driver.proofs.LogLaws.{log_is_run}
 use Rattle.update_driver.proofs.AskedLaws.{each_round_of}
@@ -76,14 +76,6 @@ settled_or_not d = elim (cases_Bool (none_outstanding d.channels)) [
 settled_channels : (d : DriverState) → (settled_if_answered d).channels ≡ d.channels
 settled_channels d =
     elim (none_outstanding d.channels) as (λ t. (let r : DriverState = cond t (record d { phase = settled d.phase; log = d.log ++ event.Settle ∷ [] }) d in r.channels) ≡ d.channels) [ true ↦ refl | false ↦ refl ]
-
-begun_settled : (p : Phase) → begun_count (settled p) ≡ begun_count p
-begun_settled (Settled k) = refl
-begun_settled (Running k) = refl
-
-settled_begun : (d : DriverState) → begun_count (settled_if_answered d).phase ≡ begun_count d.phase
-settled_begun d =
-    elim (none_outstanding d.channels) as (λ t. begun_count (let r : DriverState = cond t (record d { phase = settled d.phase; log = d.log ++ event.Settle ∷ [] }) d in r.phase) ≡ begun_count d.phase) [ true ↦ begun_settled d.phase | false ↦ refl ]
 
 -- no channel waits
 none_waits : (channels : List ChannelState) (s : ℕ) → none_outstanding channels ≡ true → is_some (get_or channels s first_channel).outstanding ≡ true → ⊥
@@ -156,9 +148,9 @@ module _ (v : DriverView) (turns : List Turn) (xid : ℕ) (inv : IsDriver v turn
             let here : get_or (set v.state.channels s.0 after) i first_channel ≡ after =
             ap (λ (n : ℕ). get_or (set v.state.channels s.0 after) n first_channel) same ∙ get_or-set_same v.state.channels s.0 after first_channel (omega arith) in
             let waits : is_some after.outstanding ≡ true = sym (ap (λ (c : ChannelState). is_some c.outstanding) here) ∙ some in
-            let only = only_replies bytes (channel_at v.state s) in
+            let only = keeps_barrier bytes (channel_at v.state s) in
             ap (λ (n : ℕ). is_some (get_or v.state.channels n first_channel).outstanding) same
-            ∙ elim only.outstanding [
+            ∙ elim only [
               | inl still ↦ sym (ap is_some still) ∙ waits
               | inr gone ↦ absurd (let f : false ≡ true = sym (ap is_some gone) ∙ waits in cc)
             ])

@@ -1,18 +1,20 @@
 -- It makes no difference in which pieces bytes come from a switch.
-use Rattle.std.proofs.Common.{◌≡◌, ℕ, ◌<◌, Bool, true, false, cond, ◌&&◌, List, [], ◌∷◌, ◌++◌, length, set, get_or, get_or-set_same, refl, sym, ap, ◌∙◌, subst, ◌⊎◌, inl, inr}
+use Rattle.std.proofs.Common.{◌≡◌, ℕ, zero, suc, ◌<◌, ◌≤◌, Bool, true, false, cond, ltb, ◌&&◌, List, [], ◌∷◌, ◌++◌, length, set, get_or, get_or-set_same, refl, sym, ap, ◌∙◌, subst, ◌⊎◌, inl, inr, map, arith}
 use Rattle.std.specs.Prelude.{Option, Some, None, is_some, is_none}
-use Rattle.std.proofs.lemmas.Bool.{cases_Bool, cond-true, cond-false}
+use Rattle.std.proofs.lemmas.Bool.{cases_Bool, cond-true, cond-false, ltb-true, ltb-false}
 use Rattle.std.proofs.lemmas.List.{set-set}
 use Rattle.net_base.specs.declared.ids.SwitchId.{SwitchId}
+use Rattle.topology.specs.Networks.{Network}
 use Rattle.update_model.specs.States.{settled}
 use Rattle.update_model.specs.Worlds.{running_round}
 use Rattle.update_model.specs.declared.Change.{Change}
 use Rattle.update_model.specs.declared.Event.{Event}
 use Rattle.update_model.specs.declared.Event.TheVariants as event
 use Rattle.switch_session.specs.Channels.{ChannelState, first_channel, after_bytes}
-use Rattle.switch_session.specs.Laws.{OnlyReplies}
-use Rattle.switch_session.proofs.ByteLaws.{after_bytes-append, only_replies}
-use Rattle.update_driver.specs.Drivers.{DriverState, channel_at, with_channel, none_outstanding, settled_if_answered, change_events, made, is_answered, heard, fed}
+use Rattle.switch_session.specs.Laws.{KeepsBarrier}
+use Rattle.switch_session.proofs.ByteLaws.{after_bytes-append, keeps_barrier}
+use Rattle.update_driver.specs.Drivers.{DriverState, first_driver, channel_at, with_channel, none_outstanding, settled_if_answered, change_events, made, is_answered, heard, fed}
+use Rattle.update_driver.specs.Calls.{Call, Start, Feed, each_byte, byte_by_byte, after_call, after_calls, driver_after}
 use Rattle.update_driver.proofs.ListLaws.{all_alike}
 use Rattle.update_driver.proofs.SoundLaws.{no_barrier, answered_or_not}
 
@@ -78,17 +80,17 @@ module _ (rounds : List (List Change)) (s : SwitchId) (d : DriverState) (within 
   one_more = twice d.log
 
   -- the first piece has the answer
-  answered_first : is_answered before a.outstanding ≡ true → OnlyReplies a b → heard rounds s b (heard rounds s a d) ≡ heard rounds s b d
+  answered_first : is_answered before a.outstanding ≡ true → KeepsBarrier a b → heard rounds s b (heard rounds s a d) ≡ heard rounds s b d
   answered_first hit second =
       let (some, none) = parts (is_some before) a.outstanding hit in
-      let gone : b.outstanding ≡ None = elim second.outstanding [ inl same ↦ same ∙ none | inr k ↦ k ] in
+      let gone : b.outstanding ≡ None = elim second [ inl same ↦ same ∙ none | inr k ↦ k ] in
       let e : heard rounds s a d ≡ made rounds s (with_channel s a d) = cond-true (is_answered before a.outstanding) (made rounds s (with_channel s a d)) (with_channel s a d) hit in
       let whole : is_answered before b.outstanding ≡ true = ap (λ o. is_some before && is_none o) (gone ∙ sym none) ∙ hit in
       let not_again : is_answered a.outstanding b.outstanding ≡ false = ap (λ o. is_some o && is_none b.outstanding) none in
       ap (heard rounds s b) e
       ∙ then_heard (made rounds s (with_channel s a d)) seen_made (λ t. absurd (let f : true ≡ false = sym t ∙ not_again in cc)) (λ f. made_alike (none ∙ sym gone) ∙ sym (heard_yes whole))
 
-  two_steps : OnlyReplies (channel_at d s) a → OnlyReplies a b → heard rounds s b (heard rounds s a d) ≡ heard rounds s b d
+  two_steps : KeepsBarrier (channel_at d s) a → KeepsBarrier a b → heard rounds s b (heard rounds s a d) ≡ heard rounds s b d
   two_steps first second =
       elim (cases_Bool (is_answered before a.outstanding)) [
         | inl hit ↦ answered_first hit second
@@ -115,4 +117,72 @@ fed-append rounds s x y d within =
     let b = after_bytes y a in
     let whole : fed rounds s (x ++ y) d ≡ heard rounds s b d = ap (λ z. heard rounds s z d) (after_bytes-append x y c) in
     let left : channel_at (fed rounds s x d) s ≡ a = channel_heard rounds s d within a in
-    whole ∙ sym (two_steps rounds s d within a b (only_replies x c) (only_replies y a)) ∙ ap (λ z. heard rounds s (after_bytes y z) (fed rounds s x d)) (sym left)
+    whole ∙ sym (two_steps rounds s d within a b (keeps_barrier x c) (keeps_barrier y a)) ∙ ap (λ z. heard rounds s (after_bytes y z) (fed rounds s x d)) (sym left)
+
+-- ---- byte by byte
+
+-- an element put where it stands changes nothing
+put_back : {A : Type 0} (xs : List A) (i : ℕ) (d : A) → set xs i (get_or xs i d) ≡ xs
+put_back [] i d = refl
+put_back (x ∷ xs) zero d = refl
+put_back (x ∷ xs) (suc i) d = ap (λ l. x ∷ l) (put_back xs i d)
+
+put_beyond : {A : Type 0} (xs : List A) (i : ℕ) (y : A) → length xs ≤ i → set xs i y ≡ xs
+put_beyond [] i y le = refl
+put_beyond (x ∷ xs) zero y le = absurd (omega arith)
+put_beyond (x ∷ xs) (suc i) y le = ap (λ l. x ∷ l) (put_beyond xs i y (omega arith))
+
+get_beyond : {A : Type 0} (xs : List A) (i : ℕ) (d : A) → length xs ≤ i → get_or xs i d ≡ d
+get_beyond [] i d le = refl
+get_beyond (x ∷ xs) zero d le = absurd (omega arith)
+get_beyond (x ∷ xs) (suc i) d le = get_beyond xs i d (omega arith)
+
+never_itself : (o : Option ℕ) → is_answered o o ≡ false
+never_itself None = refl
+never_itself (Some n) = refl
+
+-- no bytes make no difference
+fed-nil : (rounds : List (List Change)) (s : SwitchId) (d : DriverState) → fed rounds s [] d ≡ d
+fed-nil rounds s d =
+    let c = channel_at d s in
+    cond-false (is_answered c.outstanding c.outstanding) (made rounds s (with_channel s c d)) (with_channel s c d) (never_itself c.outstanding)
+    ∙ ap (λ l. let r : DriverState = record d { channels = l } in r) (put_back d.channels s.0 first_channel)
+
+-- nor do bytes from a switch that there isn't
+fed_beyond : (rounds : List (List Change)) (s : SwitchId) (bytes : List ℕ) (d : DriverState) → length d.channels ≤ s.0 → fed rounds s bytes d ≡ d
+fed_beyond rounds s bytes d le =
+    let c = channel_at d s in
+    let after = after_bytes bytes c in
+    let none : is_answered c.outstanding after.outstanding ≡ false = ap (λ (x : ChannelState). is_answered x.outstanding after.outstanding) (get_beyond d.channels s.0 first_channel le) in
+    cond-false (is_answered c.outstanding after.outstanding) (made rounds s (with_channel s after d)) (with_channel s after d) none
+    ∙ ap (λ l. let r : DriverState = record d { channels = l } in r) (put_beyond d.channels s.0 after le)
+
+fed-cons : (rounds : List (List Change)) (s : SwitchId) (b : ℕ) (bytes : List ℕ) (d : DriverState) → fed rounds s (b ∷ bytes) d ≡ fed rounds s bytes (fed rounds s (b ∷ []) d)
+fed-cons rounds s b bytes d =
+    elim (cases_Bool (ltb s.0 (length d.channels))) [
+      | inl within ↦ fed-append rounds s (b ∷ []) bytes d (ltb-true s.0 (length d.channels) within)
+      | inr beyond ↦ (
+          let le = ltb-false s.0 (length d.channels) beyond in
+          fed_beyond rounds s (b ∷ bytes) d le ∙ sym (fed_beyond rounds s bytes d le) ∙ ap (fed rounds s bytes) (sym (fed_beyond rounds s (b ∷ []) d le)))
+    ]
+
+module _ (net : Network) (rounds : List (List Change)) where
+  pub after-append : (d : DriverState) (xs ys : List Call) → after_calls net rounds d (xs ++ ys) ≡ after_calls net rounds (after_calls net rounds d xs) ys
+  after-append d [] ys = refl
+  after-append d (c ∷ xs) ys = after-append (after_call net rounds d c) xs ys
+
+  after_each : (s : SwitchId) (bytes : List ℕ) (d : DriverState) → after_calls net rounds d (map (λ b. Feed s (b ∷ [])) bytes) ≡ fed rounds s bytes d
+  after_each s [] d = sym (fed-nil rounds s d)
+  after_each s (b ∷ bytes) d = after_each s bytes (fed rounds s (b ∷ []) d) ∙ sym (fed-cons rounds s b bytes d)
+
+  pub each_after : (d : DriverState) (c : Call) → after_calls net rounds d (each_byte c) ≡ after_call net rounds d c
+  each_after d Start = refl
+  each_after d (Feed s bytes) = after_each s bytes d
+
+  after_bytewise : (d : DriverState) (calls : List Call) → after_calls net rounds d (byte_by_byte calls) ≡ after_calls net rounds d calls
+  after_bytewise d [] = refl
+  after_bytewise d (c ∷ calls) =
+      after-append d (each_byte c) (byte_by_byte calls) ∙ ap (λ e. after_calls net rounds e (byte_by_byte calls)) (each_after d c) ∙ after_bytewise (after_call net rounds d c) calls
+
+  pub bytewise : (calls : List Call) → driver_after net rounds (byte_by_byte calls) ≡ driver_after net rounds calls
+  bytewise calls = after_bytewise (first_driver net) calls

@@ -23,8 +23,8 @@ use Rattle.update_model.specs.declared.Phase.TheVariants.{Settled, Running}
 use Rattle.update_model.proofs.OneRoundLaws.{Sound, TablesAre, sound_after, first_sound}
 use Rattle.schedule_pilot.proofs.PendingLaws.{pending_applies, same_count}
 use Rattle.switch_session.specs.Channels.{ChannelState, first_channel, after_bytes}
-use Rattle.switch_session.specs.Laws.{OnlyReplies}
-use Rattle.switch_session.proofs.ByteLaws.{only_replies}
+use Rattle.switch_session.specs.Laws.{KeepsBarrier}
+use Rattle.switch_session.proofs.ByteLaws.{keeps_barrier}
 use Rattle.update_driver.specs.Drivers.{DriverState, first_driver, channel_at, with_channel, none_outstanding, settled_if_answered, change_events, made, is_answered, heard, fed, told_all, started_driver, start_fault, started}
 use Rattle.update_driver.specs.Calls.{Call, Start, Feed, IsCall, after_call, after_calls, driver_after}
 use Rattle.update_driver.specs.Laws.{update_from, IsOfUpdate, LogIsRun}
@@ -303,7 +303,7 @@ module _ (net : Network) (rounds : List (List Change)) (old : List (List Rule)) 
     runs_in (Running zero) is ok sound some = absurd ok
     runs_in (Running (suc k)) is ok sound some = record { k = k; less = ok; running = is }
 
-    follows_heard : IsSound net rounds d → OnlyReplies (channel_at d s) ch → Follows d → Follows (heard rounds s ch d)
+    follows_heard : IsSound net rounds d → KeepsBarrier (channel_at d s) ch → Follows d → Follows (heard rounds s ch d)
     follows_heard sound only f =
         cond_both (is_answered (channel_at d s).outstanding ch.outstanding) (made rounds s (with_channel s ch d)) (with_channel s ch d) Follows
         (λ hit.
@@ -348,7 +348,7 @@ module _ (net : Network) (rounds : List (List Change)) (old : List (List Rule)) 
       (λ e. let may = may_begin net rounds d sound (none_is net rounds (start_fault net rounds d) e) in follows_started d may (asks may.k d.channels may.more sound.count) f) (λ e. f)
   follows_call asks d (Feed s bytes) ok sound f =
       let count = sound.count in
-      follows_heard d s (omega arith) (after_bytes bytes (channel_at d s)) sound (only_replies bytes (channel_at d s)) f
+      follows_heard d s (omega arith) (after_bytes bytes (channel_at d s)) sound (keeps_barrier bytes (channel_at d s)) f
 
   follows_calls : AsksAll → (d : DriverState) (calls : List Call) → AllByRecursion (IsCall net) calls → IsSound net rounds d → Follows d → Follows (after_calls net rounds d calls)
   follows_calls asks d [] ok sound f = f

@@ -25,12 +25,13 @@ use Rattle.round_messages.specs.ToSwitch.{messages_to, AreFor}
 use Rattle.round_messages.proofs.Requests.{sent_from-append}
 use Rattle.round_messages.proofs.BySwitch.{messages_to-append, each_round}
 use Rattle.switch_session.specs.Channels.{ChannelState, first_channel, hello, echo_reply, asked, after_bytes}
-use Rattle.switch_session.specs.Laws.{IsEchoRequest, OnlyReplies}
-use Rattle.switch_session.proofs.ByteLaws.{only_replies}
+use Rattle.switch_session.specs.Laws.{AreRequests, ReadsAll}
+use Rattle.switch_session.proofs.TalkLaws.{front_nil}
+use Rattle.switch_session.proofs.RequestLaws.{requests_first, requests_as, requests_fed, reads_bytes}
 use Rattle.update_driver.specs.Drivers.{DriverState, first_driver, channel_at, with_channel, none_outstanding, settled_if_answered, change_events, made, is_answered, heard, fed, messages_for, barrier_in, told, told_all, started_driver, start_fault, started}
-use Rattle.update_driver.specs.Calls.{Call, Start, Feed, IsCall, AreDrivable, after_call, after_calls, driver_after}
-use Rattle.update_driver.specs.Laws.{Part, Reply, Ask, part_text, IsPart, message_in, begun_count, messages_until, SendsOnly}
-use Rattle.update_driver.proofs.SoundLaws.{IsSound, MayBegin, sound_first, sound_call, may_begin, begun, none_is}
+use Rattle.update_driver.specs.Calls.{Call, Start, Feed, IsCall, AreDrivable, bytes_in, bytes_from, after_call, after_calls, driver_after}
+use Rattle.update_driver.specs.Laws.{Part, Reply, Ask, part_text, request_in, message_in, begun_count, messages_until, SendsOnly}
+use Rattle.update_driver.proofs.SoundLaws.{IsSound, MayBegin, sound_first, sound_call, may_begin, begun, none_is, begun_settled}
 use Rattle.update_driver.proofs.AskedLaws.{barrier_for, told_at}
 
 -- ---- the messages of the rounds before, and those of the next one
@@ -158,9 +159,9 @@ replies_ask_nothing : (requests : List (List ℕ)) → filter_map message_in (ma
 replies_ask_nothing [] = refl
 replies_ask_nothing (r ∷ requests) = replies_ask_nothing requests
 
-are_replies : (requests : List (List ℕ)) → AllByRecursion IsEchoRequest requests → AllByRecursion IsPart (map Reply requests)
-are_replies [] h = tt
-are_replies (r ∷ requests) h = (h.0, are_replies requests h.1)
+replies_answer : (requests : List (List ℕ)) → filter_map request_in (map Reply requests) ≡ requests
+replies_answer [] = refl
+replies_answer (r ∷ requests) = ap (λ l. r ∷ l) (replies_answer requests)
 
 texts_of_asks : (ms : List Message) → flat_map part_text (map Ask ms) ≡ flat_map wire_text ms
 texts_of_asks [] = refl
@@ -170,100 +171,139 @@ asks_are : (ms : List Message) → filter_map message_in (map Ask ms) ≡ ms
 asks_are [] = refl
 asks_are (m ∷ ms) = ap (λ l. m ∷ l) (asks_are ms)
 
-are_asks : (ms : List Message) → AllByRecursion IsPart (map Ask ms)
-are_asks [] = tt
-are_asks (m ∷ ms) = (tt, are_asks ms)
+asks_answer_nothing : (ms : List Message) → filter_map request_in (map Ask ms) ≡ []
+asks_answer_nothing [] = refl
+asks_answer_nothing (m ∷ ms) = asks_answer_nothing ms
 
--- what was sent on a channel: these messages, and replies
-pub record SentSo (messages : List Message) (sent : List ℕ) : Type 0 where
+-- what was sent on a channel: these messages, and replies to the requests that came
+pub record SentSo (messages : List Message) (came : List ℕ) (channel : ChannelState) : Type 0 where
   pub parts : List Part
-  pub are_parts : AllByRecursion IsPart parts
-  pub text : sent ≡ hello ++ flat_map part_text parts
+  pub text : channel.sent ≡ hello ++ flat_map part_text parts
   pub asks : filter_map message_in parts ≡ messages
+  pub requests : AreRequests came channel (filter_map request_in parts)
+  pub reads : ReadsAll channel
 
-sent_more : (messages more : List Message) (sent : List ℕ) (parts : List Part) → AllByRecursion IsPart parts → filter_map message_in parts ≡ more → SentSo messages sent → SentSo (messages ++ more) (sent ++ flat_map part_text parts)
-sent_more messages more sent parts are asks h = record {
-  parts = h.parts ++ parts;
-  are_parts = each_append IsPart h.parts parts h.are_parts are;
-  text = ap (λ l. l ++ flat_map part_text parts) h.text ∙ append_assoc hello (flat_map part_text h.parts) (flat_map part_text parts) ∙ ap (λ l. hello ++ l) (sym (flat_map-append part_text h.parts parts));
-  asks = filter_map-append message_in h.parts parts ∙ ap (λ l. l ++ filter_map message_in parts) h.asks ∙ ap (λ l. messages ++ l) asks;
-}
+-- more parts are sent
+module _ (before parts : List Part) (old new : List ℕ) where
+  text_more : old ≡ hello ++ flat_map part_text before → new ≡ old ++ flat_map part_text parts → new ≡ hello ++ flat_map part_text (before ++ parts)
+  text_more was is =
+      is ∙ ap (λ (l : List ℕ). l ++ flat_map part_text parts) was ∙ append_assoc hello (flat_map part_text before) (flat_map part_text parts)
+      ∙ ap (λ (l : List ℕ). hello ++ l) (sym (flat_map-append part_text before parts))
 
-sent_replies : (messages : List Message) (a b : ChannelState) → OnlyReplies a b → SentSo messages a.sent → SentSo messages b.sent
-sent_replies messages a b only h =
-    let more = sent_more messages [] a.sent (map Reply only.requests) (are_replies only.requests only.are_requests) (replies_ask_nothing only.requests) h in
-    let text : a.sent ++ flat_map part_text (map Reply only.requests) ≡ b.sent = ap (λ l. a.sent ++ l) (texts_of_replies only.requests) ∙ sym only.sent in
-    subst (λ l. SentSo l b.sent) (append-nil messages) (subst (SentSo (messages ++ [])) text more)
+asks_more : (messages more : List Message) (before parts : List Part) → filter_map message_in before ≡ messages → filter_map message_in parts ≡ more → filter_map message_in (before ++ parts) ≡ messages ++ more
+asks_more messages more before parts was is =
+    filter_map-append message_in before parts ∙ ap (λ (l : List Message). l ++ filter_map message_in parts) was ∙ ap (λ (l : List Message). messages ++ l) is
+
+requests_more : (requests : List (List ℕ)) (before parts : List Part) → filter_map request_in parts ≡ requests → filter_map request_in before ++ requests ≡ filter_map request_in (before ++ parts)
+requests_more requests before parts is = ap (λ (l : List (List ℕ)). filter_map request_in before ++ l) (sym is) ∙ sym (filter_map-append request_in before parts)
+
+sent_replies : (messages : List Message) (came bytes : List ℕ) (a : ChannelState) → SentSo messages came a → SentSo messages (came ++ bytes) (after_bytes bytes a)
+sent_replies messages came bytes a h =
+    let answers = requests_fed came bytes a (filter_map request_in h.parts) h.requests in
+    let parts = map Reply answers.more in
+    let b = after_bytes bytes a in
+    record {
+      parts = h.parts ++ parts;
+      text = text_more h.parts parts a.sent b.sent h.text (answers.sent ∙ ap (λ (l : List ℕ). a.sent ++ l) (sym (texts_of_replies answers.more)));
+      asks = asks_more messages [] h.parts parts h.asks (replies_ask_nothing answers.more) ∙ append-nil messages;
+      requests = subst (AreRequests (came ++ bytes) b) (requests_more answers.more h.parts parts (replies_answer answers.more)) answers.requests;
+      reads = reads_bytes bytes a h.reads;
+    }
 
 -- messages for changes, sent on a channel: none, or some that have a barrier request
-sent_asks : (cs : List Change) (messages ms : List Message) (c : ChannelState) → AreFor cs ms → SentSo messages c.sent → SentSo (messages ++ ms) (told ms c).sent
-sent_asks [] messages ms c are h =
-    subst (λ l. SentSo (messages ++ l) (told l c).sent) (sym are) (subst (λ l. SentSo l c.sent) (sym (append-nil messages)) h)
-sent_asks (d ∷ cs) messages ms c are h =
+sent_asks : (cs : List Change) (messages ms : List Message) (came : List ℕ) (c : ChannelState) → AreFor cs ms → SentSo messages came c → SentSo (messages ++ ms) came (told ms c)
+sent_asks [] messages ms came c are h =
+    subst (λ l. SentSo (messages ++ l) came (told l c)) (sym are) (subst (λ l. SentSo l came c) (sym (append-nil messages)) h)
+sent_asks (d ∷ cs) messages ms came c are h =
     let (xid, is) = barrier_for (d ∷ cs) d ms (inl refl) are in
-    let more = sent_more messages ms c.sent (map Ask ms) (are_asks ms) (asks_are ms) h in
-    let text : c.sent ++ flat_map part_text (map Ask ms) ≡ (told ms c).sent =
-    ap (λ l. c.sent ++ l) (texts_of_asks ms) ∙ ap (λ (o : Option ℕ). let r : ChannelState = option_map_or (λ x. asked (flat_map wire_text ms) x c) o c in r.sent) (sym is) in
-    subst (SentSo (messages ++ ms)) text more
+    let parts = map Ask ms in
+    let next : ChannelState = asked (flat_map wire_text ms) xid c in
+    let same : filter_map request_in h.parts ≡ filter_map request_in (h.parts ++ parts) = sym (append-nil (filter_map request_in h.parts)) ∙ requests_more [] h.parts parts (asks_answer_nothing ms) in
+    let after : SentSo (messages ++ ms) came next = record {
+      parts = h.parts ++ parts;
+      text = text_more h.parts parts c.sent next.sent h.text (ap (λ (l : List ℕ). c.sent ++ l) (sym (texts_of_asks ms)));
+      asks = asks_more messages ms h.parts parts h.asks (asks_are ms);
+      requests = requests_as came c next (filter_map request_in (h.parts ++ parts)) refl refl (subst (AreRequests came c) same h.requests);
+      reads = h.reads;
+    } in
+    subst (SentSo (messages ++ ms) came) (ap (λ (o : Option ℕ). option_map_or (λ x. asked (flat_map wire_text ms) x c) o c) (sym is)) after
 
 -- ---- all switches
 
 module _ (net : Network) (rounds : List (List Change)) (plan : AllByRecursion (AllByRecursion (IsPlanChange net)) rounds) where
-  -- on each channel its messages so far were sent, and replies
-  abbrev AllSent : DriverState → Type 0
-  AllSent d = (s : SwitchId) → s.0 < switch_count net → SentSo (messages_until (begun_count d.phase) s (sent_in net rounds)) (channel_at d s).sent
+  -- on each channel its messages so far were sent, and replies to the requests that came
+  abbrev AllSent : (SwitchId → List ℕ) → DriverState → Type 0
+  AllSent came d = (s : SwitchId) → s.0 < switch_count net → SentSo (messages_until (begun_count d.phase) s (sent_in net rounds)) (came s) (channel_at d s)
 
-  begun_settled : (p : Phase) → begun_count (settled p) ≡ begun_count p
-  begun_settled (Settled k) = refl
-  begun_settled (Running k) = refl
+  all_settled : (came : SwitchId → List ℕ) (d : DriverState) → AllSent came d → AllSent came (settled_if_answered d)
+  all_settled came d h =
+      cond_both (none_outstanding d.channels) (record d { phase = settled d.phase; log = d.log ++ event.Settle ∷ [] }) d (AllSent came)
+      (λ none s lt. subst (λ k. SentSo (messages_until k s (sent_in net rounds)) (came s) (channel_at d s)) (sym (begun_settled d.phase)) (h s lt)) (λ some. h)
 
-  all_settled : (d : DriverState) → AllSent d → AllSent (settled_if_answered d)
-  all_settled d h =
-      cond_both (none_outstanding d.channels) (record d { phase = settled d.phase; log = d.log ++ event.Settle ∷ [] }) d AllSent
-      (λ none s lt. subst (λ k. SentSo (messages_until k s (sent_in net rounds)) (channel_at d s).sent) (sym (begun_settled d.phase)) (h s lt)) (λ some. h)
+  -- the bytes that came, with those of one call more
+  abbrev with_call : (SwitchId → List ℕ) → Call → SwitchId → List ℕ
+  with_call came c s = came s ++ bytes_in s c
 
-  all_with : (d : DriverState) (t : SwitchId) (c : ChannelState) → t.0 < length d.channels → OnlyReplies (channel_at d t) c → AllSent d → AllSent (with_channel t c d)
-  all_with d t c within only h s lt =
+  all_with : (came : SwitchId → List ℕ) (d : DriverState) (t : SwitchId) (bytes : List ℕ) → t.0 < length d.channels → AllSent came d
+      → AllSent (with_call came (Feed t bytes)) (with_channel t (after_bytes bytes (channel_at d t)) d)
+  all_with came d t bytes within h s lt =
       let messages = messages_until (begun_count d.phase) s (sent_in net rounds) in
+      let c = after_bytes bytes (channel_at d t) in
+      let here = eqb t.0 s.0 in
       elim (cases_eq s.0 t.0) [
         | inl same ↦
             let at : channel_at (with_channel t c d) s ≡ c = ap (λ (n : ℕ). get_or (set d.channels t.0 c) n first_channel) same ∙ get_or-set_same d.channels t.0 c first_channel within in
             let was : channel_at d s ≡ channel_at d t = ap (λ (n : ℕ). get_or d.channels n first_channel) same in
-            subst (λ (x : ChannelState). SentSo messages x.sent) (sym at) (sent_replies messages (channel_at d t) c only (subst (λ (x : ChannelState). SentSo messages x.sent) was (h s lt)))
-        | inr differs ↦ subst (λ (x : ChannelState). SentSo messages x.sent) (sym (get_or-set_other d.channels t.0 s.0 c first_channel differs)) (h s lt)
+            let these : came s ++ bytes ≡ with_call came (Feed t bytes) s = ap (λ (l : List ℕ). came s ++ l) (sym (cond-true here bytes [] (eq-eqb t.0 s.0 (sym same)))) in
+            let fed = sent_replies messages (came s) bytes (channel_at d t) (subst (SentSo messages (came s)) was (h s lt)) in
+            subst (SentSo messages (with_call came (Feed t bytes) s)) (sym at) (subst (λ (l : List ℕ). SentSo messages l c) these fed)
+        | inr differs ↦
+            let these : came s ≡ with_call came (Feed t bytes) s = sym (append-nil (came s)) ∙ ap (λ (l : List ℕ). came s ++ l) (sym (cond-false here bytes [] (ne_eqb t.0 s.0 (λ e. differs (sym e))))) in
+            subst (SentSo messages (with_call came (Feed t bytes) s)) (sym (get_or-set_other d.channels t.0 s.0 c first_channel differs))
+            (subst (λ (l : List ℕ). SentSo messages l (channel_at d s)) these (h s lt))
       ]
 
-  all_fed : (d : DriverState) (t : SwitchId) (bytes : List ℕ) → t.0 < length d.channels → AllSent d → AllSent (fed rounds t bytes d)
-  all_fed d t bytes within h =
+  all_fed : (came : SwitchId → List ℕ) (d : DriverState) (t : SwitchId) (bytes : List ℕ) → t.0 < length d.channels → AllSent came d → AllSent (with_call came (Feed t bytes)) (fed rounds t bytes d)
+  all_fed came d t bytes within h =
       let c = after_bytes bytes (channel_at d t) in
-      let next = all_with d t c within (only_replies bytes (channel_at d t)) h in
-      cond_both (is_answered (channel_at d t).outstanding c.outstanding) (made rounds t (with_channel t c d)) (with_channel t c d) AllSent
-      (λ e. all_settled (record (with_channel t c d) { log = d.log ++ change_events t 0 (running_round d.phase rounds) }) next) (λ e. next)
+      let more = with_call came (Feed t bytes) in
+      let next = all_with came d t bytes within h in
+      cond_both (is_answered (channel_at d t).outstanding c.outstanding) (made rounds t (with_channel t c d)) (with_channel t c d) (AllSent more)
+      (λ e. all_settled more (record (with_channel t c d) { log = d.log ++ change_events t 0 (running_round d.phase rounds) }) next) (λ e. next)
 
-  all_begun : (d : DriverState) → IsSound net rounds d → MayBegin net rounds d → AllSent d → AllSent (begun net rounds d)
-  all_begun d sound may h s lt =
+  all_begun : (came : SwitchId → List ℕ) (d : DriverState) → IsSound net rounds d → MayBegin net rounds d → AllSent came d → AllSent came (begun net rounds d)
+  all_begun came d sound may h s lt =
       let k = may.k in
       let count = sound.count in
       let sent = sent_in net rounds in
       let ms = messages_for net rounds k s in
-      let Begun : Phase → Type 0 = λ p. SentSo (messages_until (begun_count (started p)) s sent) (get_or (told_all net rounds (settled_count p) 0 d.channels) s.0 first_channel).sent in
+      let Begun : Phase → Type 0 = λ p. SentSo (messages_until (begun_count (started p)) s sent) (came s) (get_or (told_all net rounds (settled_count p) 0 d.channels) s.0 first_channel) in
       let place : 0 + s.0 ≡ s.0 = omega arith in
       let at : get_or (told_all net rounds k 0 d.channels) s.0 first_channel ≡ told ms (channel_at d s) =
       told_at net rounds k 0 d.channels s.0 first_channel (omega arith) ∙ ap (λ (j : ℕ). told (messages_for net rounds k (switch_numbered j)) (channel_at d s)) place in
-      let before : SentSo (messages_until k s sent) (channel_at d s).sent = subst (λ p. SentSo (messages_until (begun_count p) s sent) (channel_at d s).sent) may.settled (h s lt) in
-      let after = sent_asks (changes_at s (round_after k rounds)) (messages_until k s sent) ms (channel_at d s) (each_round net rounds k s plan) before in
+      let before : SentSo (messages_until k s sent) (came s) (channel_at d s) = subst (λ p. SentSo (messages_until (begun_count p) s sent) (came s) (channel_at d s)) may.settled (h s lt) in
+      let after = sent_asks (changes_at s (round_after k rounds)) (messages_until k s sent) ms (came s) (channel_at d s) (each_round net rounds k s plan) before in
       let next : messages_until k s sent ++ ms ≡ messages_until (suc k) s sent = sym (until_next s net rounds 0 k 1) in
-      subst Begun (sym may.settled) (subst (λ (x : ChannelState). SentSo (messages_until (suc k) s sent) x.sent) (sym at) (subst (λ l. SentSo l (told ms (channel_at d s)).sent) next after))
+      subst Begun (sym may.settled) (subst (SentSo (messages_until (suc k) s sent) (came s)) (sym at) (subst (λ l. SentSo l (came s) (told ms (channel_at d s))) next after))
 
-  all_called : (d : DriverState) (c : Call) → IsCall net c → IsSound net rounds d → AllSent d → AllSent (after_call net rounds d c)
-  all_called d Start ok sound h =
-      cond_both (is_none (start_fault net rounds d)) (started_driver net rounds d) d AllSent
-      (λ e. let may = may_begin net rounds d sound (none_is net rounds (start_fault net rounds d) e) in all_settled (begun net rounds d) (all_begun d sound may h)) (λ e. h)
-  all_called d (Feed t bytes) ok sound h = let count = sound.count in all_fed d t bytes (omega arith) h
+  -- nothing more came
+  all_same : (came more : SwitchId → List ℕ) (d : DriverState) → ((s : SwitchId) → came s ≡ more s) → AllSent came d → AllSent more d
+  all_same came more d e h s lt = subst (λ (l : List ℕ). SentSo (messages_until (begun_count d.phase) s (sent_in net rounds)) l (channel_at d s)) (e s) (h s lt)
 
-  all_after : (d : DriverState) (calls : List Call) → AllByRecursion (IsCall net) calls → IsSound net rounds d → AllSent d → AllSent (after_calls net rounds d calls)
-  all_after d [] ok sound h = h
-  all_after d (c ∷ calls) ok sound h = all_after (after_call net rounds d c) calls ok.1 (sound_call net rounds d c sound) (all_called d c ok.0 sound h)
+  all_called : (came : SwitchId → List ℕ) (d : DriverState) (c : Call) → IsCall net c → IsSound net rounds d → AllSent came d → AllSent (with_call came c) (after_call net rounds d c)
+  all_called came d Start ok sound h =
+      all_same came (with_call came Start) (after_call net rounds d Start) (λ s. sym (append-nil (came s)))
+      (cond_both (is_none (start_fault net rounds d)) (started_driver net rounds d) d (AllSent came)
+      (λ e. let may = may_begin net rounds d sound (none_is net rounds (start_fault net rounds d) e) in all_settled came (begun net rounds d) (all_begun came d sound may h)) (λ e. h))
+  all_called came d (Feed t bytes) ok sound h = let count = sound.count in all_fed came d t bytes (omega arith) h
+
+  all_after : (came : SwitchId → List ℕ) (d : DriverState) (calls : List Call) → AllByRecursion (IsCall net) calls → IsSound net rounds d → AllSent came d
+      → AllSent (λ s. came s ++ bytes_from s calls) (after_calls net rounds d calls)
+  all_after came d [] ok sound h = all_same came (λ s. came s ++ []) d (λ s. sym (append-nil (came s))) h
+  all_after came d (c ∷ calls) ok sound h =
+      all_same (λ s. with_call came c s ++ bytes_from s calls) (λ s. came s ++ bytes_from s (c ∷ calls)) (after_calls net rounds (after_call net rounds d c) calls)
+      (λ s. append_assoc (came s) (bytes_in s c) (bytes_from s calls))
+      (all_after (with_call came c) (after_call net rounds d c) calls ok.1 (sound_call net rounds d c sound) (all_called came d c ok.0 sound h))
 
   first_at : (n i : ℕ) → get_or (replicate n first_channel) i first_channel ≡ first_channel
   first_at zero i = refl
@@ -274,14 +314,20 @@ module _ (net : Network) (rounds : List (List Change)) (plan : AllByRecursion (A
   each_from_none [] = tt
   each_from_none (x ∷ xs) = (omega arith, each_from_none xs)
 
-  all_first : AllSent (first_driver net)
+  all_first : AllSent (λ s. []) (first_driver net)
   all_first s lt =
       let sent = sent_in net rounds in
       let none : messages_until 0 s sent ≡ [] = until_none s 0 sent (each_from_none sent) in
-      let start : SentSo [] hello = record { parts = []; are_parts = tt; text = sym (append-nil hello); asks = refl } in
-      subst (λ (x : ChannelState). SentSo (messages_until 0 s sent) x.sent) (sym (first_at (switch_count net) s.0)) (subst (λ l. SentSo l hello) (sym none) start)
+      let start : SentSo [] [] first_channel = record {
+        parts = [];
+        text = sym (append-nil hello);
+        asks = refl;
+        requests = requests_first first_channel refl;
+        reads = λ going. front_nil;
+      } in
+      subst (SentSo (messages_until 0 s sent) []) (sym (first_at (switch_count net) s.0)) (subst (λ l. SentSo l [] first_channel) (sym none) start)
 
-  pub sends_only : (calls : List Call) → AllByRecursion (IsCall net) calls → (s : SwitchId) → s.0 < switch_count net → SendsOnly net rounds (driver_after net rounds calls) s
+  pub sends_only : (calls : List Call) → AllByRecursion (IsCall net) calls → (s : SwitchId) → s.0 < switch_count net → SendsOnly net rounds (bytes_from s calls) (driver_after net rounds calls) s
   sends_only calls ok s lt =
-      let h = all_after (first_driver net) calls ok (sound_first net rounds) all_first s lt in
-      record { parts = h.parts; are_parts = h.are_parts; sent = h.text; messages = h.asks }
+      let h = all_after (λ s. []) (first_driver net) calls ok (sound_first net rounds) all_first s lt in
+      record { parts = h.parts; sent = h.text; requests = h.requests; reads = h.reads; messages = h.asks }

@@ -17,24 +17,36 @@ use Rattle.update_model.specs.declared.Phase.{Phase}
 use Rattle.update_model.specs.declared.Phase.TheVariants.{Settled, Running}
 use Rattle.round_messages.specs.Requests.{switches_changed, switch_numbered}
 use Rattle.switch_session.specs.Channels.{ChannelState, first_channel, after_bytes}
-use Rattle.switch_session.specs.Laws.{OnlyReplies}
-use Rattle.switch_session.proofs.ByteLaws.{only_replies}
+use Rattle.switch_session.specs.Laws.{KeepsBarrier}
+use Rattle.switch_session.proofs.ByteLaws.{keeps_barrier}
 use Rattle.update_driver.specs.Drivers.{DriverState, first_driver, channel_at, with_channel, none_outstanding, settled_if_answered, change_events, made, is_answered, heard, fed, messages_for, told, told_all, started_driver, first_not_open, start_fault_in, start_fault, started}
 use Rattle.update_driver.specs.Calls.{Call, Start, Feed, IsCall, after_call, after_calls, driver_after}
-use Rattle.update_driver.specs.Laws.{WaitsForBarriers}
+use Rattle.update_driver.specs.Laws.{begun_count, WaitsForBarriers, BeginsAnswered}
 use Rattle.update_driver.specs.Inside.{IsPhaseWithin}
 use Rattle.update_driver.specs.declared.StartFault.{StartFault}
 use Rattle.update_driver.specs.declared.StartFault.TheVariants as fault
 use Rattle.update_driver.proofs.ListLaws.{all_at, all_set, all_replicate}
+
+-- ---- the rounds that were begun
+
+pub begun_settled : (p : Phase) → begun_count (settled p) ≡ begun_count p
+begun_settled (Settled k) = refl
+begun_settled (Running k) = refl
+
+pub settled_begun : (d : DriverState) → begun_count (settled_if_answered d).phase ≡ begun_count d.phase
+settled_begun d =
+    elim (none_outstanding d.channels) as (λ t. begun_count (let r : DriverState = cond t (record d { phase = settled d.phase; log = d.log ++ event.Settle ∷ [] }) d in r.phase) ≡ begun_count d.phase) [ true ↦ begun_settled d.phase | false ↦ refl ]
+
+-- ---- barriers
 
 -- a channel that waits for no barrier
 abbrev pub no_barrier : ChannelState → Bool
 no_barrier c = is_none c.outstanding
 
 -- the barrier of a switch is answered, or what bytes do leaves it as it was
-pub answered_or_not : (before after : ChannelState) → OnlyReplies before after → (is_answered before.outstanding after.outstanding ≡ true) ⊎ (is_some after.outstanding ≡ is_some before.outstanding)
+pub answered_or_not : (before after : ChannelState) → KeepsBarrier before after → (is_answered before.outstanding after.outstanding ≡ true) ⊎ (is_some after.outstanding ≡ is_some before.outstanding)
 answered_or_not before after only =
-    elim only.outstanding [
+    elim only [
       | inl same ↦ inr (ap is_some same)
       | inr none ↦ (
           elim (cases_Bool (is_some before.outstanding)) [
@@ -67,13 +79,13 @@ module _ (net : Network) (rounds : List (List Change)) where
       (λ none. record { count = sound.count; phase = phase_settled d.phase sound.phase; waits = λ k is. none }) (λ some. sound)
 
   -- while none is outstanding, none is after bytes came
-  stays_none : (d : DriverState) (s : SwitchId) (after : ChannelState) → OnlyReplies (channel_at d s) after → none_outstanding d.channels ≡ true → none_outstanding (set d.channels s.0 after) ≡ true
+  stays_none : (d : DriverState) (s : SwitchId) (after : ChannelState) → KeepsBarrier (channel_at d s) after → none_outstanding d.channels ≡ true → none_outstanding (set d.channels s.0 after) ≡ true
   stays_none d s after only none =
       let here : no_barrier (channel_at d s) ≡ true = all_at no_barrier d.channels s.0 first_channel none refl in
-      let still : no_barrier after ≡ true = elim only.outstanding [ inl same ↦ ap is_none same ∙ here | inr gone ↦ ap is_none gone ] in
+      let still : no_barrier after ≡ true = elim only [ inl same ↦ ap is_none same ∙ here | inr gone ↦ ap is_none gone ] in
       all_set no_barrier d.channels s.0 after none still
 
-  pub sound_with : (d : DriverState) (s : SwitchId) (after : ChannelState) → OnlyReplies (channel_at d s) after → IsSound net rounds d → IsSound net rounds (with_channel s after d)
+  pub sound_with : (d : DriverState) (s : SwitchId) (after : ChannelState) → KeepsBarrier (channel_at d s) after → IsSound net rounds d → IsSound net rounds (with_channel s after d)
   sound_with d s after only sound = record {
     count = length-set d.channels s.0 after ∙ sound.count;
     phase = sound.phase;
@@ -89,7 +101,7 @@ module _ (net : Network) (rounds : List (List Change)) where
   pub sound_fed : (d : DriverState) (s : SwitchId) (bytes : List ℕ) → IsSound net rounds d → IsSound net rounds (fed rounds s bytes d)
   sound_fed d s bytes sound =
       let after = after_bytes bytes (channel_at d s) in
-      let next = sound_with d s after (only_replies bytes (channel_at d s)) sound in
+      let next = sound_with d s after (keeps_barrier bytes (channel_at d s)) sound in
       cond_both (is_answered (channel_at d s).outstanding after.outstanding) (made rounds s (with_channel s after d)) (with_channel s after d) (IsSound net rounds)
       (λ e. sound_made (with_channel s after d) s next) (λ e. next)
 
@@ -144,3 +156,26 @@ module _ (net : Network) (rounds : List (List Change)) where
 
   pub sound_driver : (calls : List Call) → IsSound net rounds (driver_after net rounds calls)
   sound_driver calls = sound_calls (first_driver net) calls sound_first
+
+  -- ---- what a call begins
+
+  fed_begins : (d : DriverState) (s : SwitchId) (bytes : List ℕ) → begun_count (fed rounds s bytes d).phase ≡ begun_count d.phase
+  fed_begins d s bytes =
+      let after = after_bytes bytes (channel_at d s) in
+      cond_both (is_answered (channel_at d s).outstanding after.outstanding) (made rounds s (with_channel s after d)) (with_channel s after d) (λ (e : DriverState). begun_count e.phase ≡ begun_count d.phase)
+      (λ e. settled_begun (record (with_channel s after d) { log = d.log ++ change_events s 0 (running_round d.phase rounds) })) (λ e. refl)
+
+  start_begins : (d : DriverState) → IsSound net rounds d → MayBegin d → BeginsAnswered d (started_driver net rounds d)
+  start_begins d sound may =
+      let before : begun_count d.phase ≡ may.k = ap begun_count may.settled in
+      let begins : begun_count (started d.phase) ≡ suc may.k = ap (λ p. begun_count (started p)) may.settled in
+      inr (settled_begun (begun d) ∙ begins ∙ ap suc (sym before), sound.waits may.k may.settled)
+
+  call_begins : (d : DriverState) (c : Call) → IsSound net rounds d → BeginsAnswered d (after_call net rounds d c)
+  call_begins d Start sound =
+      cond_both (is_none (start_fault net rounds d)) (started_driver net rounds d) d (BeginsAnswered d)
+      (λ e. start_begins d sound (may_begin d sound (none_is (start_fault net rounds d) e))) (λ e. inl refl)
+  call_begins d (Feed s bytes) sound = inl (fed_begins d s bytes)
+
+  pub begins_answered : (calls : List Call) (c : Call) → BeginsAnswered (driver_after net rounds calls) (after_call net rounds (driver_after net rounds calls) c)
+  begins_answered calls c = call_begins (driver_after net rounds calls) c (sound_driver calls)

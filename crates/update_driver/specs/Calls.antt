@@ -1,5 +1,5 @@
 -- Drivers that come about by calls.
-use Rattle.std.specs.Prelude.{◌≡◌, ◌≤◌, ◌<◌, ℕ, List, [], ◌∷◌, length, sum_by, if◌then◌else◌, is_none}
+use Rattle.std.specs.Prelude.{◌≡◌, ◌==◌, ◌≤◌, ◌<◌, ℕ, List, [], ◌∷◌, length, map, flat_map, sum_by, if◌then◌else◌, is_none}
 use Rattle.std.specs.List.{AllByRecursion}
 use Rattle.net_base.specs.declared.ids.SwitchId.{SwitchId}
 use Rattle.topology.specs.Networks.{Network, switch_count}
@@ -30,6 +30,24 @@ after_calls net rounds d (c ∷ calls) = after_calls net rounds (after_call net 
 -- the driver that was made and then called
 abbrev pub driver_after : Network → List (List Change) → List Call → DriverState
 driver_after net rounds calls = after_calls net rounds (first_driver net) calls
+
+-- the bytes that came from a switch in a call
+abbrev pub bytes_in : SwitchId → Call → List ℕ
+bytes_in s Start = []
+bytes_in s (Feed t bytes) = if t.0 == s.0 then bytes else []
+
+-- the bytes that came from a switch in calls, in order
+abbrev pub bytes_from : SwitchId → List Call → List ℕ
+bytes_from s calls = flat_map (bytes_in s) calls
+
+-- a call, with each of its bytes fed by itself
+abbrev pub each_byte : Call → List Call
+each_byte Start = Start ∷ []
+each_byte (Feed s bytes) = map (λ b. Feed s (b ∷ [])) bytes
+
+-- calls, with each byte fed by itself: they say the same as others exactly where only the pieces differ in which bytes come
+abbrev pub byte_by_byte : List Call → List Call
+byte_by_byte calls = flat_map each_byte calls
 
 -- rounds that a driver takes: few, and each change is at a switch of the network, with numbers in range
 pub record AreDrivable (net : Network) (rounds : List (List Change)) : Type 0 where

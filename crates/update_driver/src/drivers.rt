@@ -48,7 +48,8 @@ impl<'a> Driver<'a> {
     /// rounds and 2,200,000 changes, each at a switch of the network, with numbers in the ranges of a plan file.
     pub fn make(alloc: Global, net: &'a Net, rounds: &'a Rounds) -> Result<Driver<'a>, Memory>
         requires { AreDrivable net.now rounds.now }
-        ensures { IfOk result (λ d. d ≡ record { net = net.now; rounds = rounds.now; state = first_driver net.now }) }
+        ensures { IfOk result
+            (λ d. d ≡ record { net = net.now; rounds = rounds.now; state = first_driver net.now }) }
     {
         let channels = make_channels(alloc, net.switches())?;
         let Turns { list, xid } = Turns::make(alloc, net.switches(), 1)?;
@@ -70,9 +71,14 @@ impl<'a> Driver<'a> {
     ///
     /// It costs a look at the changes of the round and at the switches.
     pub fn start(&mut self) -> Result<(), StartFault>
-        ensures allowed { OnOk result (start_fault self.old.net self.old.rounds self.old.state ≡ None) }
-        ensures ok { OnOk result (self.new ≡ with_state (started_driver self.old.net self.old.rounds self.old.state) self.old) }
-        ensures refused { IfErr result (IsRefusal (start_fault self.old.net self.old.rounds self.old.state)) }
+        ensures allowed { OnOk result
+            (start_fault self.old.net self.old.rounds self.old.state ≡ None) }
+        ensures ok { OnOk result
+            (self.new
+            ≡ with_state (started_driver self.old.net self.old.rounds self.old.state)
+            self.old) }
+        ensures refused { IfErr result
+            (IsRefusal (start_fault self.old.net self.old.rounds self.old.state)) }
         ensures err { OnErr result (self.new ≡ self.old) }
     {
         self.net.keeps_rules();
@@ -91,7 +97,8 @@ impl<'a> Driver<'a> {
     /// It costs as many steps as there are bytes; an answer costs besides as many as there are changes and switches.
     pub fn feed(&mut self, s: SwitchId, bytes: &[u8]) -> Result<(), Memory>
         requires { s.0 < switch_count self.old.net }
-        ensures ok { OnOk result (self.new ≡ with_state (fed self.old.rounds s bytes.now self.old.state) self.old) }
+        ensures ok { OnOk result
+            (self.new ≡ with_state (fed self.old.rounds s bytes.now self.old.state) self.old) }
         ensures err { OnErr result (self.new ≡ self.old) }
     {
         let number = s.0 as usize;

@@ -109,7 +109,8 @@ fn started(phase: Phase) -> Phase
 /// Settles the running round, if no barrier is outstanding. There is room for an event.
 fn settle_if_answered(phase: &mut Phase, log: &mut Vec<Event>, channels: &[Channel])
     requires { vec_len log.old < vec_capacity log.old }
-    ensures { with_states phase.new log.new.items channels.now ≡ settled_if_answered (with_states phase.old log.old.items channels.now) }
+    ensures { with_states phase.new log.new.items channels.now
+        ≡ settled_if_answered (with_states phase.old log.old.items channels.now) }
 {
     if none_outstanding(channels) {
         *phase = settled(*phase);
@@ -120,7 +121,8 @@ fn settle_if_answered(phase: &mut Phase, log: &mut Vec<Event>, channels: &[Chann
 /// Which switches have a change among these.
 fn changed_switches(changes: &[Change]) -> [bool; 128]
     requires { AllByRecursion (λ c. (switch_of c).0 < 128) changes.now }
-    ensures { (s : ℕ) → s < 128 → slice_index_or result s false ≡ is_changed changes.now (switch_numbered s) }
+    ensures { (s : ℕ) → s < 128 → slice_index_or result s false
+        ≡ is_changed changes.now (switch_numbered s) }
 {
     let mut marks = [false; MOST_SWITCHES];
     for change in changes {
@@ -141,8 +143,11 @@ fn is_missing(channel: &Channel, marked: bool) -> bool
 fn first_not_open(channels: &[Channel], marks: &[bool]) -> Option<SwitchId>
     requires marked { length channels.now ≤ length marks.now }
     requires few { length channels.now ≤ 128 }
-    ensures { result ≡ find (λ s. not (is_open (slice_index_or (states_of channels.now) s.0 first_channel).session))
-        (filter (λ s. slice_index_or marks.now s.0 false) (map switch_numbered (range_with_len 0 (length channels.now)))) }
+    ensures { result
+        ≡ find
+        (λ s. not (is_open (slice_index_or (states_of channels.now) s.0 first_channel).session))
+        (filter (λ s. slice_index_or marks.now s.0 false)
+        (map switch_numbered (range_with_len 0 (length channels.now)))) }
 {
     for number in 0..channels.len() {
         if is_missing(&channels[number], marks[number]) {
@@ -163,8 +168,10 @@ pub(crate) fn next_round<'a>(
     requires few { switch_count net.now ≤ 128 }
     requires plan { AllByRecursion (AllByRecursion (IsPlanChange net.now)) rounds.now }
     requires within { IsPhaseWithin rounds.now phase }
-    ensures ok { IfOk result (λ round. MayStartWith net.now rounds.now (states_of channels.now) phase round.now) }
-    ensures refused { IfErr result (IsRefusedWith net.now rounds.now (states_of channels.now) phase) }
+    ensures ok { IfOk result
+        (λ round. MayStartWith net.now rounds.now (states_of channels.now) phase round.now) }
+    ensures refused { IfErr result
+        (IsRefusedWith net.now rounds.now (states_of channels.now) phase) }
 {
     let k = match phase {
         Phase::Settled(k) => k as usize,
@@ -223,8 +230,12 @@ pub(crate) fn begin(
 ) -> Result<(), Memory>
     requires count { vec_len channels.old ≡ length turns.now }
     requires most { begun_count phase.old + 1 < 2 ^ 32 }
-    ensures ok { OnOk result (with_states phase.new log.new.items channels.new.items ≡ begun_by_turns turns.now (with_states phase.old log.old.items channels.old.items)) }
-    ensures err { OnErr result (with_states phase.new log.new.items channels.new.items ≡ with_states phase.old log.old.items channels.old.items) }
+    ensures ok { OnOk result
+        (with_states phase.new log.new.items channels.new.items
+        ≡ begun_by_turns turns.now (with_states phase.old log.old.items channels.old.items)) }
+    ensures err { OnErr result
+        (with_states phase.new log.new.items channels.new.items
+        ≡ with_states phase.old log.old.items channels.old.items) }
 {
     reserve(log, 2)?;
     reserve_all(channels, turns)?;
@@ -247,8 +258,13 @@ pub(crate) fn hear(
     channels: &mut Vec<Channel>,
 ) -> Result<(), Memory>
     requires { number < vec_len channels.old }
-    ensures ok { OnOk result (with_states phase.new log.new.items channels.new.items ≡ heard_with number events.now bytes.now (with_states phase.old log.old.items channels.old.items)) }
-    ensures err { OnErr result (with_states phase.new log.new.items channels.new.items ≡ with_states phase.old log.old.items channels.old.items) }
+    ensures ok { OnOk result
+        (with_states phase.new log.new.items channels.new.items
+        ≡ heard_with number events.now bytes.now
+        (with_states phase.old log.old.items channels.old.items)) }
+    ensures err { OnErr result
+        (with_states phase.new log.new.items channels.new.items
+        ≡ with_states phase.old log.old.items channels.old.items) }
 {
     let waited = channels[number].outstanding().is_some();
     if waited {

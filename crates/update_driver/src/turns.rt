@@ -63,7 +63,9 @@ impl Turns {
         requires plan { IsPlanChange net.now change.now }
         requires count { vec_len self.old.list ≡ switch_count net.now }
         requires xid { self.old.xid + 1 < 2 ^ 32 }
-        ensures { OnOk result (PutsMessage (switch_of change.now).0 (wire_text (message_of change.now self.old.xid)) (Event.Change number ∷ []) (λ b. b) self.old self.new) }
+        ensures { OnOk result
+            (PutsMessage (switch_of change.now).0 (wire_text (message_of change.now self.old.xid))
+            (Event.Change number ∷ []) (λ b. b) self.old self.new) }
     {
         let message = encode_change(*self.list.allocator(), change, self.xid)?;
         let turn = &mut self.list[change.switch().0 as usize];
@@ -77,7 +79,9 @@ impl Turns {
     fn put_barrier(&mut self, switch: usize) -> Result<(), Memory>
         requires switch { switch < vec_len self.old.list }
         requires xid { self.old.xid + 1 < 2 ^ 32 }
-        ensures { OnOk result (PutsMessage switch (wire_text (BarrierRequest self.old.xid)) [] (λ b. Some self.old.xid) self.old self.new) }
+        ensures { OnOk result
+            (PutsMessage switch (wire_text (BarrierRequest self.old.xid)) []
+            (λ b. Some self.old.xid) self.old self.new) }
     {
         let message = encode_barrier(self.xid);
         let turn = &mut self.list[switch];
@@ -105,7 +109,10 @@ impl Turns {
         requires plan { AllByRecursion (IsPlanChange net.now) changes.now }
         requires count { vec_len self.old.list ≡ switch_count net.now }
         requires xids { self.old.xid + length changes.now < 2 ^ 32 }
-        ensures messages { OnOk result ((k : ℕ) → HoldMessages k (sent_from self.old.xid (map (change_request k) changes.now)) self.new.list.items) }
+        ensures messages { OnOk result
+            ((k : ℕ)
+            → HoldMessages k (sent_from self.old.xid (map (change_request k) changes.now))
+            self.new.list.items) }
         ensures events { OnOk result (HoldEvents changes.now self.new.list.items) }
         ensures unasked { OnOk result (AreUnasked 0 self.new.list.items) }
         ensures count { OnOk result (length self.new.list.items ≡ length self.old.list.items) }
@@ -139,10 +146,13 @@ pub(crate) fn turns_of(
 ) -> Result<Turns, Memory>
     requires plan { AllByRecursion (IsPlanChange net.now) changes.now }
     requires xids { xid + length changes.now + switch_count net.now < 2 ^ 32 }
-    ensures messages { IfOk result (λ t. (k : ℕ) → HoldMessages k (sent_from xid (round_requests net.now k changes.now)) t.list.items) }
+    ensures messages { IfOk result
+        (λ t. (k : ℕ)
+        → HoldMessages k (sent_from xid (round_requests net.now k changes.now)) t.list.items) }
     ensures events { IfOk result (λ t. HoldEvents changes.now t.list.items) }
     ensures count { IfOk result (λ t. length t.list.items ≡ switch_count net.now) }
-    ensures xid { IfOk result (λ t. (k : ℕ) → t.xid ≡ xid + length (round_requests net.now k changes.now)) }
+    ensures xid { IfOk result
+        (λ t. (k : ℕ) → t.xid ≡ xid + length (round_requests net.now k changes.now)) }
 {
     let mut turns = Turns::make(alloc, net.switches(), xid)?;
     turns.put_changes(changes, net)?;

@@ -41,8 +41,10 @@ pub fn upgrade<S: Source>(
     source: &mut S,
     names: &PlanNames<'_>,
 ) -> Result<Reply, Exit>
-    ensures meets { Meets IsUpgradeAnswer (S.held source.old) (reading_plan_files (plan_names_seen names.now))
-        (S.faults source.old) (S.faults source.new) result (S.selected source.new) (S.taken source.new) }
+    ensures meets { Meets IsUpgradeAnswer (S.held source.old)
+        (reading_plan_files (plan_names_seen names.now))
+        (S.faults source.old) (S.faults source.new) result (S.selected source.new)
+        (S.taken source.new) }
     ensures held { S.held source.new ≡ S.held source.old }
     ensures later { S.faults source.old ≤ S.faults source.new }
 {

@@ -11,6 +11,7 @@ ghost use Rattle.upgrade_command.specs.Promise.{UpgradePromise};
 /// A run whose answer, where it is settled, is that of the command's dialogue over the files keeps the promise of `upgrade`.
 pub fn upgrade_promised()
     ensures { (files : Files) (names : PlanNames) (old new : Option (List ℕ)) (result : Status)
-        → (IsSettled result → Answered IsUpgradeAnswer files (reading_plan_files names) old new result)
+        → (IsSettled result
+        → Answered IsUpgradeAnswer files (reading_plan_files names) old new result)
         → UpgradePromise files names old new result }
 {}

@@ -34,7 +34,7 @@ class Applying(UpdateTest):
             pieces = openflow.cut(net.switches[name].received)[0]
             self.assertEqual(b"".join(it for it in pieces if openflow.xid_of(it) < OWN), data)
             self.assertLessEqual(without_xid(b"".join(it for it in pieces if openflow.xid_of(it) >= OWN)), own)
-            self.assertEqual([it[8:10] for it in pieces if openflow.type_of(it) == openflow.STATS_REQUEST].count(b"\0\1"), 4)     # at first, before each round, at last
+            self.assertEqual([it[8:10] for it in pieces if openflow.type_of(it) == openflow.STATS_REQUEST].count(b"\0\1"), 5)     # at first, behind the mark, before each round, at last
 
     def test_each_line_of_the_record_is_followed_by_what_drive_says_of_it(self):
         net = Network(self, "square")
@@ -134,7 +134,7 @@ class Applying(UpdateTest):
     def test_an_operator_who_ends_it_is_told_how_to_go_on(self):
         net = Network(self, "square")
         run = net.begin("--wait", "20")
-        while "the mark of the update" not in (net.record.read_text() if net.record.exists() else "") and run.poll() is None:
+        while "the switches have the tables of" not in (net.record.read_text() if net.record.exists() else "") and run.poll() is None:
             time.sleep(0.01)
         run.terminate()
         said = run.communicate(timeout=10)[1]

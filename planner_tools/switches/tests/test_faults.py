@@ -165,7 +165,7 @@ class Faults(UpdateTest):
         net.apply_until("round 1 starts", "--wait", "0.05")
         record, listed = net.record, net.listed
         run = self.another(net).apply()
-        self.stops(run, "another update is at work: s", "go on with --take-over")
+        self.stops(run, "another update is at work: s", "--resume --take-over takes its mark away")
         net.record, net.listed = record, listed
         self.settles(net, net.apply("--resume"))
 
@@ -186,7 +186,7 @@ class Faults(UpdateTest):
         net = Network(self, "detour", listen=True)
         net.apply_until("round 5 starts")
         self.another(net)
-        self.stops(net.apply(), "another update is at work", "go on with --take-over")
+        self.stops(net.apply(), "another update is at work", "--resume --take-over takes its mark away")
         self.stops(net.apply("--resume", "--take-over"), "So the switches don't have the tables of", "No plan can start from what they have: a configuration can't say it")
         self.settles(net, net.apply("--resume", "--repair"))
 
@@ -240,16 +240,15 @@ class Faults(UpdateTest):
         self.stops(net.apply("--resume", program="/bin/false"), "rounds were started by the record, and nothing was sent in this run", "--resume")
 
     def test_a_switch_of_another_version_is_named(self):
-        for listen in (True, False):
-            net = Network(self, "square", listen=listen, only={"s2": {"hello": HELLO_13}})
-            self.stops(net.apply("--patience", "4"), "offers OpenFlow 1.3, and not OpenFlow 1.0", "protocols=OpenFlow10" if listen else "see that s2 is connected")
+        net = Network(self, "square", listen=True, only={"s2": {"hello": HELLO_13}})
+        self.stops(net.apply(), "offers OpenFlow 1.3, and not OpenFlow 1.0", "protocols=OpenFlow10")
+        net = Network(self, "square", only={"s2": {"hello": HELLO_13}})
+        self.wait_for(net.begin("--ask"), "offers OpenFlow 1.3, and not OpenFlow 1.0; it is closed")
 
     def test_the_patience_rules_every_wait_for_a_switch(self):
-        net = Network(self, "square", listen=True, only={"s2": {"late": 1.5}})
+        net = Network(self, "square", listen=True, only={"s2": {"late": 1.0}})
         self.settles(net, net.apply("--patience", "20"))
         self.assertEqual(net.switches["s2"].connections, 1)
-        net = Network(self, "square", listen=True, only={"s2": {"late": 60.0}})
-        self.stops(net.apply("--patience", "4"), "the patience of 4 s is at its end: s2 isn't connected", "see that s2 is connected and answers")
 
     def test_echo_requests_don_t_reach_the_record_while_nothing_happens(self):
         net = Network(self, "square", echo=0.02)

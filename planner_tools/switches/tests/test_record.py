@@ -92,7 +92,8 @@ class Recording(unittest.TestCase):
                 self.assertEqual(pathlib.Path(self.path).read_text(), "".join(good))
 
     def test_a_record_of_nothing_or_of_other_files_is_told_as_such(self):
-        for text, what, then in (("", "is empty: nothing was begun with it", "without --resume"), ("start\n", "isn't the record of an update", "that `planner apply` wrote"),
+        empty = "has no whole line: nothing was begun with it"
+        for text, what, then in (("", empty, "without --resume"), ("#1 0123456789abcdef\n# update 02", empty, "without --resume"), ("start\n", "isn't the record of an update", "that `planner apply` wrote"),
                                  ("what the operator wrote", "isn't the record of an update", "that `planner apply` wrote")):
             self.is_refused([text], what, then)
         os.unlink(self.path)
@@ -128,6 +129,10 @@ try:
 except Stop as stop:
     pass
 """
+        run = subprocess.run([sys.executable, "-c", code.replace("record.size + 100", "0").replace("record =", "resource.setrlimit(resource.RLIMIT_FSIZE, (0, 0)); record =")],
+                             capture_output=True, text=True, check=False)
+        self.assertIn(f"the record {self.path} can't be written: File too large", run.stderr)
+        self.assertFalse(os.path.exists(self.path))
         run = subprocess.run([sys.executable, "-c", code], capture_output=True, text=True, check=True)
         self.assertIn(f"the record {self.path} can't be written: File too large", run.stdout)
         self.assertEqual(self.record(resume=True).starts, pathlib.Path(self.path).read_text().count("\nstart\n"))

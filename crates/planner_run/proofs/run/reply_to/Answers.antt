@@ -1,10 +1,13 @@
 use Rattle.command_base.proofs.DialogueLaws.{meets_as}
-use Rattle.planner_run.specs.Commands.{IsSaid, OfConfig, OfCheck, OfPlan, OfUpgrade, OfEmit, OfReplay, OfSimulate, OfExplain, OfImport, OfDrive}
+use Rattle.planner_run.specs.Commands.{IsSaid, OfConfig, OfPaths, OfCheck, OfPlan, OfUpgrade, OfEmit, OfReplay, OfTables, OfTrace, OfSimulate, OfExplain, OfImport, OfDrive}
 use Rattle.planner_run.proofs.Sampled.{sample_meets}
 use Rattle.planner_run.proofs.run.reply_to.Goals as goal
 
 pub returns-in-Config-clause-meets : goal.returns-in-Config-clause-meets
 returns-in-Config-clause-meets g c = rw c.in-Config.is (meets_as IsSaid OfConfig (λ m answer said. said) c.config.ensures.meets)
+
+pub returns-in-Paths-clause-meets : goal.returns-in-Paths-clause-meets
+returns-in-Paths-clause-meets g c = rw c.in-Paths.is (meets_as IsSaid OfPaths (λ m answer said. said) c.paths.ensures.meets)
 
 pub returns-in-Check-clause-meets : goal.returns-in-Check-clause-meets
 returns-in-Check-clause-meets g c = rw c.in-Check.is (meets_as IsSaid OfCheck (λ m answer said. said) c.check.ensures.meets)
@@ -20,6 +23,12 @@ returns-in-Emit-clause-meets g c = rw c.in-Emit.is (meets_as IsSaid OfEmit (λ m
 
 pub returns-in-Replay-clause-meets : goal.returns-in-Replay-clause-meets
 returns-in-Replay-clause-meets g c = rw c.in-Replay.is (meets_as IsSaid OfReplay (λ m answer said. said) c.replay.ensures.meets)
+
+pub returns-in-Tables-clause-meets : goal.returns-in-Tables-clause-meets
+returns-in-Tables-clause-meets g c = rw c.in-Tables.is (meets_as IsSaid OfTables (λ m answer said. said) c.tables.ensures.meets)
+
+pub returns-in-Trace-clause-meets : goal.returns-in-Trace-clause-meets
+returns-in-Trace-clause-meets g c = rw c.in-Trace.is (meets_as IsSaid OfTrace (λ m answer said. said) c.trace.ensures.meets)
 
 pub returns-in-Simulate-clause-meets : goal.returns-in-Simulate-clause-meets
 returns-in-Simulate-clause-meets g c =

@@ -2,17 +2,20 @@ use Rattle.std.proofs.Common.{map, string_bytes}
 use Rattle.command_base.specs.Readings.{reading_update, reading_plan_files}
 use Rattle.command_base.proofs.RunLaws.{answered_as}
 use Rattle.config_command.specs.Configs.{config_dialogue, IsConfigAnswer}
+use Rattle.paths_command.specs.Listed.{IsPathsAnswer}
 use Rattle.check_base.specs.Checks.{check_dialogue}
 use Rattle.check_command.specs.Checks.{IsCheckAnswer}
 use Rattle.plan_command.specs.Planned.{IsPlanned}
 use Rattle.replay_command.specs.Replayed.{replay_dialogue, IsReplayAnswer}
+use Rattle.tables_command.specs.Listed.{IsTablesAnswer}
+use Rattle.trace_command.specs.Traced.{trace_dialogue, IsTraceAnswer}
 use Rattle.simulate_command.specs.Simulated.{IsSimulateAnswer}
 use Rattle.explain_command.specs.Explained.{IsExplainAnswer}
 use Rattle.upgrade_command.specs.Texts.{IsUpgradeAnswer}
 use Rattle.emit_command.specs.Answers.{IsEmitAnswer}
 use Rattle.import_command.specs.Imported.{import_dialogue, IsImportAnswer}
 use Rattle.drive_command.specs.Driven.{drive_dialogue, IsDriveAnswer}
-use Rattle.planner_run.specs.Commands.{Config, Check, Plan, Upgrade, Emit, Replay, Simulate, Explain, Import, Drive, OfConfig, OfCheck, OfPlan, OfUpgrade, OfEmit, OfReplay, OfSimulate, OfExplain, OfImport, OfDrive, IsSaid}
+use Rattle.planner_run.specs.Commands.{Config, Paths, Check, Plan, Upgrade, Emit, Replay, Tables, Trace, Simulate, Explain, Import, Drive, OfConfig, OfPaths, OfCheck, OfPlan, OfUpgrade, OfEmit, OfReplay, OfTables, OfTrace, OfSimulate, OfExplain, OfImport, OfDrive, IsSaid}
 use Rattle.planner_run.proofs.Answered.{answered}
 use Rattle.planner_run.proofs.Sampled.{sample_ends}
 use Rattle.planner_run.proofs.run.run.Goals as goal
@@ -21,6 +24,11 @@ pub returns-clause-config : goal.returns-clause-config
 returns-clause-config g c = λ files names tells asks.
     c.config_promised.ensures files names _ _ _ (λ settled.
     answered_as IsConfigAnswer IsSaid OfConfig files (config_dialogue names) _ _ _ (λ m answer said. said) (answered _ _ _ _ _ files (Config names) (c.respond.ensures.all settled) tells asks))
+
+pub returns-clause-paths : goal.returns-clause-paths
+returns-clause-paths g c = λ files names tells asks.
+    c.paths_promised.ensures files names _ _ _ (λ settled.
+    answered_as IsPathsAnswer IsSaid OfPaths files (config_dialogue names) _ _ _ (λ m answer said. said) (answered _ _ _ _ _ files (Paths names) (c.respond.ensures.all settled) tells asks))
 
 pub returns-clause-check : goal.returns-clause-check
 returns-clause-check g c = λ files names tells asks.
@@ -46,6 +54,16 @@ pub returns-clause-replay : goal.returns-clause-replay
 returns-clause-replay g c = λ files names tells asks.
     c.replay_promised.ensures files names _ _ _ (λ settled.
     answered_as IsReplayAnswer IsSaid OfReplay files (replay_dialogue names) _ _ _ (λ m answer said. said) (answered _ _ _ _ _ files (Replay names) (c.respond.ensures.all settled) tells asks))
+
+pub returns-clause-tables : goal.returns-clause-tables
+returns-clause-tables g c = λ files names tells asks.
+    c.tables_promised.ensures files names _ _ _ (λ settled.
+    answered_as IsTablesAnswer IsSaid OfTables files (replay_dialogue names) _ _ _ (λ m answer said. said) (answered _ _ _ _ _ files (Tables names) (c.respond.ensures.all settled) tells asks))
+
+pub returns-clause-trace : goal.returns-clause-trace
+returns-clause-trace g c = λ files names tells asks.
+    c.trace_promised.ensures files names _ _ _ (λ settled.
+    answered_as IsTraceAnswer IsSaid OfTrace files (trace_dialogue names) _ _ _ (λ m answer said. said) (answered _ _ _ _ _ files (Trace names) (c.respond.ensures.all settled) tells asks))
 
 pub returns-clause-simulate : goal.returns-clause-simulate
 returns-clause-simulate g c = λ files names tells asks.

@@ -2,7 +2,7 @@ use Rattle.std.proofs.Common.{◌≡◌, ◌+◌, ◌≤◌, [], ◌∷◌, ◌+
 use Rattle.flow_rules.specs.Tables.{IsClear, rules_at, rules_of_all}
 use Rattle.topology.specs.Networks.{capacity_of}
 use Rattle.flow_rules.specs.declared.rules.Rule.{Rule}
-use Rattle.round_tables.specs.Present.{IsMixed}
+use Rattle.round_tables.specs.PreparedTables.{IsMixed}
 use Rattle.round_tables.proofs.TrialLaws.{switch_n, each_pushed}
 use Rattle.flow_rules.proofs.TableLaws.{rules_get}
 use Rattle.round_tables.proofs.alone.all_alone.Goals as goal

@@ -2,7 +2,7 @@ use Rattle.std.proofs.Common.{◌≡◌, ◌+◌, ◌<◌, ◌≤◌, [], length
 use Rattle.net_base.specs.declared.ids.SwitchId.{SwitchId}
 use Rattle.topology.specs.Networks.{capacity_of}
 use Rattle.flow_rules.specs.Tables.{rules_at, rules_of_all}
-use Rattle.round_tables.specs.Present.{mix_at, IsMixed}
+use Rattle.round_tables.specs.PreparedTables.{mix_at, IsMixed}
 use Rattle.round_tables.proofs.alone.all_alone.Given as goal
 
 abbrev pub invariant-loop-i : goal.invariant-loop-i

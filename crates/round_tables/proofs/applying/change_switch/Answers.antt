@@ -1,22 +1,14 @@
-use Rattle.std.proofs.Common.{List, [], length, set, get_or-set_same, sym, ◌∙◌, ap, arith, ◌≡◌}
-use Rattle.std.specs.Prelude.{◌==◌}
+use Rattle.std.proofs.Common.{List, [], set, get_or-set_same, sym, ◌∙◌, ap, arith, ◌≡◌}
 use Rattle.std.proofs.lemmas.Bool.{eqb-true}
 use Rattle.std.proofs.lemmas.List.{nil_from_length}
 use Rattle.std.proofs.lemmas.Option.{get_or_from_slice_get}
 use Rattle.flow_rules.specs.Tables.{TableState}
 use Rattle.flow_rules.proofs.TableLaws.{rules_get}
-use Rattle.update_model.specs.Changes.{switch_of, changes_at, rules_after}
+use Rattle.update_model.specs.Changes.{rules_after}
 use Rattle.update_model.specs.declared.Change.{Change}
-use Rattle.round_tables.specs.Present.{room_of, rules_there}
-use Rattle.round_tables.proofs.LoadLaws.{filter_few}
-use Rattle.round_tables.proofs.PresentLaws.{rules_in}
+use Rattle.round_tables.specs.PreparedTables.{room_of, rules_there}
+use Rattle.round_tables.proofs.TableLaws.{rules_in}
 use Rattle.round_tables.proofs.applying.change_switch.Goals as goal
-
-pub change_rules-requires-clause-list : goal.change_rules-requires-clause-list
-change_rules-requires-clause-list c =
-    let few = filter_few (λ (d : Change). (switch_of d).0 == c.args.switch.0) c.args.round.now in
-    let same = ap length (c.deref.ensures.value ∙ c.collect.ensures.items) in
-    omega (arith, c.requires.list)
 
 pub returns-clause-rules : goal.returns-clause-rules
 returns-clause-rules c =
@@ -25,8 +17,7 @@ returns-clause-rules c =
     rules_in (set tables s.0 c.change_rules.new.table) s
     ∙ ap (λ (t : TableState). t.rules) (get_or-set_same tables s.0 c.change_rules.new.table (record { rules = []; spare = 0 }) c.requires.within)
     ∙ c.change_rules.ensures.rules
-    ∙ ap (λ (cs : List Change). rules_after cs c.table_mut.result.now.rules) (c.deref.ensures.value ∙ c.collect.ensures.items)
-    ∙ ap (rules_after (changes_at s c.args.round.now)) (sym (rules_get tables s.0 c.table_mut.result.now c.table_mut.ensures.value))
+    ∙ ap (rules_after c.args.changes.now) (sym (rules_get tables s.0 c.table_mut.result.now c.table_mut.ensures.value))
 
 pub returns-clause-room : goal.returns-clause-room
 returns-clause-room c =
@@ -40,7 +31,5 @@ pub returns-then-is_empty-clause-rules : goal.returns-then-is_empty-clause-rules
 returns-then-is_empty-clause-rules c =
     let s = c.args.switch in
     let zero_is = eqb-true _ 0 (sym c.is_empty.ensures ∙ c.if-is_empty.true) in
-    let ok = c.collect.new.changes.ok in
-    let count = ap length c.collect.ensures.items in
-    let none : changes_at s c.args.round.now ≡ [] = nil_from_length (changes_at s c.args.round.now) (omega arith) in
+    let none : c.args.changes.now ≡ [] = nil_from_length c.args.changes.now (omega arith) in
     sym (ap (λ (cs : List Change). rules_after cs (rules_there c.args.tables.now s)) none)

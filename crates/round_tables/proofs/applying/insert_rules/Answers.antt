@@ -9,7 +9,7 @@ use Rattle.update_model.specs.declared.Change.{Change}
 use Rattle.round_mix.specs.Prepared.{AreGood}
 use Rattle.round_tables.specs.ByKind.{inserts}
 use Rattle.round_tables.specs.Loading.{insert_count}
-use Rattle.round_tables.specs.Present.{room_of}
+use Rattle.round_tables.specs.PreparedTables.{room_of}
 use Rattle.round_tables.proofs.ApplyLaws.{spare_step}
 use Rattle.round_tables.proofs.ByKindLaws.{good_next}
 use Rattle.round_tables.proofs.applying.insert_rules.Goals as goal

@@ -3,7 +3,7 @@ use Rattle.update_model.specs.Changes.{rules_after}
 use Rattle.round_mix.specs.Prepared.{AreGood}
 use Rattle.round_tables.specs.ByKind.{inserts}
 use Rattle.round_tables.specs.Loading.{insert_count}
-use Rattle.round_tables.specs.Present.{room_of}
+use Rattle.round_tables.specs.PreparedTables.{room_of}
 use Rattle.round_tables.proofs.applying.insert_rules.Given as goal
 
 abbrev pub invariant-loop-change : goal.invariant-loop-change

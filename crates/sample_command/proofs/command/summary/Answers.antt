@@ -10,5 +10,5 @@ unreachable-requires c = let ordered = ap (λ (p : Plan). p.evidence) c.requires
 pub returns : goal.returns
 returns c =
     IfOk-weaker c.sample_line.result _ _
-    (λ t is. summary_of c.args.size.switches c.args.plan.now c.requires.searched c.requires.keeps c.count.result c.args.classes (c.count.ensures ∙ c.requires.rounds) c.requires.classes c.in-Ordered.evidence c.in-Ordered.is t.items is)
+    (λ t is. summary_of c.args.size.switches c.args.plan.now c.requires.searched c.requires.keeps c.count.result c.args.classes c.count.ensures c.requires.rounds c.requires.counted c.requires.classes c.in-Ordered.evidence c.in-Ordered.is t.items is)
     c.sample_line.ensures

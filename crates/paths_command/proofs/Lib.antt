@@ -1,0 +1,4 @@
+pub mod OneBreak
+pub mod RowLaws
+pub mod ListingLaws
+pub mod PathsLaws

@@ -1,0 +1,66 @@
+-- What a run of `paths` promises over the files of a source that tells.
+use Rattle.std.specs.Prelude.{◌≡◌, ◌⊎◌, ◌↔◌, ℕ, ◌<◌, false, List, Option, Some, slice_get}
+use Rattle.std.specs.Io.KnownBytes.{Appends}
+use Rattle.file_access.specs.Outside.{Files}
+use Rattle.config_check.specs.declared.Breaks as breaking
+use Rattle.config_check.specs.Broken.{IsFirstBreak}
+use Rattle.command_base.specs.declared.status.Status.{Status}
+use Rattle.command_base.specs.declared.status.Status.TheVariants as status
+use Rattle.command_base.specs.Lines.{classes_line}
+use Rattle.command_base.specs.Runs.{IsSettled}
+use Rattle.config_command.specs.Names.{ConfigNames}
+use Rattle.config_command.specs.Configs.{ConfigMeaning, FilesMean, FilesHold, FilesBreak, FilesMakeTooMany, config_count}
+use Rattle.config_command.specs.Promise.{ConfigPromise}
+use Rattle.config_command.specs.Verdicts.{classes_under}
+use Rattle.paths_command.specs.declared.marks.Mark.TheVariants.{Breaks}
+use Rattle.paths_command.specs.Rows.{ClassRow, AreRows}
+use Rattle.paths_command.specs.Lines.{paths_text, is_break}
+
+-- the listing that was written: of each class its path and the verdict on it, and the counts
+pub record WritesPaths (m : ConfigMeaning) (old new : Option (List ℕ)) : Type 0 where
+  pub rows : List ClassRow
+  pub are : AreRows m rows
+  pub written : Appends old new (paths_text m.net rows)
+
+-- the first row that is neither good nor free is that of the break, with its word and its switch
+pub record IsFirstBreakRow (rows : List ClassRow) (b : breaking.Breaks) : Type 0 where
+  pub row : ClassRow
+  pub at : slice_get rows b.class ≡ Some row
+  pub mark_is : row.mark ≡ Breaks b.how
+  pub earlier : (n : ℕ) (other : ClassRow) → n < b.class → slice_get rows n ≡ Some other
+      → is_break other.mark ≡ false
+
+-- the listing that was written, and in it the row of the break
+pub record ListsFirstBreak (m : ConfigMeaning) (b : breaking.Breaks) (old new : Option (List ℕ))
+    : Type 0 where
+  pub lists : WritesPaths m old new
+  pub first : IsFirstBreakRow lists.rows b
+
+-- one run is Done exactly where the other is, and Refused exactly where the other is
+pub record EndAlike (one other : Status) : Type 0 where
+  pub done : (one ≡ status.Done) ↔ (other ≡ status.Done)
+  pub refused : (one ≡ status.Refused) ↔ (other ≡ status.Refused)
+
+-- the files and their names, what was written before and after the run, and how it ended
+pub record PathsPromise (files : Files) (names : ConfigNames) (old new : Option (List ℕ))
+    (result : Status) : Type 0 where
+  -- Done comes exactly where the files are read, with at most 8192 classes, each with a good path.
+  pub done : IsSettled result → ((result ≡ status.Done) ↔ FilesHold files names)
+  -- Refused comes exactly where some class has no good path.
+  pub refused : IsSettled result → ((result ≡ status.Refused) ↔ FilesBreak files names)
+  -- In both cases the listing is written: of each class the path and the verdict, and the counts.
+  pub lists : (m : ConfigMeaning) → FilesMean files names m
+      → (result ≡ status.Done) ⊎ (result ≡ status.Refused) → WritesPaths m old new
+  -- Where it is refused, the first line neither good nor free is that of the break that `config` names.
+  pub first : (m : ConfigMeaning) (b : breaking.Breaks) → FilesMean files names m
+      → result ≡ status.Refused
+      → IsFirstBreak m.net m.tables m.demands (classes_under m.net m.tables m.demands) b
+      → ListsFirstBreak m b old new
+  -- So the run ends as a run of `config` over the same words does.
+  pub as_config : IsSettled result → (before after : Option (List ℕ)) (other : Status)
+      → IsSettled other → ConfigPromise files names before after other → EndAlike result other
+  -- Too many classes are a bad file, and their line is written for no other cause.
+  pub classes : IsSettled result → (many : FilesMakeTooMany files names)
+      → (result ≡ status.BadFile) × Appends old new (classes_line (config_count many.meaning))
+  pub classes_only : (before : List ℕ) (classes : ℕ) → old ≡ Some before → result ≡ status.BadFile
+      → Appends old new (classes_line classes) → FilesMakeTooMany files names

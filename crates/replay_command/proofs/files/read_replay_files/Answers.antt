@@ -1,0 +1,41 @@
+use Rattle.std.proofs.lemmas.Result.{err_from_is_err_and}
+use Rattle.command_base.proofs.DialogueLaws.{gives_then, gives_end, ends_first, ends_then}
+use Rattle.replay_command.specs.Replayed.{replay_dialogue}
+use Rattle.replay_command.proofs.files.read_replay_files.Goals as goal
+
+pub returns-in_err-net-clause-stops : goal.returns-in_err-net-clause-stops
+unfolding replay_dialogue
+returns-in_err-net-clause-stops g c =
+    let p = err_from_is_err_and c.from_residual.result c.from_residual.ensures.1 in
+    rw (p.1, p.2) (λ last. ends_first _ (c.in_err-net.ensures.stops last))
+
+pub returns-in-Err-clause-stops : goal.returns-in-Err-clause-stops
+unfolding replay_dialogue
+returns-in-Err-clause-stops g c = λ last.
+    ends_then _ c.read_topology.ensures.held c.read_topology.ensures.later (c.in_ok-net.ensures.gives last)
+    (ends_first _ (c.in-Err.ensures.stops _))
+
+pub returns-in-Err-read_plan_file-clause-stops : goal.returns-in-Err-read_plan_file-clause-stops
+unfolding replay_dialogue
+returns-in-Err-read_plan_file-clause-stops g c = λ last.
+    ends_then _ c.read_topology.ensures.held c.read_topology.ensures.later (c.in_ok-net.ensures.gives last)
+    (ends_then _ c.read_configuration.ensures.held c.read_configuration.ensures.later (c.in-Ok.ensures.gives _)
+    (ends_first _ (c.in-Err-read_plan_file.ensures.stops _)))
+
+pub returns-in-Err-read_schedule_file-clause-stops :
+    goal.returns-in-Err-read_schedule_file-clause-stops
+unfolding replay_dialogue
+returns-in-Err-read_schedule_file-clause-stops g c = λ last.
+    ends_then _ c.read_topology.ensures.held c.read_topology.ensures.later (c.in_ok-net.ensures.gives last)
+    (ends_then _ c.read_configuration.ensures.held c.read_configuration.ensures.later (c.in-Ok.ensures.gives _)
+    (ends_then _ c.read_plan_file.ensures.held c.read_plan_file.ensures.later (c.in-Ok-read_plan_file.ensures.gives _)
+    (ends_first _ (c.in-Err-read_schedule_file.ensures.stops _))))
+
+pub returns-clause-gives : goal.returns-clause-gives
+unfolding replay_dialogue
+returns-clause-gives g c = λ last.
+    gives_then _ c.read_topology.ensures.held (c.in_ok-net.ensures.gives last)
+    (gives_then _ c.read_configuration.ensures.held (c.in-Ok.ensures.gives _)
+    (gives_then _ c.read_plan_file.ensures.held (c.in-Ok-read_plan_file.ensures.gives _)
+    (gives_then _ c.read_schedule_file.ensures.held (c.in-Ok-read_schedule_file.ensures.gives _)
+    (gives_end _ _ _))))

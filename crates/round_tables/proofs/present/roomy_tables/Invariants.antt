@@ -1,8 +1,0 @@
-use Rattle.std.proofs.Common.{◌≡◌, ◌<◌, ◌≤◌, length}
-use Rattle.net_base.specs.declared.ids.SwitchId.{SwitchId}
-use Rattle.topology.specs.Networks.{switch_count, capacity_of}
-use Rattle.round_tables.specs.Present.{room_of, table_at}
-use Rattle.round_tables.proofs.present.roomy_tables.Given as goal
-
-abbrev pub invariant-loop-i : goal.invariant-loop-i
-invariant-loop-i l = (length l.tables ≡ switch_count l.net) × ((s : SwitchId) → s.0 < l.i → capacity_of l.net s ≤ room_of (table_at l.tables s))

@@ -1,0 +1,44 @@
+//! The command that says what the switches have after a recorded schedule.
+ghost use Rattle.std.specs.Prelude.{◌≡◌, ◌≤◌, IfOk, IfErr};
+ghost use Rattle.flow_rules.specs.Tables.{rules_of_all};
+ghost use Rattle.path_walk.specs.UserConfigs.{IsUserConfig};
+ghost use Rattle.certificates.specs.Valid.{IsValidPlan};
+ghost use Rattle.command_base.specs.Replies.{answer_of, Meets};
+ghost use Rattle.replay_command.specs.Names.{names_seen};
+ghost use Rattle.replay_command.specs.Replayed.{meaning_of, replay_dialogue};
+ghost use Rattle.tables_command.specs.Listed.{IsTablesAnswer};
+
+use crate::replying::tables_reply;
+use command_base::{Exit, Reply};
+use file_access::Source;
+use replay_command::{ReplayFiles, ReplayNames, read_replay_files};
+use std::alloc::Global;
+
+/// What is said of the tables, as the end of the command.
+fn say_tables(alloc: Global, files: &ReplayFiles) -> Result<Reply, Exit>
+    requires user { IsUserConfig files.now.net (rules_of_all files.now.old) }
+    requires valid { IsValidPlan files.now.net files.now.plan }
+    ensures said { IfOk result (λ r. IsTablesAnswer (meaning_of files.now) (answer_of r)) }
+    ensures stops { IfErr result (λ e. e ≡ Exit.Memory) }
+{
+    Ok(tables_reply(alloc, files)?)
+}
+
+/// Carries out a recorded schedule, and writes the rules that the switches then have and the changes of the running round that
+/// aren't made yet; or the line of the first event that can't happen.
+pub fn tables<S: Source>(
+    alloc: Global,
+    source: &mut S,
+    names: &ReplayNames<'_>,
+) -> Result<Reply, Exit>
+    ensures meets { Meets IsTablesAnswer (S.held source.old)
+        (replay_dialogue (names_seen names.now)) (S.faults source.old) (S.faults source.new) result
+        (S.selected source.new) (S.taken source.new) }
+    ensures held { S.held source.new ≡ S.held source.old }
+    ensures later { S.faults source.old ≤ S.faults source.new }
+{
+    let files = read_replay_files(alloc, source, names)?;
+    let reply = say_tables(alloc, &files);
+    drop(files);
+    reply
+}

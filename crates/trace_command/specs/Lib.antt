@@ -1,0 +1,3 @@
+pub mod Names
+pub mod Traced
+pub mod Promise
