@@ -61,6 +61,8 @@ class TextEntry:
 
     def read_field(self, name, value):
         """Takes a field of the match."""
+        if self.type is not None and (name in TYPES and value is None or name == "dl_type"):
+            raise BadLine("the type of its packets stands twice")
         if name in TYPES and value is None:
             self.type = TYPES[name]
             self.others |= 1 << 5 if name in PROTOCOLS else 0
@@ -83,12 +85,13 @@ class TextEntry:
 
     def read_vlan(self, name, value):
         """A tag: `vlan_tci=0x0000` is that there is none. Other tests of some bits alone can't be said."""
-        if name == "dl_vlan":
-            number = whole(name, value, 0xFFFF)
+        first, slash, last = (value or "").partition("/")
+        number, mask = whole(name, first, 0xFFFF), whole(name, last, 0xFFFF) if slash else 0xFFFF
+        if name == "dl_vlan" and not slash:
             self.vlan = number
-            return
-        number, mask = (whole(name, part, 0xFFFF) for part in (value or "").partition("/")[::2]) if "/" in (value or "") else (whole(name, value, 0xFFFF), 0xFFFF)
-        if mask == 0xFFFF and number == 0:
+        elif name == "dl_vlan":
+            self.widened.append(f"{name}={value}")
+        elif mask == 0xFFFF and number == 0:
             self.vlan = UNTAGGED
         elif mask in (0x1FFF, 0xFFFF) and number & 0x1000:
             self.vlan, self.has_pcp = number & 0xFFF, mask == 0xFFFF

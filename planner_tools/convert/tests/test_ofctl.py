@@ -139,13 +139,15 @@ class FromOfctl(unittest.TestCase):
     def test_drop_unsayable_never_guesses(self):
         for entry in ("priority=0 actions=NORMAL", "priority=0 actions=output:2", "priority=0,ip actions=CONTROLLER:65535,output:2", "priority=1 actions=drop",
                       "priority=5,dl_type=0x8100 actions=drop", "priority=5,dl_type=0x88a8 actions=drop", "priority=5,ip,reg0=0x1 actions=drop", "table=1, priority=0 actions=drop",
-                      "table=1, arp actions=drop", "priority=5,dl_vlan=10 actions=drop", "priority=5,vlan_tci=0x0000/0x1fff,ip actions=drop", "priority=5,ip,dl_vlan=0 actions=drop"):
+                      "table=1, arp actions=drop", "priority=5,dl_vlan=10 actions=drop", "priority=5,vlan_tci=0x0000/0x1fff,ip actions=drop", "priority=5,ip,dl_vlan=0 actions=drop",
+                      "priority=5,ip,dl_vlan=8/0xff8 actions=drop"):
             with self.subTest(entry):
                 self.assertEqual(set(self.faults(f" cookie=0x0, {entry}\n", "--drop-unsayable")), {1})
 
     def test_lines_that_are_no_entries(self):
         for line, words in (("ovs-ofctl: s1 is not a bridge or a socket", "it has no `actions=`"), ("priority=x,ip actions=drop", "priority has no number"),
-                            ("priority=5,priority=6,ip actions=drop", "priority stands twice"), ("priority=5,ip,nw_dst=10.0.0.256 actions=drop", "10.0.0.256 is no address"),
+                            ("priority=5,priority=6,ip actions=drop", "priority stands twice"), ("priority=5,ip,arp actions=drop", "the type of its packets stands twice"),
+                            ("priority=5,ip,dl_vlan=x actions=drop", "dl_vlan has no number"), ("priority=5,ip,nw_dst=10.0.0.256 actions=drop", "10.0.0.256 is no address"),
                             ("priority=5,ip,nw_dst=10.0.0.0/33 actions=drop", "10.0.0.0/33 is no address"), ("priority=5,ip,%% actions=drop", "can't be read")):
             with self.subTest(line):
                 self.assertIn(words, self.faults(line)[1])
