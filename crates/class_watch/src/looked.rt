@@ -71,7 +71,7 @@ fn mark_picked(marks: &mut Vec<bool>, picks: &[OrderedPick])
     ensures only { (atom : ℕ) → is_marked marks.new.items atom ≡ true
         → (is_marked marks.old.items atom ≡ true)
         ⊎ ((pick : OrderedPick) × IsIn pick picks.now
-            × (pick.class % length marks.new.items ≡ atom)) }
+        × (pick.class % length marks.new.items ≡ atom)) }
 {
     for pick in picks {
         let atom = pick.class as usize % marks.len();
