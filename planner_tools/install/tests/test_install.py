@@ -48,7 +48,9 @@ class Installed(unittest.TestCase):
             for line in block:
                 line = line.replace("/usr/share/doc/planner", str(prefix / "share" / "doc" / "planner"))
                 done = run("sh", "-c", line, cwd=folder, env={**away(), "PATH": f"{prefix / 'bin'}:{away()['PATH']}"})
-                self.assertEqual((done.returncode, done.stderr), (0, ""), line)
+                # a note may be said, as of classes that no demand covers
+                said = [it for it in done.stderr.splitlines() if it.startswith("planner: ") and not it.startswith("planner: note: ")]
+                self.assertEqual((done.returncode, said), (0, []), line)
         plan = run(planner, "plan", *[square / f"{name}.json" for name in ("topology", "old", "new", "policy")], env=away())
         self.assertEqual((plan.returncode, plan.stdout), (0, (square / "plan.json").read_text()))
         self.assertEqual(run(planner, "sample", "64", env=away()).stdout, "sample 64: ordered, 252 rounds, 384 classes, 501 numberings, 632 picks, accepted\n")
