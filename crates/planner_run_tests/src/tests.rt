@@ -104,7 +104,7 @@ fn ran_over(rt: &impl Abort, alloc: Global, texts: &[&str], source: &mut MemoryS
 
 #[test]
 fn each_command_runs(rt: HostRuntime) {
-    let rows: [(&[&str], &[u8]); 8] = [
+    let rows: [(&[&str], &[u8]); 9] = [
         (&["config", "topology", "old"], b"holds: 12 classes\n"),
         (&["paths", "topology", "old", "policy"], SQUARE_LISTING),
         (
