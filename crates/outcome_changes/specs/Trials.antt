@@ -11,7 +11,6 @@ use Rattle.path_walk.specs.declared.Outcome.{Outcome}
 use Rattle.update_model.specs.Changes.{switch_of, rule_of, rules_after}
 use Rattle.update_model.specs.Mixtures.{is_delete}
 use Rattle.update_model.specs.declared.Change.{Change}
-use Rattle.update_model.specs.declared.Change.TheVariants.{Insert, Delete, Replace}
 use Rattle.outcome_changes.specs.declared.trying.Trial.{Trial}
 
 -- whether a change is at the switch

@@ -4,7 +4,6 @@ use Rattle.std.specs.Option.{option_map_or}
 use Rattle.flow_rules.specs.Patterns.{Header, covers}
 use Rattle.flow_rules.specs.declared.rules.Pattern.{Pattern}
 use Rattle.update_model.specs.declared.Change.{Change}
-use Rattle.update_model.specs.declared.Change.TheVariants.{Delete}
 use Rattle.round_mix.specs.declared.MarkedRule.{MarkedRule}
 
 -- the patterns of marked rules

@@ -6,7 +6,6 @@ use Rattle.flow_rules.specs.declared.rules.Rule.{Rule}
 use Rattle.update_model.specs.Changes.{rule_of}
 use Rattle.update_model.specs.Mixtures.{is_insert, is_delete, is_replace}
 use Rattle.update_model.specs.declared.Change.{Change}
-use Rattle.update_model.specs.declared.Change.TheVariants.{Insert, Delete, Replace}
 
 -- the rules that the changes delete
 abbrev pub deleted : List Change → List Rule
