@@ -10,7 +10,7 @@ ghost use Rattle.check_base.specs.Names.{names_seen};
 ghost use Rattle.check_base.specs.Checks.{check_dialogue, reading_plan_of};
 ghost use Rattle.check_command.specs.Checks.{IsCheckAnswer};
 
-use crate::verdict::plan_verdict;
+use crate::verdict::verdict_reply;
 use certificates::Plan;
 use check_base::CheckNames;
 use command_base::{Exit, Reply, UpdateFiles, read_plan_file, read_update};
@@ -27,7 +27,7 @@ fn say_verdict(alloc: Global, files: &UpdateFiles, plan: &Plan) -> Result<Reply,
         (answer_of r)) }
     ensures stops { IfErr result (λ e. e ≡ Exit.Memory) }
 {
-    Ok(plan_verdict(alloc, files, plan)?)
+    Ok(verdict_reply(alloc, files, plan)?)
 }
 
 /// Fetches the plan of the update, and says whether it is certified.

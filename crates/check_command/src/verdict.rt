@@ -14,10 +14,9 @@ ghost use Rattle.check_command.specs.Checks.{IsPlanVerdict};
 
 use crate::accepted_line::accepted_line;
 use certificates::Plan;
-use check_base::{class_of, refused_reply};
-use command_base::{Reply, Status, UpdateFiles, too_many_reply};
+use command_base::{Reply, Status, UpdateFiles};
 use net_base::Memory;
-use plan_checker::{CheckRoom, RoomFault, Verdict};
+use plan_verdict::{PlanVerdict, plan_verdict};
 use std::alloc::Global;
 
 fn accepted_reply(alloc: Global, plan: &Plan, classes: u32) -> Result<Reply, Memory>
@@ -35,62 +34,25 @@ fn accepted_reply(alloc: Global, plan: &Plan, classes: u32) -> Result<Reply, Mem
     })
 }
 
-/// What is said of the plan, in a room for its check.
-fn judge_plan(
+/// What is said of the plan of an update: too many classes, certified, or the first reason why it isn't.
+pub(crate) fn verdict_reply(
     alloc: Global,
     files: &UpdateFiles,
     plan: &Plan,
-    room: &mut CheckRoom,
 ) -> Result<Reply, Memory>
     requires old { IsUserConfig files.now.net (rules_of_all files.now.old) }
     requires new { IsUserConfig files.now.net (rules_of_all files.now.new) }
     requires valid { IsValidPlan files.now.net plan.now }
-    requires fits { Fits (task_for (meaning_of files.now) plan.now) room.old }
-    requires few { class_count (classes_for (task_for (meaning_of files.now) plan.now)) ≤ 8192 }
     ensures { IfOk result
         (λ r. IsPlanVerdict (task_for (meaning_of files.now) plan.now) plan.now.evidence
         (answer_of r)) }
 {
-    let verdict = plan_checker::check(
-        &files.net,
-        &files.old,
-        &files.new,
-        &files.demands,
-        plan,
-        room,
-    );
-    match verdict {
-        Verdict::Accepted => accepted_reply(alloc, plan, room.classes().count()),
-        Verdict::Refused(reason) => {
-            let class = class_of(room.classes(), reason);
-            refused_reply(alloc, &files.net, class, reason)
-        }
-    }
-}
-
-/// What is said of the plan of an update: too many classes, certified, or the first reason why it isn't.
-pub(crate) fn plan_verdict(alloc: Global, files: &UpdateFiles, plan: &Plan) -> Result<Reply, Memory>
-    requires old { IsUserConfig files.now.net (rules_of_all files.now.old) }
-    requires new { IsUserConfig files.now.net (rules_of_all files.now.new) }
-    requires valid { IsValidPlan files.now.net plan.now }
-    ensures { IfOk result
-        (λ r. IsPlanVerdict (task_for (meaning_of files.now) plan.now) plan.now.evidence
-        (answer_of r)) }
-{
-    match CheckRoom::make(
-        alloc,
-        &files.net,
-        &files.old,
-        &files.new,
-        &files.demands,
-        plan,
-    ) {
-        Ok(mut room) => {
-            let reply = judge_plan(alloc, files, plan, &mut room);
+    match plan_verdict(alloc, files, plan)? {
+        PlanVerdict::Certified(room) => {
+            let reply = accepted_reply(alloc, plan, room.classes().count());
             drop(room);
             reply
         }
-        Err(RoomFault::TooManyClasses(classes)) => too_many_reply(alloc, classes),
-        Err(RoomFault::Memory) => Err(Memory),
+        PlanVerdict::Refused(reply) => Ok(reply),
     }
 }

@@ -22,7 +22,7 @@ use Rattle.check_base.proofs.FileLaws.{means_check, check_means}
 use Rattle.driver_input.specs.declared.inputs.InputLine.{InputLine}
 use Rattle.drive_command.specs.Driving.{driven_by, DifferInPieces}
 use Rattle.drive_command.specs.Names.{DriveNames}
-use Rattle.drive_command.specs.Driven.{DriveMeaning, drive_dialogue, input_words, IsReport, SaysReport, SaysRefusedStart, IsDriven, SaysDriven, IsDriveAnswer, FilesMeanDrive, FilesAreDriven, FilesAreNoRun, FilesAreNotCertified, FilesMakeTooMany, WritesReport, NamesRefusedStart}
+use Rattle.drive_command.specs.Driven.{DriveMeaning, drive_dialogue, input_words, IsReport, SaysReport, SaysRefusedStart, IsDriven, SaysDriven, IsDriveAnswer, FilesMeanDrive, FilesAreDriven, StartIsRefused, FilesAreNotCertified, FilesMakeTooMany, WritesReport, NamesRefusedStart}
 use Rattle.drive_command.specs.Promise.{DrivePromise}
 use Rattle.drive_command.proofs.CarriedLaws.{report_pieces}
 use Rattle.drive_command.specs.declared.driving.DriveFault.TheVariants.{NotARun}
@@ -140,7 +140,7 @@ module _ (files : Files) (names : DriveNames) (old new : Option (List ℕ)) (res
       let says = done_says m a.answer (said m mean) (a.status_is ∙ is) in
       record { text = says.1.text; report = says.1.report; written = subst (λ t. Appends old new t) (text_of a.answer _ _ says.1.answer_is) a.written }
 
-  not_a_run : (result ≡ status.NotARun) ↔ FilesAreNoRun files names
+  not_a_run : (result ≡ status.NotARun) ↔ StartIsRefused files names
   not_a_run = (
     λ is.
         let (m, mean) = meant status.NotARun (λ e. cc) is in

@@ -127,7 +127,7 @@ pub record FilesAreDriven (files : Files) (names : DriveNames) : Type 0 where
   pub driven : driven_by meaning.check.update.net meaning.check.plan.rounds meaning.inputs ≡ Ok driver
 
 -- the plan can be driven, and a start is refused
-pub record FilesAreNoRun (files : Files) (names : DriveNames) : Type 0 where
+pub record StartIsRefused (files : Files) (names : DriveNames) : Type 0 where
   pub meaning : DriveMeaning
   pub drivable : FilesAreDrivable files names meaning
   pub line : ℕ

@@ -10,7 +10,7 @@ use Rattle.check_base.specs.Checks.{NamesFirstReason, check_count}
 use Rattle.driver_input.specs.declared.inputs.InputLine.{InputLine}
 use Rattle.drive_command.specs.Driving.{DifferInPieces}
 use Rattle.drive_command.specs.Names.{DriveNames}
-use Rattle.drive_command.specs.Driven.{DriveMeaning, FilesMeanDrive, FilesAreDriven, FilesAreNoRun, FilesAreNotCertified, FilesMakeTooMany, NamesRefusedStart, WritesReport}
+use Rattle.drive_command.specs.Driven.{DriveMeaning, FilesMeanDrive, FilesAreDriven, StartIsRefused, FilesAreNotCertified, FilesMakeTooMany, NamesRefusedStart, WritesReport}
 
 -- the files and their names, what was written before and after the run, and how it ended
 pub record DrivePromise (files : Files) (names : DriveNames) (old new : Option (List ℕ)) (result : Status) : Type 0 where
@@ -23,7 +23,7 @@ pub record DrivePromise (files : Files) (names : DriveNames) (old new : Option (
   pub pieces : (m : DriveMeaning) (inputs : List InputLine) → FilesMeanDrive files names m → DifferInPieces m.inputs inputs → result ≡ status.Done
       → WritesReport (record m { inputs = inputs }) old new
   -- NotARun comes exactly where a start of the inputs of a certified plan is refused; the line names that of the first one.
-  pub not_a_run : IsSettled result → ((result ≡ status.NotARun) ↔ FilesAreNoRun files names)
+  pub not_a_run : IsSettled result → ((result ≡ status.NotARun) ↔ StartIsRefused files names)
   pub first_start : (m : DriveMeaning) → FilesMeanDrive files names m → result ≡ status.NotARun → NamesRefusedStart m old new
   -- Refused comes exactly where all files are read and the plan isn't certified; the line names the first reason.
   pub refused : IsSettled result → ((result ≡ status.Refused) ↔ FilesAreNotCertified files names)

@@ -17,11 +17,10 @@ ghost use Rattle.drive_command.specs.Driven.{IsDriven, IsDriveAnswer, SaysReport
 use crate::driving::{DriveFault, give_all};
 use crate::report::report_text;
 use certificates::Plan;
-use check_base::{class_of, refused_reply};
-use command_base::{Reply, Status, UpdateFiles, too_many_reply};
+use command_base::{Reply, Status, UpdateFiles};
 use driver_input::Inputs;
 use net_base::Memory;
-use plan_checker::{CheckRoom, RoomFault, Verdict};
+use plan_verdict::{PlanVerdict, plan_verdict};
 use replay_command::not_a_run_reply;
 use schedule_pilot::laws::certified_begins_safely;
 use std::alloc::Global;
@@ -76,44 +75,6 @@ fn driven_reply(
     }
 }
 
-/// What is said of the plan and its inputs, in a room for the plan's check.
-fn judge_plan(
-    alloc: Global,
-    files: &UpdateFiles,
-    plan: &Plan,
-    inputs: &Inputs,
-    room: &mut CheckRoom,
-) -> Result<Reply, Memory>
-    requires old { IsUserConfig files.now.net (rules_of_all files.now.old) }
-    requires new { IsUserConfig files.now.net (rules_of_all files.now.new) }
-    requires valid { IsValidPlan files.now.net plan.now }
-    requires inputs { AreInputs files.now.net inputs.now }
-    requires fits { Fits (task_for (meaning_of files.now) plan.now) room.old }
-    requires few { class_count (classes_for (task_for (meaning_of files.now) plan.now)) ≤ 8192 }
-    ensures { IfOk result
-        (λ r. IsDriveAnswer
-        (record {
-          check = record { update = meaning_of files.now; plan = plan.now };
-          inputs = inputs.now;
-        }) (answer_of r)) }
-{
-    let verdict = plan_checker::check(
-        &files.net,
-        &files.old,
-        &files.new,
-        &files.demands,
-        plan,
-        room,
-    );
-    match verdict {
-        Verdict::Accepted => driven_reply(alloc, files, plan, inputs),
-        Verdict::Refused(reason) => {
-            let class = class_of(room.classes(), reason);
-            refused_reply(alloc, &files.net, class, reason)
-        }
-    }
-}
-
 /// What is said of the plan of an update and of inputs: too many classes, what the driver of the plan does with the inputs, or
 /// the first reason why the plan isn't certified.
 pub fn drive_verdict(
@@ -133,20 +94,11 @@ pub fn drive_verdict(
           inputs = inputs.now;
         }) (answer_of r)) }
 {
-    match CheckRoom::make(
-        alloc,
-        &files.net,
-        &files.old,
-        &files.new,
-        &files.demands,
-        plan,
-    ) {
-        Ok(mut room) => {
-            let reply = judge_plan(alloc, files, plan, inputs, &mut room);
+    match plan_verdict(alloc, files, plan)? {
+        PlanVerdict::Certified(room) => {
             drop(room);
-            reply
+            driven_reply(alloc, files, plan, inputs)
         }
-        Err(RoomFault::TooManyClasses(classes)) => too_many_reply(alloc, classes),
-        Err(RoomFault::Memory) => Err(Memory),
+        PlanVerdict::Refused(reply) => Ok(reply),
     }
 }

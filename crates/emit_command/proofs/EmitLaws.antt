@@ -20,7 +20,7 @@ use Rattle.command_base.proofs.JudgementLaws.{status_of, text_of}
 use Rattle.command_base.proofs.RunLaws.{settled_done}
 use Rattle.round_messages.specs.Requests.{sent_in, requests_from}
 use Rattle.emit_command.specs.Lines.{emit_text}
-use Rattle.emit_command.specs.ReadBack.{CarriesOut}
+use Rattle.emit_command.specs.ReadBack.{ReadsBack}
 use Rattle.emit_command.specs.Answers.{SaysMessages, IsEmitAnswer}
 use Rattle.emit_command.specs.Promise.{EmitPromise}
 use Rattle.round_messages.proofs.Requests.{request_count, all_asked, all_sent}
@@ -32,7 +32,7 @@ abbrev pub answer_with : List ℕ → Answer
 answer_with t = record { status = status.Done; text = t }
 
 pub carried : (net : Network) (rounds : List (List Change)) → OwnTexts → IsNetwork net → length rounds ≤ 4200 → sum_by length rounds ≤ 2200000 → AllByRecursion (AllByRecursion (IsPlanChange net)) rounds
-    → CarriesOut net rounds (emit_text net rounds)
+    → ReadsBack net rounds (emit_text net rounds)
 unfolding emit_text
 carried net rounds own_texts is few_rounds few_changes h =
     let few = is.few in

@@ -25,7 +25,7 @@ use Rattle.openflow10.specs.declared.Message.{Message}
 use Rattle.command_base.specs.Lines.{switch_name}
 use Rattle.round_messages.specs.Requests.{Sent}
 use Rattle.emit_command.specs.Lines.{line_of}
-use Rattle.emit_command.specs.ReadBack.{ReadsAs, IsReadAs}
+use Rattle.emit_command.specs.ReadBack.{ReadsAs, AreReadAs}
 use Rattle.round_messages.proofs.Requests.{IsSent}
 use Rattle.emit_command.proofs.Texts.{AreAbove, lacks, above_more, decimal_above, name_above, hex_above, bytes_wire}
 use Rattle.net_base.proofs.ItemLaws.{in_at}
@@ -93,7 +93,7 @@ module _ (net : Network) (is : IsNetwork net) (m : Sent) (h : IsSent net m) wher
   cut_line : (rest : List ℕ) → cut_first 10 (line_of net m ++ rest) ≡ Some (own_line, rest)
   cut_line rest = ap (cut_first 10) (line_ends rest) ∙ cut_first-at 10 own_line rest (lacks 10 own_line (above_more 31 10 own_line (omega arith) line_above))
 
-pub read_back : (net : Network) → IsNetwork net → (ms : List Sent) → AllByRecursion (IsSent net) ms → IsReadAs net (flat_map (line_of net) ms) ms
+pub read_back : (net : Network) → IsNetwork net → (ms : List Sent) → AllByRecursion (IsSent net) ms → AreReadAs net (flat_map (line_of net) ms) ms
 read_back net is [] h = refl
 read_back net is (m ∷ ms) h =
     (own_line net is m h.0, flat_map (line_of net) ms, cut_line net is m h.0 (flat_map (line_of net) ms), reads_line net is m h.0, read_back net is ms h.1)
@@ -132,7 +132,7 @@ same_line own_texts net line m n p q =
 no_line : {A : Type 0} (text line rest : List ℕ) → text ≡ [] → cut_first 10 text ≡ Some (line, rest) → A
 no_line text line rest empty cut = absurd (let e : None ≡ Some (line, rest) = ap (cut_first 10) (sym empty) ∙ cut in cc)
 
-pub read_once : OwnTexts → (net : Network) (text : List ℕ) (ms ns : List Sent) → IsReadAs net text ms → IsReadAs net text ns → ms ≡ ns
+pub read_once : OwnTexts → (net : Network) (text : List ℕ) (ms ns : List Sent) → AreReadAs net text ms → AreReadAs net text ns → ms ≡ ns
 read_once own_texts net text [] [] p q = refl
 read_once own_texts net text [] (n ∷ ns) p (line, rest, cut, reads, more) = no_line text line rest p cut
 read_once own_texts net text (m ∷ ms) [] (line, rest, cut, reads, more) q = no_line text line rest q cut
@@ -141,4 +141,4 @@ read_once own_texts net text (m ∷ ms) (n ∷ ns) (line, rest, cut, reads, more
     let one : line ≡ others = ap (λ x. x.0) same in
     let behind : rest ≡ tail = ap (λ x. x.1) same in
     ap (λ (x : Sent). x ∷ ms) (same_line own_texts net others m n (subst (λ l. ReadsAs net l m) one reads) found)
-    ∙ ap (λ xs. n ∷ xs) (read_once own_texts net tail ms ns (subst (λ t. IsReadAs net t ms) behind more) after)
+    ∙ ap (λ xs. n ∷ xs) (read_once own_texts net tail ms ns (subst (λ t. AreReadAs net t ms) behind more) after)

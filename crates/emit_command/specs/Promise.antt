@@ -8,7 +8,7 @@ use Rattle.command_base.specs.Names.{PlanNames}
 use Rattle.command_base.specs.Updates.{PlanMeaning, FilesMeanOnePlan}
 use Rattle.command_base.specs.Runs.{IsSettled}
 use Rattle.emit_command.specs.Lines.{emit_text}
-use Rattle.emit_command.specs.ReadBack.{CarriesOut}
+use Rattle.emit_command.specs.ReadBack.{ReadsBack}
 
 -- the files and their names, what was written before and after the run, and how it ended
 pub record EmitPromise (files : Files) (names : PlanNames) (old new : Option (List ℕ)) (result : Status) : Type 0 where
@@ -17,4 +17,4 @@ pub record EmitPromise (files : Files) (names : PlanNames) (old new : Option (Li
   -- What is written then is one line for each message of the plan.
   pub lines : (m : PlanMeaning) → FilesMeanOnePlan files names m → result ≡ status.Done → Appends old new (emit_text m.net m.plan.rounds)
   -- Read back, these lines are the plan's rounds, switch by switch.
-  pub carries_out : (m : PlanMeaning) → FilesMeanOnePlan files names m → result ≡ status.Done → CarriesOut m.net m.plan.rounds (emit_text m.net m.plan.rounds)
+  pub carries_out : (m : PlanMeaning) → FilesMeanOnePlan files names m → result ≡ status.Done → ReadsBack m.net m.plan.rounds (emit_text m.net m.plan.rounds)

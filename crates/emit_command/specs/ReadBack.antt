@@ -28,14 +28,14 @@ pub record ReadsAs (net : Network) (line : List ℕ) (m : Sent) : Type 0 where
   pub message_is : BeginsWith bytes m.message (length bytes)
 
 -- a text is read as these messages, one a line
-abbrev pub IsReadAs : Network → List ℕ → List Sent → Type 0
-IsReadAs net text [] = text ≡ []
-IsReadAs net text (m ∷ ms) = (line : List ℕ) × (rest : List ℕ) × (cut_first 10 text ≡ Some (line, rest)) × ReadsAs net line m × IsReadAs net rest ms
+abbrev pub AreReadAs : Network → List ℕ → List Sent → Type 0
+AreReadAs net text [] = text ≡ []
+AreReadAs net text (m ∷ ms) = (line : List ℕ) × (rest : List ℕ) × (cut_first 10 text ≡ Some (line, rest)) × ReadsAs net line m × AreReadAs net rest ms
 
 -- Read back, the text carries out the rounds: in each round each switch gets just its changes, in their order, and then a barrier
 -- request, and nothing is lost or added.
-pub record CarriesOut (net : Network) (rounds : List (List Change)) (text : List ℕ) : Type 0 where
+pub record ReadsBack (net : Network) (rounds : List (List Change)) (text : List ℕ) : Type 0 where
   pub sent : List Sent
-  pub read : IsReadAs net text sent
-  pub read_only : (others : List Sent) → IsReadAs net text others → others ≡ sent
+  pub read : AreReadAs net text sent
+  pub read_only : (others : List Sent) → AreReadAs net text others → others ≡ sent
   pub each : (k : ℕ) (s : SwitchId) → AreFor (changes_at s (round_after k rounds)) (messages_to k s sent)

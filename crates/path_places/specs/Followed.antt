@@ -36,11 +36,11 @@ pub record IsFollowed (net : Network) (tables : List (List Rule)) (entry : Place
   pub walk : IsWalk (Forwards net tables dst) entry rest
 
 -- the path has these stops and ends so, or these are its stops up to the first that comes again
-abbrev pub EndsAs : Network → List (List Rule) → Place → ℕ → List Stop → PlacesEnd
+abbrev pub PathEndsAs : Network → List (List Rule) → Place → ℕ → List Stop → PlacesEnd
     → Type 0
-EndsAs net tables entry dst stops (Left s port vlan) =
+PathEndsAs net tables entry dst stops (Left s port vlan) =
     EndsOnce net tables entry dst stops (ended.Left s port vlan)
-EndsAs net tables entry dst stops (Dropped s) =
+PathEndsAs net tables entry dst stops (Dropped s) =
     EndsOnce net tables entry dst stops (ended.Dropped s)
-EndsAs net tables entry dst stops (Again s) =
+PathEndsAs net tables entry dst stops (Again s) =
     ComesAgain net tables entry dst stops s

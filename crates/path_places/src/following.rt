@@ -3,7 +3,7 @@ ghost use Rattle.std.specs.Prelude.{◌≡◌, ◌<◌, length, map};
 ghost use Rattle.net_base.specs.Places.{stop_of};
 ghost use Rattle.topology.specs.Networks.{switch_count};
 ghost use Rattle.flow_rules.specs.Tables.{rules_of_all};
-ghost use Rattle.path_places.specs.Followed.{IsFollowed, EndsAs};
+ghost use Rattle.path_places.specs.Followed.{IsFollowed, PathEndsAs};
 
 use crate::{PlaceRoom, PlacesEnd};
 use flow_rules::Config;
@@ -19,7 +19,7 @@ pub fn follow(net: &Net, config: &Config, entry: Place, dst: u32, room: &mut Pla
     requires entry { entry.switch.0 < switch_count net.now }
     requires room { room.old.switches ≡ switch_count net.now }
     ensures places { IsFollowed net.now (rules_of_all config.now) entry dst room.new.places }
-    ensures end { EndsAs net.now (rules_of_all config.now) entry dst
+    ensures end { PathEndsAs net.now (rules_of_all config.now) entry dst
         (map stop_of room.new.places) result }
     ensures same_room { room.new.switches ≡ room.old.switches }
 {

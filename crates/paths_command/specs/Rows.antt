@@ -7,7 +7,7 @@ use Rattle.topology.specs.Networks.{Network}
 use Rattle.flow_rules.specs.declared.rules.Rule.{Rule}
 use Rattle.dest_classes.specs.Classes.{IsClass}
 use Rattle.dest_classes.specs.declared.Class.{Class}
-use Rattle.path_places.specs.Followed.{EndsAs}
+use Rattle.path_places.specs.Followed.{PathEndsAs}
 use Rattle.path_places.specs.declared.PlacesEnd.{PlacesEnd}
 use Rattle.demands.specs.Duties.{DemandView, demand_covers, duties_of}
 use Rattle.demands.specs.Good.{HasGoodPath}
@@ -46,7 +46,7 @@ IsMark net tables demands class (Breaks how) =
 -- the row is that of class n: its path, and the verdict on it
 pub record IsRow (m : ConfigMeaning) (n : ℕ) (row : ClassRow) : Type 0 where
   pub class_is : IsClass (classes_under m.net m.tables m.demands) n row.class
-  pub path : EndsAs m.net m.tables row.class.entry row.class.first row.stops row.end
+  pub path : PathEndsAs m.net m.tables row.class.entry row.class.first row.stops row.end
   pub marked : IsMark m.net m.tables m.demands row.class row.mark
 
 -- so many rows, those of the first classes in the order of their numbers

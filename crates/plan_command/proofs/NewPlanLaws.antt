@@ -21,7 +21,7 @@ use Rattle.command_base.specs.Judgements.{SaysWhyNot, most_classes}
 use Rattle.certificates.specs.Updates.{Update, task_for}
 use Rattle.round_planner.specs.Updates.{update_classes, update_count}
 use Rattle.round_planner.proofs.UpdateLaws.{good_back}
-use Rattle.plan_command.specs.Planned.{EndsAreGood, IsFirstEndBreak, IsEndLine}
+use Rattle.plan_command.specs.Planned.{BothEndsAreGood, IsFirstEndBreak, IsEndLine}
 
 -- two facts of a value, the second under a premise
 pub both_ok : {A E : Type 0} (r : Result A E) (P Q R : A → Type 0) (T : Type 0) → ((x : A) → P x → (T → Q x) → R x) → IfOk r P → (T → IfOk r Q) → IfOk r R
@@ -29,8 +29,8 @@ both_ok (Ok x) P Q R T f p q = f x p q
 both_ok (Err e) P Q R T f p q = tt
 
 module _ (u : Update) where
-  pub end_law : (new : Bool) (break : Breaks) (class : Class) (answer : Answer) → update_count u ≤ most_classes → ¬ EndsAreGood u → IsFirstEndBreak u new break → IsClass (update_classes u) break.class class
-      → answer ≡ record { status = status.Refused; text = refused_line u.net (Some class) (EndBreaks new break) } → SaysWhyNot (update_count u) (EndsAreGood u) (IsEndLine u) answer
+  pub end_law : (new : Bool) (break : Breaks) (class : Class) (answer : Answer) → update_count u ≤ most_classes → ¬ BothEndsAreGood u → IsFirstEndBreak u new break → IsClass (update_classes u) break.class class
+      → answer ≡ record { status = status.Refused; text = refused_line u.net (Some class) (EndBreaks new break) } → SaysWhyNot (update_count u) (BothEndsAreGood u) (IsEndLine u) answer
   end_law new break class answer few broken first is_class is = record {
     few = few;
     fails = broken;
@@ -41,7 +41,7 @@ module _ (u : Update) where
 
   -- the plan of two phases after a search that was stuck
   module _ (p : Plan) (rounds : List (List Change)) (plan_is : p ≡ two_phase_plan u.net u.old u.new rounds) where
-    pub two_certified : IsCertifiedTwoPhase u.net u.old u.new p → EndsAreGood u → IsCertified (task_for u p) p.evidence
+    pub two_certified : IsCertifiedTwoPhase u.net u.old u.new p → BothEndsAreGood u → IsCertified (task_for u p) p.evidence
     two_certified certified good =
         let there : IsCertified (two_phase_task u.net u.old u.new u.demands) p.evidence = certified u.demands good.old_good good.new_good in
         subst (λ q. IsCertified (task_for u q) q.evidence) (sym plan_is)
@@ -62,11 +62,11 @@ module _ (u : Update) where
       old_good = λ holds. good_as u.old old_good;
     }
 
-    pub old_not_good : ¬ HasGoodPaths u.net u.old duties.demands classes → ¬ EndsAreGood u
+    pub old_not_good : ¬ HasGoodPaths u.net u.old duties.demands classes → ¬ BothEndsAreGood u
     old_not_good broken = λ ends. broken (good_back u classes are duties made u.old ends.old_good)
 
-    pub new_not_good : ¬ HasGoodPaths u.net u.new duties.demands classes → ¬ EndsAreGood u
+    pub new_not_good : ¬ HasGoodPaths u.net u.new duties.demands classes → ¬ BothEndsAreGood u
     new_not_good broken = λ ends. broken (good_back u classes are duties made u.new ends.new_good)
 
-    pub both_good : HasGoodPaths u.net u.old duties.demands classes → HasGoodPaths u.net u.new duties.demands classes → EndsAreGood u
+    pub both_good : HasGoodPaths u.net u.old duties.demands classes → HasGoodPaths u.net u.new duties.demands classes → BothEndsAreGood u
     both_good old_good new_good = record { old_good = good_as u.old old_good; new_good = good_as u.new new_good }

@@ -31,7 +31,7 @@ use Rattle.command_base.specs.Answers.{Answer}
 use Rattle.command_base.specs.Judgements.{SaysTooMany, SaysWhyNot, most_classes}
 use Rattle.certificates.specs.Updates.{Update, task_for}
 use Rattle.round_planner.specs.Updates.{update_classes, update_count, update_aim, bare_task, KeepsConsistent}
-use Rattle.plan_command.specs.Planned.{EndsAreGood, IsEndLine, SaysNewPlan, SaysTooFew, SaysTooSmall, SaysSearched, SaysPlanned, IsPlanned}
+use Rattle.plan_command.specs.Planned.{BothEndsAreGood, IsEndLine, SaysNewPlan, SaysTooFew, SaysTooSmall, SaysSearched, SaysPlanned, IsPlanned}
 use Rattle.command_base.specs.Readings.{reading_update}
 use Rattle.command_base.specs.Runs.{IsSettled, Answered}
 use Rattle.command_base.specs.Meanings.{IsReadAs}
@@ -44,7 +44,7 @@ use Rattle.command_base.proofs.RunLaws.{settled_done, settled_refused, settled_b
 use Rattle.plan_command.specs.Promise.{PlanPromise}
 
 -- both ends of an update of destination trees are good
-tree_ends : (u : Update) → IsTreeUpdate (bare_task u) → EndsAreGood u
+tree_ends : (u : Update) → IsTreeUpdate (bare_task u) → BothEndsAreGood u
 tree_ends u tree = record { old_good = tree.old_good; new_good = tree.new_good }
 
 -- what is said of an update, in each of its statuses
@@ -79,7 +79,7 @@ module _ (u : Update) (answer : Answer) where
   planned_says (inr (inl v)) other broken = absurd (broken (status_of answer _ _ v.answer_is))
   planned_says (inr (inr v)) other broken = v
 
-  refused_says : IsPlanned u answer → answer.status ≡ status.Refused → SaysWhyNot (update_count u) (EndsAreGood u) (IsEndLine u) answer
+  refused_says : IsPlanned u answer → answer.status ≡ status.Refused → SaysWhyNot (update_count u) (BothEndsAreGood u) (IsEndLine u) answer
   refused_says (inl v) is = absurd (let e = status_of answer _ _ v.answer_is in cc)
   refused_says (inr (inl v)) is = v
   refused_says (inr (inr v)) is = absurd (not_refused v.searched is)
@@ -89,12 +89,12 @@ module _ (u : Update) (answer : Answer) where
   bad_says (inr (inl v)) is = absurd (let e = status_of answer _ _ v.answer_is in cc)
   bad_says (inr (inr v)) is = absurd (not_bad v.searched is)
 
-  good_says : IsPlanned u answer → update_count u ≤ most_classes → EndsAreGood u → SaysPlanned u answer
+  good_says : IsPlanned u answer → update_count u ≤ most_classes → BothEndsAreGood u → SaysPlanned u answer
   good_says (inl v) few good = absurd (omega (arith, few, v.many))
   good_says (inr (inl v)) few good = absurd (v.fails good)
   good_says (inr (inr v)) few good = v
 
-  broken_says : IsPlanned u answer → update_count u ≤ most_classes → ¬ EndsAreGood u → SaysWhyNot (update_count u) (EndsAreGood u) (IsEndLine u) answer
+  broken_says : IsPlanned u answer → update_count u ≤ most_classes → ¬ BothEndsAreGood u → SaysWhyNot (update_count u) (BothEndsAreGood u) (IsEndLine u) answer
   broken_says (inl v) few broken = absurd (omega (arith, few, v.many))
   broken_says (inr (inl v)) few broken = v
   broken_says (inr (inr v)) few broken = absurd (broken v.good)

@@ -19,13 +19,13 @@ use Rattle.command_base.specs.Names.{UpdateNames}
 use Rattle.command_base.specs.Judgements.{most_classes}
 use Rattle.certificates.specs.Updates.{Update}
 use Rattle.command_base.specs.Updates.{FilesMeanUpdate}
-use Rattle.plan_command.specs.Planned.{EndsAreGood, IsEndLine, IsNewPlan}
+use Rattle.plan_command.specs.Planned.{BothEndsAreGood, IsEndLine, IsNewPlan}
 
 -- the files mean this update, there are few enough classes, and both ends are good
 pub record FilesMeanGoodEnds (files : Files) (names : UpdateNames) (u : Update) : Type 0 where
   pub mean : FilesMeanUpdate files names u
   pub few : update_count u ≤ most_classes
-  pub good : EndsAreGood u
+  pub good : BothEndsAreGood u
 
 -- the files mean this update of destination trees, and there are few enough classes
 pub record FilesMeanTrees (files : Files) (names : UpdateNames) (u : Update) : Type 0 where
@@ -58,7 +58,7 @@ pub record FilesBreakAnEnd (files : Files) (names : UpdateNames) : Type 0 where
   pub update : Update
   pub mean : FilesMeanUpdate files names update
   pub few : update_count update ≤ most_classes
-  pub broken : ¬ EndsAreGood update
+  pub broken : ¬ BothEndsAreGood update
 
 -- the files mean an update with good ends whose search ends stuck, and there are too few tags
 pub record FilesLackTags (files : Files) (names : UpdateNames) : Type 0 where

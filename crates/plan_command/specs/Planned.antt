@@ -27,7 +27,7 @@ use Rattle.command_base.specs.Judgements.{SaysTooMany, SaysWhyNot, most_classes}
 use Rattle.upgrade_command.specs.Texts.{SaysPlan}
 
 -- both configurations have good paths for all classes of the update
-pub record EndsAreGood (u : Update) : Type 0 where
+pub record BothEndsAreGood (u : Update) : Type 0 where
   pub old_good : HasGoodPaths u.net u.old u.demands (update_classes u)
   pub new_good : HasGoodPaths u.net u.new u.demands (update_classes u)
 
@@ -99,10 +99,10 @@ SaysSearched u answer = SaysNewPlan u answer ⊎ (SaysTooFew u answer ⊎ SaysTo
 -- that is an ordered plan
 pub record SaysPlanned (u : Update) (answer : Answer) : Type 0 where
   pub few : update_count u ≤ most_classes
-  pub good : EndsAreGood u
+  pub good : BothEndsAreGood u
   pub searched : SaysSearched u answer
   pub tree : IsTreeUpdate (bare_task u) → SaysOrdered u answer
 
 -- the answer on an update: too many classes, an end that isn't good, or what the search leads to
 abbrev pub IsPlanned : Update → Answer → Type 0
-IsPlanned u answer = SaysTooMany (update_count u) answer ⊎ (SaysWhyNot (update_count u) (EndsAreGood u) (IsEndLine u) answer ⊎ SaysPlanned u answer)
+IsPlanned u answer = SaysTooMany (update_count u) answer ⊎ (SaysWhyNot (update_count u) (BothEndsAreGood u) (IsEndLine u) answer ⊎ SaysPlanned u answer)

@@ -16,7 +16,7 @@ ghost use Rattle.certificates.specs.Updates.{task_for};
 ghost use Rattle.command_base.specs.Updates.{meaning_of};
 ghost use Rattle.command_base.specs.Replies.{answer_of};
 ghost use Rattle.upgrade_command.specs.Texts.{SaysPlan};
-ghost use Rattle.plan_command.specs.Planned.{EndsAreGood, IsFirstEndBreak, IsEndLine, IsNewPlan, SaysNewPlan, SaysOrdered, SaysTooFew, SaysTooSmall, SaysSearched, IsPlanned};
+ghost use Rattle.plan_command.specs.Planned.{BothEndsAreGood, IsFirstEndBreak, IsEndLine, IsNewPlan, SaysNewPlan, SaysOrdered, SaysTooFew, SaysTooSmall, SaysSearched, IsPlanned};
 
 use crate::no_plan_lines::{too_few_lines, too_small_lines};
 use certificates::Plan;
@@ -45,10 +45,10 @@ fn end_reply(
 ) -> Result<Reply, Memory>
     requires classes { classes.now ≡ update_classes (meaning_of files.now) }
     requires few { update_count (meaning_of files.now) ≤ most_classes }
-    requires broken { ¬ EndsAreGood (meaning_of files.now) }
+    requires broken { ¬ BothEndsAreGood (meaning_of files.now) }
     requires first { IsFirstEndBreak (meaning_of files.now) new breaks }
     ensures { IfOk result
-        (λ r. SaysWhyNot (update_count (meaning_of files.now)) (EndsAreGood (meaning_of files.now))
+        (λ r. SaysWhyNot (update_count (meaning_of files.now)) (BothEndsAreGood (meaning_of files.now))
         (IsEndLine (meaning_of files.now)) (answer_of r)) }
 {
     let class = classes.class(breaks.class);
@@ -120,7 +120,7 @@ fn too_small_reply(
 fn two_phase_reply(alloc: Global, files: &UpdateFiles, tried: &Rounds) -> Result<Reply, Memory>
     requires old { IsUserConfig files.now.net (rules_of_all files.now.old) }
     requires new { IsUserConfig files.now.net (rules_of_all files.now.new) }
-    requires good { EndsAreGood (meaning_of files.now) }
+    requires good { BothEndsAreGood (meaning_of files.now) }
     requires stuck { AreStuck (update_aim (meaning_of files.now)) (rules_of_all files.now.old)
         tried.now }
     requires tried { AreTried files.now.net tried.now }
@@ -151,7 +151,7 @@ fn search_reply(
     requires new { IsUserConfig files.now.net (rules_of_all files.now.new) }
     requires classes { classes.now ≡ update_classes (meaning_of files.now) }
     requires duties { duties.now ≡ record { demands = files.now.demands; classes = classes.now } }
-    requires good { EndsAreGood (meaning_of files.now) }
+    requires good { BothEndsAreGood (meaning_of files.now) }
     ensures searched { IfOk result (λ r. SaysSearched (meaning_of files.now) (answer_of r)) }
     ensures tree { IsTreeUpdate (bare_task (meaning_of files.now))
         → IfOk result (λ r. SaysOrdered (meaning_of files.now) (answer_of r)) }

@@ -13,7 +13,7 @@ use Rattle.update_model.specs.declared.Event.{Event}
 use Rattle.update_model.specs.declared.Event.TheVariants as event
 use Rattle.schedule_pilot.specs.Offered.{candidates, AreOffered, entries_after, IsDriven, IsOver, full_budget}
 use Rattle.schedule_pilot.specs.Ends.{AreEntries, entries_left}
-use Rattle.schedule_pilot.specs.Driving.{update_of, world_after_all, IsOverAfter, NoneIsOffered, IsRunFrom, EndsAs, BeginsSafely, ending_at}
+use Rattle.schedule_pilot.specs.Driving.{update_of, world_after_all, IsOverAfter, NoneIsOffered, IsRunFrom, HasEnding, BeginsSafely, ending_at}
 use Rattle.schedule_pilot.specs.declared.Entry.{Entry}
 use Rattle.schedule_pilot.specs.declared.Ending.{Ending}
 use Rattle.schedule_pilot.specs.declared.Ending.TheVariants.{Finished, OutOfBudget, Blocked}
@@ -97,11 +97,11 @@ module _ (w : WorldState) (chooses : ℕ → ℕ → ℕ → Type 0) (entries : 
         (over_in_time (update_of w) net sure.good sure.once chooses entries are events from_first spent)
 
     -- the ending is never Blocked
-    pub ends_unblocked : (budget : ℕ) (ending : Ending) → EndsAs w entries budget events ending → ¬ (ending ≡ Blocked)
+    pub ends_unblocked : (budget : ℕ) (ending : Ending) → HasEnding w entries budget events ending → ¬ (ending ≡ Blocked)
     ends_unblocked budget ending ends is = let (over, none) = ends.blocked.0 is in over (blocked_never none)
 
     -- and it is Finished where the budget is full
-    pub ends_finished : (budget : ℕ) (ending : Ending) → EndsAs w entries budget events ending → full_budget (update_of w) entries ≤ budget → ending ≡ Finished
+    pub ends_finished : (budget : ℕ) (ending : Ending) → HasEnding w entries budget events ending → full_budget (update_of w) entries ≤ budget → ending ≡ Finished
     ends_finished budget Finished ends full = refl
     ends_finished budget OutOfBudget ends full = let (spent, over, none) = ends.spent refl in absurd (over (finished_in_time (omega arith)))
     ends_finished budget Blocked ends full = absurd (ends_unblocked budget Blocked ends refl)
@@ -148,13 +148,13 @@ module _ (w : WorldState) (chooses : ℕ → ℕ → ℕ → Type 0) (entries : 
 
   -- the ending that is found is the right one
   pub ends_as : (budget : ℕ) (offered : List Event) (over : Bool) (ending : Ending) → IsTrue over ↔ IsOver (update_of after) after.state rest
-      → AreOffered (update_of after) after.state rest offered → made ≤ budget → ending_at over (length offered) made budget ≡ Some ending → EndsAs w entries budget events ending
+      → AreOffered (update_of after) after.state rest offered → made ≤ budget → ending_at over (length offered) made budget ≡ Some ending → HasEnding w entries budget events ending
   ends_as budget offered true ending is are within e =
       let f : Some Finished ≡ Some ending = e in
       let g : Finished ≡ ending = cc in
       let holds : IsOverAfter w entries events = over_here.0 (is.0 refl) in
       let count = so.count in
-      subst (λ x. EndsAs w entries budget events x) g (record {
+      subst (λ x. HasEnding w entries budget events x) g (record {
         short = omega arith;
         finished = (λ _. holds, λ _. refl);
         blocked = (λ b. absurd (let h : Finished ≡ Blocked = b in cc), λ h. absurd (h.0 holds));
@@ -166,7 +166,7 @@ module _ (w : WorldState) (chooses : ℕ → ℕ → ℕ → Type 0) (entries : 
       let fails : ¬ IsOverAfter w entries events = λ h. false≢true (is.1 (over_here.1 h)) in
       let none : NoneIsOffered w entries events = offered_here [] are in
       let count = so.count in
-      subst (λ x. EndsAs w entries budget events x) g (record {
+      subst (λ x. HasEnding w entries budget events x) g (record {
         short = omega arith;
         finished = (λ b. absurd (let h : Blocked ≡ Finished = b in cc), λ h. absurd (fails h));
         blocked = (λ _. (fails, none), λ _. refl);
@@ -176,12 +176,12 @@ module _ (w : WorldState) (chooses : ℕ → ℕ → ℕ → Type 0) (entries : 
       let fails : ¬ IsOverAfter w entries events = λ h. false≢true (is.1 (over_here.1 h)) in
       let some : ¬ NoneIsOffered w entries events = some_offered x xs (offered_here (x ∷ xs) are) in
       let count = so.count in
-      elim (made == budget) as (λ b. made == budget ≡ b → cond b (Some OutOfBudget) None ≡ Some ending → EndsAs w entries budget events ending) [
+      elim (made == budget) as (λ b. made == budget ≡ b → cond b (Some OutOfBudget) None ≡ Some ending → HasEnding w entries budget events ending) [
         | true ↦ λ t f.
             let k : Some OutOfBudget ≡ Some ending = f in
             let g : OutOfBudget ≡ ending = cc in
             let same : made ≡ budget = eqb-true made budget t in
-            subst (λ x. EndsAs w entries budget events x) g (record {
+            subst (λ x. HasEnding w entries budget events x) g (record {
               short = omega arith;
               finished = (λ b. absurd (let h : OutOfBudget ≡ Finished = b in cc), λ h. absurd (fails h));
               blocked = (λ b. absurd (let h : OutOfBudget ≡ Blocked = b in cc), λ h. absurd (some h.1));

@@ -38,7 +38,7 @@ pub record IsRunFrom (w : WorldState) (chooses : ℕ → ℕ → ℕ → Type 0)
   pub world : after ≡ world_after_all w events
 
 -- when a driven run has each of its endings
-pub record EndsAs (w : WorldState) (entries : List Entry) (budget : ℕ) (events : List Event) (ending : Ending) : Type 0 where
+pub record HasEnding (w : WorldState) (entries : List Entry) (budget : ℕ) (events : List Event) (ending : Ending) : Type 0 where
   pub short : length events ≤ budget
   pub finished : ending ≡ Finished ↔ IsOverAfter w entries events
   pub blocked : ending ≡ Blocked ↔ (¬ IsOverAfter w entries events) × NoneIsOffered w entries events

@@ -5,7 +5,7 @@ ghost use Rattle.update_model.specs.Worlds.{world_after};
 ghost use Rattle.schedule_pilot.specs.Offered.{full_budget};
 ghost use Rattle.schedule_pilot.specs.Agendas.{IsAgenda};
 ghost use Rattle.schedule_pilot.specs.Ends.{AreEntries};
-ghost use Rattle.schedule_pilot.specs.Driving.{IsPilot, update_of, IsRunFrom, EndsAs, BeginsSafely, ending_at};
+ghost use Rattle.schedule_pilot.specs.Driving.{IsPilot, update_of, IsRunFrom, HasEnding, BeginsSafely, ending_at};
 
 use crate::agenda::Agenda;
 use crate::offers::{entries_past, is_over, offered_of};
@@ -54,7 +54,7 @@ fn run_on<F: Fn(u64, u64) -> u64>(
     requires none { events.old ≡ [] }
     ensures run { OnOk result
         (IsRunFrom world.old (F.post pilot.now) entries.now events.new world.new) }
-    ensures ends { IfOk result (EndsAs world.old entries.now budget events.new) }
+    ensures ends { IfOk result (HasEnding world.old entries.now budget events.new) }
 {
     let mut rest = entries;
     let mut made = 0;
@@ -94,7 +94,7 @@ pub fn drive<'a, F: Fn(u64, u64) -> u64>(
     requires entries { AreEntries world.net entries.now }
     ensures run { IfOk result
         (λ d. IsRunFrom world.entry (F.post pilot.now) entries.now d.events d.world) }
-    ensures ends { IfOk result (λ d. EndsAs world.entry entries.now budget d.events d.ending) }
+    ensures ends { IfOk result (λ d. HasEnding world.entry entries.now budget d.events d.ending) }
     ensures unblocked { BeginsSafely world.entry
         → IfOk result (λ d. ¬ (d.ending ≡ Ending.Blocked)) }
     ensures finished { BeginsSafely world.entry

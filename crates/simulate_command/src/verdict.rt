@@ -14,49 +14,10 @@ ghost use Rattle.simulate_command.specs.Simulated.{IsSimulateAnswer};
 use crate::names::SimulateNames;
 use crate::simulation::simulation_text;
 use certificates::Plan;
-use check_base::{class_of, refused_reply};
-use command_base::{Reply, Status, UpdateFiles, too_many_reply};
+use command_base::{Reply, Status, UpdateFiles};
 use net_base::Memory;
-use plan_checker::{CheckRoom, RoomFault, Verdict};
+use plan_verdict::{PlanVerdict, plan_verdict};
 use std::alloc::Global;
-
-/// What is said of the plan, in a room for its check.
-fn judge_plan(
-    alloc: Global,
-    files: &UpdateFiles,
-    plan: &Plan,
-    names: &SimulateNames<'_>,
-    room: &mut CheckRoom,
-) -> Result<Reply, Memory>
-    requires old { IsUserConfig files.now.net (rules_of_all files.now.old) }
-    requires new { IsUserConfig files.now.net (rules_of_all files.now.new) }
-    requires valid { IsValidPlan files.now.net plan.now }
-    requires fits { Fits (task_for (meaning_of files.now) plan.now) room.old }
-    requires few { class_count (classes_for (task_for (meaning_of files.now) plan.now)) ≤ 8192 }
-    ensures { IfOk result
-        (λ r. IsSimulateAnswer names.now.start names.now.count
-        (record { update = meaning_of files.now; plan = plan.now }) (answer_of r)) }
-{
-    let verdict = plan_checker::check(
-        &files.net,
-        &files.old,
-        &files.new,
-        &files.demands,
-        plan,
-        room,
-    );
-    let classes = room.classes();
-    match verdict {
-        Verdict::Accepted => Ok(Reply {
-            status: Status::Done,
-            text: simulation_text(alloc, files, plan, classes, names.start, names.count)?,
-        }),
-        Verdict::Refused(reason) => {
-            let class = class_of(classes, reason);
-            refused_reply(alloc, &files.net, class, reason)
-        }
-    }
-}
 
 /// What is said of the plan of an update that is simulated: too many classes, the record of a simulation, or the first reason
 /// why the plan isn't certified.
@@ -73,20 +34,22 @@ pub fn simulation_verdict(
         (λ r. IsSimulateAnswer names.now.start names.now.count
         (record { update = meaning_of files.now; plan = plan.now }) (answer_of r)) }
 {
-    match CheckRoom::make(
-        alloc,
-        &files.net,
-        &files.old,
-        &files.new,
-        &files.demands,
-        plan,
-    ) {
-        Ok(mut room) => {
-            let reply = judge_plan(alloc, files, plan, names, &mut room);
+    match plan_verdict(alloc, files, plan)? {
+        PlanVerdict::Certified(room) => {
+            let text = simulation_text(
+                alloc,
+                files,
+                plan,
+                room.classes(),
+                names.start,
+                names.count,
+            );
             drop(room);
-            reply
+            Ok(Reply {
+                status: Status::Done,
+                text: text?,
+            })
         }
-        Err(RoomFault::TooManyClasses(classes)) => too_many_reply(alloc, classes),
-        Err(RoomFault::Memory) => Err(Memory),
+        PlanVerdict::Refused(reply) => Ok(reply),
     }
 }

@@ -16,7 +16,7 @@ use Rattle.flow_rules.specs.declared.rules.VlanTest.TheVariants as test
 use Rattle.flow_rules.specs.declared.rules.Action.{Action}
 use Rattle.flow_rules.specs.declared.rules.Action.TheVariants.{Discard, Out}
 use Rattle.path_walk.specs.Outcomes.{header_at}
-use Rattle.path_places.specs.Followed.{IsFollowed, EndsAs}
+use Rattle.path_places.specs.Followed.{IsFollowed, PathEndsAs}
 use Rattle.path_places.specs.declared.PlacesEnd.{PlacesEnd}
 use Rattle.path_places.specs.declared.PlacesEnd.TheVariants.{Left, Dropped, Again}
 use Rattle.config_files.specs.Configuration.{configuration_in}
@@ -127,7 +127,7 @@ pub record IsPathText (net : Network) (tables : List (List Rule)) (entry : Place
   pub places : List Place
   pub end : PlacesEnd
   pub followed : IsFollowed net tables entry dst places
-  pub ends : EndsAs net tables entry dst (map stop_of places) end
+  pub ends : PathEndsAs net tables entry dst (map stop_of places) end
   pub text_is : text ≡ trace_text net tables dst places end
 
 -- the text is on the path of the packet from the named entry

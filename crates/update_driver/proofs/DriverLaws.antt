@@ -26,7 +26,7 @@ use Rattle.switch_session.specs.Laws.{KeepsBarrier}
 use Rattle.switch_session.specs.Seen.{ChannelView}
 use Rattle.switch_session.proofs.ByteLaws.{keeps_barrier}
 use Rattle.update_driver.specs.Drivers.{DriverState, first_driver, first_not_open, start_fault_in, channel_at, with_channel, none_outstanding, settled_if_answered, change_events, made, is_answered, heard, fed, told_all, started_driver, start_fault, started}
-use Rattle.update_driver.specs.Calls.{Call, Start, Feed, IsCall, after_call, after_calls, driver_after, AreDrivable, DriverView, IsReached}
+use Rattle.update_driver.specs.Calls.{Call, Start, Feed, IsCall, after_call, after_calls, driver_after, AreDrivable, DriverView, IsMadeByCalls}
 use Rattle.update_driver.specs.Laws.{LogIsRun, begun_count}
 use Rattle.update_driver.specs.Answers.{with_state, IsRefusal}
 use Rattle.update_driver.specs.Inside.{states_of, with_states, MayStartWith, HoldMessages, HoldEvents, IsDriver, IsPhaseWithin, begun_by_turns, heard_with, told_by_turns}
@@ -51,17 +51,17 @@ after_calls-push : (net : Network) (rounds : List (List Change)) (d : DriverStat
 after_calls-push net rounds d [] c = refl
 after_calls-push net rounds d (x ∷ calls) c = after_calls-push net rounds (after_call net rounds d x) calls c
 
-pub reached_more : (v : DriverView) (c : Call) (next : DriverState) → IsReached v → IsCall v.net c → next ≡ after_call v.net v.rounds v.state c → IsReached (with_state next v)
+pub reached_more : (v : DriverView) (c : Call) (next : DriverState) → IsMadeByCalls v → IsCall v.net c → next ≡ after_call v.net v.rounds v.state c → IsMadeByCalls (with_state next v)
 reached_more v c next reached ok is = record {
   calls = reached.calls ++ c ∷ [];
   are_calls = each_append (IsCall v.net) reached.calls (c ∷ []) reached.are_calls (ok, tt);
   state_is = is ∙ ap (λ d. after_call v.net v.rounds d c) reached.state_is ∙ sym (after_calls-push v.net v.rounds (first_driver v.net) reached.calls c);
 }
 
-pub reached_sound : (v : DriverView) → IsReached v → IsSound v.net v.rounds v.state
+pub reached_sound : (v : DriverView) → IsMadeByCalls v → IsSound v.net v.rounds v.state
 reached_sound v reached = subst (IsSound v.net v.rounds) (sym reached.state_is) (sound_driver v.net v.rounds reached.calls)
 
-pub reached_run : (v : DriverView) → AreDrivable v.net v.rounds → IsReached v → LogIsRun v.net v.rounds v.state.log
+pub reached_run : (v : DriverView) → AreDrivable v.net v.rounds → IsMadeByCalls v → LogIsRun v.net v.rounds v.state.log
 reached_run v drivable reached = subst (λ (d : DriverState). LogIsRun v.net v.rounds d.log) (sym reached.state_is) (log_is_run v.net v.rounds reached.calls drivable reached.are_calls)
 
 -- ---- settling

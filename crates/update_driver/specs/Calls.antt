@@ -62,7 +62,7 @@ pub record DriverView : Type 0 where
   pub state : DriverState
 
 -- the driver came about by calls
-pub record IsReached (v : DriverView) : Type 0 where
+pub record IsMadeByCalls (v : DriverView) : Type 0 where
   pub calls : List Call
   pub are_calls : AllByRecursion (IsCall v.net) calls
   pub state_is : v.state ≡ driver_after v.net v.rounds calls

@@ -18,7 +18,7 @@ use Rattle.round_messages.specs.ToSwitch.{messages_to}
 use Rattle.switch_session.specs.Channels.{ChannelState, asked, after_bytes}
 use Rattle.switch_session.specs.Seen.{ChannelView}
 use Rattle.update_driver.specs.Drivers.{DriverState, channel_at, with_channel, settled_if_answered, change_events, is_answered, barrier_in, start_fault_in, started}
-use Rattle.update_driver.specs.Calls.{DriverView, AreDrivable, IsReached}
+use Rattle.update_driver.specs.Calls.{DriverView, AreDrivable, IsMadeByCalls}
 use Rattle.update_driver.specs.Laws.{begun_count}
 use Rattle.update_driver.specs.declared.StartFault.{StartFault}
 use Rattle.update_driver.specs.declared.turns.Turn.{Turn}
@@ -89,7 +89,7 @@ pub record PutsBarriers (n : ℕ) (old new : Turns) : Type 0 where
 -- and the xid of the next message
 pub record IsDriver (v : DriverView) (turns : List Turn) (xid : ℕ) : Type 0 where
   pub drivable : AreDrivable v.net v.rounds
-  pub reached : IsReached v
+  pub reached : IsMadeByCalls v
   pub count : length turns ≡ switch_count v.net
   pub events : (s : ℕ) (d : Turn) → s < switch_count v.net → IsSome (channel_at v.state (switch_numbered s)).outstanding
       → (slice_index_or turns s d).events.items ≡ change_events (switch_numbered s) 0 (running_round v.state.phase v.rounds)

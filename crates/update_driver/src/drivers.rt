@@ -2,7 +2,7 @@
 ghost use Rattle.std.specs.Prelude.{◌≡◌, ◌<◌, ℕ, List, IfOk, IfErr, OnErr, OnOk, None};
 ghost use Rattle.topology.specs.Networks.{switch_count};
 ghost use Rattle.update_driver.specs.Drivers.{first_driver, channel_at, fed, started_driver, start_fault};
-ghost use Rattle.update_driver.specs.Calls.{AreDrivable, IsReached};
+ghost use Rattle.update_driver.specs.Calls.{AreDrivable, IsMadeByCalls};
 ghost use Rattle.update_driver.specs.Laws.{LogIsRun};
 ghost use Rattle.update_driver.specs.Answers.{with_state, IsRefusal};
 
@@ -145,7 +145,7 @@ impl<'a> Driver<'a> {
 
     /// The driver is the one that its calls so far make, and its rounds are in range. It does nothing.
     pub fn keeps_rules(&self)
-        ensures reached { IsReached self.now }
+        ensures reached { IsMadeByCalls self.now }
         ensures drivable { AreDrivable self.now.net self.now.rounds }
     {
         let _ = &self.phase;

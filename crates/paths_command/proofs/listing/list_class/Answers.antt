@@ -4,7 +4,7 @@ use Rattle.net_base.specs.Places.{stop_of}
 use Rattle.flow_rules.specs.Tables.{rules_of_all}
 use Rattle.dest_classes.specs.Classes.{ClassList, IsClass, class_count}
 use Rattle.dest_classes.proofs.MapLaws.{number_fits}
-use Rattle.path_places.specs.Followed.{EndsAs}
+use Rattle.path_places.specs.Followed.{PathEndsAs}
 use Rattle.command_base.specs.Judgements.{most_classes}
 use Rattle.config_command.specs.Configs.{config_count}
 use Rattle.config_command.specs.Verdicts.{classes_under}
@@ -31,7 +31,7 @@ returns-clause-listing c =
     c.add_row.new.text.items c.add.new.self c.requires.listing
     (record {
       class_is = subst (λ (cs : ClassList). IsClass cs c.args.numbered.number class) c.requires.ready.classes c.requires.class;
-      path = subst (λ (places : List Place). EndsAs m.net m.tables class.entry class.first (map stop_of places) c.follow-end.result) (sym c.places.ensures) c.follow-end.ensures.end;
+      path = subst (λ (places : List Place). PathEndsAs m.net m.tables class.entry class.first (map stop_of places) c.follow-end.result) (sym c.places.ensures) c.follow-end.ensures.end;
       marked = c.mark_of-mark.ensures.mark;
     })
     c.in_ok-add_row.ensures c.add.ensures.good c.add.ensures.free c.add.ensures.breaks
