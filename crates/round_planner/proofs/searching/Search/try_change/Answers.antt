@@ -7,9 +7,10 @@ use Rattle.update_model.specs.Changes.{Applies, tables_after}
 use Rattle.round_mix.specs.Prepared.{MixedState}
 use Rattle.mixed_walks.specs.Walks.{IsRoundOf}
 use Rattle.round_tables.specs.Trials.{IsSettled, IsTrying, HasRoomAlone}
-use Rattle.round_planner.specs.Search.{Aim, update_by}
-use Rattle.round_planner.specs.Standing.{AreJudged}
-use Rattle.round_planner.specs.Visits.{HoldAfter}
+use Rattle.round_judge.specs.Aims.{Aim}
+use Rattle.round_planner.specs.Search.{update_by}
+use Rattle.round_judge.specs.Judged.{AreJudged}
+use Rattle.round_judge.specs.Visits.{HoldAfter}
 use Rattle.round_planner.specs.Searching.{IsAt}
 use Rattle.round_planner.proofs.FailureLaws.{no_room}
 use Rattle.round_planner.proofs.SearchingLaws.{applies_here, tried_round, tried_at, tried_next, tried_came, failed_came, tried_qualifies, tried_fails, given_up}
@@ -34,7 +35,7 @@ judge_all-requires-clause-ready c =
     let next = update_by aim old (changes ++ c.args.change.now ∷ []) in
     record {
       round = (next, length changes, subst (λ (ms : List MixedState). IsRoundOf aim.net ms next (length changes)) (sym c.mixes.ensures) round);
-      numberings = here.stands.numberings;
+      numberings = here.stands.so_far.numberings;
       classes = here.classes;
     }
 
