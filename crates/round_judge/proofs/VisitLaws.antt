@@ -16,7 +16,7 @@ use Rattle.update_model.specs.declared.Change.{Change}
 use Rattle.certificates.specs.Ordered.{IsSafe}
 use Rattle.mixed_walks.specs.Walks.{TablesKeepVlans, KeepVlansUpTo}
 use Rattle.mixed_walks.proofs.PlaceLaws.{tables_keep}
-use Rattle.class_watch.specs.Switches.{has}
+use Rattle.net_base.specs.Switches.{has}
 use Rattle.class_watch.specs.Walks.{at_rest, HoldsWalks, HoldsTables, meets_any}
 use Rattle.class_watch.proofs.StandLaws as stand
 use Rattle.class_watch.proofs.StandLaws.{held_before, held_after, vlan_before, all_held}

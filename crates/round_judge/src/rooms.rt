@@ -2,13 +2,13 @@
 ghost use Rattle.std.specs.Prelude.{◌≡◌, ℕ, ◌<◌, length, IsTrue, IfOk};
 ghost use Rattle.net_base.specs.declared.ids.SwitchId.{SwitchId as Switch};
 ghost use Rattle.dest_classes.specs.Classes.{class_count};
-ghost use Rattle.class_watch.specs.Switches.{has};
+ghost use Rattle.net_base.specs.Switches.{has};
 ghost use Rattle.round_judge.specs.Aims.{HasAtoms};
 ghost use Rattle.round_judge.specs.Visits.{marks_at};
 
-use class_watch::{ClassWatch, LookedAtoms, SwitchSet};
+use class_watch::{ClassWatch, LookedAtoms};
 use dest_classes::ClassMap;
-use net_base::Memory;
+use net_base::{Memory, SwitchSet};
 use std::alloc::Global;
 
 /// Room to watch classes, with all switches for each, and marks for their atoms. 16 bytes for each class and 5 for each atom,

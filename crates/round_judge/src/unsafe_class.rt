@@ -1,6 +1,6 @@
 //! A class that no evidence keeps safe.
-use class_watch::SwitchSet;
 use dest_classes::Class;
+use net_base::SwitchSet;
 
 /// A class that no evidence keeps safe in a round, with its number, and the switches that its mixed walks come to then.
 #[derive(Drop)]

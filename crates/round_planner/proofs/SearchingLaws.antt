@@ -36,7 +36,7 @@ use Rattle.round_judge.specs.Evidence.{IsCertifiedClass}
 use Rattle.round_judge.specs.Judged.{IsNextRound, AreSafeBelow, HasUnsafe, AreWithPicks}
 use Rattle.round_planner.specs.Standing.{Stands}
 use Rattle.round_judge.specs.declared.unsafe_class.UnsafeClass.{UnsafeClass}
-use Rattle.class_watch.specs.Switches.{has}
+use Rattle.net_base.specs.Switches.{has}
 use Rattle.class_watch.proofs.StandLaws.{all_held}
 use Rattle.round_planner.specs.Failures.{IsUnsafeClass}
 use Rattle.round_judge.specs.Aims.{HasAtoms}

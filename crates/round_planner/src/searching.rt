@@ -17,7 +17,7 @@ ghost use Rattle.round_planner.specs.Search.{IsFirstQualifying, update_by};
 ghost use Rattle.round_judge.specs.Judged.{AreSafeBelow};
 ghost use Rattle.round_planner.specs.Standing.{Stands};
 ghost use Rattle.round_planner.specs.declared.left.Left.{Left as LeftOf};
-ghost use Rattle.class_watch.specs.Switches.{has};
+ghost use Rattle.net_base.specs.Switches.{has};
 ghost use Rattle.round_planner.specs.Failures.{HasStanding, AreLeft};
 ghost use Rattle.round_judge.specs.Aims.{HasAtoms};
 ghost use Rattle.round_planner.specs.Searching.{IsAt, IsTried, IsLeftTried, IsPlaced, IsMoved, IsTryingAt, IsEnded, IsAnswered, answer_of};
