@@ -51,7 +51,6 @@ fn certify_round(
     ensures some { IfOk result (λ refusal. IfSome refusal (IsFirstRefusal case.now)) }
     ensures room { HasRoom case.now.task.update.net case.now.task.rounds tables.new }
 {
-    goal.net.keeps_rules();
     case.keeps_rules();
     if let Some(reason) = load_round(case, k, tables) {
         return Ok(Some(Refusal::Checked(reason)));
@@ -122,6 +121,7 @@ fn certify_rounds(
     ensures fits { Fits case.now.task room.new }
 {
     case.keeps_rules();
+    case.net.keeps_rules();
     let list = all_classes(alloc, &room.classes)?;
     let mut so_far = RoundEvidence::make(alloc, &room.classes)?;
     let goal = Goal {

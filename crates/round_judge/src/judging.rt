@@ -451,7 +451,7 @@ pub fn judge_all(
     requires came { length watch.old.came.items ≡ class_count goal.now.classes }
     requires atoms { HasAtoms goal.now.classes looked.now }
     requires touched { AreTouched goal.now.classes tried.now.changes.now looked.now }
-    ensures judged { IfOk result (λ verdict. (u : Rollout) (k : ℕ)
+    ensures { IfOk result (λ verdict. (u : Rollout) (k : ℕ)
         → IsRoundOf goal.now.net tried.now.mixes.now u k
         → IsNextRound goal.now u tried.now.store.now.evidence k tried.now.changes.now
         → HoldTables goal.now (tables_before u k) watch.old.came.items
@@ -536,7 +536,7 @@ pub fn judge_in_order(
     requires came { length watch.old.came.items ≡ class_count goal.now.classes }
     requires atoms { HasAtoms goal.now.classes looked.now }
     requires touched { AreTouched goal.now.classes tried.now.changes.now looked.now }
-    ensures judged { IfOk result (λ verdict. (u : Rollout) (k : ℕ)
+    ensures { IfOk result (λ verdict. (u : Rollout) (k : ℕ)
         → IsRoundOf goal.now.net tried.now.mixes.now u k
         → IsNextRound goal.now u tried.now.store.now.evidence k tried.now.changes.now
         → HoldTables goal.now (tables_before u k) watch.old.came.items

@@ -13,13 +13,13 @@ use Rattle.round_judge.proofs.judging.judge_all.Goals as goal
 pub judge_rest-requires-clause-came : goal.judge_rest-requires-clause-came
 judge_rest-requires-clause-came c = c.judge_met.ensures.count ∙ c.requires.came
 
-pub returns-in-Unsafe-clause-judged : goal.returns-in-Unsafe-clause-judged
-returns-in-Unsafe-clause-judged c u k round next held =
+pub returns-in-Unsafe : goal.returns-in-Unsafe
+returns-in-Unsafe c u k round next held =
     let (unsafe, below, marked) = subst (λ v. AreMetJudged c.args.goal.now u c.args.tried.now.store.now.evidence k v c.judge_met.new.watch.came.items) c.in-Unsafe.is (c.in_ok-failing.ensures.judged u k round next held) in
     (unsafe, marked)
 
-pub returns-then-has_picks-clause-judged : goal.returns-then-has_picks-clause-judged
-returns-then-has_picks-clause-judged c u k round next held =
+pub returns-then-has_picks : goal.returns-then-has_picks
+returns-then-has_picks c u k round next held =
     let aim = c.args.goal.now in
     let e = c.args.tried.now.store.now.evidence in
     let met = subst (λ v. AreMetJudged aim u e k v c.judge_met.new.watch.came.items) c.in-Safe.is (c.in_ok-failing.ensures.judged u k round next held) in (
@@ -27,8 +27,8 @@ returns-then-has_picks-clause-judged c u k round next held =
       round_after_it aim u k round.net_is next.within (next.good k (omega arith)) c.judge_met.new.watch.came.items met.known,
     )
 
-pub returns-else-has_picks-clause-judged : goal.returns-else-has_picks-clause-judged
-returns-else-has_picks-clause-judged c =
+pub returns-else-has_picks : goal.returns-else-has_picks
+returns-else-has_picks c =
     let aim = c.args.goal.now in
     let e = c.args.tried.now.store.now.evidence in
     let changes = c.args.tried.now.changes.now in

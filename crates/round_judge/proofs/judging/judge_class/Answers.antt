@@ -85,6 +85,7 @@ returns-in-None-clause-judged c = λ u k round next.
     let here = round_here aim.net c.goal.inside.net.now (ap (λ (a : Aim). a.net) c.goal.view_is) c.args.tried.now.mixes.now u k round in
     let walked = c.walk-visited.ensures.walked u k (round_here c.args.goal.now.net c.goal.inside.net.now (ap (λ (a : Aim). a.net) c.goal.view_is) c.args.tried.now.mixes.now u k round) in (
       refl,
+      refl,
       record {
         never = found_for aim c.goal.inside.duties.now.demands (ap (λ (a : Aim). a.demands) c.goal.view_is) u k c.args.numbered.class c.in_ok-evidence.field-0 None c.in-None.is (c.in_ok-evidence.ensures.found u k here.net_is walked);
         visits = c.walk-visited.ensures.held u k (round_here c.args.goal.now.net c.goal.inside.net.now (ap (λ (a : Aim). a.net) c.goal.view_is) c.args.tried.now.mixes.now u k round);

@@ -1,4 +1,4 @@
-use Rattle.std.proofs.Common.{◌≡◌, ◌≢◌, ℕ, ◌<◌, length, refl, sym, ap, ◌∙◌, subst, arith}
+use Rattle.std.proofs.Common.{◌≡◌, ◌≢◌, ℕ, ◌+◌, ◌<◌, length, refl, sym, ap, ◌∙◌, subst, arith}
 use Rattle.dest_classes.specs.Classes.{IsClass, class_count}
 use Rattle.dest_classes.specs.declared.Class.{Class}
 use Rattle.class_watch.specs.Walks.{HoldsWalks}
@@ -47,7 +47,7 @@ returns-in-Some c u k round next held =
     let is_number = c.numbered-numbered.ensures.number in
     let same = λ (class : Class) (is : IsClass aim.classes number class). numbered_class aim.classes number numbered is_number c.numbered-numbered.ensures.class class is in
     let found = λ (class : Class) (is : IsClass aim.classes number class).
-        judged_met aim u e k number class c.in_ok-judged.judged (judged_there aim u e k numbered number class is_number (same class is) c.in_ok-judged.judged (judged.judged u k round next)) in (
+    judged_met aim u e k number class c.in_ok-judged.judged (judged_there aim u e k numbered number class is_number (same class is) c.in_ok-judged.judged (judged.judged u k round next)) in (
       record {
         is_unsafe = failed_noted aim u e k number less c.loop-number.found.items c.note.new.found.items c.in_ok-judged.judged c.in_ok-failing.field-0 c.in-Some.failing c.in_ok-failing.ensures c.in-Some.is found;
         below = failed_below aim u e k number less c.loop-number.found.items c.note.new.found.items c.in_ok-judged.judged c.in_ok-failing.field-0 c.in-Some.failing c.in_ok-failing.ensures c.in-Some.is found safe;

@@ -21,8 +21,8 @@ met_first : (aim : Aim) (u : Rollout) (e : OrderedEvidence) (k : ℕ) (changes :
 met_first aim u e k changes net next later (Safe found) came met = (met.later later, round_after_it aim u k net next.within (next.good k (omega arith)) came met.known)
 met_first aim u e k changes net next later (Unsafe f) came (unsafe, below, known) = (record { is_unsafe = unsafe; below = below later }, known)
 
-pub returns-then-has_picks-clause-judged : goal.returns-then-has_picks-clause-judged
-returns-then-has_picks-clause-judged c =
+pub returns-then-has_picks : goal.returns-then-has_picks
+returns-then-has_picks c =
     let aim = c.args.goal.now in
     let e = c.args.tried.now.store.now.evidence in
     let changes = c.args.tried.now.changes.now in
