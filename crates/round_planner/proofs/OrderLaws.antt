@@ -1,5 +1,5 @@
 -- What the search of an update hands out.
-use Rattle.std.proofs.Common.{◌≡◌, ◌≤◌, List, [], length, refl, sym, ◌∙◌, subst, ap}
+use Rattle.std.proofs.Common.{◌≡◌, ◌≤◌, List, [], length, refl, sym, ◌∙◌, subst, ap, arith}
 use Rattle.topology.specs.Networks.{IsNetwork}
 use Rattle.flow_rules.specs.declared.rules.Rule.{Rule}
 use Rattle.path_walk.specs.UserConfigs.{IsUserConfig}
