@@ -12,6 +12,7 @@ use Rattle.certificates.specs.Valid.{IsValidPlan}
 use Rattle.certificates.specs.declared.Evidence.{Evidence}
 use Rattle.certificates.specs.declared.Evidence.TheVariants.{Ordered, TwoPhase}
 use Rattle.check_reasons.specs.Cases.{CaseView}
+use Rattle.check_reasons.specs.Ranks.{stage_of, round_of, number_of, least_class_number}
 use Rattle.plan_checker.specs.Fits.{RoomView, Fits}
 use Rattle.ordered_check.specs.Kept.{WalksStand}
 use Rattle.ordered_check.specs.Picks.{PicksStand}
@@ -34,6 +35,12 @@ pub record EndsAreGood (t : Task) : Type 0 where
 -- the tables after the last round are the new ones
 abbrev pub EndsAtNew : Task → Type 0
 EndsAtNew t = (s : SwitchId) → IsSameSet (rules_at (tables_before (rollout t) (length t.rounds)) s) (rules_at t.update.new s)
+
+-- a reason of the changes of round k
+pub record IsOfChanges (k : ℕ) (r : Reason) : Type 0 where
+  pub stage : stage_of r ≡ 2
+  pub round : round_of r ≡ suc k
+  pub number : number_of r < least_class_number
 
 -- what is kept of the picks, and of the walks of an ordered plan, stands before round k
 abbrev pub EvidenceStands : Task → Evidence → ℕ → RoomView → Type 0

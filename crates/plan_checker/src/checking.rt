@@ -1,6 +1,6 @@
 //! Whether a plan is certified, and otherwise the first reason why not.
 ghost use Rattle.certificates.specs.Updates.{rollout};
-ghost use Rattle.std.specs.Prelude.{◌≡◌, ◌↔◌, suc, ◌<◌, length, IfSome, IfNone, if◌then◌else◌};
+ghost use Rattle.std.specs.Prelude.{◌≡◌, ◌↔◌, suc, ◌<◌, ◌≤◌, length, IfSome, IfNone, if◌then◌else◌};
 ghost use Rattle.topology.specs.Networks.{switch_count};
 ghost use Rattle.flow_rules.specs.Tables.{rules_of_all};
 ghost use Rattle.path_walk.specs.UserConfigs.{IsUserConfig};
@@ -13,7 +13,7 @@ ghost use Rattle.certificates.specs.Valid.{IsValidPlan};
 ghost use Rattle.plan_checker.specs.Checking.{EndsAreGood, EvidenceStands, IsReady, IfRefused};
 ghost use Rattle.plan_checker.specs.Fits.{Fits};
 ghost use Rattle.check_reasons.specs.Loaded.{AreLoaded};
-ghost use Rattle.check_reasons.specs.Ranks.{classes_start};
+ghost use Rattle.check_reasons.specs.Ranks.{classes_start, stage_of};
 ghost use Rattle.check_reasons.specs.Passed.{ChangesPass, ClassesPass, RoundsPass, IsFirstFrom};
 ghost use Rattle.check_reasons.specs.Reasons.{IsFirstReason};
 
@@ -68,6 +68,7 @@ pub fn end_reason(case: &Case, room: &mut CheckRoom) -> Option<Reason>
     ensures none { IfNone result (EndsAreGood case.now.task) }
     ensures some { IfSome result (IsFirstReason case.now.task case.now.evidence) }
     ensures fails { IfSome result (λ _. ¬ EndsAreGood case.now.task) }
+    ensures place { IfSome result (λ r. stage_of r ≤ 1) }
     ensures fits { Fits case.now.task room.new }
 {
     case.keeps_rules();

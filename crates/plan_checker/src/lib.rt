@@ -5,7 +5,7 @@ mod checking;
 mod prefixes;
 mod rewriting;
 mod room;
-mod tables;
+pub mod tables;
 
 pub use check_reasons::{Reason, Verdict};
 pub use checking::{check, end_reason};

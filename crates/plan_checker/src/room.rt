@@ -25,12 +25,12 @@ use two_phase_check::TwoPhaseRoom;
 /// All memory of a check: the class map of an update, its duties, and room for each table, round and walk.
 #[derive(Drop)]
 pub struct CheckRoom {
-    pub(crate) classes: ClassMap,
-    pub(crate) duties: Duties,
-    pub(crate) tables: PreparedTables,
-    pub(crate) ordered: OrderedRoom,
-    pub(crate) two_phase: TwoPhaseRoom,
-    pub(crate) path: PathRoom,
+    pub classes: ClassMap,
+    pub duties: Duties,
+    pub tables: PreparedTables,
+    pub ordered: OrderedRoom,
+    pub two_phase: TwoPhaseRoom,
+    pub path: PathRoom,
 }
 
 impl Model for CheckRoom {

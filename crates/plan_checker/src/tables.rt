@@ -1,4 +1,5 @@
-//! The reasons that the changes of a round and the last tables give, and the tables from round to round.
+//! The reasons that the changes of a round and the last tables give, and the tables from round to round. Of the evidence only
+//! its kind counts here.
 ghost use Rattle.certificates.specs.Updates.{rollout};
 ghost use Rattle.std.specs.Prelude.{◌≡◌, suc, ◌<◌, ◌≤◌, ◌^◌, length, IfNone, IfSome};
 ghost use Rattle.net_base.specs.Members.{IsSameSet};
@@ -9,7 +10,8 @@ ghost use Rattle.update_model.specs.Changes.{round_after};
 ghost use Rattle.update_model.specs.Mixtures.{tables_before};
 ghost use Rattle.check_reasons.specs.Loaded.{AreLoaded};
 ghost use Rattle.check_reasons.specs.Passed.{ChangesPass, IsFirstFrom};
-ghost use Rattle.check_reasons.specs.Ranks.{end_start, round_start};
+ghost use Rattle.check_reasons.specs.Ranks.{end_start, round_start, stage_of};
+ghost use Rattle.plan_checker.specs.Checking.{IsOfChanges};
 ghost use Rattle.round_tables.specs.PreparedTables.{HasRoom, StandsBefore};
 ghost use Rattle.round_tables.specs.Loading.{ArePrepared, AreWithin, IsFirstRoundFault};
 
@@ -57,7 +59,7 @@ fn keeps_capacities(case: &Case)
 }
 
 /// Puts the old tables in the place of what is there. No switch is prepared.
-pub(crate) fn start(case: &Case, tables: &mut PreparedTables)
+pub fn start(case: &Case, tables: &mut PreparedTables)
     requires { HasRoom case.now.task.update.net case.now.task.rounds tables.old }
     ensures stands { StandsBefore (rollout case.now.task) 0 tables.new }
     ensures room { HasRoom case.now.task.update.net case.now.task.rounds tables.new }
@@ -70,7 +72,8 @@ pub(crate) fn start(case: &Case, tables: &mut PreparedTables)
 fn fault_reason(case: &Case, k: usize, fault: RoundFault) -> Reason
     requires round { k < length case.now.task.rounds }
     requires first { IsFirstRoundFault (rollout case.now.task) k fault }
-    ensures { IsFirstFrom case.now.task case.now.evidence (round_start k) result }
+    ensures first { IsFirstFrom case.now.task case.now.evidence (round_start k) result }
+    ensures place { IsOfChanges k result }
 {
     let round = round_number(case, k);
     let changes = round_of(case, k).len();
@@ -95,6 +98,7 @@ fn late_reason(case: &Case, k: usize, tables: &PreparedTables) -> Option<Reason>
     ensures none { IfNone result (ChangesPass case.now.task case.now.evidence k
         × AreLoaded (rollout case.now.task) k tables.now.mixes) }
     ensures some { IfSome result (IsFirstFrom case.now.task case.now.evidence (round_start k)) }
+    ensures place { IfSome result (IsOfChanges k) }
 {
     keeps_capacities(case);
     let changes = round_of(case, k);
@@ -114,7 +118,7 @@ fn late_reason(case: &Case, k: usize, tables: &PreparedTables) -> Option<Reason>
 
 /// Prepares each switch for round k, or gives the first reason of the round's changes: the first bad change, the first
 /// unclear switch, the first that lacks room, or the first at which a change of an ordered plan sets or strips.
-pub(crate) fn load_round(case: &Case, k: usize, tables: &mut PreparedTables) -> Option<Reason>
+pub fn load_round(case: &Case, k: usize, tables: &mut PreparedTables) -> Option<Reason>
     requires round { k < length case.now.task.rounds }
     requires room { HasRoom case.now.task.update.net case.now.task.rounds tables.old }
     requires stands { StandsBefore (rollout case.now.task) k tables.old }
@@ -122,6 +126,7 @@ pub(crate) fn load_round(case: &Case, k: usize, tables: &mut PreparedTables) -> 
         × AreLoaded (rollout case.now.task) k tables.new.mixes
         × ArePrepared (rollout case.now.task) k tables.new) }
     ensures some { IfSome result (IsFirstFrom case.now.task case.now.evidence (round_start k)) }
+    ensures place { IfSome result (IsOfChanges k) }
     ensures room { HasRoom case.now.task.update.net case.now.task.rounds tables.new }
 {
     let _ = round_of(case, k);
@@ -132,7 +137,7 @@ pub(crate) fn load_round(case: &Case, k: usize, tables: &mut PreparedTables) -> 
 }
 
 /// Makes the changes of round k, for which the switches are prepared.
-pub(crate) fn apply_round(case: &Case, k: usize, tables: &mut PreparedTables)
+pub fn apply_round(case: &Case, k: usize, tables: &mut PreparedTables)
     requires round { k < length case.now.task.rounds }
     requires room { HasRoom case.now.task.update.net case.now.task.rounds tables.old }
     requires passed { ChangesPass case.now.task case.now.evidence k }
@@ -145,13 +150,14 @@ pub(crate) fn apply_round(case: &Case, k: usize, tables: &mut PreparedTables)
 }
 
 /// The first switch whose table isn't the new one after the last round, as a reason.
-pub(crate) fn wrong_end(case: &Case, tables: &PreparedTables) -> Option<Reason>
+pub fn wrong_end(case: &Case, tables: &PreparedTables) -> Option<Reason>
     requires { StandsBefore (rollout case.now.task) (length case.now.task.rounds) tables.now }
     ensures none { IfNone result ((s : Switch)
         → IsSameSet
         (rules_at (tables_before (rollout case.now.task) (length case.now.task.rounds)) s)
         (rules_at case.now.task.update.new s)) }
     ensures some { IfSome result (IsFirstFrom case.now.task case.now.evidence end_start) }
+    ensures place { IfSome result (λ r. stage_of r ≡ 3) }
 {
     case.net.keeps_rules();
     match tables.first_difference(case.new) {

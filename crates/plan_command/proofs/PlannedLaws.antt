@@ -15,7 +15,8 @@ use Rattle.certificates.specs.declared.Plan.{Plan}
 use Rattle.table_difference.specs.SameClasses.{HasSameClasses}
 use Rattle.plan_format.specs.Plans.{plan_in}
 use Rattle.plan_text.specs.PlanText.{plan_text}
-use Rattle.round_planner.specs.Search.{Aim, EndsOrdered, EndsStuck, single_rounds}
+use Rattle.round_judge.specs.Aims.{Aim}
+use Rattle.round_planner.specs.Search.{EndsOrdered, EndsStuck, single_rounds}
 use Rattle.two_phase.specs.TwoPhasePlan.{two_phase_need}
 use Rattle.two_phase.specs.Plans.{IsFirstTooSmall}
 use Rattle.tag_allocator.specs.Tags.{available_tags}

@@ -13,7 +13,7 @@ use Rattle.certificates.specs.Valid.{IsValidPlan}
 use Rattle.certificates.specs.declared.Plan.{Plan}
 use Rattle.evidence_store.specs.Stored.{IsStored}
 use Rattle.table_difference.specs.SameClasses.{HasSameClasses, classes_before, MakeNoClasses}
-use Rattle.round_planner.specs.Search.{Aim}
+use Rattle.round_judge.specs.Aims.{Aim}
 use Rattle.round_planner.specs.Searching.{SearchState, IsEnded, answer_by}
 use Rattle.table_difference.specs.Tried.{AreTried}
 use Rattle.round_planner.specs.Ends.{aim_of, IsSearched, OfPlan, OfStuck, IsNotStuck}

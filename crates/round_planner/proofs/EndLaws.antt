@@ -42,7 +42,8 @@ use Rattle.dest_classes.specs.Classes.{class_count}
 use Rattle.evidence_store.specs.Stored.{IsStored}
 use Rattle.table_difference.specs.SameClasses.{HasSameClasses, classes_before, BringNoPrefix, MakeNoClasses}
 use Rattle.round_tables.specs.Trials.{single, HasRoomAlone}
-use Rattle.round_planner.specs.Search.{Aim, update_by, single_rounds, IsFirstQualifying, AreFirstQualifying}
+use Rattle.round_judge.specs.Aims.{Aim}
+use Rattle.round_planner.specs.Search.{update_by, single_rounds, IsFirstQualifying, AreFirstQualifying}
 use Rattle.round_planner.specs.Standing.{Stands}
 use Rattle.table_difference.specs.Tried.{AreTried}
 use Rattle.round_planner.proofs.ClassKept.{class_kept}
@@ -268,7 +269,7 @@ module _ (aim : Aim) (old : List (List Rule)) (net : IsNetwork aim.net) (old_use
 
     valid_pick : (p : OrderedPick) → IsIn p e.picks → class_count aim.classes ≤ 8192 → IsValidPick (length u.rounds) (length e.uses) p
     valid_pick p i few =
-        let least = stands.evidence.picked p i in
+        let least = stands.so_far.picked p i in
         let within = each_at (λ (q : OrderedPick). (q.shared < length e.uses) × (q.shared ≤ 4294967295)) e.picks p stored.picks i in
         let number = number_fits aim.classes p.class least.class least.class_is in
         let round = least.round_is in
@@ -281,8 +282,8 @@ module _ (aim : Aim) (old : List (List Rule)) (net : IsNetwork aim.net) (old_use
       few_changes = (let sum = sum_singles changes in let all = found_count in let most = found_few in omega arith);
       rounds = ranges;
       evidence = record {
-        numberings = stands.numberings;
-        befores = stands.befores;
+        numberings = stands.so_far.numberings;
+        befores = stands.so_far.befores;
         uses = stored.uses;
         picks = each_from_in (IsValidPick (length u.rounds) (length e.uses)) e.picks (λ p i. valid_pick p i few);
         ascending = stored.ascending;
@@ -309,7 +310,7 @@ module _ (aim : Aim) (old : List (List Rule)) (net : IsNetwork aim.net) (old_use
         clear = clear;
         fits = fits;
         keeps = keeps;
-        certificates = λ k n class less is. stands.certificates k n class (let count = length_singles in omega arith) (class_of n class is);
+        certificates = λ k n class less is. stands.so_far.certificates k n class (let count = length_singles in omega arith) (class_of n class is);
         ends = λ s. subst (λ ts. IsSameSet (rules_at ts s) (rules_at aim.new s)) (sym (tables_last changes old)) (same_when_none aim old new_user (tables_after changes old) found_user none s);
       }
 

@@ -27,7 +27,8 @@ use Rattle.round_tables.specs.PreparedTables.{PreparedState}
 use Rattle.round_tables.specs.Trials.{single, HasRoomAlone, IsSettled}
 use Rattle.round_tables.proofs.TrialLaws.{changes_here, changes_there}
 use Rattle.round_mix.proofs.TriedLaws.{clear_none}
-use Rattle.round_planner.specs.Search.{Aim, duties_in, CanBeSafe, Qualifies}
+use Rattle.round_judge.specs.Aims.{Aim, duties_in}
+use Rattle.round_planner.specs.Search.{CanBeSafe, Qualifies}
 use Rattle.net_base.specs.Switches.{has}
 use Rattle.class_watch.specs.Alike.{AreAlike}
 use Rattle.class_watch.proofs.CoveringLaws.{covering_kept}
@@ -146,7 +147,6 @@ failure_stands aim tables c keeps_rules keeps d within (failure.Class f) untouch
     let apart : IsApart aim tables c f.class d = λ place on at covers_it.
     untouched (and_from (may_cover d f.class) (has f.visited (switch_of d)) covers_it (subst (λ (x : SwitchId). IsTrue (has f.visited x)) at (fails.visits place on))) in
     record {
-      number = fails.number;
       is_class = fails.is_class;
       never = λ can. fails.never (safe_back aim tables c keeps_rules keeps f.class d within apart can);
       visits = λ place on. fails.visits place (walk_same aim tables c keeps_rules keeps f.class d within apart place on);
@@ -155,7 +155,7 @@ failure_stands aim tables c keeps_rules keeps d within (failure.Class f) untouch
 -- a failure rules the change out
 pub fails_then : (aim : Aim) (tables : List (List Rule)) (c : Change) (f : Failure) → IsFailure aim tables c f → ¬ Qualifies aim tables c
 fails_then aim tables c failure.Table fails q = fails (room_there aim.net tables c q.stands)
-fails_then aim tables c (failure.Class f) fails q = fails.never (q.safe fails.number f.class fails.is_class)
+fails_then aim tables c (failure.Class f) fails q = fails.never (q.safe f.number f.class fails.is_class)
 
 -- ---- after several changes
 

@@ -17,7 +17,8 @@ use Rattle.mixed_walks.specs.Walks.{TablesKeepVlans}
 use Rattle.mixed_walks.proofs.PlaceLaws.{tables_keep}
 use Rattle.table_difference.proofs.WithoutLaws.{remaining_without}
 use Rattle.round_planner.specs.declared.left.Left.{Left}
-use Rattle.round_planner.specs.Search.{Aim, Qualifies}
+use Rattle.round_judge.specs.Aims.{Aim}
+use Rattle.round_planner.specs.Search.{Qualifies}
 use Rattle.round_planner.specs.Failures.{IsFailure, IsTouched, HasStanding, IsOfUsers, AreOfUsers, AreLeft}
 use Rattle.round_planner.specs.Searching.{SearchState, IsAt, IsLeftTried, IsMadeAt, NoneQualifies, IsPlaced, IsMoved}
 use Rattle.round_planner.proofs.FailureLaws.{failure_stands, fails_then, keeps_all}

@@ -1,5 +1,4 @@
 pub mod SameRound
-pub mod GrowthLaws
 pub mod StandingLaws
 pub mod ClassKept
 pub mod SearchLaws
@@ -7,16 +6,11 @@ pub mod DifferingLaws
 pub mod TreeSearch
 pub mod UserTables
 pub mod EndLaws
-pub mod LastLaws
-pub mod JudgingLaws
-pub mod PickingLaws
 pub mod SearchingLaws
 pub mod RunLaws
 pub mod OrderLaws
 pub mod OneSearch
 pub mod AnswerLaws
-pub mod VisitLaws
 pub mod FailureLaws
 pub mod LeftLaws
-pub mod MetLaws
 pub mod UpdateLaws

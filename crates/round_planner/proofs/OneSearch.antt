@@ -7,7 +7,8 @@ use Rattle.flow_rules.specs.declared.rules.Rule.{Rule}
 use Rattle.update_model.specs.Changes.{tables_after_change, tables_after}
 use Rattle.update_model.specs.Remaining.{remaining}
 use Rattle.update_model.specs.declared.Change.{Change}
-use Rattle.round_planner.specs.Search.{Aim, Qualifies, IsFirstQualifying, AreFirstQualifying, EndsOrdered, EndsStuck}
+use Rattle.round_judge.specs.Aims.{Aim}
+use Rattle.round_planner.specs.Search.{Qualifies, IsFirstQualifying, AreFirstQualifying, EndsOrdered, EndsStuck}
 
 module _ (aim : Aim) where
   -- where none of the changes before either qualifies, and both do, they are the same

@@ -1,5 +1,5 @@
 -- What the search of an update hands out.
-use Rattle.std.proofs.Common.{◌≡◌, ◌≤◌, List, [], length, refl, sym, ◌∙◌, subst, ap}
+use Rattle.std.proofs.Common.{◌≡◌, ◌≤◌, List, [], length, refl, sym, ◌∙◌, subst, ap, arith}
 use Rattle.topology.specs.Networks.{IsNetwork}
 use Rattle.flow_rules.specs.declared.rules.Rule.{Rule}
 use Rattle.path_walk.specs.UserConfigs.{IsUserConfig}
@@ -15,11 +15,14 @@ use Rattle.certificates.specs.declared.Evidence.TheVariants.{Ordered}
 use Rattle.certificates.specs.declared.Plan.{Plan}
 use Rattle.evidence_store.specs.Stored.{IsStored}
 use Rattle.table_difference.specs.SameClasses.{HasSameClasses, classes_before, MakeNoClasses}
-use Rattle.round_planner.specs.Search.{Aim, single_rounds, EndsOrdered, EndsStuck}
+use Rattle.round_judge.specs.Aims.{Aim}
+use Rattle.round_planner.specs.Search.{single_rounds, update_by, EndsOrdered, EndsStuck}
 use Rattle.round_planner.specs.Searching.{SearchState, IsAt}
 use Rattle.table_difference.specs.Tried.{AreTried}
 use Rattle.round_planner.specs.Ends.{aim_of, IsPlanOf, AreStuck}
 use Rattle.round_planner.proofs.EndLaws.{plan_valid, plan_classes, plan_certified, plan_count, may_be_tried}
+use Rattle.round_judge.proofs.EvidenceLaws.{evidence_whole}
+use Rattle.round_planner.proofs.StandingLaws.{length_rounds}
 use Rattle.round_planner.proofs.TreeSearch.{not_stuck}
 
 module _ (aim : Aim) (old : List (List Rule)) (classes_are : aim.classes ≡ classes_before aim.net old aim.new aim.demands) where
@@ -41,7 +44,10 @@ module _ (aim : Aim) (old : List (List Rule)) (classes_are : aim.classes ≡ cla
         changes = changes;
         evidence = s.store.evidence;
         plan_is = same_plan;
-        searched = record { ends = ends; evidence = at.stands.evidence };
+        searched = record {
+          ends = ends;
+          evidence = evidence_whole aim (update_by aim old changes) (length changes) s.store.evidence at.stands.so_far (let count = length_rounds changes in omega arith);
+        };
       })
 
       module _ (stored : IsStored s.store.evidence) where

@@ -12,7 +12,7 @@ use Rattle.update_model.specs.Remaining.{remaining}
 use Rattle.update_model.specs.declared.Change.{Change}
 use Rattle.round_planner.specs.declared.failing.Failure.{Failure}
 use Rattle.round_planner.specs.declared.left.Left.{Left}
-use Rattle.round_planner.specs.Search.{Aim}
+use Rattle.round_judge.specs.Aims.{Aim}
 use Rattle.round_planner.specs.Failures.{IsFailure, HasStanding, AreLeft}
 use Rattle.round_planner.specs.Searching.{SearchState, IsAt}
 use Rattle.round_planner.proofs.EndLaws.{found_count}

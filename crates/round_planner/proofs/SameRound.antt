@@ -21,7 +21,8 @@ use Rattle.certificates.specs.Steps.{IsMixedStep, MayLeave, MayDrop}
 use Rattle.certificates.specs.Ordered.{Position, positions, IsSafe}
 use Rattle.evidence_store.specs.Found.{IsLeastEvidence}
 use Rattle.round_tables.specs.Trials.{single}
-use Rattle.round_planner.specs.Search.{Aim, update_by, single_rounds}
+use Rattle.round_judge.specs.Aims.{Aim}
+use Rattle.round_planner.specs.Search.{update_by, single_rounds}
 
 -- ---- what may happen
 

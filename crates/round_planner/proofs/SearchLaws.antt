@@ -4,7 +4,8 @@ use Rattle.net_base.specs.Members.{IsIn}
 use Rattle.net_base.proofs.MemberLaws.{in_append_right}
 use Rattle.flow_rules.specs.declared.rules.Rule.{Rule}
 use Rattle.update_model.specs.declared.Change.{Change}
-use Rattle.round_planner.specs.Search.{Aim, IsFirstQualifying}
+use Rattle.round_judge.specs.Aims.{Aim}
+use Rattle.round_planner.specs.Search.{IsFirstQualifying}
 
 pub first_remains : (aim : Aim) (tables : List (List Rule)) (changes : List Change) (c : Change) → IsFirstQualifying aim tables changes c → IsIn c changes
 first_remains aim tables changes c h = subst (IsIn c) (sym h.are) (in_append_right c h.earlier (c ∷ h.later) (inl refl))

@@ -29,24 +29,28 @@ use Rattle.evidence_store.specs.State.{StoreState}
 use Rattle.evidence_store.specs.Stored.{IsStored, no_evidence}
 use Rattle.round_tables.specs.PreparedTables.{PreparedState}
 use Rattle.round_tables.specs.Trials.{single, HasRoomAlone, IsSettled, IsTrying}
-use Rattle.round_planner.specs.declared.judging.Found.{Found}
-use Rattle.round_planner.specs.Search.{Aim, duties_in, update_by, single_rounds, CanBeSafe, Qualifies, IsFirstQualifying}
-use Rattle.round_planner.specs.Standing.{Stands, IsCertifiedClass, IsNextRound, AreSafeBelow, HasUnsafe, AreWithPicks}
-use Rattle.round_planner.specs.declared.failing.UnsafeClass.{UnsafeClass}
+use Rattle.round_judge.specs.declared.judging.Found.{Found}
+use Rattle.round_judge.specs.Aims.{Aim, duties_in}
+use Rattle.round_planner.specs.Search.{update_by, single_rounds, CanBeSafe, Qualifies, IsFirstQualifying}
+use Rattle.round_judge.specs.Evidence.{IsCertifiedClass}
+use Rattle.round_judge.specs.Judged.{IsNextRound, AreSafeBelow, HasUnsafe, AreWithPicks}
+use Rattle.round_planner.specs.Standing.{Stands}
+use Rattle.round_judge.specs.declared.unsafe_class.UnsafeClass.{UnsafeClass}
 use Rattle.net_base.specs.Switches.{has}
 use Rattle.class_watch.proofs.StandLaws.{all_held}
 use Rattle.round_planner.specs.Failures.{IsUnsafeClass}
-use Rattle.round_planner.specs.Searching.{SearchState, HasAtoms, IsAt, IsTryingAt}
+use Rattle.round_judge.specs.Aims.{HasAtoms}
+use Rattle.round_planner.specs.Searching.{SearchState, IsAt, IsTryingAt}
 use Rattle.round_planner.proofs.SameRound.{IsSameRound, same_back, same_alone, same_prefix, tables_at, held_same, on_walk_same, safe_same}
 use Rattle.table_difference.proofs.LengthLaws.{few_remain}
 use Rattle.std.proofs.lemmas.Bool.{cases_lt}
 use Rattle.round_planner.proofs.EndLaws.{good}
 use Rattle.round_planner.proofs.SearchLaws.{first_remains}
-use Rattle.round_planner.proofs.StandingLaws.{begun, length_rounds, stands_none, stands_more}
+use Rattle.round_planner.proofs.StandingLaws.{begun, length_rounds, evidence_there, stands_none, stands_more}
 use Rattle.round_planner.proofs.UserTables.{AreUserTables, IsUserChange, keeps_user, user_start, user_along, changes_along, remaining_user, remaining_applies, remaining_count}
 use Rattle.dest_classes.proofs.MapLaws.{number_fits}
 use Rattle.config_check.proofs.JudgeLaws.{class_within}
-use Rattle.round_planner.specs.Visits.{marks_at, HoldTables}
+use Rattle.round_judge.specs.Visits.{marks_at, HoldTables}
 
 -- ---- prepared switches and rounds
 
@@ -107,7 +111,6 @@ module _ (aim : Aim) (old : List (List Rule)) (old_user : IsUserConfig aim.net o
   -- some class isn't: it fails by that
   pub fails_by : (f : UnsafeClass) → HasUnsafe aim next (length changes) f → IsUnsafeClass aim (tables_after changes old) c f
   fails_by f unsafe = record {
-    number = unsafe.number;
     is_class = unsafe.is_class;
     never = λ can. unsafe.unsafe_.never can.numbers can.sets
         (safe_same (single aim.net (tables_after changes old) c) 0 next (length changes) same f.class.first f.class.entry (duties_in aim f.class) can.numbers can.sets can.safe);
@@ -130,19 +133,14 @@ module _ (aim : Aim) (old : List (List Rule)) (old_user : IsUserConfig aim.net o
       keeps_change d is = keeps_user aim.net (switch_of d) (rule_of d).action is.rule.action
 
   -- it is the next round of the search
-  pub next_round : IsNetwork aim.net → HasRoomAlone aim.net (tables_after changes old) c → IsNextRound aim next e (length changes) c
+  pub next_round : IsNetwork aim.net → HasRoomAlone aim.net (tables_after changes old) c → IsNextRound aim next e (length changes) (c ∷ [])
   next_round net room = record {
     within = (let count = length_rounds (changes ++ c ∷ []) in let sum = length-append changes (c ∷ []) in omega arith);
     round = round_is;
     good = good_up_to;
     clear = λ s mixed held. room.clear s mixed (held_same next (length changes) (single aim.net (tables_after changes old) c) 0 back s mixed held);
-    picks = each_from_in _ e.picks (λ (p : OrderedPick) i.
-        let least = stands.evidence.picked p i in
-        let number = least.round_is in
-        let within = least.within in
-        let count = length_rounds changes in
-        (omega arith, omega arith));
-    certificates = certificate_before;
+    picks = stands.so_far.begun;
+    certificates = (evidence_there aim old changes c e stands).certificates;
   }
     where
       back : IsSameRound next (length changes) (single aim.net (tables_after changes old) c) 0
@@ -164,18 +162,6 @@ module _ (aim : Aim) (old : List (List Rule)) (old_user : IsUserConfig aim.net o
             (good aim old net old_user new_user changes stands.found j (let count = length_rounds changes in omega arith)))
         | inr last ↦ (let e : length changes ≡ j = omega arith in subst (λ i. IsGoodRound (tables_before next i) (round_after i next.rounds)) e good_here)
       ]
-
-      certificate_before : (j n : ℕ) (class : Class) → j < length changes → IsClass aim.classes n class → IsCertifiedClass aim next e j n class
-      certificate_before j n class less is =
-          let h = stands.certificates j n class less is in
-          record {
-            pick = h.pick;
-            numbers = h.numbers;
-            sets = h.sets;
-            in_force = h.in_force;
-            meant = h.meant;
-            safe = safe_same (update_by aim old changes) j next j (same_prefix aim old changes (c ∷ []) j less) class.first class.entry (duties_in aim class) h.numbers h.sets h.safe;
-          }
 
   -- where a search goes on with it
   pub taken : (more : OrderedEvidence) (found : List Found) → IsStored e → AreSafeBelow aim next e (length changes) (class_count aim.classes) found
@@ -285,7 +271,7 @@ module _ (aim : Aim) (old : List (List Rule)) (old_user : IsUserConfig aim.net o
   room_alone = subst (λ ts. HasRoomAlone aim.net ts c) (rules ∙ at.tables) trying.stands
 
   -- it is the next round of the search
-  pub tried_next : IsNetwork aim.net → IsNextRound aim (update_by aim old (changes ++ c ∷ [])) s.store.evidence (length changes) c
+  pub tried_next : IsNetwork aim.net → IsNextRound aim (update_by aim old (changes ++ c ∷ [])) s.store.evidence (length changes) (c ∷ [])
   tried_next net = next_round aim old old_user new_user changes c s.store.evidence at.stands remains net room_alone
 
   pub tried_qualifies : (found : List Found) → AreSafeBelow aim (update_by aim old (changes ++ c ∷ [])) s.store.evidence (length changes) (class_count aim.classes) found → Qualifies aim (tables_after changes old) c
@@ -336,14 +322,4 @@ begins_at aim old s rounds tables settled classes count store came looked = reco
   classes = ap (λ (st : StoreState). st.classes) store ∙ count;
   came = came;
   looked = looked;
-}
-
--- where all switches are marked for each class
-pub all_come : (aim : Aim) (old : List (List Rule)) → IsNetwork aim.net → IsUserConfig aim.net old → aim.classes.hosts ≡ aim.net.hosts → (count : ℕ) → count ≡ class_count aim.classes → (came : List ℕ)
-    → length came ≡ count → ((n : ℕ) (s : SwitchId) → n < count → s.0 < 128 → IsTrue (has (marks_at came n) s)) → HoldTables aim old came
-all_come aim old net user hosts count count_is came length_is all = record {
-  count = length_is ∙ count_is;
-  each = λ n class is.
-      let number = number_fits aim.classes n class is in
-      all_held aim.net old class (marks_at came n) net (tables_keep aim.net old user) (class_within aim.net net aim.classes n class hosts is) (λ s less. all n s (omega arith) less);
 }

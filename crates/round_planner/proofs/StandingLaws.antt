@@ -1,32 +1,28 @@
 -- Where a search stands after one change more.
-use Rattle.std.proofs.Common.{◌≡◌, ◌⊎◌, ℕ, suc, ◌<◌, ◌≤◌, List, [], ◌∷◌, ◌++◌, length, refl, sym, ◌∙◌, subst, ap, inl, inr, arith, length-append}
-use Rattle.std.proofs.lemmas.Bool.{cases_lt, leb-true, le-leb}
-use Rattle.std.specs.Prelude.{◌↔◌, nat_le}
+use Rattle.std.proofs.Common.{◌≡◌, ℕ, suc, ◌<◌, ◌≤◌, List, [], ◌∷◌, ◌++◌, length, refl, sym, ◌∙◌, subst, ap, arith, length-append}
 use Rattle.std.specs.List.{AllByRecursion}
 use Rattle.net_base.specs.Members.{IsIn}
-use Rattle.net_base.proofs.MemberLaws.{each_at, each_weaker, each_from_in, in_filter, in_from_filter}
+use Rattle.net_base.proofs.MemberLaws.{each_at}
 use Rattle.net_base.specs.declared.ids.Place.{Place}
 use Rattle.flow_rules.specs.declared.rules.Rule.{Rule}
-use Rattle.dest_classes.specs.Classes.{IsClass, class_count}
-use Rattle.dest_classes.specs.declared.Class.{Class}
-use Rattle.dest_classes.proofs.MapLaws.{number_fits, class_exists}
+use Rattle.dest_classes.specs.Classes.{class_count}
 use Rattle.demands.specs.Duties.{PacketDuties}
 use Rattle.update_model.specs.Changes.{tables_after, tables_after_change}
 use Rattle.update_model.specs.Mixtures.{Rollout}
 use Rattle.update_model.specs.Remaining.{remaining}
 use Rattle.update_model.specs.declared.Change.{Change}
-use Rattle.certificates.specs.Ordered.{IsMeant, OrderedCertificate}
-use Rattle.certificates.specs.Valid.{IsChain, IsValidNumbering, IsValidBefore}
+use Rattle.certificates.specs.Ordered.{OrderedCertificate}
 use Rattle.certificates.specs.declared.OrderedPick.{OrderedPick}
 use Rattle.certificates.specs.declared.OrderedEvidence.{OrderedEvidence}
-use Rattle.evidence_store.specs.Found.{IsSafeEvidence}
 use Rattle.evidence_store.specs.Stored.{IsStored, no_evidence}
-use Rattle.round_planner.specs.declared.judging.Found.{Found}
-use Rattle.round_planner.specs.Search.{Aim, duties_in, update_by, evidence_until, single_rounds, IsFirstQualifying, AreFirstQualifying, HasPick, IsLeastPick}
-use Rattle.round_planner.specs.Standing.{IsCertifiedClass, Stands, AreSafeBelow, AreWithPicks}
+use Rattle.round_judge.specs.declared.judging.Found.{Found}
+use Rattle.round_judge.specs.Aims.{Aim, duties_in}
+use Rattle.round_judge.specs.Evidence.{evidence_until, HasEvidenceTo}
+use Rattle.round_judge.specs.Judged.{AreSafeBelow, AreWithPicks}
+use Rattle.round_judge.proofs.EvidenceLaws.{evidence_none, evidence_more, begun_before}
+use Rattle.round_planner.specs.Search.{update_by, single_rounds, IsFirstQualifying, AreFirstQualifying}
+use Rattle.round_planner.specs.Standing.{Stands}
 use Rattle.round_planner.proofs.SameRound.{IsSameRound, same_back, safe_same, least_same, same_prefix}
-use Rattle.round_planner.proofs.GrowthLaws.{Grows, meant_more, meant_less, grown, old_pick, pick_cases, pick_for, numbering_cases, before_cases}
-use Rattle.net_base.proofs.ItemLaws.{prefix_refl}
 
 -- ---- the changes
 
@@ -43,312 +39,72 @@ length_rounds (c ∷ changes) = ap suc (length_rounds changes)
 length_more : (changes : List Change) (c : Change) → length (single_rounds (changes ++ c ∷ [])) ≡ suc (length changes)
 length_more changes c = length_rounds (changes ++ c ∷ []) ∙ length-append changes (c ∷ []) ∙ (omega arith)
 
--- ---- certificates by other evidence
+-- ---- evidence for the same rounds of another update
 
--- a certificate holds by other evidence in which the picks of the class that have begun are the same and mean the same
-certificate_by : (u v : Rollout) (k : ℕ) → IsSameRound u k v k → (a b : OrderedEvidence) (n dst : ℕ) (entry : Place) (duties : PacketDuties)
-    → ((p : OrderedPick) → IsIn p a.picks → IsIn p b.picks)
-    → ((p : OrderedPick) → IsIn p b.picks → p.class ≡ n → p.round ≤ suc k → IsIn p a.picks)
-    → ((p : OrderedPick) (numbers : List ℕ) (sets : List (List ℕ)) → IsIn p a.picks → IsMeant a p numbers sets → IsMeant b p numbers sets)
-    → OrderedCertificate u a k n dst entry duties → OrderedCertificate v b k n dst entry duties
-certificate_by u v k same a b n dst entry duties there back meaning h = record {
-  pick = h.pick;
-  numbers = h.numbers;
-  sets = h.sets;
-  in_force = record {
-    stands = there h.pick h.in_force.stands;
-    of_class = h.in_force.of_class;
-    begun = h.in_force.begun;
-    latest = λ other i of_class begun. h.in_force.latest other (back other i of_class begun) of_class begun;
-  };
-  meant = meaning h.pick h.numbers h.sets h.in_force.stands h.meant;
-  safe = safe_same u k v k same dst entry duties h.numbers h.sets h.safe;
+certificate_as : (u v : Rollout) (k : ℕ) → IsSameRound u k v k → (e : OrderedEvidence) (n dst : ℕ) (entry : Place) (duties : PacketDuties)
+    → OrderedCertificate u e k n dst entry duties → OrderedCertificate v e k n dst entry duties
+certificate_as u v k same e n dst entry duties h =
+    record { pick = h.pick; numbers = h.numbers; sets = h.sets; in_force = h.in_force; meant = h.meant; safe = safe_same u k v k same dst entry duties h.numbers h.sets h.safe }
+
+evidence_as : (aim : Aim) (u v : Rollout) (k : ℕ) → k ≤ length v.rounds → ((j : ℕ) → j < k → IsSameRound u j v j) → (e : OrderedEvidence) → HasEvidenceTo aim u k e → HasEvidenceTo aim v k e
+evidence_as aim u v k within same e h = record {
+  within = within;
+  picks = λ j n class less is.
+      let there = same j less in
+      let before = h.picks j n class less is in (
+        λ has c. before.0 has (certificate_as v u j (same_back u j v j there) (evidence_until j e) n class.first class.entry (duties_in aim class) c),
+        λ fails. before.1 (λ c. fails (certificate_as u v j there (evidence_until j e) n class.first class.entry (duties_in aim class) c)),
+      );
+  picked = λ p i.
+      let l = h.picked p i in
+      let less : l.k < k = (let in_rounds = each_at (λ (q : OrderedPick). (0 < q.round) × (q.round ≤ k)) e.picks p h.begun i in let le = in_rounds.1 in let round = l.round_is in omega arith) in
+      record {
+        k = l.k;
+        class = l.class;
+        numbers = l.numbers;
+        sets = l.sets;
+        within = omega arith;
+        round_is = l.round_is;
+        class_is = l.class_is;
+        meant = l.meant;
+        least = least_same u l.k v l.k (same l.k less) l.class (duties_in aim l.class) l.numbers l.sets l.least;
+      };
+  begun = h.begun;
+  ascending = h.ascending;
+  once = h.once;
+  certificates = λ j n class less is. certificate_as u v j (same j less) e n class.first class.entry (duties_in aim class) (h.certificates j n class less is);
+  numberings = h.numberings;
+  befores = h.befores;
 }
-
-same_self : (u : Rollout) (k : ℕ) → IsSameRound u k u k
-same_self u k = record { net = refl; tables = refl; round = refl }
-
--- ---- picks up to a round
-
-in_until : (k : ℕ) (e : OrderedEvidence) (p : OrderedPick) → IsIn p e.picks → p.round ≤ k → IsIn p (evidence_until k e).picks
-in_until k e p i le = in_filter (λ (q : OrderedPick). nat_le q.round k) p e.picks i (le-leb p.round k le)
-
-from_until : (k : ℕ) (e : OrderedEvidence) (p : OrderedPick) → IsIn p (evidence_until k e).picks → IsIn p e.picks × (p.round ≤ k)
-from_until k e p i = let (j, t) = in_from_filter (λ (q : OrderedPick). nat_le q.round k) p e.picks i in (j, leb-true p.round k t)
-
--- a pick means the same by the evidence up to a round
-meant_until : (k : ℕ) (e : OrderedEvidence) (p : OrderedPick) (numbers : List ℕ) (sets : List (List ℕ)) → IsMeant e p numbers sets → IsMeant (evidence_until k e) p numbers sets
-meant_until k e p numbers sets h = meant_more e (evidence_until k e) (record { numberings = prefix_refl e.numberings; befores = prefix_refl e.befores; uses = prefix_refl e.uses }) p numbers sets h
-
-until_meant : (k : ℕ) (e : OrderedEvidence) (p : OrderedPick) (numbers : List ℕ) (sets : List (List ℕ)) → IsMeant (evidence_until k e) p numbers sets → IsMeant e p numbers sets
-until_meant k e p numbers sets h = meant_more (evidence_until k e) e (record { numberings = prefix_refl e.numberings; befores = prefix_refl e.befores; uses = prefix_refl e.uses }) p numbers sets h
 
 -- ---- where a search begins
 
 pub stands_none : (aim : Aim) (old : List (List Rule)) → Stands aim old [] no_evidence
-stands_none aim old = record {
-  found = tt;
-  evidence = record {
-    picks = λ k n class less is. absurd (let f : k < 0 = less in omega arith);
-    picked = λ p i. absurd i;
-    ascending = tt;
-    sets = tt;
-    once = record {
-      numberings_once = tt;
-      befores_once = tt;
-      uses_once = tt;
-      uses_in_order = refl;
-      numberings_in_order = refl;
-      befores_in_order = refl;
-    };
-  };
-  certificates = λ k n class less is. absurd (let f : k < 0 = less in omega arith);
-  numberings = tt;
-  befores = tt;
-}
+stands_none aim old = record { found = tt; so_far = evidence_none aim (update_by aim old []) }
 
 -- ---- one change more
 
 -- the picks so far are of the rounds so far
 pub begun : (aim : Aim) (old : List (List Rule)) (changes : List Change) (e : OrderedEvidence) → Stands aim old changes e → AllByRecursion (λ p. p.round < suc (length changes)) e.picks
-begun aim old changes e stands = each_from_in _ e.picks (λ (p : OrderedPick) i.
-    let least = stands.evidence.picked p i in
-    let round = least.round_is in
-    let within = least.within in
-    let count = length_rounds changes in
-    omega arith)
+begun aim old changes e stands = begun_before aim (update_by aim old changes) (length changes) e stands.so_far
 
--- what is found later is of a greater class
-pub found_above : (h : Found) (found : List Found) → IsChain (λ (f g : Found). f.class < g.class) (h ∷ found) → (g : Found) → IsIn g found → h.class < g.class
-found_above h [] chain g i = absurd i
-found_above h (x ∷ found) chain g (inl e) = subst (λ (y : Found). h.class < y.class) (sym e) chain.0
-found_above h (x ∷ found) chain g (inr i) = let above = chain.0 in let rest = found_above x found chain.1 g i in omega arith
+-- the evidence so far is that for the rounds so far of a longer search
+pub evidence_there : (aim : Aim) (old : List (List Rule)) (changes : List Change) (c : Change) (e : OrderedEvidence) → Stands aim old changes e
+    → HasEvidenceTo aim (update_by aim old (changes ++ c ∷ [])) (length changes) e
+evidence_there aim old changes c e stands =
+    evidence_as aim (update_by aim old changes) (update_by aim old (changes ++ c ∷ [])) (length changes) (let count = length_more changes c in omega arith)
+    (λ j less. same_prefix aim old changes (c ∷ []) j less) e stands.so_far
 
-pub chain_rest : (h : Found) (found : List Found) → IsChain (λ (f g : Found). f.class < g.class) (h ∷ found) → IsChain (λ (f g : Found). f.class < g.class) found
-chain_rest h [] chain = tt
-chain_rest h (x ∷ found) chain = chain.1
-
--- two things found for one class are one
-found_once : (found : List Found) → IsChain (λ (f g : Found). f.class < g.class) found → (f g : Found) → IsIn f found → IsIn g found → f.class ≡ g.class → f ≡ g
-found_once [] chain f g i j e = absurd i
-found_once (h ∷ found) chain f g (inl a) (inl b) e = a ∙ sym b
-found_once (h ∷ found) chain f g (inl a) (inr j) e = absurd (let above = found_above h found chain g j in let same = ap (λ (x : Found). x.class) a in omega arith)
-found_once (h ∷ found) chain f g (inr i) (inl b) e = absurd (let above = found_above h found chain f i in let same = ap (λ (x : Found). x.class) b in omega arith)
-found_once (h ∷ found) chain f g (inr i) (inr j) e = found_once found (chain_rest h found chain) f g i j e
-
-module _ (aim : Aim) (old : List (List Rule)) (changes : List Change) (c : Change) (e more : OrderedEvidence) (found : List Found)
-    (stands : Stands aim old changes e) (first : IsFirstQualifying aim (tables_after changes old) (remaining (tables_after changes old) aim.new) c)
-    (stored_old : IsStored e) (safe : AreSafeBelow aim (update_by aim old (changes ++ c ∷ [])) e (length changes) (class_count aim.classes) found)
-    (added : AreWithPicks e (suc (length changes)) found more) (stored : IsStored more) where
-  abbrev now : Rollout
-  now = update_by aim old changes
-
-  abbrev next : Rollout
-  next = update_by aim old (changes ++ c ∷ [])
-
-  abbrev last : ℕ
-  last = length changes
-
-  grows : Grows e more
-  grows = grown e (suc last) found more added
-
-  -- an old pick is of a round before
-  old_round : (p : OrderedPick) → IsIn p e.picks → p.round ≤ last
-  old_round p i = let less = each_at _ e.picks p (begun aim old changes e stands) i in omega arith
-
-  -- a pick of the class that has begun by an earlier round is an old one
-  early_old : (k : ℕ) → k < last → (p : OrderedPick) → IsIn p more.picks → p.round ≤ suc k → IsIn p e.picks
-  early_old k less p i le = elim (pick_cases e (suc last) found more added p i) [
-    | inl j ↦ j
-    | inr (f, j, is) ↦ absurd (let round = is.round_is in omega arith)
-  ]
-
-  meaning_there : (p : OrderedPick) (numbers : List ℕ) (sets : List (List ℕ)) → IsIn p e.picks → IsMeant e p numbers sets → IsMeant more p numbers sets
-  meaning_there p numbers sets i h = meant_more e more grows p numbers sets h
-
-  -- certificates of earlier rounds
-  module _ (k : ℕ) (less : k < last) (n dst : ℕ) (entry : Place) (duties : PacketDuties) where
-    same_early : IsSameRound now k next k
-    same_early = same_prefix aim old changes (c ∷ []) k less
-
-    same_late : IsSameRound next k now k
-    same_late = same_back now k next k same_early
-
-    early : OrderedCertificate now e k n dst entry duties → OrderedCertificate next more k n dst entry duties
-    early h = certificate_by now next k same_early e more n dst entry duties (λ p i. old_pick e (suc last) found more added p i)
-        (λ p i of_class le. early_old k less p i le) meaning_there h
-
-    until_early : OrderedCertificate now (evidence_until k e) k n dst entry duties → OrderedCertificate next (evidence_until k more) k n dst entry duties
-    until_early h = certificate_by now next k same_early (evidence_until k e) (evidence_until k more) n dst entry duties
-        (λ p i. let (j, round) = from_until k e p i in in_until k more p (old_pick e (suc last) found more added p j) round)
-        (λ p i of_class le. let (j, round) = from_until k more p i in in_until k e p (early_old k less p j le) round)
-        (λ p numbers sets i m. meant_until k more p numbers sets (meaning_there p numbers sets (from_until k e p i).0 (until_meant k e p numbers sets m))) h
-
-    until_late : OrderedCertificate next (evidence_until k more) k n dst entry duties → OrderedCertificate now (evidence_until k e) k n dst entry duties
-    until_late h = certificate_by next now k same_late (evidence_until k more) (evidence_until k e) n dst entry duties
-        (λ p i. let (j, round) = from_until k more p i in in_until k e p (early_old k less p j (omega arith)) round)
-        (λ p i of_class le. let (j, round) = from_until k e p i in in_until k more p (old_pick e (suc last) found more added p j) round)
-        (λ p numbers sets i m. let (j, round) = from_until k more p i in
-        meant_until k e p numbers sets (meant_less e more grows stored_old p numbers sets (early_old k less p j (omega arith)) (until_meant k more p numbers sets m))) h
-
-  -- the certificate of the last round by the picks of the rounds before it
-  module _ (n dst : ℕ) (entry : Place) (duties : PacketDuties) where
-    old_of_until : (p : OrderedPick) → IsIn p (evidence_until last more).picks → IsIn p e.picks
-    old_of_until p i =
-        let (j, round) = from_until last more p i in
-        elim (pick_cases e (suc last) found more added p j) [
-          | inl old_one ↦ old_one
-          | inr (f, k, is) ↦ absurd (let new_round = is.round_is in omega arith)
-        ]
-
-    until_of_old : (p : OrderedPick) → IsIn p e.picks → IsIn p (evidence_until last more).picks
-    until_of_old p i = in_until last more p (old_pick e (suc last) found more added p i) (old_round p i)
-
-    last_to : OrderedCertificate next (evidence_until last more) last n dst entry duties → OrderedCertificate next e last n dst entry duties
-    last_to h = certificate_by next next last (same_self next last) (evidence_until last more) e n dst entry duties old_of_until (λ p i of_class le. until_of_old p i)
-        (λ p numbers sets i m. meant_less e more grows stored_old p numbers sets (old_of_until p i) (until_meant last more p numbers sets m)) h
-
-    last_back : OrderedCertificate next e last n dst entry duties → OrderedCertificate next (evidence_until last more) last n dst entry duties
-    last_back h = certificate_by next next last (same_self next last) e (evidence_until last more) n dst entry duties until_of_old (λ p i of_class le. old_of_until p i)
-        (λ p numbers sets i m. meant_until last more p numbers sets (meaning_there p numbers sets i m)) h
-
-  -- what was found is of a class, and keeps it safe
-  found_safe : (f : Found) → IsIn f found → (class : Class) × IsClass aim.classes f.class class × IsSafeEvidence next last class (duties_in aim class) f.evidence
-  found_safe f i =
-      let within = each_at (λ (g : Found). g.class < class_count aim.classes) found f safe.within i in
-      let (class, is) = class_exists aim.classes f.class within in
-      elim (safe.each f.class class within is) [
-        | inl (kept, none) ↦ absurd (each_at (λ (g : Found). ¬ (g.class ≡ f.class)) found f none i refl)
-        | inr (fails, has) ↦
-            let same : has.new ≡ f = found_once found safe.ascending has.new f has.stands i has.class_is in
-            (class, is, subst (λ (g : Found). IsSafeEvidence next last class (duties_in aim class) g.evidence) same has.safe)
-      ]
-
-  -- a round is one of those before, or the last one
-  early_or_last : (k : ℕ) → k < length next.rounds → (k < last) ⊎ (k ≡ last)
-  early_or_last k less = let count = length_more changes c in elim (cases_lt k last) [ inl l ↦ inl l | inr h ↦ inr (omega arith) ]
-
-  last_pick : (n : ℕ) (class : Class) → IsClass aim.classes n class
-      → HasPick more last n ↔ (¬ OrderedCertificate next (evidence_until last more) last n class.first class.entry (duties_in aim class))
-  last_pick n class is = (
-    λ has h. elim (pick_cases e (suc last) found more added has.pick has.stands) [
-      | inl i ↦ (let le = old_round has.pick i in let round = has.round_is in absurd (omega arith))
-      | inr (f, i, of) ↦ elim (safe.each n class (number_fits aim.classes n class is) is) [
-        | inl (kept, none) ↦ absurd (each_at (λ (g : Found). ¬ (g.class ≡ n)) found f none i (sym of.class_is ∙ has.class_is))
-        | inr (fails, new) ↦ fails (last_to n class.first class.entry (duties_in aim class) h)
-      ]
-    ],
-    λ fails. elim (safe.each n class (number_fits aim.classes n class is) is) [
-      | inl (kept, none) ↦ absurd (fails (last_back n class.first class.entry (duties_in aim class) kept))
-      | inr (not_kept, has) ↦
-          let (p, i, of) = pick_for e (suc last) found more added has.new has.stands in
-          record { pick = p; stands = i; round_is = of.round_is; class_is = of.class_is ∙ has.class_is }
-    ],
-  )
-
-  early_pick : (k : ℕ) → k < last → (n : ℕ) (class : Class) → IsClass aim.classes n class
-      → HasPick more k n ↔ (¬ OrderedCertificate next (evidence_until k more) k n class.first class.entry (duties_in aim class))
-  early_pick k less n class is =
-      let within : k < length now.rounds = (let count = length_rounds changes in omega arith) in
-      let before = stands.evidence.picks k n class within is in (
-        λ has h. before.0 (record { pick = has.pick; stands = early_old k less has.pick has.stands (let round = has.round_is in omega arith); round_is = has.round_is; class_is = has.class_is })
-            (until_late k less n class.first class.entry (duties_in aim class) h),
-        λ fails. (let has = before.1 (λ h. fails (until_early k less n class.first class.entry (duties_in aim class) h)) in
-            record { pick = has.pick; stands = old_pick e (suc last) found more added has.pick has.stands; round_is = has.round_is; class_is = has.class_is }),
-      )
-
-  picks_more : (k n : ℕ) (class : Class) → k < length next.rounds → IsClass aim.classes n class
-      → HasPick more k n ↔ (¬ OrderedCertificate next (evidence_until k more) k n class.first class.entry (duties_in aim class))
-  picks_more k n class less is = elim (early_or_last k less) [
-    | inl l ↦ early_pick k l n class is
-    | inr same ↦ subst (λ j. HasPick more j n ↔ (¬ OrderedCertificate next (evidence_until j more) j n class.first class.entry (duties_in aim class))) (sym same) (last_pick n class is)
-  ]
-
-  picked_more : (p : OrderedPick) → IsIn p more.picks → IsLeastPick aim next more p
-  picked_more p i = elim (pick_cases e (suc last) found more added p i) [
-    | inl j ↦
-        let h = stands.evidence.picked p j in
-        let less : h.k < last = (let within = h.within in let count = length_rounds changes in omega arith) in
-        record {
-          k = h.k;
-          class = h.class;
-          numbers = h.numbers;
-          sets = h.sets;
-          within = (let count = length_more changes c in omega arith);
-          round_is = h.round_is;
-          class_is = h.class_is;
-          meant = meaning_there p h.numbers h.sets j h.meant;
-          least = least_same now h.k next h.k (same_prefix aim old changes (c ∷ []) h.k less) h.class (duties_in aim h.class) h.numbers h.sets h.least;
-        }
-    | inr (f, j, of) ↦
-        let (class, is, good) = found_safe f j in
-        record {
-          k = last;
-          class = class;
-          numbers = f.evidence.numbering;
-          sets = f.evidence.befores;
-          within = (let count = length_more changes c in omega arith);
-          round_is = of.round_is;
-          class_is = subst (λ n. IsClass aim.classes n class) (sym of.class_is) is;
-          meant = of.meant;
-          least = good.least;
-        }
-  ]
-
-  last_certificate : (n : ℕ) (class : Class) → IsClass aim.classes n class → IsCertifiedClass aim next more last n class
-  last_certificate n class is = elim (safe.each n class (number_fits aim.classes n class is) is) [
-    | inl (kept, none) ↦ certificate_by next next last (same_self next last) e more n class.first class.entry (duties_in aim class) (λ p i. old_pick e (suc last) found more added p i)
-        (λ p i of_class le. elim (pick_cases e (suc last) found more added p i) [
-          | inl j ↦ j
-          | inr (f, j, of) ↦ absurd (each_at (λ (g : Found). ¬ (g.class ≡ n)) found f none j (sym of.class_is ∙ of_class))
-        ]) meaning_there kept
-    | inr (fails, has) ↦
-        let (p, i, of) = pick_for e (suc last) found more added has.new has.stands in
-        record {
-          pick = p;
-          numbers = has.new.evidence.numbering;
-          sets = has.new.evidence.befores;
-          in_force = record {
-            stands = i;
-            of_class = of.class_is ∙ has.class_is;
-            begun = (let round = of.round_is in omega arith);
-            latest = λ other j of_class le. (let round = of.round_is in omega arith);
-          };
-          meant = of.meant;
-          safe = has.safe.safe;
-        }
-  ]
-
-  certificates_more : (k n : ℕ) (class : Class) → k < length (changes ++ c ∷ []) → IsClass aim.classes n class → IsCertifiedClass aim next more k n class
-  certificates_more k n class less is = elim (early_or_last k (let count = length_rounds (changes ++ c ∷ []) in omega arith)) [
-    | inl l ↦ early k l n class.first class.entry (duties_in aim class) (stands.certificates k n class l is)
-    | inr same ↦ subst (λ j. IsCertifiedClass aim next more j n class) (sym same) (last_certificate n class is)
-  ]
-
-  numberings_more : AllByRecursion (IsValidNumbering aim.net) more.numberings
-  numberings_more = each_from_in (IsValidNumbering aim.net) more.numberings (λ n i. elim (numbering_cases e (suc last) found more added n i) [
-    | inl j ↦ each_at (IsValidNumbering aim.net) e.numberings n stands.numberings j
-    | inr (f, j, same) ↦ (let (class, is, good) = found_safe f j in subst (IsValidNumbering aim.net) (sym same) good.numbering)
-  ])
-
-  befores_more : AllByRecursion (IsValidBefore aim.net) more.befores
-  befores_more = each_from_in (IsValidBefore aim.net) more.befores (λ set i. elim (before_cases e (suc last) found more added set i) [
-    | inl j ↦ each_at (IsValidBefore aim.net) e.befores set stands.befores j
-    | inr (f, j, k) ↦ (let (class, is, good) = found_safe f j in each_at (IsValidBefore aim.net) f.evidence.befores set good.befores k)
-  ])
-
-  -- the search goes on
-  pub stands_more : Stands aim old (changes ++ c ∷ []) more
-  stands_more = record {
-    found = found_more aim old changes c stands.found first;
-    evidence = record {
-      picks = picks_more;
-      picked = picked_more;
-      ascending = stored.ascending;
-      sets = each_weaker (IsValidBefore aim.net) (λ set. IsChain (λ s t. s < t) set) (λ set valid. valid.1) more.befores befores_more;
-      once = stored.once;
-    };
-    certificates = certificates_more;
-    numberings = numberings_more;
-    befores = befores_more;
-  }
+-- the search goes on
+pub stands_more : (aim : Aim) (old : List (List Rule)) (changes : List Change) (c : Change) (e more : OrderedEvidence) (found : List Found)
+    → Stands aim old changes e → IsFirstQualifying aim (tables_after changes old) (remaining (tables_after changes old) aim.new) c
+    → IsStored e → AreSafeBelow aim (update_by aim old (changes ++ c ∷ [])) e (length changes) (class_count aim.classes) found
+    → AreWithPicks e (suc (length changes)) found more → IsStored more → Stands aim old (changes ++ c ∷ []) more
+stands_more aim old changes c e more found stands first stored_old safe added stored =
+    let count : suc (length changes) ≡ length (changes ++ c ∷ []) = (let sum = length-append changes (c ∷ []) in omega arith) in
+    let rounds = length_more changes c in
+    record {
+      found = found_more aim old changes c stands.found first;
+      so_far = subst (λ n. HasEvidenceTo aim (update_by aim old (changes ++ c ∷ [])) n more) count
+          (evidence_more aim (update_by aim old (changes ++ c ∷ [])) refl (length changes) (omega arith) e more found (evidence_there aim old changes c e stands) stored_old safe added stored);
+    }

@@ -30,7 +30,8 @@ use Rattle.certificates.proofs.TreePaths.{fine_from_good, fine_after_round}
 use Rattle.certificates.proofs.TreeSteps.{some_replace_is_safe}
 use Rattle.table_difference.specs.SameClasses.{HasSameClasses}
 use Rattle.round_tables.specs.Trials.{single}
-use Rattle.round_planner.specs.Search.{Aim, Qualifies, AreFirstQualifying, EndsStuck}
+use Rattle.round_judge.specs.Aims.{Aim}
+use Rattle.round_planner.specs.Search.{Qualifies, AreFirstQualifying, EndsStuck}
 use Rattle.round_planner.proofs.ClassKept.{class_kept, same_classes_back}
 use Rattle.update_model.proofs.RemainingLaws.{switch_at, in_from_changes, in_changes}
 use Rattle.round_planner.proofs.SearchLaws.{first_remains}

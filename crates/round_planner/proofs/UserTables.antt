@@ -27,7 +27,8 @@ use Rattle.update_model.proofs.DifferenceLaws.{IsDifference, difference_switch, 
 use Rattle.update_model.proofs.RemainingLaws.{AreUnique, unique_then, remaining_shortens}
 use Rattle.certificates.specs.Certified.{KeepsVlan}
 use Rattle.certificates.proofs.TreeTables.{unique_in_table}
-use Rattle.round_planner.specs.Search.{Aim, AreFirstQualifying}
+use Rattle.round_judge.specs.Aims.{Aim}
+use Rattle.round_planner.specs.Search.{AreFirstQualifying}
 use Rattle.round_planner.proofs.SearchLaws.{first_remains}
 
 -- ---- user rules are rules of plans

@@ -10,7 +10,8 @@ use Rattle.certificates.specs.declared.Plan.{Plan}
 use Rattle.table_difference.specs.SameClasses.{classes_before}
 use Rattle.round_planner.specs.declared.Ordered.{Ordered}
 use Rattle.round_planner.specs.declared.Ordered.TheVariants.{Rounds, Stuck}
-use Rattle.round_planner.specs.Search.{Aim, IsSearchPlan, EndsStuck, single_rounds}
+use Rattle.round_judge.specs.Aims.{Aim}
+use Rattle.round_planner.specs.Search.{IsSearchPlan, EndsStuck, single_rounds}
 
 -- what the search of an update is for
 abbrev pub aim_of : Network → List (List Rule) → List (List Rule) → List DemandView → Aim

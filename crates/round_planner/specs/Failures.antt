@@ -19,9 +19,10 @@ use Rattle.class_watch.specs.Walks.{HoldsWalks, meets}
 use Rattle.round_tables.specs.Trials.{single}
 use Rattle.round_planner.specs.declared.failing.Failure.{Failure}
 use Rattle.round_planner.specs.declared.failing.Failure.TheVariants as failure
-use Rattle.round_planner.specs.declared.failing.UnsafeClass.{UnsafeClass}
+use Rattle.round_judge.specs.Aims.{Aim}
+use Rattle.round_judge.specs.declared.unsafe_class.UnsafeClass.{UnsafeClass}
 use Rattle.round_planner.specs.declared.left.Left.{Left}
-use Rattle.round_planner.specs.Search.{Aim, CanBeSafe}
+use Rattle.round_planner.specs.Search.{CanBeSafe}
 
 -- ---- what a failure is
 
@@ -32,8 +33,7 @@ pub record HasRoomThere (net : Network) (tables : List (List Rule)) (c : Change)
 
 -- while the change is made no evidence keeps the class safe, and each switch that its mixed walks come to is known
 pub record IsUnsafeClass (aim : Aim) (tables : List (List Rule)) (c : Change) (f : UnsafeClass) : Type 0 where
-  pub number : ℕ
-  pub is_class : IsClass aim.classes number f.class
+  pub is_class : IsClass aim.classes f.number f.class
   pub never : ¬ CanBeSafe aim tables c f.class
   pub visits : HoldsWalks (single aim.net tables c) 0 f.class f.visited
 

@@ -3,5 +3,4 @@ pub mod Ends
 pub mod Updates
 pub mod Standing
 pub mod Failures
-pub mod Visits
 pub mod Searching

@@ -1,13 +1,9 @@
 -- What a search is for, and where it is.
 use Rattle.std.specs.Prelude.{◌≡◌, ℕ, ◌<◌, ◌≤◌, Bool, true, false, List, [], ◌∷◌, ◌++◌, length, Option, Some, None}
 use Rattle.std.specs.List.{AllByRecursion}
-use Rattle.topology.specs.Networks.{Network}
-use Rattle.flow_rules.specs.Tables.{TableState, rules_of_all}
+use Rattle.flow_rules.specs.Tables.{rules_of_all}
 use Rattle.flow_rules.specs.declared.rules.Rule.{Rule}
-use Rattle.path_walk.specs.UserConfigs.{IsUserConfig}
-use Rattle.dest_classes.specs.Classes.{ClassList, class_count, atom_count}
-use Rattle.dest_classes.specs.declared.Class.{Class}
-use Rattle.demands.specs.Duties.{ClassDuties}
+use Rattle.dest_classes.specs.Classes.{class_count}
 use Rattle.update_model.specs.Changes.{tables_after}
 use Rattle.update_model.specs.Remaining.{remaining}
 use Rattle.update_model.specs.declared.Change.{Change}
@@ -15,7 +11,6 @@ use Rattle.certificates.specs.declared.Evidence.TheVariants as evidence
 use Rattle.certificates.specs.declared.OrderedEvidence.{OrderedEvidence}
 use Rattle.evidence_store.specs.State.{StoreState}
 use Rattle.evidence_store.specs.Stored.{IsStored}
-use Rattle.class_watch.specs.Classes.{AreClasses}
 use Rattle.round_tables.specs.PreparedTables.{PreparedState}
 use Rattle.round_tables.specs.Trials.{IsSettled, IsTrying}
 use Rattle.round_planner.specs.declared.Ordered.{Ordered}
@@ -23,17 +18,10 @@ use Rattle.round_planner.specs.declared.Ordered.TheVariants.{Rounds, Stuck}
 use Rattle.round_planner.specs.declared.failing.Failure.{Failure}
 use Rattle.round_planner.specs.declared.left.Left.{Left}
 use Rattle.round_planner.specs.Failures.{IsFailure, AreLeft}
-use Rattle.round_planner.specs.Search.{Aim, single_rounds, Qualifies, IsFirstQualifying, EndsOrdered, EndsStuck}
+use Rattle.round_judge.specs.Aims.{Aim, HasAtoms}
+use Rattle.round_judge.specs.Visits.{HoldTables}
+use Rattle.round_planner.specs.Search.{single_rounds, Qualifies, IsFirstQualifying, EndsOrdered, EndsStuck}
 use Rattle.round_planner.specs.Standing.{Stands}
-use Rattle.round_planner.specs.Visits.{HoldTables}
-
--- the new tables are a user configuration, the classes are of the network, and the duties and the list are theirs
-pub record IsGoal (net : Network) (new : List TableState) (duties : ClassDuties) (classes : ClassList) (list : List Class) : Type 0 where
-  pub user : IsUserConfig net (rules_of_all new)
-  pub duties_of_them : duties.classes ≡ classes
-  pub hosts : classes.hosts ≡ net.hosts
-  pub vlans : classes.vlans ≡ net.vlans
-  pub listed : AreClasses classes list
 
 -- the tables with what is prepared of them, the rounds, their evidence, for each class the switches that its packets come to,
 -- and for each atom whether its classes are looked at
@@ -43,10 +31,6 @@ pub record SearchState : Type 0 where
   pub store : StoreState
   pub came : List ℕ
   pub looked : List Bool
-
--- where there are classes, there is a mark for each atom
-abbrev pub HasAtoms : ClassList → List Bool → Type 0
-HasAtoms classes looked = 0 < class_count classes → length looked ≡ atom_count classes
 
 -- the search has made these changes, each as a round of its own, and no change is tried
 pub record IsAt (aim : Aim) (old : List (List Rule)) (changes : List Change) (s : SearchState) : Type 0 where

@@ -6,7 +6,7 @@ use Rattle.certificates.specs.Certified.{IsCertified, is_two_phase}
 use Rattle.certificates.specs.Consistent.{IsConsistent}
 use Rattle.certificates.specs.declared.Plan.{Plan}
 use Rattle.table_difference.specs.SameClasses.{classes_before}
-use Rattle.round_planner.specs.Search.{Aim}
+use Rattle.round_judge.specs.Aims.{Aim}
 use Rattle.round_planner.specs.Ends.{aim_of}
 
 -- the classes of an update: those of the prefixes of both configurations and of the demands

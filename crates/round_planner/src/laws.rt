@@ -8,7 +8,8 @@ ghost use Rattle.update_model.specs.Changes.{switch_of, rule_of, tables_after};
 ghost use Rattle.update_model.specs.declared.Change.{Change};
 ghost use Rattle.certificates.specs.Certified.{KeepsVlan};
 ghost use Rattle.mixed_walks.specs.Walks.{TablesKeepVlans};
-ghost use Rattle.round_planner.specs.Search.{Aim, CanBeSafe, Qualifies, EndsOrdered, EndsStuck};
+ghost use Rattle.round_judge.specs.Aims.{Aim};
+ghost use Rattle.round_planner.specs.Search.{CanBeSafe, Qualifies, EndsOrdered, EndsStuck};
 ghost use Rattle.round_planner.specs.Failures.{HasRoomThere, IsApart};
 
 /// A search ends ordered or stuck and not both, and its changes are the only ones, because the first change of a list that

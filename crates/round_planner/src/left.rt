@@ -4,7 +4,7 @@ ghost use Rattle.std.specs.Prelude.{None};
 ghost use Rattle.std.specs.List.{AllByRecursion};
 ghost use Rattle.flow_rules.specs.declared.rules.Rule.{Rule};
 ghost use Rattle.update_model.specs.Changes.{switch_of, tables_after_change};
-ghost use Rattle.round_planner.specs.Search.{Aim};
+ghost use Rattle.round_judge.specs.Aims.{Aim};
 ghost use Rattle.round_planner.specs.Failures.{IsTouched, HasStanding, IsOfUsers, AreOfUsers};
 ghost use Rattle.round_planner.specs.declared.left.Left.{Left as LeftOf};
 

@@ -2,11 +2,8 @@
 #![tactic(auto)]
 
 mod failing;
-mod goal;
-mod judging;
 pub mod laws;
 mod left;
-mod picking;
 mod prefixes;
 mod searching;
 
@@ -23,7 +20,6 @@ ghost use Rattle.table_difference.specs.SameClasses.{HasSameClasses, classes_bef
 ghost use Rattle.table_difference.specs.Tried.{AreTried};
 ghost use Rattle.round_planner.specs.Ends.{aim_of, IsSearched, OfPlan, OfStuck, IsNotStuck};
 
-use crate::goal::Goal;
 use crate::searching::answer_to;
 use certificates::Plan;
 use class_watch::all_classes;
@@ -32,6 +28,7 @@ use dest_classes::ClassMap;
 use flow_rules::Config;
 use net_base::Memory;
 pub use prefixes::update_prefixes;
+use round_judge::Goal;
 use std::alloc::Global;
 use table_difference::classes::rounds_make_no_classes;
 use topology::Net;

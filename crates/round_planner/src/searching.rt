@@ -12,27 +12,26 @@ ghost use Rattle.update_model.specs.Remaining.{remaining};
 ghost use Rattle.update_model.specs.declared.Change.{Change as ChangeOf};
 ghost use Rattle.round_tables.specs.Trials.{IsSettled, IsTrying};
 ghost use Rattle.evidence_store.specs.Stored.{IsStored, no_evidence};
-ghost use Rattle.round_planner.specs.declared.judging.Found.{Found as FoundOf};
+ghost use Rattle.round_judge.specs.declared.judging.Found.{Found as FoundOf};
 ghost use Rattle.round_planner.specs.Search.{IsFirstQualifying, update_by};
-ghost use Rattle.round_planner.specs.Standing.{Stands, AreSafeBelow};
+ghost use Rattle.round_judge.specs.Judged.{AreSafeBelow};
+ghost use Rattle.round_planner.specs.Standing.{Stands};
 ghost use Rattle.round_planner.specs.declared.left.Left.{Left as LeftOf};
 ghost use Rattle.net_base.specs.Switches.{has};
 ghost use Rattle.round_planner.specs.Failures.{HasStanding, AreLeft};
-ghost use Rattle.round_planner.specs.Searching.{HasAtoms, IsAt, IsTried, IsLeftTried, IsPlaced, IsMoved, IsTryingAt, IsEnded, IsAnswered, answer_of};
-ghost use Rattle.round_planner.specs.Visits.{marks_at};
+ghost use Rattle.round_judge.specs.Aims.{HasAtoms};
+ghost use Rattle.round_planner.specs.Searching.{IsAt, IsTried, IsLeftTried, IsPlaced, IsMoved, IsTryingAt, IsEnded, IsAnswered, answer_of};
+ghost use Rattle.round_judge.specs.Visits.{marks_at};
 
 use crate::Ordered;
 use crate::failing::Failure;
-use crate::goal::Goal;
-use crate::judging::{Found, Tried, Verdict, judge_all};
 use crate::left::{Left, take_out, untried};
-use crate::picking::put_picks;
 use certificates::{Evidence, OrderedEvidence, Plan};
 use class_watch::{ClassWatch, LookedAtoms};
-use dest_classes::ClassMap;
 use evidence_store::EvidenceStore;
 use flow_rules::Config;
-use net_base::{Memory, SwitchSet};
+use net_base::Memory;
+use round_judge::{Found, Goal, Tried, Verdict, judge_all, put_picks, watch_rooms};
 use round_tables::PreparedTables;
 use std::alloc::Global;
 use std::marker::Model;
@@ -57,18 +56,6 @@ impl Model for Search {
     ghost Value = { SearchState };
 
     ghost view = { λ s. record { trial = s.trial; rounds = s.rounds; store = s.store; came = s.watch.came.items; looked = s.looked } };
-}
-
-/// Room to watch classes, with all switches for each, and marks for their atoms.
-fn rooms(alloc: Global, classes: &ClassMap) -> Result<(LookedAtoms, ClassWatch), Memory>
-    ensures atoms { IfOk result (λ r. HasAtoms classes.now r.0) }
-    ensures count { IfOk result (λ r. length r.1.came.items ≡ class_count classes.now) }
-    ensures each { IfOk result (λ r. (n : ℕ) (s : Switch) → n < class_count classes.now → s.0 < 128
-        → IsTrue (has (marks_at r.1.came.items n) s)) }
-{
-    let looked = LookedAtoms::make(alloc, classes)?;
-    let watch = ClassWatch::make(alloc, classes.count(), SwitchSet::all())?;
-    Ok((looked, watch))
 }
 
 /// The tables of a configuration with what is prepared of them, no rounds, and a store of no picks, of so many classes.
@@ -144,7 +131,7 @@ impl Search {
     {
         goal.net.keeps_rules();
         let count = goal.classes.count();
-        let (looked, watch) = rooms(alloc, goal.classes)?;
+        let (looked, watch) = watch_rooms(alloc, goal.classes)?;
         let (trial, rounds, store) = begun(alloc, goal.net, old, count)?;
         Ok(Search {
             trial,
@@ -200,12 +187,14 @@ impl Search {
         if !self.trial.begin(goal.net, change) {
             return Ok(Some(Failure::Table));
         }
+        self.looked.look_at_touched(&goal.list, change);
+        let changes = [*change];
         let tried = Tried {
-            change,
+            changes: &changes,
             mixes: self.trial.mixes(),
             store: &self.store,
         };
-        match judge_all(alloc, goal, &mut self.watch, &tried, &mut self.looked)? {
+        match judge_all(alloc, goal, &mut self.watch, &tried, &self.looked)? {
             Verdict::Safe(found) => {
                 self.take(alloc, goal, change, found)?;
                 Ok(None)

@@ -8,7 +8,7 @@ use Rattle.certificates.specs.Laws.{task_of}
 use Rattle.certificates.specs.Valid.{IsValidPlan}
 use Rattle.table_difference.specs.SameClasses.{HasSameClasses}
 use Rattle.round_planner.specs.declared.Ordered.{Ordered}
-use Rattle.round_planner.specs.Search.{Aim}
+use Rattle.round_judge.specs.Aims.{Aim}
 use Rattle.round_planner.specs.Searching.{IsAnswered}
 use Rattle.table_difference.specs.Tried.{AreTried}
 use Rattle.round_planner.specs.Ends.{aim_of, IsSearched, OfPlan, OfStuck, IsNotStuck}

@@ -3,7 +3,7 @@ use Rattle.std.specs.List.{AllByRecursion}
 use Rattle.flow_rules.specs.declared.rules.Rule.{Rule}
 use Rattle.update_model.specs.Changes.{switch_of, tables_after_change}
 use Rattle.round_planner.specs.declared.left.Left.{Left}
-use Rattle.round_planner.specs.Search.{Aim}
+use Rattle.round_judge.specs.Aims.{Aim}
 use Rattle.round_planner.specs.Failures.{HasStanding, AreOfUsers}
 use Rattle.round_planner.proofs.left.forget_touched.Given as goal
 

@@ -4,7 +4,7 @@ use Rattle.std.specs.Vec.{with_items}
 use Rattle.std.specs.List.{AllByRecursion}
 use Rattle.path_walk.specs.UserConfigs.{IsUserConfig}
 use Rattle.update_model.specs.Changes.{tables_after}
-use Rattle.round_planner.specs.Search.{Aim}
+use Rattle.round_judge.specs.Aims.{Aim}
 use Rattle.round_planner.specs.Failures.{HasStanding, AreOfUsers, AreLeft}
 use Rattle.round_planner.specs.Searching.{IsMadeAt, IsPlaced}
 use Rattle.round_planner.specs.declared.left.Left.{Left}

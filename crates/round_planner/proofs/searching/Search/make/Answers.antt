@@ -4,9 +4,9 @@ use Rattle.flow_rules.specs.Tables.{rules_of_all}
 use Rattle.dest_classes.specs.Classes.{ClassList, class_count}
 use Rattle.evidence_store.specs.State.{StoreState}
 use Rattle.round_tables.specs.Trials.{IsSettled}
-use Rattle.round_planner.specs.Search.{Aim}
-use Rattle.round_planner.specs.Searching.{HasAtoms}
-use Rattle.round_planner.proofs.SearchingLaws.{begins_at, all_come}
+use Rattle.round_judge.specs.Aims.{Aim, HasAtoms}
+use Rattle.round_judge.proofs.VisitLaws.{all_come}
+use Rattle.round_planner.proofs.SearchingLaws.{begins_at}
 use Rattle.round_planner.proofs.searching.Search.make.Goals as goal
 
 pub returns-clause-at : goal.returns-clause-at

@@ -6,7 +6,7 @@ use Rattle.path_walk.specs.UserConfigs.{IsUserConfig}
 use Rattle.update_model.specs.Changes.{tables_after}
 use Rattle.update_model.specs.Remaining.{remaining}
 use Rattle.update_model.specs.declared.Change.{Change}
-use Rattle.round_planner.specs.Search.{Aim}
+use Rattle.round_judge.specs.Aims.{Aim}
 use Rattle.round_planner.specs.Failures.{AreLeft}
 use Rattle.round_planner.specs.Searching.{IsAt, IsEnded}
 use Rattle.round_planner.proofs.RunLaws.{left_untried}

@@ -1,7 +1,7 @@
 use Rattle.std.proofs.Common.{subst, ap}
 use Rattle.topology.specs.Networks.{Network, IsNetwork}
 use Rattle.path_walk.specs.UserConfigs.{IsUserConfig}
-use Rattle.round_planner.specs.Search.{Aim}
+use Rattle.round_judge.specs.Aims.{Aim}
 use Rattle.round_planner.specs.Searching.{IsMoved}
 use Rattle.round_planner.proofs.RunLaws.{one_less}
 use Rattle.round_planner.proofs.searching.Search.run_through.Goals as goal

@@ -4,9 +4,10 @@ use Rattle.topology.specs.Networks.{Network}
 use Rattle.path_walk.specs.UserConfigs.{IsUserConfig}
 use Rattle.dest_classes.specs.Classes.{class_count}
 use Rattle.round_tables.specs.Trials.{IsSettled}
-use Rattle.round_planner.specs.declared.judging.Found.{Found as FoundOf}
-use Rattle.round_planner.specs.Search.{Aim, update_by}
-use Rattle.round_planner.specs.Standing.{AreSafeBelow}
+use Rattle.round_judge.specs.declared.judging.Found.{Found as FoundOf}
+use Rattle.round_judge.specs.Aims.{Aim}
+use Rattle.round_planner.specs.Search.{update_by}
+use Rattle.round_judge.specs.Judged.{AreSafeBelow}
 use Rattle.round_planner.specs.Searching.{SearchState, IsTryingAt}
 use Rattle.round_planner.proofs.SearchingLaws.{round_number, made_few, made_at, picks_before}
 use Rattle.round_planner.proofs.searching.Search.take.Goals as goal

@@ -4,12 +4,15 @@ use Rattle.flow_rules.specs.declared.rules.Rule.{Rule}
 use Rattle.path_walk.specs.UserConfigs.{IsUserConfig}
 use Rattle.flow_rules.specs.Tables.{rules_of_all}
 use Rattle.update_model.specs.Changes.{Applies, tables_after}
+use Rattle.dest_classes.specs.Classes.{ClassList}
+use Rattle.class_watch.specs.Classes.{AreClasses}
 use Rattle.round_mix.specs.Prepared.{MixedState}
 use Rattle.mixed_walks.specs.Walks.{IsRoundOf}
 use Rattle.round_tables.specs.Trials.{IsSettled, IsTrying, HasRoomAlone}
-use Rattle.round_planner.specs.Search.{Aim, update_by}
-use Rattle.round_planner.specs.Standing.{AreJudged}
-use Rattle.round_planner.specs.Visits.{HoldAfter}
+use Rattle.round_judge.specs.Aims.{Aim}
+use Rattle.round_planner.specs.Search.{update_by}
+use Rattle.round_judge.specs.Judged.{AreJudged}
+use Rattle.round_judge.specs.Visits.{HoldAfter}
 use Rattle.round_planner.specs.Searching.{IsAt}
 use Rattle.round_planner.proofs.FailureLaws.{no_room}
 use Rattle.round_planner.proofs.SearchingLaws.{applies_here, tried_round, tried_at, tried_next, tried_came, failed_came, tried_qualifies, tried_fails, given_up}
@@ -34,7 +37,7 @@ judge_all-requires-clause-ready c =
     let next = update_by aim old (changes ++ c.args.change.now ∷ []) in
     record {
       round = (next, length changes, subst (λ (ms : List MixedState). IsRoundOf aim.net ms next (length changes)) (sym c.mixes.ensures) round);
-      numberings = here.stands.numberings;
+      numberings = here.stands.so_far.numberings;
       classes = here.classes;
     }
 
@@ -51,13 +54,13 @@ take-requires c =
     let net = subst (λ (n : Network). IsNetwork n) (ap (λ (a : Aim). a.net) c.goal.view_is) c.keeps_rules.ensures in
     let following = tried_next aim old user new_user changes c.args.change.now _ c.begin.new.self here i c.begin.ensures.rules trying net in
     let came = tried_came aim old user new_user changes c.args.change.now _ c.begin.new.self here i c.begin.ensures.rules trying in
-    let (judged, marked) = c.in_ok-found.ensures.judged next (length changes) prepared following came in
+    let (judged, marked) = c.in_ok-found.ensures next (length changes) prepared following came in
     let safe = subst (AreJudged aim next c.self.inside.store.evidence (length changes)) c.in-Safe.is judged in
     let held = subst (λ v. HoldAfter aim next (length changes) v c.judge_all.new.watch.came.items) c.in-Safe.is marked in (
       old,
       changes,
       user,
-      tried_at aim old user new_user changes c.args.change.now _ c.begin.new.self here i c.begin.ensures.rules trying c.judge_all.new.watch.came.items c.judge_all.new.looked held c.in_ok-found.ensures.atoms,
+      tried_at aim old user new_user changes c.args.change.now _ c.begin.new.self here i c.begin.ensures.rules trying c.judge_all.new.watch.came.items c.look_at_touched.new.self held c.look_at_touched.ensures.count,
       safe,
     )
 
@@ -73,12 +76,12 @@ returns-in_ok-take-in-Safe c old changes user at i =
     let net = subst (λ (n : Network). IsNetwork n) (ap (λ (a : Aim). a.net) c.goal.view_is) c.keeps_rules.ensures in
     let following = tried_next aim old user new_user changes c.args.change.now _ c.begin.new.self here i c.begin.ensures.rules trying net in
     let came = tried_came aim old user new_user changes c.args.change.now _ c.begin.new.self here i c.begin.ensures.rules trying in
-    let (judged, marked) = c.in_ok-found.ensures.judged next (length changes) prepared following came in
+    let (judged, marked) = c.in_ok-found.ensures next (length changes) prepared following came in
     let safe = subst (AreJudged aim next c.self.inside.store.evidence (length changes)) c.in-Safe.is judged in
     let held = subst (λ v. HoldAfter aim next (length changes) v c.judge_all.new.watch.came.items) c.in-Safe.is marked in (
       tried_qualifies aim old user new_user changes c.args.change.now _ c.begin.new.self here i c.begin.ensures.rules trying c.in-Safe.found.items safe,
       λ first.
-          c.in_ok-take-in-Safe.ensures old changes user (tried_at aim old user new_user changes c.args.change.now _ c.begin.new.self here i c.begin.ensures.rules trying c.judge_all.new.watch.came.items c.judge_all.new.looked held c.in_ok-found.ensures.atoms) safe first,
+          c.in_ok-take-in-Safe.ensures old changes user (tried_at aim old user new_user changes c.args.change.now _ c.begin.new.self here i c.begin.ensures.rules trying c.judge_all.new.watch.came.items c.look_at_touched.new.self held c.look_at_touched.ensures.count) safe first,
     )
 
 pub returns-in-Unsafe : goal.returns-in-Unsafe
@@ -93,14 +96,14 @@ returns-in-Unsafe c old changes user at i =
     let net = subst (λ (n : Network). IsNetwork n) (ap (λ (a : Aim). a.net) c.goal.view_is) c.keeps_rules.ensures in
     let following = tried_next aim old user new_user changes c.args.change.now _ c.begin.new.self here i c.begin.ensures.rules trying net in
     let came = tried_came aim old user new_user changes c.args.change.now _ c.begin.new.self here i c.begin.ensures.rules trying in
-    let (judged, marked) = c.in_ok-found.ensures.judged next (length changes) prepared following came in
+    let (judged, marked) = c.in_ok-found.ensures next (length changes) prepared following came in
     let unsafe = subst (AreJudged aim next c.self.inside.store.evidence (length changes)) c.in-Unsafe.is judged in
     let held = subst (λ v. HoldAfter aim next (length changes) v c.judge_all.new.watch.came.items) c.in-Unsafe.is marked in (
       tried_fails aim old user new_user changes c.args.change.now _ c.begin.new.self here i c.begin.ensures.rules trying c.in-Unsafe.failing unsafe,
-      given_up aim old changes _ c.give_up.new.self c.judge_all.new.watch.came.items c.judge_all.new.looked here (c.give_up.ensures.rules ∙ c.begin.ensures.rules)
+      given_up aim old changes _ c.give_up.new.self c.judge_all.new.watch.came.items c.look_at_touched.new.self here (c.give_up.ensures.rules ∙ c.begin.ensures.rules)
           (subst (λ (n : Network). IsSettled n c.give_up.new.self) (ap (λ (a : Aim). a.net) c.goal.view_is) c.give_up.ensures.settled)
           (failed_came aim old user new_user changes c.args.change.now _ c.begin.new.self here i c.begin.ensures.rules trying c.judge_all.new.watch.came.items held)
-          c.in_ok-found.ensures.atoms,
+          c.look_at_touched.ensures.count,
     )
 
 pub returns-then-not-begin : goal.returns-then-not-begin
@@ -123,4 +126,11 @@ judge_all-requires-clause-came c =
 pub judge_all-requires-clause-atoms : goal.judge_all-requires-clause-atoms
 judge_all-requires-clause-atoms c =
     let (old, changes, user, at, i) = c.requires in
-    (subst (IsAt c.args.goal.now old changes) (sym c.self.view_is) at).looked
+    λ some. c.look_at_touched.ensures.count ∙ (subst (IsAt c.args.goal.now old changes) (sym c.self.view_is) at).looked some
+
+pub judge_all-requires-clause-touched : goal.judge_all-requires-clause-touched
+judge_all-requires-clause-touched c =
+    let (old, changes, user, at, i) = c.requires in
+    let classes_are = ap (λ (a : Aim). a.classes) c.goal.view_is in
+    let listed = subst (λ (cs : ClassList). AreClasses cs c.deref.result.now) classes_are (subst (AreClasses c.goal.inside.classes.now) (sym c.deref.ensures.value) c.goal.invariant.listed) in
+    c.look_at_touched.ensures.touched c.args.goal.now.classes listed (λ some. (subst (IsAt c.args.goal.now old changes) (sym c.self.view_is) at).looked some)

@@ -1,0 +1,37 @@
+use Rattle.std.proofs.Common.{ℕ, Option}
+use Rattle.std.specs.List.{AllByRecursion}
+use Rattle.std.proofs.lemmas.List.Elements.{All-from_recursion, recursion_from_All}
+use Rattle.std.proofs.lemmas.List.Sorted.{All-permutation}
+use Rattle.std.proofs.lemmas.Result.{IfOk-weaker}
+use Rattle.update_model.specs.Mixtures.{Rollout}
+use Rattle.mixed_walks.specs.Walks.{IsRoundOf}
+use Rattle.round_judge.specs.declared.unsafe_class.UnsafeClass.{UnsafeClass}
+use Rattle.round_judge.specs.declared.judging.Verdict.{Verdict}
+use Rattle.round_judge.specs.Judged.{IsNextRound, IsNewlySafe, AreJudged, verdict_of}
+use Rattle.round_judge.specs.Visits.{HoldRound, HoldAfter}
+use Rattle.round_judge.proofs.JudgingLaws.{verdict_there}
+use Rattle.round_judge.proofs.judging.judge_rest.Goals as goal
+
+pub judge_each-failing-requires-clause-last : goal.judge_each-failing-requires-clause-last
+judge_each-failing-requires-clause-last c = c.none-last.ensures c.args.goal.now.net (record { demands = c.args.goal.now.demands; classes = c.args.goal.now.classes })
+
+pub returns : goal.returns
+returns c =
+    let aim = c.args.goal.now in
+    let tried = c.args.tried.now in
+    let e = tried.store.now.evidence in
+    let found = c.judge_each-failing.new.found in
+    let came = c.judge_each-failing.new.watch.came.items in
+    let before = c.reverse.new.self.items in
+    verdict_there
+    (λ (v : Verdict). (u : Rollout) (k : ℕ) → IsRoundOf aim.net tried.mixes.now u k → IsNextRound aim u e k tried.changes.now → AllByRecursion (IsNewlySafe aim u e k) c.args.met.items
+    → HoldRound aim u k c.args.watch.now.came.items → AreJudged aim u e k v × HoldAfter aim u k v came)
+    found c.judge_each-failing.result c.verdict_of.result c.verdict_of.ensures
+    (IfOk-weaker c.judge_each-failing.result
+    (λ (f : Option UnsafeClass). (u : Rollout) (k : ℕ) → IsRoundOf aim.net tried.mixes.now u k → IsNextRound aim u e k tried.changes.now → AllByRecursion (IsNewlySafe aim u e k) before
+    → HoldRound aim u k c.args.watch.now.came.items → AreJudged aim u e k (verdict_of found f) × HoldAfter aim u k (verdict_of found f) came)
+    (λ (f : Option UnsafeClass). (u : Rollout) (k : ℕ) → IsRoundOf aim.net tried.mixes.now u k → IsNextRound aim u e k tried.changes.now → AllByRecursion (IsNewlySafe aim u e k) c.args.met.items
+    → HoldRound aim u k c.args.watch.now.came.items → AreJudged aim u e k (verdict_of found f) × HoldAfter aim u k (verdict_of found f) came)
+    (λ f all u k round next met held.
+    let new = IsNewlySafe aim u e k in
+    all u k round next (recursion_from_All new before (All-permutation new c.args.met.items before c.reverse.ensures.permutation (All-from_recursion new c.args.met.items met))) held) c.judge_each-failing.ensures)

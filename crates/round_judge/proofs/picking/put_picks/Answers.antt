@@ -1,0 +1,24 @@
+use Rattle.std.proofs.Common.{◌<◌, ap, ◌∙◌, sym, subst}
+use Rattle.std.specs.List.{AllByRecursion}
+use Rattle.evidence_store.specs.State.{StoreState}
+use Rattle.evidence_store.specs.Stored.{IsStored}
+use Rattle.round_judge.specs.declared.judging.Found.{Found}
+use Rattle.round_judge.proofs.picking.put_picks.Goals as goal
+
+pub add_picks-requires-clause-behind : goal.add_picks-requires-clause-behind
+add_picks-requires-clause-behind c =
+    subst (λ (s : StoreState). AllByRecursion (λ p. p.round < c.args.round) s.evidence.picks) (sym c.in_ok-before.ensures) c.requires.behind
+
+pub add_picks-requires-clause-classes : goal.add_picks-requires-clause-classes
+add_picks-requires-clause-classes c =
+    subst (λ (s : StoreState). AllByRecursion (λ (f : Found). f.class < s.classes) c.args.found.items) (sym c.in_ok-before.ensures) c.requires.classes
+
+pub returns-clause-picks : goal.returns-clause-picks
+returns-clause-picks c = rw (c.put_back.ensures.value, ← c.in_ok-before.ensures) c.in_ok-add_picks.ensures.picks
+
+pub returns-clause-classes : goal.returns-clause-classes
+returns-clause-classes c =
+    ap (λ (s : StoreState). s.classes) c.put_back.ensures.value ∙ c.in_ok-add_picks.ensures.classes ∙ ap (λ (s : StoreState). s.classes) c.in_ok-before.ensures
+
+pub returns-clause-stored : goal.returns-clause-stored
+returns-clause-stored c = subst (λ (s : StoreState). IsStored s.evidence) (sym c.put_back.ensures.value) c.put_back.ensures.stored

@@ -1,0 +1,4 @@
+pub mod Aims
+pub mod Evidence
+pub mod Visits
+pub mod Judged
