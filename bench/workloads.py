@@ -139,11 +139,11 @@ def touched_rules(rounds):
 # ---- rules that no packet meets
 
 def unmet(switches, rules, rounds):
-    """The check of a plan with these rounds, in a network where the first rule drops each packet. There are six classes at most."""
+    """The check of a plan with these rounds, in a network where the first rule drops each packet. There are eight classes at most."""
     topology = {"switches": [{"name": f"r{i}", "capacity": 8192} for i in range(switches)], "links": [], "hosts": ["r0:1", "r0:2"],
                 "vlans": ["untagged"], "tags": []}
     config = {"rules": [{"switch": "r0", "priority": 16383, "dst": "0.0.0.0/0", "out": "drop"}]}
-    plan = plan_text(rules, rounds, 6, [0] * switches)
+    plan = plan_text(rules, rounds, 8, [0] * switches)
     return Workload(CHECK, topology=topology, old=config, new=config, policy={"demands": []}, plan=plan)
 
 
@@ -216,9 +216,9 @@ def chains(words, classes):
         found.add(tuple(sorted(dice.sample(range(128), 16))))
     topology = {"switches": [{"name": f"r{i}", "capacity": 8192} for i in range(128)], "links": [[f"r{i}:2", f"r{i + 1}:3"] for i in range(127)],
                 "hosts": [*(f"r0:{port}" for port in range(10, 42)), "r127:1"], "vlans": ["untagged"], "tags": [3000, 3000]}
-    # The rules for single prefixes are never reached; they tell the classes apart.
+    # The rules for single prefixes are never reached. They tell the classes apart: there are 33 hosts, and two ranges of addresses for each prefix.
     rules = [{"switch": f"r{i}", "priority": 100, "dst": "0.0.0.0/0", "out": 2 if i < 127 else 1} for i in range(128)]
-    rules += [{"switch": "r127", "priority": 1, "dst": f"10.{i // 128}.{2 * (i % 128)}.0/24", "out": "drop"} for i in range((classes // 33 - 1) // 2)]
+    rules += [{"switch": "r127", "priority": 1, "dst": f"0.{i // 128}.{2 * (i % 128)}.0/24", "out": "drop"} for i in range(classes // 66)]
     more = [{"switch": "r64", "priority": 200, "dst": "0.0.0.0/0", "out": 2}]
     demands = [{"dst": "0.0.0.0/0", "through": [f"r{s}" for s in chain]} for chain in sorted(found)]
     return updating(words, topology, {"rules": rules}, {"rules": rules + more}, {"demands": demands})
@@ -301,15 +301,15 @@ WORKLOADS = {
     "check-big-rounds": ("check, 268 rounds of 8190 changes at one switch", lambda: toggled_rules(268, ranked_rules(8190, 1))),
     "check-spread": ("check, 4200 rounds of 523 changes at 128 switches", lambda: toggled_rules(4200, ranked_rules(523, 128), 128)),
     "check-long-table": ("check, 8000 rules of 8000 priorities at one switch, 4198 rounds of 2 changes", lambda: grown_table(4198, ranked_rules(8000, 1))),
-    "check-kinds": ("check, 8000 rules of one priority that test VLANs or ports, 1000 rounds of 2 changes", lambda: grown_table(1000, two_kinds(8000))),
-    "check-kinds-big": ("check, the same rules, 268 rounds of 8000 changes", lambda: toggled_rules(268, two_kinds(8000))),
-    "check-clash": ("check, refused: 128,000 inserts at one switch, the last two rules clash", lambda: clashing_round(128_000)),
-    "check-repeat": ("check, refused: 128,000 inserts at one switch, the last one stands there twice", lambda: repeating_round(128_000)),
+    "check-kinds": ("check, 8000 rules of one priority and two kinds of tests, 1000 rounds of 2 changes", lambda: grown_table(1000, two_kinds(8000))),
+    "check-kinds-big": ("check, 8000 rules of one priority and two kinds of tests, 268 rounds of 8000 changes", lambda: toggled_rules(268, two_kinds(8000))),
+    "check-clash": ("check, refused: 128,000 inserts in one round, of which the last two clash", lambda: clashing_round(128_000)),
+    "check-repeat": ("check, refused: 128,000 inserts in one round, of which the last two name one key", lambda: repeating_round(128_000)),
     "check-idle": ("check, 4200 rounds of one change over 7900 classes", lambda: idle_rounds(4200)),
     "check-chains": ("check, 8184 classes with 512 chains", lambda: chains(CHECK, 8184)),
-    "explain-chains": ("explain of that plan", lambda: chains(EXPLAIN, 8184)),
+    "explain-chains": ("explain, 8184 classes with 512 chains", lambda: chains(EXPLAIN, 8184)),
     "plan-chains": ("plan, 1056 classes with 512 chains", lambda: chains(PLAN, 1056)),
     "check-parallel": ("check, 31 parallel links between 16 switches, 8000 classes", lambda: parallel_links(16, 31)),
-    "check-parallel-wide": ("check, the same with 1000 rules a switch over the 31 links", lambda: parallel_links(16, 1000)),
-    "explain-cycles": ("explain, 4 rounds in a ring of 128 switches where packets go either way, 1024 classes", lambda: either_way(128, 4)),
+    "check-parallel-wide": ("check, 1000 rules a switch over 31 parallel links between 16 switches, 8000 classes", lambda: parallel_links(16, 1000)),
+    "explain-cycles": ("explain, 4 rounds in a ring of 128 switches, cycles of switches and no repeat, 1024 classes", lambda: either_way(128, 4)),
 }
