@@ -48,7 +48,7 @@ def timed(program, words, folder, limit):
 
 
 def prepare(workload, folder, program):
-    """Writes the files of a workload, and the plan that the program makes where a plan is checked that isn't among them."""
+    """Writes the files of a workload, and the plan that the program makes where one is read that isn't among them."""
     workload.write(folder)
     if workload.needs_plan():
         plan = subprocess.run([program, *PLAN], cwd=folder, stdout=subprocess.PIPE, check=True).stdout

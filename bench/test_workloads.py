@@ -24,11 +24,20 @@ COUNTS = {
     "check-clash": (128_000, 1, 128_000),
     "check-repeat": (127_999, 1, 128_000),
     "check-touched": (2048, 64, 65_536),
-    "check-parallel-wide": (16_000, 2, 32_000),
+    "check-touched-few": (2, 64, 128),
+    "check-parallel-wide": (8000, 2, 16_000),
     "explain-cycles": (2, 4, 4),
 }
 # How many classes there are.
-CLASSES = {"check-chains": 8184, "explain-chains": 8184, "plan-chains": 1056, "check-touched": 8192, "check-parallel-wide": 7998, "explain-cycles": 1024}
+CLASSES = {
+    "check-chains": 8184,
+    "explain-chains": 8184,
+    "plan-chains": 1056,
+    "check-touched": 8192,
+    "check-touched-few": 8192,
+    "check-parallel-wide": 7998,
+    "explain-cycles": 1024,
+}
 # Two kinds of 20 rules each.
 KINDS = workloads.two_kinds(40)
 
@@ -163,15 +172,17 @@ class PacketTests(unittest.TestCase):
     """Rounds that classes of packets meet."""
 
     def test_each_class_is_touched_by_each_round(self):
-        files = values(workloads.touched_rules(2))
-        rules, rounds = files["plan"]["rules"], files["plan"]["rounds"]
-        self.assertEqual(class_count(files), 8192)
-        self.assertEqual({rule["dst"] for rule in rules}, {"0.0.0.0/0"})
-        for round_ in rounds:
-            covered = {(rules[i]["in_port"], rules[i]["vlan"]) for _, i in round_}
-            self.assertEqual(covered, set(itertools.product(range(1, 65), range(1, 17))))
-        self.assertEqual({rule["priority"] for rule in rules}, {100})
-        self.assertTrue(all(rule["out"] not in (rule["in_port"], "drop") for rule in rules))
+        plan = values(workloads.replaced_together(2))["plan"]
+        self.assertEqual({(rule["priority"], rule["dst"]) for rule in plan["rules"]}, {(100, "0.0.0.0/0")})
+        for round_ in plan["rounds"]:
+            rules = [plan["rules"][i] for _, i in round_]
+            self.assertEqual({(rule["in_port"], rule["vlan"]) for rule in rules}, set(itertools.product(range(1, 65), range(1, 17))))
+            self.assertTrue(all(rule["out"] not in (rule["in_port"], "drop") for rule in rules))
+
+    def test_two_rules_that_cover_all_packets_come_and_go(self):
+        motion = carried_out(workloads.two_below_all(2))
+        self.assertEqual([len(tables["s0"]) for tables in motion.tables], [1024, 1026, 1024])
+        self.assertEqual({(change.in_port, change.vlan, change.dst) for round_ in motion.rounds for _, (_, change) in round_}, {(None, None, "0.0.0.0/0")})
 
     def test_many_rules_send_over_the_parallel_links(self):
         plan = values(workloads.parallel_links(2, 62))["plan"]
@@ -217,7 +228,8 @@ class AnswerTests(unittest.TestCase):
             (workloads.grown_table(4, workloads.ranked_rules(40, 1)), "accepted: ordered, 6 rounds, 6 classes\n"),
             (workloads.clashing_round(40), "refused: 3 Ambiguous round 1 switch r0\n"),
             (workloads.repeating_round(40), "refused: 2 BadChange round 1 switch r0 change 39\n"),
-            (workloads.touched_rules(2), "accepted: ordered, 2 rounds, 8192 classes\n"),
+            (workloads.replaced_together(2), "accepted: ordered, 2 rounds, 8192 classes\n"),
+            (workloads.two_below_all(2), "accepted: ordered, 2 rounds, 8192 classes\n"),
             (workloads.parallel_links(2, 62), "accepted: ordered, 2 rounds, 7998 classes\n"),
             (workloads.either_way(5, 4), "no run: every mixed walk is good\n"),
         ]

@@ -125,15 +125,32 @@ def rekeyed_rules(count):
     return updating(PLAN, topology, {"rules": rules[0]}, {"rules": rules[1]}, {"demands": []})
 
 
-def touched_rules(rounds):
-    """A plan whose rounds each replace all of 1024 rules of one priority at one switch. Each of 8192 classes is covered by one of them: there are as
-    many rules as ports and VLANs, and eight ranges of addresses."""
-    old = [{**rule, "dst": "0.0.0.0/0"} for rule in rules_by_port(1024, lambda i: 100)]
+def rules_for_all():
+    """1024 rules of one switch and one priority, one for each of 64 ports and 16 VLANs."""
+    return [{**rule, "dst": "0.0.0.0/0"} for rule in rules_by_port(1024, lambda i: 100)]
+
+
+def touching(rules, turns, rounds):
+    """The check of a plan that takes turns with two rounds, at a switch with the rules of `rules_for_all`. Each of 8192 classes is covered by one of
+    them: the demands tell eight ranges of addresses apart."""
+    config = {"rules": rules_for_all()}
+    plan = plan_text(rules, [turns[k % 2] for k in range(rounds)], 8192, [0])
+    policy = {"demands": [{"dst": f"0.0.0.{i}/32"} for i in range(7)]}
+    return Workload(CHECK, topology=one_switch(list(range(1, 17))), old=config, new=config, policy=policy, plan=plan)
+
+
+def replaced_together(rounds):
+    """Rounds that each replace all of the rules."""
+    old = rules_for_all()
     count = len(old)
     turns = [moves("replace", range(count, 2 * count)), moves("replace", range(count))]
-    plan = plan_text(old + [next_port(rule) for rule in old], [turns[k % 2] for k in range(rounds)], 8192, [0])
-    policy = {"demands": [{"dst": f"0.0.0.{i}/32"} for i in range(7)]}
-    return Workload(CHECK, topology=one_switch(list(range(1, 17))), old={"rules": old}, new={"rules": old}, policy=policy, plan=plan)
+    return touching(old + [next_port(rule) for rule in old], turns, rounds)
+
+
+def two_below_all(rounds):
+    """Rounds of two changes, by which rules below the others come and go that cover all packets."""
+    rules = [{"switch": "s0", "priority": priority, "dst": "0.0.0.0/0", "out": "drop"} for priority in (1, 2)]
+    return touching(rules, [moves(word, [0, 1]) for word in ("insert", "delete")], rounds)
 
 
 # ---- rules that no packet meets
@@ -257,6 +274,7 @@ def either_way(switches, rounds):
     first = [rule(0, "10.0.0.0/8", out) for out in (2, 3)]
     config = {"rules": [first[0], *up, *down, *whole]}
     policy = {"demands": [{"dst": f"10.0.{j}.0/24"} for j in range(11)]}
+    # No evidence: `explain` looks at none.
     plan = plan_text(first, [moves("replace", [1 - k % 2]) for k in range(rounds)], 0, [0] * switches)
     return Workload(EXPLAIN, topology=topology, old=config, new=config, policy=policy, plan=plan)
 
@@ -297,7 +315,8 @@ WORKLOADS = {
     "plan-replaced": ("plan, 2048 rules of equal priority at one switch, all replaced", lambda: replaced_rules(PLAN, 2048)),
     "check-replaced": ("check of that plan", lambda: replaced_rules(CHECK, 2048)),
     "plan-rekeyed": ("plan, 2047 rules of one switch, each with another priority", lambda: rekeyed_rules(2047)),
-    "check-touched": ("check, 64 rounds that each replace 1024 rules of one priority, over 8192 classes", lambda: touched_rules(64)),
+    "check-touched": ("check, 1024 rules of one priority, 64 rounds that replace all and touch all of 8192 classes", lambda: replaced_together(64)),
+    "check-touched-few": ("check, 1024 rules of one priority, 64 rounds of 2 changes that touch all of 8192 classes", lambda: two_below_all(64)),
     "check-big-rounds": ("check, 268 rounds of 8190 changes at one switch", lambda: toggled_rules(268, ranked_rules(8190, 1))),
     "check-spread": ("check, 4200 rounds of 523 changes at 128 switches", lambda: toggled_rules(4200, ranked_rules(523, 128), 128)),
     "check-long-table": ("check, 8000 rules of 8000 priorities at one switch, 4198 rounds of 2 changes", lambda: grown_table(4198, ranked_rules(8000, 1))),
@@ -310,6 +329,6 @@ WORKLOADS = {
     "explain-chains": ("explain, 8184 classes with 512 chains", lambda: chains(EXPLAIN, 8184)),
     "plan-chains": ("plan, 1056 classes with 512 chains", lambda: chains(PLAN, 1056)),
     "check-parallel": ("check, 31 parallel links between 16 switches, 8000 classes", lambda: parallel_links(16, 31)),
-    "check-parallel-wide": ("check, 1000 rules a switch over 31 parallel links between 16 switches, 8000 classes", lambda: parallel_links(16, 1000)),
+    "check-parallel-wide": ("check, 500 rules a switch over 31 parallel links between 16 switches, 8000 classes", lambda: parallel_links(16, 500)),
     "explain-cycles": ("explain, 4 rounds in a ring of 128 switches, cycles of switches and no repeat, 1024 classes", lambda: either_way(128, 4)),
 }
