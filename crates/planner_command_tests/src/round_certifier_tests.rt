@@ -133,9 +133,19 @@ fn changes_of_one_round_get_evidence_that_is_accepted(rt: HostRuntime) {
 fn rounds_without_evidence_are_refused(rt: HostRuntime) {
     let alloc = rt.alloc();
     let careless = certified(&rt, alloc, &square::update(), square::both_at_once()).err();
-    assert!(&rt; matches!(&careless, Some(CertifyFault::Refused(Refusal::NoEvidence { round: 1, .. }))));
+    assert!(&rt;
+        matches!(
+            &careless,
+            Some(CertifyFault::Refused(Refusal::NoEvidence { round: 1, .. }))
+        )
+    );
     let bad = certified(&rt, alloc, &square::update(), square::nothing_to_delete()).err();
-    assert!(&rt; matches!(&bad, Some(CertifyFault::Refused(Refusal::Checked(Reason::BadChange { .. })))));
+    assert!(&rt;
+        matches!(
+            &bad,
+            Some(CertifyFault::Refused(Refusal::Checked(Reason::BadChange { .. })))
+        )
+    );
     let tagged = certified(&rt, alloc, &detour::update(), detour_plans::two_phases()).err();
     assert!(&rt; matches!(&tagged, Some(CertifyFault::Refused(Refusal::TwoPhasePlan))));
 }

@@ -68,9 +68,9 @@ certified_none c net user classes are store empty came count all looked atoms = 
   passed = λ j less. absurd (let f : j < 0 = less in omega arith);
   evidence = subst (λ (s : StoreState). HasEvidenceTo (aim_for c.task) (rollout c.task) 0 s.evidence) (sym empty) (evidence_none (aim_for c.task) (rollout c.task));
   classes = ap (λ (s : StoreState). s.classes) empty ∙ ap (λ (cs : ClassList). class_count cs) are;
-  came = subst (λ (ts : List (List Rule)). HoldTables (aim_for c.task) ts came) (sym (settled_start c.task.rounds c.task.update.old))
+  visits = subst (λ (ts : List (List Rule)). HoldTables (aim_for c.task) ts came) (sym (settled_start c.task.rounds c.task.update.old))
       (all_come (aim_for c.task) c.task.update.old net user refl (class_count classes) (ap (λ (cs : ClassList). class_count cs) are) came count all);
-  looked = subst (λ (cs : ClassList). HasAtoms cs looked) are atoms;
+  atoms = subst (λ (cs : ClassList). HasAtoms cs looked) are atoms;
 }
 
 -- ---- a round
@@ -118,7 +118,7 @@ module _ (c : CaseView) (ordered : is_two_phase c.evidence ≡ false) (k : ℕ) 
   judged_here user within mixes loaded store came looked so_far aim is v new all =
       subst (λ (a : Aim). (u : Rollout) (j : ℕ) → IsRoundOf a.net mixes u j → IsNextRound a u store.evidence j (round_after k c.task.rounds) → HoldTables a (tables_before u j) came
       → AreFirstJudged a u store.evidence j v × HoldAfter a u j v new) is all
-      (rollout c.task) k (round_of user mixes loaded) (next_round within store.evidence so_far.evidence) so_far.came
+      (rollout c.task) k (round_of user mixes loaded) (next_round within store.evidence so_far.evidence) so_far.visits
 
   -- after it
   pub certified_more : k < length c.task.rounds → (store new : StoreState) → HasEvidenceTo (aim_for c.task) (rollout c.task) k store.evidence → store.classes ≡ class_count (classes_for c.task)
@@ -130,8 +130,8 @@ module _ (c : CaseView) (ordered : is_two_phase c.evidence ≡ false) (k : ℕ) 
     evidence = evidence_more (aim_for c.task) (rollout c.task) refl k within store.evidence new.evidence found so_far stored_old safe
         (subst (λ n. AreWithPicks store.evidence n found new.evidence) number added) stored;
     classes = same ∙ classes;
-    came = held;
-    looked = atoms;
+    visits = held;
+    atoms = atoms;
   }
 
 -- ---- after the last round

@@ -35,10 +35,10 @@ pub judge-requires-clause-classes : goal.judge-requires-clause-classes
 judge-requires-clause-classes c = ap (λ (a : Aim). a.classes) c.requires.goal
 
 pub judge-requires-clause-atoms : goal.judge-requires-clause-atoms
-judge-requires-clause-atoms c = subst (λ (a : Aim). HasAtoms a.classes c.args.so_far.now.looked) (sym c.requires.goal) c.requires.so_far.looked
+judge-requires-clause-atoms c = subst (λ (a : Aim). HasAtoms a.classes c.args.so_far.now.looked) (sym c.requires.goal) c.requires.so_far.atoms
 
 pub judge-requires-clause-came : goal.judge-requires-clause-came
-judge-requires-clause-came c = c.requires.so_far.came.count ∙ ap (λ (a : Aim). class_count a.classes) (sym c.requires.goal)
+judge-requires-clause-came c = c.requires.so_far.visits.count ∙ ap (λ (a : Aim). class_count a.classes) (sym c.requires.goal)
 
 pub judge-requires-clause-ready : goal.judge-requires-clause-ready
 judge-requires-clause-ready c =
@@ -88,8 +88,8 @@ put_picks-requires-clause-ascending c =
     let safe = subst (AreFirstJudged (aim_for case.task) (rollout case.task) c.args.so_far.now.store.evidence c.args.k) c.in-Safe.is judged.0 in
     safe.ascending
 
-pub returns-in-Safe-clause-none : goal.returns-in-Safe-clause-none
-returns-in-Safe-clause-none c =
+pub returns-in_ok-put_picks-in-Safe-clause-none : goal.returns-in_ok-put_picks-in-Safe-clause-none
+returns-in_ok-put_picks-in-Safe-clause-none c =
     let case = c.args.case.now in
     let (pass, loaded, prepared) = c.in_default.ensures.none in
     let judged = judged_here case c.requires.ordered c.args.k c.requires.so_far.passed pass c.keeps_rules.ensures.old_user c.requires.within c.mixes.result.now
@@ -98,7 +98,7 @@ returns-in-Safe-clause-none c =
     let safe = subst (AreFirstJudged (aim_for case.task) (rollout case.task) c.args.so_far.now.store.evidence c.args.k) c.in-Safe.is judged.0 in
     let held = subst (λ v. HoldAfter (aim_for case.task) (rollout case.task) c.args.k v c.judge.new.self.watch.came.items) c.in-Safe.is judged.1 in
     let same = c.judge.ensures.store in
-    let picked = c.in_ok-put_picks.ensures in
+    let picked = c.in_ok-put_picks-in-Safe.ensures in
     certified_more case c.requires.ordered c.args.k c.requires.so_far.passed pass c.requires.within c.args.so_far.now.store c.put_picks.new.store c.requires.so_far.evidence c.requires.so_far.classes
     c.in-Safe.found.items safe (c.args.k + 1) (omega arith)
     (subst (λ (s : StoreState). AreWithPicks s.evidence (c.args.k + 1) c.in-Safe.found.items c.put_picks.new.store.evidence) same picked.picks)
