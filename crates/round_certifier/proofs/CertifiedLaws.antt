@@ -1,6 +1,5 @@
 -- How far evidence has been made: before the first round, in a round, after it, and after the last one.
 use Rattle.std.proofs.Common.{◌≡◌, ℕ, suc, ◌<◌, ◌≤◌, Bool, false, List, length, IsTrue, refl, sym, ◌∙◌, subst, ap, inl, inr, arith}
-use Rattle.std.specs.List.{AllByRecursion}
 use Rattle.std.proofs.lemmas.Bool.{cases_lt}
 use Rattle.net_base.specs.Members.{IsIn}
 use Rattle.net_base.specs.Switches.{has}
@@ -21,7 +20,6 @@ use Rattle.certificates.specs.Certified.{IsCertified, classes_for, is_two_phase}
 use Rattle.certificates.specs.Valid.{IsValidPlan, IsValidPick}
 use Rattle.certificates.specs.declared.OrderedPick.{OrderedPick}
 use Rattle.certificates.specs.declared.OrderedEvidence.{OrderedEvidence}
-use Rattle.certificates.specs.declared.Evidence.{Evidence}
 use Rattle.certificates.specs.declared.Evidence.TheVariants.{Ordered}
 use Rattle.round_mix.specs.Prepared.{MixedState}
 use Rattle.check_reasons.specs.Cases.{CaseView}

@@ -1,13 +1,10 @@
 -- The atoms that a round touches, looked at.
 use Rattle.std.proofs.Common.{◌≡◌, ℕ, ◌%◌, ◌<◌, Bool, true, false, List, length, refl, sym, ◌∙◌, subst, arith}
-use Rattle.std.proofs.lemmas.Bool.{false≢true}
 use Rattle.std.proofs.lemmas.Nat.{mod_below}
-use Rattle.dest_classes.specs.Classes.{ClassList, IsClass, class_count, atom_count}
-use Rattle.dest_classes.specs.declared.Class.{Class}
+use Rattle.dest_classes.specs.Classes.{ClassList, class_count, atom_count}
 use Rattle.dest_classes.proofs.MapLaws.{number_fits, some_atom}
 use Rattle.update_model.specs.declared.Change.{Change}
 use Rattle.check_reasons.specs.AtomMarks.{is_marked, AreTouched}
-use Rattle.check_reasons.specs.Touched.{touches}
 use Rattle.round_judge.specs.Aims.{HasAtoms}
 
 -- two marks of which each is set where the other is are the same

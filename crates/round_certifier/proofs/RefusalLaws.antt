@@ -6,9 +6,6 @@ use Rattle.net_base.proofs.MemberLaws.{each_at, each_get_or}
 use Rattle.net_base.proofs.ItemLaws.{in_from_get}
 use Rattle.net_base.specs.declared.ids.SwitchId.{SwitchId}
 use Rattle.topology.specs.Networks.{switch_count}
-use Rattle.dest_classes.specs.Classes.{IsClass}
-use Rattle.dest_classes.specs.declared.Class.{Class}
-use Rattle.dest_classes.proofs.MapLaws.{class_is as same_class}
 use Rattle.update_model.specs.Changes.{rule_of, round_after}
 use Rattle.update_model.specs.declared.Change.{Change}
 use Rattle.certificates.specs.Ordered.{IsSafe}
@@ -19,15 +16,14 @@ use Rattle.certificates.specs.declared.Evidence.{Evidence}
 use Rattle.certificates.specs.declared.Evidence.TheVariants.{Ordered, TwoPhase}
 use Rattle.check_reasons.specs.Cases.{CaseView}
 use Rattle.check_reasons.specs.Ranks.{Rank, IsBefore, rank_of, stage_of, number_of, least_class_number, round_start, end_start}
-use Rattle.check_reasons.specs.Reasons.{IsReason, IsOwnReason, IsFirstReason, IsCommonReason, old_breaks, new_breaks, bad_change, ambiguous, over_capacity, wrong_end}
-use Rattle.check_reasons.specs.Reasons.{HasRewrite, class_duties, IsOrderedReason, rewrites, no_numbering, not_lower, may_drop, no_before, bypass, IsTwoPhaseReason, bad_labels, mixed_path}
+use Rattle.check_reasons.specs.Reasons.{IsOwnReason, IsFirstReason, IsCommonReason, old_breaks, new_breaks, bad_change, ambiguous, over_capacity, wrong_end}
+use Rattle.check_reasons.specs.Reasons.{HasRewrite, class_duties, rewrites, no_numbering, not_lower, may_drop, no_before, bypass, bad_labels, mixed_path}
 use Rattle.check_reasons.specs.Passed.{IsFirstFrom, ChangesPass, RoundKeepsVlans}
 use Rattle.check_reasons.proofs.RankLaws.{own_in_rounds}
 use Rattle.check_reasons.specs.declared.reason.Reason.{Reason}
-use Rattle.check_reasons.specs.declared.reason.Reason.TheVariants.{BadChange, Ambiguous, OverCapacity, Rewrites, WrongEnd}
+use Rattle.check_reasons.specs.declared.reason.Reason.TheVariants.{BadChange, Ambiguous, Rewrites, WrongEnd}
 use Rattle.plan_checker.specs.Checking.{EndsAreGood, IsOfChanges}
 use Rattle.plan_checker.proofs.Refuted.{break_refuted, within_rounds, bad_change_refuted, unclear_refuted, need_fits}
-use Rattle.round_judge.specs.Aims.{Aim, duties_in}
 use Rattle.round_judge.specs.Evidence.{HasEvidenceTo}
 use Rattle.round_judge.specs.Judged.{IsFirstUnsafe}
 use Rattle.round_judge.specs.declared.unsafe_class.UnsafeClass.{UnsafeClass}

@@ -1,12 +1,10 @@
 //! Rounds, one after the other, and the evidence for them.
-ghost use Rattle.std.specs.Prelude.{◌≡◌, ℕ, suc, ◌<◌, ◌≤◌, true, false, length, OnOk, IfOk, IfErr, IfSome, IfNone};
-ghost use Rattle.dest_classes.specs.Classes.{class_count};
+ghost use Rattle.std.specs.Prelude.{◌≡◌, suc, ◌<◌, true, false, length, IfOk, IfErr, IfSome, IfNone};
 ghost use Rattle.certificates.specs.Updates.{rollout};
-ghost use Rattle.certificates.specs.Certified.{IsCertified, classes_for, is_two_phase};
+ghost use Rattle.certificates.specs.Certified.{IsCertified, is_two_phase};
 ghost use Rattle.certificates.specs.Valid.{IsValidPlan};
 ghost use Rattle.certificates.specs.declared.Evidence.TheVariants.{Ordered};
 ghost use Rattle.certificates.specs.declared.OrderedEvidence.{OrderedEvidence as EvidenceOf};
-ghost use Rattle.evidence_store.specs.Stored.{IsStored};
 ghost use Rattle.plan_checker.specs.Checking.{EndsAreGood, EndsAtNew};
 ghost use Rattle.plan_checker.specs.Fits.{Fits};
 ghost use Rattle.round_tables.specs.PreparedTables.{HasRoom, StandsBefore};

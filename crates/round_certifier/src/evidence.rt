@@ -1,20 +1,17 @@
 //! The evidence so far, and what is found for the classes of a round.
-ghost use Rattle.std.specs.Prelude.{◌≡◌, ℕ, ◌<◌, ◌≤◌, suc, length, IsTrue, IfOk, OnOk};
-ghost use Rattle.std.specs.List.{AllByRecursion};
+ghost use Rattle.std.specs.Prelude.{◌≡◌, ℕ, ◌<◌, ◌≤◌, length, IsTrue, IfOk};
 ghost use Rattle.net_base.specs.declared.ids.SwitchId.{SwitchId as Switch};
 ghost use Rattle.dest_classes.specs.Classes.{class_count};
 ghost use Rattle.update_model.specs.Changes.{round_after};
 ghost use Rattle.update_model.specs.Mixtures.{Rollout, tables_before};
 ghost use Rattle.certificates.specs.Certified.{classes_for};
-ghost use Rattle.certificates.specs.Valid.{IsChain};
 ghost use Rattle.mixed_walks.specs.Walks.{IsRoundOf};
 ghost use Rattle.check_reasons.specs.AtomMarks.{AreTouched};
 ghost use Rattle.net_base.specs.Switches.{has};
 ghost use Rattle.evidence_store.specs.Stored.{IsStored, no_evidence};
 ghost use Rattle.round_judge.specs.Aims.{HasAtoms};
-ghost use Rattle.round_judge.specs.Judged.{IsReady, IsNextRound, AreFirstJudged, AreWithPicks};
+ghost use Rattle.round_judge.specs.Judged.{IsReady, IsNextRound, AreFirstJudged};
 ghost use Rattle.round_judge.specs.Visits.{marks_at, HoldTables, HoldAfter};
-ghost use Rattle.round_judge.specs.declared.judging.Found.{Found as FoundOf};
 
 use certificates::OrderedEvidence;
 use check_reasons::{Case, TouchedAtoms};
@@ -22,7 +19,7 @@ use class_watch::{ClassWatch, LookedAtoms};
 use dest_classes::ClassMap;
 use evidence_store::EvidenceStore;
 use net_base::Memory;
-use round_judge::{Found, Goal, Tried, Verdict, judge_in_order, put_picks, watch_rooms};
+use round_judge::{Goal, Tried, Verdict, judge_in_order, watch_rooms};
 use round_mix::Mixed;
 use std::alloc::Global;
 

@@ -1,5 +1,5 @@
 //! What is found for the classes in a round.
-ghost use Rattle.std.specs.Prelude.{◌≡◌, ◌≢◌, ◌↔◌, ℕ, ◌<◌, ◌≤◌, suc, List, [], ◌∷◌, length, IsTrue, IfOk, IfSome, IsOkAnd, OnOk, slice_get, Some};
+ghost use Rattle.std.specs.Prelude.{◌≡◌, ◌≢◌, ◌↔◌, ℕ, ◌<◌, ◌≤◌, suc, List, [], length, IsTrue, IfOk, IfSome, IsOkAnd, OnOk, slice_get, Some};
 ghost use Rattle.net_base.specs.Members.{IsIn};
 ghost use Rattle.std.specs.List.{AllByRecursion};
 ghost use Rattle.topology.specs.Networks.{switch_count};

@@ -1,8 +1,7 @@
 //! The search, change by change.
-ghost use Rattle.std.specs.Prelude.{◌≡◌, ℕ, ◌<◌, ◌≤◌, ◌++◌, ◌∷◌, [], List, suc, length, map, IsTrue, IfOk, OnOk};
+ghost use Rattle.std.specs.Prelude.{◌≡◌, ◌<◌, ◌≤◌, ◌++◌, ◌∷◌, [], List, length, map, IfOk, OnOk};
 ghost use Rattle.std.specs.List.{AllByRecursion};
 ghost use Rattle.net_base.specs.Members.{IsIn};
-ghost use Rattle.net_base.specs.declared.ids.SwitchId.{SwitchId as Switch};
 ghost use Rattle.flow_rules.specs.Tables.{rules_of_all};
 ghost use Rattle.flow_rules.specs.declared.rules.Rule.{Rule};
 ghost use Rattle.path_walk.specs.UserConfigs.{IsUserConfig};
@@ -15,13 +14,10 @@ ghost use Rattle.evidence_store.specs.Stored.{IsStored, no_evidence};
 ghost use Rattle.round_judge.specs.declared.judging.Found.{Found as FoundOf};
 ghost use Rattle.round_planner.specs.Search.{IsFirstQualifying, update_by};
 ghost use Rattle.round_judge.specs.Judged.{AreSafeBelow};
-ghost use Rattle.round_planner.specs.Standing.{Stands};
 ghost use Rattle.round_planner.specs.declared.left.Left.{Left as LeftOf};
 ghost use Rattle.net_base.specs.Switches.{has};
 ghost use Rattle.round_planner.specs.Failures.{HasStanding, AreLeft};
-ghost use Rattle.round_judge.specs.Aims.{HasAtoms};
 ghost use Rattle.round_planner.specs.Searching.{IsAt, IsTried, IsLeftTried, IsPlaced, IsMoved, IsTryingAt, IsEnded, IsAnswered, answer_of};
-ghost use Rattle.round_judge.specs.Visits.{marks_at};
 
 use crate::Ordered;
 use crate::failing::Failure;

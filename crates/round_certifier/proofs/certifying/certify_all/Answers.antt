@@ -1,4 +1,4 @@
-use Rattle.std.proofs.Common.{◌≡◌, ℕ, ◌+◌, length, sym, ◌∙◌, ap, subst, add-one, arith}
+use Rattle.std.proofs.Common.{◌≡◌, length, sym, ◌∙◌, ap, subst, add-one, arith}
 use Rattle.certificates.specs.Updates.{rollout}
 use Rattle.check_reasons.specs.Cases.{CaseView}
 use Rattle.round_tables.specs.PreparedTables.{StandsBefore}

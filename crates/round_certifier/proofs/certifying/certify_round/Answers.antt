@@ -1,8 +1,7 @@
-use Rattle.std.proofs.Common.{◌≡◌, ℕ, suc, ◌+◌, ◌<◌, List, length, sym, ◌∙◌, ap, subst, arith}
+use Rattle.std.proofs.Common.{suc, ◌+◌, ◌<◌, List, sym, ◌∙◌, ap, subst, arith}
 use Rattle.std.specs.List.{AllByRecursion}
 use Rattle.net_base.proofs.MemberLaws.{each_weaker}
 use Rattle.dest_classes.specs.Classes.{class_count}
-use Rattle.update_model.specs.Mixtures.{tables_before}
 use Rattle.certificates.specs.Updates.{rollout}
 use Rattle.round_mix.specs.Prepared.{MixedState}
 use Rattle.check_reasons.specs.Loaded.{AreLoaded}

@@ -1,8 +1,8 @@
-use Rattle.std.proofs.Common.{◌≤◌, length, sym, ◌∙◌, ap, subst}
-use Rattle.topology.specs.Networks.{Network, IsNetwork}
+use Rattle.std.proofs.Common.{◌≤◌, sym, ap, subst}
+use Rattle.topology.specs.Networks.{IsNetwork}
 use Rattle.dest_classes.specs.Classes.{ClassList, class_count}
 use Rattle.certificates.specs.Updates.{rollout}
-use Rattle.certificates.specs.Certified.{IsCertified, classes_for}
+use Rattle.certificates.specs.Certified.{IsCertified}
 use Rattle.certificates.specs.Valid.{IsValidPlan}
 use Rattle.certificates.specs.declared.Evidence.TheVariants.{Ordered}
 use Rattle.certificates.specs.declared.OrderedEvidence.{OrderedEvidence}

@@ -1,10 +1,9 @@
-use Rattle.std.proofs.Common.{◌≡◌, ℕ, List, length, sym, ◌∙◌, ap, subst}
-use Rattle.dest_classes.specs.Classes.{ClassList, class_count}
+use Rattle.std.proofs.Common.{List, sym, ◌∙◌, ap, subst}
+use Rattle.dest_classes.specs.Classes.{ClassList}
 use Rattle.check_reasons.specs.AtomMarks.{AreTouched}
 use Rattle.check_reasons.specs.Cases.{CaseView}
 use Rattle.update_model.specs.Changes.{round_after}
 use Rattle.update_model.specs.declared.Change.{Change}
-use Rattle.evidence_store.specs.State.{StoreState}
 use Rattle.round_judge.specs.Aims.{Aim, HasAtoms}
 use Rattle.round_judge.specs.Judged.{IsReady}
 use Rattle.round_certifier.proofs.evidence.RoundEvidence.judge.Goals as goal
