@@ -80,7 +80,8 @@ pub fn lowers(numbering: &Numbering, from: SwitchId, to: SwitchId) -> bool
 
 /// Whether no edge of the switch leads to one without a number.
 fn is_ready(edges: &[Edge], pending: &[bool], s: SwitchId) -> bool
-    requires { All (λ e. (e.from.0 < length pending.now) × (e.to.0 < length pending.now)) edges.now }
+    requires { All (λ e. (e.from.0 < length pending.now) × (e.to.0 < length pending.now))
+        edges.now }
     ensures { IsTrue result ↔ All (λ e. (e.from ≡ s) → ¬ IsOpen pending.now e.to) edges.now }
 {
     for edge in edges {
@@ -94,7 +95,8 @@ fn is_ready(edges: &[Edge], pending: &[bool], s: SwitchId) -> bool
 /// Whether the switch has no number and its edges lead to switches that have one.
 fn is_next(edges: &[Edge], pending: &[bool], s: SwitchId) -> bool
     requires within { s.0 < length pending.now }
-    requires edges { All (λ e. (e.from.0 < length pending.now) × (e.to.0 < length pending.now)) edges.now }
+    requires edges { All (λ e. (e.from.0 < length pending.now) × (e.to.0 < length pending.now))
+        edges.now }
     ensures { IsTrue result ↔ (IsOpen pending.now s × IsReady (IsEdge edges.now) pending.now s) }
 {
     pending[s.0 as usize] && is_ready(edges, pending, s)
@@ -103,8 +105,11 @@ fn is_next(edges: &[Edge], pending: &[bool], s: SwitchId) -> bool
 /// A switch without a number whose edges lead to switches that have one.
 fn next_ready(edges: &[Edge], pending: &[bool]) -> Option<SwitchId>
     requires few { length pending.now ≤ 128 }
-    requires edges { All (λ e. (e.from.0 < length pending.now) × (e.to.0 < length pending.now)) edges.now }
-    ensures { MatchOption result ((s : SwitchId) → IsOpen pending.now s → ¬ IsReady (IsEdge edges.now) pending.now s) (λ s. IsOpen pending.now s × IsReady (IsEdge edges.now) pending.now s) }
+    requires edges { All (λ e. (e.from.0 < length pending.now) × (e.to.0 < length pending.now))
+        edges.now }
+    ensures { MatchOption result ((s : SwitchId) → IsOpen pending.now s
+        → ¬ IsReady (IsEdge edges.now) pending.now s)
+        (λ s. IsOpen pending.now s × IsReady (IsEdge edges.now) pending.now s) }
 {
     for i in 0..pending.len() {
         let s = SwitchId(i as u32);
@@ -130,7 +135,8 @@ fn raised(number: u16, edge: &Edge, numbers: &[u16], s: SwitchId) -> u16
 
 /// One more than the greatest number that an edge of the switch leads to.
 fn next_number(edges: &[Edge], numbers: &[u16], s: SwitchId) -> u16
-    requires edges { All (λ e. (e.from.0 < length numbers.now) × (e.to.0 < length numbers.now)) edges.now }
+    requires edges { All (λ e. (e.from.0 < length numbers.now) × (e.to.0 < length numbers.now))
+        edges.now }
     requires low { All (λ e. (e.from ≡ s) → number_of numbers.now e.to < 65535) edges.now }
     ensures { IsNextNumber (IsEdge edges.now) numbers.now s result }
 {
@@ -145,7 +151,8 @@ fn next_number(edges: &[Edge], numbers: &[u16], s: SwitchId) -> u16
 fn give_number(edges: &[Edge], numbers: &mut [u16], pending: &mut [bool], s: SwitchId)
     requires few { length pending.old ≤ 128 }
     requires within { s.0 < length pending.old }
-    requires edges { All (λ e. (e.from.0 < length pending.old) × (e.to.0 < length pending.old)) edges.now }
+    requires edges { All (λ e. (e.from.0 < length pending.old) × (e.to.0 < length pending.old))
+        edges.now }
     requires so_far { AreHeightsSoFar (IsEdge edges.now) pending.old numbers.old }
     requires next { IsOpen pending.old s × IsReady (IsEdge edges.now) pending.old s }
     ensures so_far { AreHeightsSoFar (IsEdge edges.now) pending.new numbers.new }
@@ -158,8 +165,10 @@ fn give_number(edges: &[Edge], numbers: &mut [u16], pending: &mut [bool], s: Swi
 
 /// A switch without a number to which an edge of the switch leads.
 fn open_successor(edges: &[Edge], pending: &[bool], s: SwitchId) -> Option<SwitchId>
-    requires { All (λ e. (e.from.0 < length pending.now) × (e.to.0 < length pending.now)) edges.now }
-    ensures { MatchOption result (All (λ e. (e.from ≡ s) → ¬ IsOpen pending.now e.to) edges.now) (λ t. IsEdge edges.now s t × IsOpen pending.now t) }
+    requires { All (λ e. (e.from.0 < length pending.now) × (e.to.0 < length pending.now))
+        edges.now }
+    ensures { MatchOption result (All (λ e. (e.from ≡ s) → ¬ IsOpen pending.now e.to) edges.now)
+        (λ t. IsEdge edges.now s t × IsOpen pending.now t) }
 {
     for edge in edges {
         if edge.from.0 == s.0 && pending[edge.to.0 as usize] {
@@ -200,7 +209,8 @@ fn closed_walk(
     left: &mut [bool],
     start: SwitchId,
 ) -> Result<Vec<SwitchId>, Memory>
-    requires edges { All (λ e. (e.from.0 < length pending.now) × (e.to.0 < length pending.now)) edges.now }
+    requires edges { All (λ e. (e.from.0 < length pending.now) × (e.to.0 < length pending.now))
+        edges.now }
     requires stuck { IsStuck (IsEdge edges.now) pending.now }
     requires start { IsOpen pending.now start }
     requires left { left.old ≡ pending.now }
@@ -223,7 +233,8 @@ fn closed_walk(
 /// The first switch without a number.
 fn first_open(pending: &[bool]) -> Option<SwitchId>
     requires { length pending.now ≤ 128 }
-    ensures { MatchOption result ((s : SwitchId) → ¬ IsOpen pending.now s) (λ s. IsOpen pending.now s) }
+    ensures { MatchOption result ((s : SwitchId) → ¬ IsOpen pending.now s)
+        (λ s. IsOpen pending.now s) }
 {
     for i in 0..pending.len() {
         if pending[i] {
@@ -240,7 +251,8 @@ fn cycle_from(
     pending: &[bool],
     start: SwitchId,
 ) -> Result<SwitchList, Memory>
-    requires edges { All (λ e. (e.from.0 < length pending.now) × (e.to.0 < length pending.now)) edges.now }
+    requires edges { All (λ e. (e.from.0 < length pending.now) × (e.to.0 < length pending.now))
+        edges.now }
     requires stuck { IsStuck (IsEdge edges.now) pending.now }
     requires start { IsOpen pending.now start }
     ensures { IfOk result (λ walk. IsClosedWalk (IsEdge edges.now) walk) }
@@ -293,7 +305,8 @@ fn raise(numbers: &mut [u16], edge: &Edge) -> bool
 /// switches.
 fn raise_once(numbers: &mut [u16], edges: &[Edge]) -> bool
     requires few { length numbers.old ≤ 128 }
-    requires edges { All (λ e. (e.from.0 < length numbers.old) × (e.to.0 < length numbers.old)) edges.now }
+    requires edges { All (λ e. (e.from.0 < length numbers.old) × (e.to.0 < length numbers.old))
+        edges.now }
     requires reached { AreReached (IsEdge edges.now) numbers.old }
     ensures { AreReached (IsEdge edges.now) numbers.new }
 {
@@ -307,7 +320,8 @@ fn raise_once(numbers: &mut [u16], edges: &[Edge]) -> bool
 
 /// Whether the numbers fall along each edge.
 fn fall_along(numbers: &[u16], edges: &[Edge]) -> bool
-    requires { All (λ e. (e.from.0 < length numbers.now) × (e.to.0 < length numbers.now)) edges.now }
+    requires { All (λ e. (e.from.0 < length numbers.now) × (e.to.0 < length numbers.now))
+        edges.now }
     ensures { IsTrue result ↔ All (λ e. IsLower numbers.now e.from e.to) edges.now }
 {
     for edge in edges {
@@ -322,7 +336,8 @@ fn fall_along(numbers: &[u16], edges: &[Edge]) -> bool
 /// pass for each switch, or where one would reach the count of switches.
 fn raise_all(numbers: &mut [u16], edges: &[Edge]) -> bool
     requires few { length numbers.old ≤ 128 }
-    requires edges { All (λ e. (e.from.0 < length numbers.old) × (e.to.0 < length numbers.old)) edges.now }
+    requires edges { All (λ e. (e.from.0 < length numbers.old) × (e.to.0 < length numbers.old))
+        edges.now }
     requires reached { AreReached (IsEdge edges.now) numbers.old }
     ensures { IsTrue result → AreHeights (IsEdge edges.now) (length numbers.old) numbers.new }
 {

@@ -160,7 +160,8 @@ fn is_valid_numbering(net: &Net, numbering: &Numbering) -> bool
 
 /// Whether no mark is on from a number on.
 fn none_from(marks: &[bool], first: usize) -> bool
-    ensures { IsTrue result ↔ ((k : ℕ) → first ≤ k → k < length marks.now → slice_index_or marks.now k false ≡ false) }
+    ensures { IsTrue result ↔ ((k : ℕ) → first ≤ k → k < length marks.now
+        → slice_index_or marks.now k false ≡ false) }
 {
     for k in first..marks.len() {
         if marks[k] {
@@ -365,7 +366,8 @@ fn are_rounds_ascending(picks: &[LabelPick]) -> bool
 }
 
 fn is_valid_two_phase(net: &Net, rounds: &Rounds, evidence: &TwoPhaseEvidence) -> bool
-    ensures { IsTrue result ↔ IsValidTwoPhase net.now (length rounds.now) (sum_by length rounds.now) evidence.now }
+    ensures { IsTrue result ↔ IsValidTwoPhase net.now (length rounds.now) (sum_by length rounds.now)
+        evidence.now }
 {
     let tables = evidence.labels.list();
     let picks = evidence.picks.list();
@@ -379,7 +381,8 @@ fn is_valid_two_phase(net: &Net, rounds: &Rounds, evidence: &TwoPhaseEvidence) -
 }
 
 fn is_valid_evidence(net: &Net, rounds: &Rounds, evidence: &Evidence) -> bool
-    ensures { IsTrue result ↔ IsValidEvidence net.now (length rounds.now) (sum_by length rounds.now) evidence.now }
+    ensures { IsTrue result ↔ IsValidEvidence net.now (length rounds.now) (sum_by length rounds.now)
+        evidence.now }
 {
     match evidence {
         Evidence::Ordered(e) => is_valid_ordered(net, rounds.count(), e),

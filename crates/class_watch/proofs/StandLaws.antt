@@ -27,7 +27,7 @@ use Rattle.check_reasons.proofs.TouchLaws.{not_covered}
 use Rattle.check_reasons.proofs.SameWalks.{was_on_walk, was_safe, same_on_walk, same_safe, NoneCovers, unchanged_at}
 use Rattle.mixed_walks.specs.Walks.{KeepVlansUpTo, TablesKeepVlans}
 use Rattle.mixed_walks.proofs.PlaceLaws.{on_walk_in, on_walk_vlan, places_within}
-use Rattle.class_watch.specs.Switches.{has}
+use Rattle.net_base.specs.Switches.{has}
 use Rattle.class_watch.specs.Walks.{HoldsWalks, at_rest, HoldsTables, meets, meets_any}
 use Rattle.class_watch.specs.Alike.{covering_changes, AreAlike}
 use Rattle.class_watch.proofs.CoveringLaws.{possible_by_covering}

@@ -1,4 +1,3 @@
-pub mod Switches
 pub mod Classes
 pub mod Looked
 pub mod Walks

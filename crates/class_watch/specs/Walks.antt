@@ -9,7 +9,7 @@ use Rattle.update_model.specs.Changes.{switch_of}
 use Rattle.update_model.specs.Mixtures.{Rollout, IsOnMixedWalk}
 use Rattle.update_model.specs.declared.Change.{Change}
 use Rattle.check_reasons.specs.Touched.{may_cover}
-use Rattle.class_watch.specs.Switches.{has}
+use Rattle.net_base.specs.Switches.{has}
 
 -- the set has each switch that the mixed walks of the class come to in round k
 abbrev pub HoldsWalks : Rollout → ℕ → Class → ℕ → Type 0

@@ -5,10 +5,8 @@
 mod classes;
 pub mod laws;
 mod looked;
-mod switch_set;
 mod watch;
 
 pub use classes::all_classes;
 pub use looked::LookedAtoms;
-pub use switch_set::SwitchSet;
 pub use watch::{ClassWatch, meets, meets_any, switches_on};

@@ -7,14 +7,13 @@ ghost use Rattle.topology.specs.Networks.{switch_count};
 ghost use Rattle.dest_classes.specs.declared.Class.{Class as ClassOf};
 ghost use Rattle.update_model.specs.Mixtures.{Rollout};
 ghost use Rattle.mixed_walks.specs.Walks.{switches_of, IsRoundOf, IsWalked, AreTogether};
-ghost use Rattle.class_watch.specs.Switches.{has};
+ghost use Rattle.net_base.specs.Switches.{has};
 ghost use Rattle.class_watch.specs.Walks.{HoldsWalks, meets, meets_any};
 
-use crate::switch_set::SwitchSet;
 use check_reasons::may_cover;
 use dest_classes::{Class, NumberedClass};
 use mixed_walks::WalkRoom;
-use net_base::Memory;
+use net_base::{Memory, SwitchSet};
 use round_mix::Mixed;
 use std::alloc::Global;
 use topology::Net;

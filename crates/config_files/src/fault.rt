@@ -14,30 +14,43 @@ use thiserror::Error;
 #[derive(Clone, Copy, PartialEq, Eq, Error)]
 pub enum ConfigFault {
     /// The bytes are no JSON text.
+    #[error("NotJson")]
     NotJson,
     /// The member is absent without a default, or of the wrong kind.
+    #[error("Shape")]
     Shape(Field, u32),
     /// No switch has the name.
+    #[error("UnknownSwitch")]
     UnknownSwitch(u32),
     /// The priority isn't 1 to 16383.
+    #[error("BadPriority")]
     BadPriority(u32),
     /// The port is no host port or link end of the switch.
+    #[error("BadPort")]
     BadPort(u32),
     /// The VLAN id isn't 1 to 4094.
+    #[error("BadVlan")]
     BadVlan(u32),
     /// The VLAN id is an available tag.
+    #[error("ReservedVlan")]
     ReservedVlan(u32),
     /// The text is no prefix.
+    #[error("BadPrefix")]
     BadPrefix(u32),
     /// An earlier rule of the switch has the key.
+    #[error("KeyTwice")]
     KeyTwice(u32),
     /// An earlier rule of the switch has equal priority and covers a common packet.
+    #[error("Overlap")]
     Overlap(u32),
     /// The table of the switch is longer than its capacity.
+    #[error("OverCapacity")]
     OverCapacity(SwitchId),
     /// More than 2048 rules.
+    #[error("TooMany")]
     TooMany(u32),
     /// Memory was wanting.
+    #[error("Memory")]
     Memory,
 }
 
@@ -112,12 +125,6 @@ impl ConfigFault {
             | ConfigFault::Overlap(place)
             | ConfigFault::TooMany(place) => place,
         }
-    }
-}
-
-impl fmt::Display for ConfigFault {
-    fn fmt<W: fmt::Write>(&self, f: &mut fmt::Formatter<W>) -> fmt::Result {
-        f.write_str(self.name())
     }
 }
 

@@ -59,8 +59,10 @@ fn add_rule(table: &mut Table, place: u32, rule: Rule) -> Result<(), ConfigFault
 fn add_to(config: &mut Config, place: u32, switch: SwitchId, rule: Rule) -> Result<(), ConfigFault>
     requires { switch.0 < length config.old }
     ensures read { MatchResult result
-        (λ _. configuration.with_rule place (rules_of_all config.old) switch rule ≡ Ok (rules_of_all config.new))
-        (λ e. Fails Memory e (configuration.with_rule place (rules_of_all config.old) switch rule)) }
+        (λ _. configuration.with_rule place (rules_of_all config.old) switch rule
+        ≡ Ok (rules_of_all config.new))
+        (λ e. Fails Memory e (configuration.with_rule place (rules_of_all config.old) switch
+        rule)) }
     ensures count { length config.new ≡ length config.old }
 {
     add_rule(config.table_mut(switch), place, rule)
@@ -78,8 +80,10 @@ fn read_into(
 ) -> Result<(), ConfigFault>
     requires { switch.0 < length config.old }
     ensures read { MatchResult result
-        (λ _. configuration.rule_to net.now place (rules_of_all config.old) switch (data_of tree.now item.now) ≡ Ok (rules_of_all config.new))
-        (λ e. Fails Memory e (configuration.rule_to net.now place (rules_of_all config.old) switch (data_of tree.now item.now))) }
+        (λ _. configuration.rule_to net.now place (rules_of_all config.old) switch
+        (data_of tree.now item.now) ≡ Ok (rules_of_all config.new))
+        (λ e. Fails Memory e (configuration.rule_to net.now place (rules_of_all config.old) switch
+        (data_of tree.now item.now))) }
     ensures count { length config.new ≡ length config.old }
 {
     let rule = read_rule(net, place, switch, tree, item)?;
@@ -89,7 +93,8 @@ fn read_into(
 /// Reads the switch of a rule.
 #[tactic(auto, unfolding(crate::specs::Configuration::switch_in))]
 fn read_switch(net: &Net, place: u32, tree: &Tree<'_>, item: &Node) -> Result<SwitchId, ConfigFault>
-    ensures read { Gives Memory (λ s. s) result (configuration.switch_in place net.now (data_of tree.now item.now)) }
+    ensures read { Gives Memory (λ s. s) result
+        (configuration.switch_in place net.now (data_of tree.now item.now)) }
     ensures within { IfOk result (λ s. s.0 < switch_count net.now) }
 {
     if place >= MAX_RULES {
@@ -116,8 +121,10 @@ fn read_item(
 ) -> Result<(), ConfigFault>
     requires { length config.old ≡ switch_count net.now }
     ensures read { MatchResult result
-        (λ _. configuration.rule_at net.now place (rules_of_all config.old) (data_of tree.now item.now) ≡ Ok (rules_of_all config.new))
-        (λ e. Fails Memory e (configuration.rule_at net.now place (rules_of_all config.old) (data_of tree.now item.now))) }
+        (λ _. configuration.rule_at net.now place (rules_of_all config.old)
+        (data_of tree.now item.now) ≡ Ok (rules_of_all config.new))
+        (λ e. Fails Memory e (configuration.rule_at net.now place (rules_of_all config.old)
+        (data_of tree.now item.now))) }
     ensures count { length config.new ≡ length config.old }
 {
     let switch = read_switch(net, place, tree, item)?;
@@ -132,7 +139,8 @@ fn read_items(
     items: &[Node],
 ) -> Result<(), ConfigFault>
     requires { length config.old ≡ switch_count net.now }
-    ensures read { let read = in_turn (configuration.rule_at net.now) 0 (rules_of_all config.old) (map (data_of tree.now) items.now) in
+    ensures read { let read = in_turn (configuration.rule_at net.now) 0 (rules_of_all config.old)
+        (map (data_of tree.now) items.now) in
         MatchResult result (λ _. read ≡ Ok (rules_of_all config.new)) (λ e. Fails Memory e read) }
     ensures count { length config.new ≡ length config.old }
 {
@@ -154,7 +162,8 @@ fn is_over(net: &Net, config: &Config, switch: SwitchId) -> bool
 /// The least switch whose table is longer than its capacity.
 fn over_capacity(net: &Net, config: &Config) -> Option<SwitchId>
     requires { length config.now ≡ switch_count net.now }
-    ensures { option_map (λ s. s.0) result ≡ configuration.over_capacity net.now (rules_of_all config.now) }
+    ensures { option_map (λ s. s.0) result
+        ≡ configuration.over_capacity net.now (rules_of_all config.now) }
 {
     for s in 0..net.switches() {
         if is_over(net, config, SwitchId(s)) {
@@ -167,7 +176,8 @@ fn over_capacity(net: &Net, config: &Config) -> Option<SwitchId>
 /// The items of `rules`.
 #[tactic(auto, unfolding(crate::specs::Configuration::items_in))]
 fn items_of<'a>(tree: &'a Tree<'_>, top: &Node) -> Result<&'a [Node], ConfigFault>
-    ensures { Gives Memory (λ items. map (data_of tree.now) items.now) result (configuration.items_in (data_of tree.now top.now)) }
+    ensures { Gives Memory (λ items. map (data_of tree.now) items.now) result
+        (configuration.items_in (data_of tree.now top.now)) }
 {
     if !tree.is_object(top) {
         return Err(ConfigFault::Shape(Field::Top, 0));
@@ -180,7 +190,8 @@ fn items_of<'a>(tree: &'a Tree<'_>, top: &Node) -> Result<&'a [Node], ConfigFaul
 #[tactic(auto, unfolding(crate::specs::Configuration::filled_in))]
 fn fill(net: &Net, config: &mut Config, tree: &Tree<'_>, items: &[Node]) -> Result<(), ConfigFault>
     requires { length config.old ≡ switch_count net.now }
-    ensures { let read = configuration.filled_in net.now (rules_of_all config.old) (map (data_of tree.now) items.now) in
+    ensures { let read = configuration.filled_in net.now (rules_of_all config.old)
+        (map (data_of tree.now) items.now) in
         MatchResult result (λ _. read ≡ Ok (rules_of_all config.new)) (λ e. Fails Memory e read) }
 {
     read_items(net, config, tree, items)?;
@@ -194,7 +205,8 @@ fn fill(net: &Net, config: &mut Config, tree: &Tree<'_>, items: &[Node]) -> Resu
 /// Reads the tables of the file.
 #[tactic(auto, unfolding(crate::specs::Configuration::tables_in))]
 fn read_tables(alloc: Global, net: &Net, tree: &Tree<'_>, top: &Node) -> Result<Config, ConfigFault>
-    ensures { Gives Memory rules_of_all result (configuration.tables_in net.now (data_of tree.now top.now)) }
+    ensures { Gives Memory rules_of_all result
+        (configuration.tables_in net.now (data_of tree.now top.now)) }
 {
     let items = items_of(tree, top)?;
     let mut config = Config::make(alloc, net.switches())?;
@@ -237,7 +249,8 @@ fn read_bytes(alloc: Global, net: &Net, bytes: &[u8]) -> Result<Config, ConfigFa
 /// check that fails is the refusal. The cost is that of the text, and of comparing each rule with those before it at its
 /// switch, of which there are at most 2047. Look-ups in its tables search by the kinds of patterns.
 pub fn read_config(alloc: Global, net: &Net, bytes: &[u8]) -> Result<Config, ConfigFault>
-    ensures read { Gives Memory rules_of_all result (configuration.configuration_in net.now bytes.now) }
+    ensures read { Gives Memory rules_of_all result
+        (configuration.configuration_in net.now bytes.now) }
     // What was read is what a user may write.
     ensures user { IfOk result (λ c. IsUserConfig net.now (rules_of_all c)) }
 {

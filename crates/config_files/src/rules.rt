@@ -9,12 +9,10 @@ ghost use Rattle.config_files.specs.Configuration as configuration;
 use crate::fault::ConfigFault;
 use flat_json::{Node, Tree};
 use flow_rules::{Action, Key, Pattern, Rewrite, Rule, VlanTest};
-use net_base::{Field, Port, Prefix, SwitchId, read_prefix};
+use net_base::{Field, MAX_PORT, Port, Prefix, SwitchId, read_prefix};
 use topology::{Net, is_vlan_id};
 
 const MAX_PRIORITY: u64 = 16383;
-
-const MAX_PORT: u64 = 65279;
 
 /// Whether the value is this text.
 fn is_text(tree: &Tree<'_>, item: &Node, word: &str) -> bool
@@ -28,7 +26,8 @@ fn is_text(tree: &Tree<'_>, item: &Node, word: &str) -> bool
 
 /// Whether the number is that of a host port or link end of the switch.
 fn is_port(net: &Net, switch: SwitchId, number: u64) -> bool
-    ensures value { result ≡ is_used net.now (record { switch = switch; port = record { 0 = number } }) }
+    ensures value { result ≡ is_used net.now
+        (record { switch = switch; port = record { 0 = number } }) }
     ensures small { result ≡ true → number ≤ 65279 }
 {
     net.keeps_rules();
@@ -45,7 +44,8 @@ fn read_port(
     tree: &Tree<'_>,
     item: &Node,
 ) -> Result<Port, ConfigFault>
-    ensures { Gives Memory (λ p. p) result (configuration.port_in field place net.now switch (data_of tree.now item.now)) }
+    ensures { Gives Memory (λ p. p) result
+        (configuration.port_in field place net.now switch (data_of tree.now item.now)) }
 {
     let number = tree.whole(item).ok_or(ConfigFault::Shape(field, place))?;
     if !is_port(net, switch, number) {
@@ -65,7 +65,8 @@ fn read_port_or(
     tree: &Tree<'_>,
     item: &Node,
 ) -> Result<Option<Port>, ConfigFault>
-    ensures { Gives Memory (λ p. p) result (configuration.port_or word.now field place net.now switch (data_of tree.now item.now)) }
+    ensures { Gives Memory (λ p. p) result
+        (configuration.port_or word.now field place net.now switch (data_of tree.now item.now)) }
 {
     if is_text(tree, item, word) {
         return Ok(None);
@@ -82,7 +83,9 @@ fn read_in_port(
     tree: &Tree<'_>,
     member: Option<&Node>,
 ) -> Result<Option<Port>, ConfigFault>
-    ensures { Gives Memory (λ p. p) result (configuration.in_port_in place net.now switch (option_map (λ v. data_of tree.now v.now) member.entry)) }
+    ensures { Gives Memory (λ p. p) result
+        (configuration.in_port_in place net.now switch
+        (option_map (λ v. data_of tree.now v.now) member.entry)) }
 {
     match member {
         Some(item) => read_port_or(net, "any", Field::InPort, place, switch, tree, item),
@@ -93,7 +96,8 @@ fn read_in_port(
 /// Reads an id of a VLAN.
 #[tactic(auto, unfolding(crate::specs::Configuration::id_in))]
 fn read_id(net: &Net, place: u32, tree: &Tree<'_>, item: &Node) -> Result<VlanTest, ConfigFault>
-    ensures { Gives Memory (λ t. t) result (configuration.id_in place net.now (data_of tree.now item.now)) }
+    ensures { Gives Memory (λ t. t) result
+        (configuration.id_in place net.now (data_of tree.now item.now)) }
 {
     let id = tree
         .whole(item)
@@ -115,7 +119,9 @@ fn read_test(
     tree: &Tree<'_>,
     member: Option<&Node>,
 ) -> Result<VlanTest, ConfigFault>
-    ensures { Gives Memory (λ t. t) result (configuration.vlan_in place net.now (option_map (λ v. data_of tree.now v.now) member.entry)) }
+    ensures { Gives Memory (λ t. t) result
+        (configuration.vlan_in place net.now
+        (option_map (λ v. data_of tree.now v.now) member.entry)) }
 {
     match member {
         Some(item) => {
@@ -144,7 +150,8 @@ fn action_by(port: Option<Port>) -> Action
 /// Reads the priority.
 #[tactic(auto, unfolding(crate::specs::Configuration::priority_in))]
 fn read_priority(place: u32, tree: &Tree<'_>, item: &Node) -> Result<u16, ConfigFault>
-    ensures { Gives Memory (λ n. n) result (configuration.priority_in place (data_of tree.now item.now)) }
+    ensures { Gives Memory (λ n. n) result
+        (configuration.priority_in place (data_of tree.now item.now)) }
 {
     let priority = tree
         .whole_at(item, "priority")
@@ -158,7 +165,8 @@ fn read_priority(place: u32, tree: &Tree<'_>, item: &Node) -> Result<u16, Config
 /// Reads the prefix of the destinations.
 #[tactic(auto, unfolding(crate::specs::Configuration::dst_in))]
 fn read_dst(place: u32, tree: &Tree<'_>, item: &Node) -> Result<Prefix, ConfigFault>
-    ensures { Gives Memory (λ p. p) result (configuration.dst_in place (data_of tree.now item.now)) }
+    ensures { Gives Memory (λ p. p) result
+        (configuration.dst_in place (data_of tree.now item.now)) }
 {
     let text = tree
         .text_at(item, "dst")
@@ -175,7 +183,8 @@ fn read_pattern(
     tree: &Tree<'_>,
     item: &Node,
 ) -> Result<Pattern, ConfigFault>
-    ensures { Gives Memory (λ p. p) result (configuration.pattern_in place net.now switch (data_of tree.now item.now)) }
+    ensures { Gives Memory (λ p. p) result
+        (configuration.pattern_in place net.now switch (data_of tree.now item.now)) }
 {
     let in_port = read_in_port(net, place, switch, tree, tree.get(item, "in_port"))?;
     let vlan = read_test(net, place, tree, tree.get(item, "vlan"))?;
@@ -192,7 +201,8 @@ fn read_action(
     tree: &Tree<'_>,
     item: &Node,
 ) -> Result<Action, ConfigFault>
-    ensures { Gives Memory (λ a. a) result (configuration.action_in place net.now switch (data_of tree.now item.now)) }
+    ensures { Gives Memory (λ a. a) result
+        (configuration.action_in place net.now switch (data_of tree.now item.now)) }
 {
     let out = tree
         .get(item, "out")
@@ -210,7 +220,8 @@ pub(crate) fn read_rule(
     tree: &Tree<'_>,
     item: &Node,
 ) -> Result<Rule, ConfigFault>
-    ensures { Gives Memory (λ r. r) result (configuration.rule_in place net.now switch (data_of tree.now item.now)) }
+    ensures { Gives Memory (λ r. r) result
+        (configuration.rule_in place net.now switch (data_of tree.now item.now)) }
 {
     let priority = read_priority(place, tree, item)?;
     let pattern = read_pattern(net, place, switch, tree, item)?;

@@ -13,20 +13,28 @@ use thiserror::Error;
 #[derive(Clone, Copy, PartialEq, Eq, Error)]
 pub enum DemandFault {
     /// The bytes are no JSON text.
+    #[error("NotJson")]
     NotJson,
     /// The member is absent or of the wrong kind.
+    #[error("Shape")]
     Shape(Field, u32),
     /// No switch has the name.
+    #[error("UnknownSwitch")]
     UnknownSwitch(u32),
     /// The port is no host port of the network.
+    #[error("NotHost")]
     NotHost(u32),
     /// The VLAN id isn't 1 to 4094.
+    #[error("BadVlan")]
     BadVlan(u32),
     /// The text is no prefix.
+    #[error("BadPrefix")]
     BadPrefix(u32),
     /// More than 512 demands, or more than 16 waypoints of a demand.
+    #[error("TooMany")]
     TooMany(Field, u32),
     /// Memory was wanting.
+    #[error("Memory")]
     Memory,
 }
 
@@ -91,12 +99,6 @@ impl DemandFault {
 
 /// The name, as `Display`: a derived `Debug` has a path for each variant and takes long to prove.
 impl fmt::Debug for DemandFault {
-    fn fmt<W: fmt::Write>(&self, f: &mut fmt::Formatter<W>) -> fmt::Result {
-        f.write_str(self.name())
-    }
-}
-
-impl fmt::Display for DemandFault {
     fn fmt<W: fmt::Write>(&self, f: &mut fmt::Formatter<W>) -> fmt::Result {
         f.write_str(self.name())
     }

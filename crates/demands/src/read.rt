@@ -11,7 +11,7 @@ use crate::{Cover, Demand, Demands};
 use flat_json::{Node, Tree, parse_tree};
 use flow_rules::VlanTest;
 use json::Scratch;
-use net_base::{Field, Port, Prefix, Stop, SwitchId, place_of, read_prefix};
+use net_base::{Field, MAX_PORT, Port, Prefix, Stop, SwitchId, place_of, read_prefix};
 use std::alloc::Global;
 use topology::{Net, is_vlan_id, reference_parts};
 
@@ -20,9 +20,6 @@ const MAX_DEMANDS: usize = 512;
 
 /// The greatest number of waypoints of a demand.
 const MAX_WAYPOINTS: usize = 16;
-
-/// The greatest number of a port.
-const MAX_PORT: u64 = 65279;
 
 /// A VLAN test as it is spelled.
 #[derive(Clone, Copy)]
@@ -76,7 +73,8 @@ fn read_from(
     tree: &Tree<'_>,
     member: Option<&Node>,
 ) -> Result<Option<Stop>, DemandFault>
-    ensures { Gives Memory (λ o. o) result (policy.from_in net.now place (option_map (λ v. data_of tree.now v.now) member.entry)) }
+    ensures { Gives Memory (λ o. o) result
+        (policy.from_in net.now place (option_map (λ v. data_of tree.now v.now) member.entry)) }
 {
     match member {
         None => Ok(None),
@@ -127,7 +125,8 @@ fn test_of(word: TestWord) -> Option<VlanTest>
 /// Reads the member `vlan`.
 #[tactic(auto, unfolding(crate::specs::Policy::test_in))]
 fn read_test(place: u32, tree: &Tree<'_>, member: Option<&Node>) -> Result<VlanTest, DemandFault>
-    ensures { Gives Memory (λ t. t) result (policy.test_in place (option_map (λ v. data_of tree.now v.now) member.entry)) }
+    ensures { Gives Memory (λ t. t) result
+        (policy.test_in place (option_map (λ v. data_of tree.now v.now) member.entry)) }
 {
     match member {
         None => Ok(VlanTest::Any),
@@ -148,8 +147,10 @@ fn read_waypoint(
     item: &Node,
 ) -> Result<(), DemandFault>
     ensures { MatchResult result
-        (λ _. policy.waypoint_at net.now place through.old.items (data_of tree.now item.now) ≡ Ok through.new.items)
-        (λ e. Fails Memory e (policy.waypoint_at net.now place through.old.items (data_of tree.now item.now))) }
+        (λ _. policy.waypoint_at net.now place through.old.items (data_of tree.now item.now)
+        ≡ Ok through.new.items)
+        (λ e. Fails Memory e (policy.waypoint_at net.now place through.old.items
+        (data_of tree.now item.now))) }
 {
     let name = tree
         .as_str(item)
@@ -167,7 +168,8 @@ fn read_each_waypoint(
     tree: &Tree<'_>,
     items: &[Node],
 ) -> Result<Vec<SwitchId>, DemandFault>
-    ensures { Gives Memory (λ v. v.items) result (in_turn (λ i. policy.waypoint_at net.now place) 0 [] (map (data_of tree.now) items.now)) }
+    ensures { Gives Memory (λ v. v.items) result
+        (in_turn (λ i. policy.waypoint_at net.now place) 0 [] (map (data_of tree.now) items.now)) }
 {
     let mut through = Vec::new(alloc);
     for item in items {
@@ -185,7 +187,8 @@ fn read_waypoints(
     tree: &Tree<'_>,
     value: &Node,
 ) -> Result<Vec<SwitchId>, DemandFault>
-    ensures { Gives Memory (λ v. v.items) result (policy.waypoints_in net.now place (data_of tree.now value.now)) }
+    ensures { Gives Memory (λ v. v.items) result
+        (policy.waypoints_in net.now place (data_of tree.now value.now)) }
 {
     let items = tree
         .list_in(value)
@@ -205,7 +208,8 @@ fn read_through(
     tree: &Tree<'_>,
     member: Option<&Node>,
 ) -> Result<Vec<SwitchId>, DemandFault>
-    ensures { Gives Memory (λ v. v.items) result (policy.through_in net.now place (option_map (λ v. data_of tree.now v.now) member.entry)) }
+    ensures { Gives Memory (λ v. v.items) result
+        (policy.through_in net.now place (option_map (λ v. data_of tree.now v.now) member.entry)) }
 {
     match member {
         None => Ok(Vec::new(alloc)),
@@ -216,7 +220,8 @@ fn read_through(
 /// Reads the member `deliver`.
 #[tactic(auto, unfolding(crate::specs::Policy::deliver_in))]
 fn read_deliver(place: u32, tree: &Tree<'_>, member: Option<&Node>) -> Result<bool, DemandFault>
-    ensures { Gives Memory (λ b. b) result (policy.deliver_in place (option_map (λ v. data_of tree.now v.now) member.entry)) }
+    ensures { Gives Memory (λ b. b) result
+        (policy.deliver_in place (option_map (λ v. data_of tree.now v.now) member.entry)) }
 {
     match member {
         None => Ok(false),
@@ -240,7 +245,8 @@ fn read_dst(place: u32, tree: &Tree<'_>, item: &Node) -> Result<Prefix, DemandFa
 /// Reads the packets that a demand speaks of.
 #[tactic(auto, unfolding(crate::specs::Policy::cover_in))]
 fn read_cover(net: &Net, place: u32, tree: &Tree<'_>, item: &Node) -> Result<Cover, DemandFault>
-    ensures { Gives Memory (λ c. c) result (policy.cover_in net.now place (data_of tree.now item.now)) }
+    ensures { Gives Memory (λ c. c) result
+        (policy.cover_in net.now place (data_of tree.now item.now)) }
 {
     let from = read_from(net, place, tree, tree.get(item, "from"))?;
     let vlan = read_test(place, tree, tree.get(item, "vlan"))?;
@@ -257,7 +263,8 @@ fn read_demand(
     tree: &Tree<'_>,
     item: &Node,
 ) -> Result<Demand, DemandFault>
-    ensures { Gives Memory (λ d. d) result (policy.demand_in net.now place (data_of tree.now item.now)) }
+    ensures { Gives Memory (λ d. d) result
+        (policy.demand_in net.now place (data_of tree.now item.now)) }
 {
     let cover = read_cover(net, place, tree, item)?;
     let through = read_through(alloc, net, place, tree, tree.get(item, "through"))?;
@@ -280,8 +287,10 @@ fn read_item(
     item: &Node,
 ) -> Result<(), DemandFault>
     ensures { MatchResult result
-        (λ _. policy.demand_at net.now place demands.old (data_of tree.now item.now) ≡ Ok demands.new)
-        (λ e. Fails Memory e (policy.demand_at net.now place demands.old (data_of tree.now item.now))) }
+        (λ _. policy.demand_at net.now place demands.old (data_of tree.now item.now)
+        ≡ Ok demands.new)
+        (λ e. Fails Memory e (policy.demand_at net.now place demands.old
+        (data_of tree.now item.now))) }
 {
     if demands.count() >= MAX_DEMANDS {
         return Err(DemandFault::TooMany(Field::Demands, place));
@@ -301,7 +310,8 @@ fn read_each_demand(
     tree: &Tree<'_>,
     items: &[Node],
 ) -> Result<Demands, DemandFault>
-    ensures { Gives Memory (λ d. d) result (in_turn (policy.demand_at net.now) 0 [] (map (data_of tree.now) items.now)) }
+    ensures { Gives Memory (λ d. d) result
+        (in_turn (policy.demand_at net.now) 0 [] (map (data_of tree.now) items.now)) }
 {
     let mut demands = Demands::empty(alloc);
     for (i, item) in items.iter().enumerate() {

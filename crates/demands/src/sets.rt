@@ -46,7 +46,8 @@ impl DemandSets {
 
     /// The number of the set, and whether it is new. It is added where it isn't there.
     pub(crate) fn number(&mut self, set: Vec<bool>) -> Result<(usize, bool), Memory>
-        ensures sets { IfOk result (λ n. self.new ≡ (if n.1 then self.old ++ set.items ∷ [] else self.old)) }
+        ensures sets { IfOk result (λ n. self.new
+            ≡ (if n.1 then self.old ++ set.items ∷ [] else self.old)) }
         ensures stands { IfOk result (λ n. slice_get self.new n.0 ≡ Some set.items) }
     {
         Ok(self.sets.insert_full(set)?)

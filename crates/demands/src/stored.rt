@@ -32,14 +32,16 @@ impl Demand {
 
 /// Whether a demand asks the packets of the class to arrive.
 fn must_arrive(demands: &[Demand], class: Class) -> bool
-    ensures { result ≡ list_any (λ d. demand_covers d class.entry class.first && d.deliver) demands.now }
+    ensures { result ≡ list_any (λ d. demand_covers d class.entry class.first && d.deliver)
+        demands.now }
 {
     demands.iter().any(|demand| demand.asks_to_arrive(class))
 }
 
 /// Puts the chain of a demand of the class into an ascending list.
 fn put_demand(chains: &mut Vec<Chain>, demand: &Demand, class: Class) -> Result<(), Memory>
-    ensures { OnOk result (chains.new.items ≡ cond (demand_covers demand.now class.entry class.first)
+    ensures { OnOk result (chains.new.items
+        ≡ cond (demand_covers demand.now class.entry class.first)
         (with_chain (first_of_each demand.now.through) chains.old.items) chains.old.items) }
 {
     if demand.covers(class) {
@@ -83,8 +85,10 @@ fn put_row(
 ) -> Result<usize, Memory>
     requires { rows.old.items ≡ map (duties_by demands.now) sets.old }
     ensures rows { OnOk result (rows.new.items ≡ map (duties_by demands.now) sets.new) }
-    ensures kept { OnOk result ((i : ℕ) (d : PacketDuties) → slice_get rows.old.items i ≡ Some d → slice_get rows.new.items i ≡ Some d) }
-    ensures row { IfOk result (λ i. slice_get rows.new.items i ≡ Some (duties_of demands.now class.entry class.first)) }
+    ensures kept { OnOk result ((i : ℕ) (d : PacketDuties) → slice_get rows.old.items i ≡ Some d
+        → slice_get rows.new.items i ≡ Some d) }
+    ensures row { IfOk result (λ i. slice_get rows.new.items i
+        ≡ Some (duties_of demands.now class.entry class.first)) }
 {
     let set = set_of(alloc, demands.list(), class)?;
     let (number, is_new) = sets.number(set)?;
@@ -107,7 +111,8 @@ fn put_rows(
     requires sets { sets.old ≡ [] }
     requires rows { rows.old.items ≡ [] }
     requires numbers { numbers.old.items ≡ [] }
-    ensures { OnOk result ((length numbers.new.items ≡ class_count classes.now) × AreInOrder demands.now classes.now rows.new.items numbers.new.items) }
+    ensures { OnOk result ((length numbers.new.items ≡ class_count classes.now)
+        × AreInOrder demands.now classes.now rows.new.items numbers.new.items) }
 {
     for n in 0..classes.count() {
         let number = put_row(alloc, demands, classes.class(n), sets, rows)?;
@@ -122,7 +127,8 @@ fn all_duties(
     demands: &Demands,
     classes: &ClassMap,
 ) -> Result<(Vec<Duty>, Vec<usize>), Memory>
-    ensures { IfOk result (λ v. (length v.1.items ≡ class_count classes.now) × AreInOrder demands.now classes.now v.0.items v.1.items) }
+    ensures { IfOk result (λ v. (length v.1.items ≡ class_count classes.now)
+        × AreInOrder demands.now classes.now v.0.items v.1.items) }
 {
     let mut sets = DemandSets::make(alloc);
     let mut rows = Vec::new(alloc);
@@ -186,7 +192,8 @@ impl Duties {
     pub fn chain(&self, class: u32, i: u32) -> &[SwitchId]
         requires class { class < class_count self.now.classes }
         requires within { OfClass self.now class (λ duties. i < length duties.chains) }
-        ensures chain { OfClass self.now class (λ duties. slice_get duties.chains i ≡ Some result.now) }
+        ensures chain { OfClass self.now class
+            (λ duties. slice_get duties.chains i ≡ Some result.now) }
         ensures each_address { HasDutiesOfEachAddress self.now class }
     {
         self.duty(class).chains[i as usize].list()

@@ -20,7 +20,8 @@ pub const MAX_CLASSES: u64 = 8192;
 /// The class map of a network for a list of prefixes. It takes time n log n in the number of prefixes. It is refused
 /// with the number of classes where that exceeds 8192.
 pub fn class_map(alloc: Global, net: &Net, prefixes: &[Prefix]) -> Result<ClassMap, ClassFault>
-    ensures ok { IfOk result (λ m. (m ≡ classes_of net.now prefixes.now) × (class_count (classes_of net.now prefixes.now) ≤ 8192)) }
+    ensures ok { IfOk result (λ m. (m ≡ classes_of net.now prefixes.now)
+        × (class_count (classes_of net.now prefixes.now) ≤ 8192)) }
     ensures too_many { IfErr result (IsCauseOf (classes_of net.now prefixes.now)) }
 {
     net.keeps_rules();
@@ -102,8 +103,10 @@ impl ClassMap {
         ensures count { result ≡ atom_count self.now }
         ensures some { 0 < result }
         ensures few { result ≤ 8192 }
-        ensures classes { class_count self.now ≡ length self.now.hosts * length self.now.vlans * result }
-        ensures first { (n : ℕ) (class : Class) → IsClass self.now n class → slice_get (boundaries self.now.prefixes) (n % result) ≡ Some class.first }
+        ensures classes { class_count self.now
+            ≡ length self.now.hosts * length self.now.vlans * result }
+        ensures first { (n : ℕ) (class : Class) → IsClass self.now n class
+            → slice_get (boundaries self.now.prefixes) (n % result) ≡ Some class.first }
     {
         self.atoms.count() as u32
     }
@@ -115,10 +118,14 @@ impl ClassMap {
         requires known { IsIn p self.now.prefixes }
         ensures within { result.to ≤ atom_count self.now }
         ensures some { result.from < result.to }
-        ensures first { (i : ℕ) → i < atom_count self.now → IsAmong result i ↔ (in_block p (slice_index (boundaries self.now.prefixes) i) ≡ true) }
-        ensures address { (i address : ℕ) → address < 2 ^ 32 → IsAtomOf (boundaries self.now.prefixes) i address → IsAmong result i ↔ (in_block p address ≡ true) }
+        ensures first { (i : ℕ) → i < atom_count self.now → IsAmong result i
+            ↔ (in_block p (slice_index (boundaries self.now.prefixes) i) ≡ true) }
+        ensures address { (i address : ℕ) → address < 2 ^ 32
+            → IsAtomOf (boundaries self.now.prefixes) i address → IsAmong result i
+            ↔ (in_block p address ≡ true) }
         // By a class's number: its first address lies in the prefix exactly where the range has its atom.
-        ensures class { (n : ℕ) (class : Class) → IsClass self.now n class → IsAmong result (n % atom_count self.now) ↔ (in_block p class.first ≡ true) }
+        ensures class { (n : ℕ) (class : Class) → IsClass self.now n class
+            → IsAmong result (n % atom_count self.now) ↔ (in_block p class.first ≡ true) }
     {
         AtomRange {
             from: self.atoms.begun_before(u64::from(p.base)) as u32,
@@ -132,10 +139,12 @@ impl ClassMap {
         requires hosts { self.now.hosts ≡ net.now.hosts }
         requires vlans { self.now.vlans ≡ net.now.vlans }
         ensures none { IsNone result ↔ ¬ IsEntry net.now entry }
-        ensures some { IfSome result (λ n. (n < class_count self.now) × IsClassOf self.now n entry addr) }
+        ensures some { IfSome result (λ n. (n < class_count self.now)
+            × IsClassOf self.now n entry addr) }
         ensures only { IfSome result (λ n. (m : ℕ) → IsClassOf self.now m entry addr → m ≡ n) }
         // Of this class is the entry, and no prefix tells the address apart from the class's first one.
-        ensures class { IfSome result (λ n. (class : Class) → IsClass self.now n class → (class.entry ≡ entry) × IsSameClass self.now.prefixes class.first addr) }
+        ensures class { IfSome result (λ n. (class : Class) → IsClass self.now n class
+            → (class.entry ≡ entry) × IsSameClass self.now.prefixes class.first addr) }
     {
         net.keeps_rules();
         let stop = Stop {

@@ -17,7 +17,8 @@ pub(crate) fn end_of(prefix: &Prefix) -> u64
 
 /// The address after the last one of a prefix, where it is below 2^32.
 fn address_after(prefix: &Prefix) -> Option<u32>
-    ensures some { IfSome result (λ a. (a ≡ prefix.now.base + block_size prefix.now) × (a < 2 ^ 32)) }
+    ensures some { IfSome result (λ a. (a ≡ prefix.now.base + block_size prefix.now)
+        × (a < 2 ^ 32)) }
     ensures none { IfNone result (2 ^ 32 ≤ prefix.now.base + block_size prefix.now) }
 {
     let after = end_of(prefix);
@@ -30,7 +31,8 @@ fn address_after(prefix: &Prefix) -> Option<u32>
 
 /// Adds the boundaries that a prefix makes.
 fn add_ends(ends: &mut Vec<u32>, prefix: &Prefix) -> Result<(), Memory>
-    ensures { OnOk result (ends.new.items ≡ ends.old.items ++ filter (λ a. nat_lt a (2 ^ 32)) (block_ends prefix.now)) }
+    ensures { OnOk result (ends.new.items
+        ≡ ends.old.items ++ filter (λ a. nat_lt a (2 ^ 32)) (block_ends prefix.now)) }
 {
     ends.push(prefix.base)?;
     if let Some(after) = address_after(prefix) {
@@ -41,7 +43,8 @@ fn add_ends(ends: &mut Vec<u32>, prefix: &Prefix) -> Result<(), Memory>
 
 /// The boundaries of the prefixes in the order of the list, with repetitions, and 0 before them.
 fn all_ends(alloc: Global, prefixes: &[Prefix]) -> Result<Vec<u32>, Memory>
-    ensures { IfOk result (λ v. v.items ≡ 0 ∷ filter (λ a. nat_lt a (2 ^ 32)) (flat_map block_ends prefixes.now)) }
+    ensures { IfOk result (λ v. v.items
+        ≡ 0 ∷ filter (λ a. nat_lt a (2 ^ 32)) (flat_map block_ends prefixes.now)) }
 {
     let mut ends = Vec::new(alloc);
     ends.push(0)?;
@@ -86,7 +89,8 @@ impl Atoms {
         ensures atom { IsAtomOf self.now result addr }
         ensures next { result + 1 < length self.now → addr < slice_index self.now (result + 1) }
         // Where these are the atoms of prefixes, none of them tells the address apart from the atom's first one.
-        ensures class { (blocks : List Block) → self.now ≡ boundaries blocks → IsSameClass blocks (slice_index self.now result) addr }
+        ensures class { (blocks : List Block) → self.now ≡ boundaries blocks
+            → IsSameClass blocks (slice_index self.now result) addr }
     {
         self.firsts.partition_point(|first| *first <= addr) - 1
     }
@@ -94,7 +98,8 @@ impl Atoms {
     /// How many atoms begin before an address, which may be 2^32. It takes time log n.
     pub(crate) fn begun_before(&self, addr: u64) -> usize
         ensures within { result ≤ length self.now }
-        ensures each { (i : ℕ) → i < length self.now → (i < result) ↔ (slice_index self.now i < addr) }
+        ensures each { (i : ℕ) → i < length self.now → (i < result)
+            ↔ (slice_index self.now i < addr) }
     {
         self.firsts
             .partition_point(|first| u64::from(*first) < addr)

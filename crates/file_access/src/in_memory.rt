@@ -53,7 +53,16 @@ impl MemorySource {
     /// Err says that memory was wanting.
     pub fn make(alloc: Global, piece: usize, failing: Vec<u64>) -> Result<Self, Memory>
         requires { 1 ≤ piece }
-        ensures { IfOk result (λ s. s ≡ record { piece = piece; failing = failing.items; files = []; name = []; left = None; taken = 0; calls = 0; faults = 0 }) }
+        ensures { IfOk result (λ s. s ≡ record {
+          piece = piece;
+          failing = failing.items;
+          files = [];
+          name = [];
+          left = None;
+          taken = 0;
+          calls = 0;
+          faults = 0;
+        }) }
     {
         Ok(MemorySource {
             piece,
@@ -128,7 +137,8 @@ impl Source for MemorySource {
 
     fn select(&mut self, name: &str) -> Result<(), Failed>
         ensures exact { self.new ≡ after_select self.old name.now }
-        ensures failed { IsErr result ↔ (IsTrue (fails_next self.old.failing self.old.calls) ⊎ (file_of self.old.files name.now ≡ None)) }
+        ensures failed { IsErr result ↔ (IsTrue (fails_next self.old.failing self.old.calls)
+            ⊎ (file_of self.old.files name.now ≡ None)) }
         ensures later { self.old.faults ≤ self.new.faults }
     {
         let number = self.calls.saturating_add(1);
@@ -205,7 +215,14 @@ impl MemorySink {
     /// Err says that memory was wanting.
     pub fn make(alloc: Global, room: usize, piece: usize, failing: Vec<u64>) -> Result<Self, Memory>
         requires { 1 ≤ piece }
-        ensures { IfOk result (λ s. s ≡ record { room = room; piece = piece; failing = failing.items; bytes = []; calls = 0; faults = 0 }) }
+        ensures { IfOk result (λ s. s ≡ record {
+          room = room;
+          piece = piece;
+          failing = failing.items;
+          bytes = [];
+          calls = 0;
+          faults = 0;
+        }) }
     {
         Ok(MemorySink {
             room,

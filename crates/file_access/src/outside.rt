@@ -38,7 +38,8 @@ pub trait Source {
         ensures selected { OnOk result (selected self.new ≡ name.now) }
         ensures missing { IsMissing (held self.old) name.now → IsErr result }
         ensures later { faults self.old ≤ faults self.new }
-        ensures cause { OnErr result (Rose (faults self.old) (faults self.new) ⊎ IsMissing (held self.old) name.now) };
+        ensures cause { OnErr result (Rose (faults self.old) (faults self.new)
+            ⊎ IsMissing (held self.old) name.now) };
 
     /// Fills the front of the buffer with the next bytes; none is the end of the file.
     fn take(&mut self, buf: &mut [u8]) -> Result<usize, Failed>
@@ -50,7 +51,8 @@ pub trait Source {
         ensures bound { IfOk result (λ n. n ≤ length buf.old) }
         ensures taken_ok { IfOk result (λ n. taken self.new ≡ raised (taken self.old) n) }
         ensures taken_err { OnErr result (taken self.new ≡ taken self.old) }
-        ensures bytes { IfOk result (λ n. Consumes (left self.old) (left self.new) (take n buf.new)) }
+        ensures bytes { IfOk result (λ n. Consumes (left self.old) (left self.new)
+            (take n buf.new)) }
         ensures end { IfOk result (λ n. n ≡ 0 → IsAtEnd (left self.old)) }
         ensures later { faults self.old ≤ faults self.new }
         ensures cause { OnErr result (Rose (faults self.old) (faults self.new)) };
@@ -69,7 +71,8 @@ pub trait Sink {
         requires { 0 < length bytes.now }
         ensures some { IfOk result (λ n. 0 < n) }
         ensures bound { IfOk result (λ n. n ≤ length bytes.now) }
-        ensures written { IfOk result (λ n. Appends (written self.old) (written self.new) (take n bytes.now)) }
+        ensures written { IfOk result (λ n. Appends (written self.old) (written self.new)
+            (take n bytes.now)) }
         ensures unwritten { OnErr result (Keeps (written self.old) (written self.new)) }
         ensures later { faults self.old ≤ faults self.new }
         ensures cause { OnErr result (Rose (faults self.old) (faults self.new)) };

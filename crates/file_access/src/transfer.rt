@@ -59,7 +59,8 @@ pub fn fetch<S: Source>(
 
     // No more than one byte past the limit is taken.
     ensures at_most { S.taken src.new ≤ limit + 1 }
-    ensures selected { IsOk result ⊎ IsErrOf result FetchFault.TooLong → S.selected src.new ≡ name.now }
+    ensures selected { IsOk result ⊎ IsErrOf result FetchFault.TooLong
+        → S.selected src.new ≡ name.now }
     ensures held { S.held src.new ≡ S.held src.old }
     ensures later { S.faults src.old ≤ S.faults src.new }
 {
@@ -90,7 +91,8 @@ pub fn fetch<S: Source>(
 /// The first put that fails ends it by a `WriteFault`; a front of the bytes, maybe an empty one, is then written.
 pub fn pour<K: Sink>(sink: &mut K, bytes: &[u8]) -> Result<(), WriteFault>
     ensures all { OnOk result (Appends (K.written sink.old) (K.written sink.new) bytes.now) }
-    ensures front { OnErr result (AppendsFront (K.written sink.old) (K.written sink.new) bytes.now) }
+    ensures front { OnErr result (AppendsFront (K.written sink.old) (K.written sink.new)
+        bytes.now) }
     ensures cause { OnErr result (Rose (K.faults sink.old) (K.faults sink.new)) }
     ensures later { K.faults sink.old ≤ K.faults sink.new }
 {

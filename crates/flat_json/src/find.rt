@@ -61,7 +61,8 @@ impl<'a> Tree<'a> {
     /// The items of a node that is a list.
     #[tactic(auto, unfolding(crate::specs::Trees::data_of, crate::specs::Stores::data_in))]
     pub fn list_in(&self, node: &Node) -> Option<&[Node]>
-        ensures { option_map (λ l. map (data_of self.now) l.now) result ≡ json.list_in (data_of self.now node.now) }
+        ensures { option_map (λ l. map (data_of self.now) l.now) result
+            ≡ json.list_in (data_of self.now node.now) }
     {
         match *node {
             Node::List(first, count) => Some(part_of(&self.store.nodes, first, count)),
@@ -72,7 +73,8 @@ impl<'a> Tree<'a> {
     /// The member with a name. Of equal names it is the last. It looks at each member.
     #[tactic(auto, unfolding(crate::specs::Trees::data_of, crate::specs::Stores::data_in))]
     pub fn get(&self, node: &Node, name: &str) -> Option<&Node>
-        ensures { option_map (λ n. data_of self.now n.now) result ≡ get name.now (data_of self.now node.now) }
+        ensures { option_map (λ n. data_of self.now n.now) result
+            ≡ get name.now (data_of self.now node.now) }
     {
         match *node {
             Node::Object(key, first, count) => {
@@ -86,7 +88,8 @@ impl<'a> Tree<'a> {
 
     /// The text of a member.
     pub fn text_at(&self, node: &Node, name: &str) -> Option<&'a str>
-        ensures { option_map (λ t. t.now) result ≡ json.text_at name.now (data_of self.now node.now) }
+        ensures { option_map (λ t. t.now) result
+            ≡ json.text_at name.now (data_of self.now node.now) }
     {
         self.as_str(self.get(node, name)?)
     }
@@ -100,7 +103,8 @@ impl<'a> Tree<'a> {
 
     /// The items of a member that is a list.
     pub fn list_at(&self, node: &Node, name: &str) -> Option<&[Node]>
-        ensures { option_map (λ l. map (data_of self.now) l.now) result ≡ json.list_at name.now (data_of self.now node.now) }
+        ensures { option_map (λ l. map (data_of self.now) l.now) result
+            ≡ json.list_at name.now (data_of self.now node.now) }
     {
         self.list_in(self.get(node, name)?)
     }

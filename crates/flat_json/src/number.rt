@@ -1,5 +1,6 @@
 //! The numbers of a text.
 ghost use Rattle.std.specs.Prelude.{◌≡◌, ◌==◌, ◌<◌, ℕ, List, false, true, option_map, length, slice_index, IsTrue};
+ghost use Rattle.fast_float.specs.Text.{scan};
 ghost use Rattle.serde_json.specs.Read.{number_of, number_from, float_of};
 ghost use Rattle.serde_json.specs.Data.{Data, number};
 ghost use Rattle.flat_json.specs.Nodes.{meaning, is_within};
@@ -18,7 +19,8 @@ pub(crate) enum Number {
 
 /// The node of a number.
 pub(crate) fn node_of(n: Number) -> Node
-    ensures means { (texts : List (List ℕ)) → (before : List Data) → meaning texts before result ≡ number (num_of n) }
+    ensures means { (texts : List (List ℕ)) → (before : List Data)
+        → meaning texts before result ≡ number (num_of n) }
     ensures within { is_within 0 0 result ≡ true }
 {
     match n {
@@ -34,9 +36,9 @@ pub(crate) fn read_number(text: &str) -> Option<Number>
 {
     let bytes = text.as_bytes();
     if has_minus(bytes) {
-        below_zero(&Numeral::scan(&bytes[1..]))
+        below_zero(&bytes[1..])
     } else {
-        from_zero(&Numeral::scan(bytes))
+        from_zero(bytes)
     }
 }
 
@@ -47,31 +49,33 @@ fn has_minus(bytes: &[u8]) -> bool
     !bytes.is_empty() && bytes[0] == b'-'
 }
 
-fn from_zero(numeral: &Numeral<'_>) -> Option<Number>
-    ensures { option_map num_of result ≡ number_from false numeral.now }
+fn from_zero(bytes: &[u8]) -> Option<Number>
+    ensures { option_map num_of result ≡ number_from false (scan bytes.now) }
 {
-    match numeral.to_u64() {
+    match Numeral::scan(bytes).to_u64() {
         Some(n) => Some(Number::Whole(n)),
-        None => nearest(false, numeral),
+        None => nearest(false, bytes),
     }
 }
 
-fn below_zero(numeral: &Numeral<'_>) -> Option<Number>
-    ensures { option_map num_of result ≡ number_from true numeral.now }
+fn below_zero(bytes: &[u8]) -> Option<Number>
+    ensures { option_map num_of result ≡ number_from true (scan bytes.now) }
 {
-    if let Some(n) = numeral.to_i64(true) {
+    if let Some(n) = Numeral::scan(bytes).to_i64(true) {
         if n < 0 {
             return Some(Number::Negative(n));
         }
     }
-    nearest(true, numeral)
+    nearest(true, bytes)
 }
 
 /// The nearest float, where it is finite.
-fn nearest(negative: bool, numeral: &Numeral<'_>) -> Option<Number>
-    ensures { option_map num_of result ≡ float_of negative numeral.now }
+#[cold]
+#[inline(never)]
+fn nearest(negative: bool, bytes: &[u8]) -> Option<Number>
+    ensures { option_map num_of result ≡ float_of negative (scan bytes.now) }
 {
-    let x = numeral.to_float::<f64>(negative);
+    let x = Numeral::scan(bytes).to_float::<f64>(negative);
     if x.is_finite() {
         Some(Number::Float(x))
     } else {

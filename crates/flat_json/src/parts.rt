@@ -18,7 +18,8 @@ pub(crate) fn part_of<T>(list: &[T], first: u32, count: u32) -> &[T]
 /// The value of the last of the keys that is the name.
 pub(crate) fn last_named<'t>(keys: &[&str], values: &'t [Node], name: &str) -> Option<&'t Node>
     ensures { (f : NodeOf → Data) → option_map (λ v. f v.now) result
-        ≡ get_member name.now (with_members (map (λ k. k.now) keys.now) (map f values.now) no_members) }
+        ≡ get_member name.now (with_members (map (λ k. k.now) keys.now) (map f values.now)
+        no_members) }
 {
     let mut found = None;
     for i in 0..keys.len().min(values.len()) {

@@ -25,7 +25,8 @@ pub(crate) fn read<'a>(
 ) -> Result<Node, JsonFault>
     requires { is_ordered store.old ≡ true }
     ensures kept { IfOk result (λ n. Keeps store.old store.new (n ∷ [])) }
-    ensures ok { IfOk result (λ n. converted of_json (value depth reader.old) ≡ Some (data_in store.new n, reader.new)) }
+    ensures ok { IfOk result (λ n. converted of_json (value depth reader.old)
+        ≡ Some (data_in store.new n, reader.new)) }
     ensures shorter { OnOk result (length reader.new < length reader.old) }
     ensures err { result ≡ Err NotJson → converted of_json (value depth reader.old) ≡ None }
 {
@@ -66,10 +67,12 @@ fn read_items<'a>(
 ) -> Result<Vec<Node>, JsonFault>
     requires { is_ordered store.old ≡ true }
     ensures kept { IfOk result (λ v. Keeps store.old store.new v.items) }
-    ensures ok { IfOk result (λ v. converted of_items (items (value depth) (length reader.old) reader.old)
+    ensures ok { IfOk result (λ v. converted of_items
+        (items (value depth) (length reader.old) reader.old)
         ≡ Some (items_of (map (data_in store.new) v.items), reader.new)) }
     ensures shorter { OnOk result (length reader.new < length reader.old) }
-    ensures err { result ≡ Err NotJson → converted of_items (items (value depth) (length reader.old) reader.old) ≡ None }
+    ensures err { result ≡ Err NotJson
+        → converted of_items (items (value depth) (length reader.old) reader.old) ≡ None }
 {
     let mut found = Vec::new(alloc);
     'items: while !reader.take_end_array() {
@@ -90,10 +93,17 @@ fn read_members<'a>(
     requires { is_ordered store.old ≡ true }
     ensures kept { IfOk result (λ m. Keeps store.old store.new m.values.items) }
     ensures paired { IfOk result (λ m. vec_len m.keys ≡ vec_len m.values) }
-    ensures ok { IfOk result (λ m. converted (λ ms. of_members ms no_members) (members (value depth) (length reader.old) reader.old)
-        ≡ Some (with_members (map (λ k. k.now) m.keys.items) (map (data_in store.new) m.values.items) no_members, reader.new)) }
+    ensures ok { IfOk result (λ m. converted (λ ms. of_members ms no_members)
+        (members (value depth) (length reader.old) reader.old)
+        ≡ Some (
+          with_members (map (λ k. k.now) m.keys.items)
+              (map (data_in store.new) m.values.items) no_members,
+          reader.new,
+        )) }
     ensures shorter { OnOk result (length reader.new < length reader.old) }
-    ensures err { result ≡ Err NotJson → converted (λ ms. of_members ms no_members) (members (value depth) (length reader.old) reader.old) ≡ None }
+    ensures err { result ≡ Err NotJson
+        → converted (λ ms. of_members ms no_members)
+        (members (value depth) (length reader.old) reader.old) ≡ None }
 {
     let mut keys = Vec::new(alloc);
     let mut values = Vec::new(alloc);

@@ -55,7 +55,8 @@ pub(crate) fn add_list(store: &mut Store<'_>, items: &[Node]) -> Result<Node, Js
     requires ordered { is_ordered store.old ≡ true }
     requires known { are_known store.old items.now ≡ true }
     ensures kept { IfOk result (λ n. Keeps store.old store.new (n ∷ [])) }
-    ensures means { IfOk result (λ n. data_in store.new n ≡ array (items_of (map (data_in store.old) items.now))) }
+    ensures means { IfOk result (λ n. data_in store.new n
+        ≡ array (items_of (map (data_in store.old) items.now))) }
     ensures err { IfErr result (λ e. e ≡ Memory) }
 {
     let first = place(store.nodes.len())?;
@@ -80,7 +81,9 @@ pub(crate) fn add_object<'a>(
     requires known { are_known store.old members.now.values.items ≡ true }
     requires paired { vec_len members.now.keys ≡ vec_len members.now.values }
     ensures kept { IfOk result (λ n. Keeps store.old store.new (n ∷ [])) }
-    ensures means { IfOk result (λ n. data_in store.new n ≡ object (with_members (map (λ k. k.now) members.now.keys.items) (map (data_in store.old) members.now.values.items) no_members)) }
+    ensures means { IfOk result (λ n. data_in store.new n
+        ≡ object (with_members (map (λ k. k.now) members.now.keys.items)
+        (map (data_in store.old) members.now.values.items) no_members)) }
     ensures err { IfErr result (λ e. e ≡ Memory) }
 {
     let key = place(store.texts.len())?;

@@ -49,7 +49,8 @@ fn copies_of(alloc: Global, tables: &[Table]) -> Result<Vec<Table>, Memory>
 
 /// Adds the prefixes of the rules.
 fn add_prefixes(prefixes: &mut Vec<Prefix>, rules: &[Rule]) -> Result<(), Memory>
-    ensures { OnOk result (prefixes.new.items ≡ prefixes.old.items ++ map (λ r. r.key.pattern.dst) rules.now) }
+    ensures { OnOk result (prefixes.new.items
+        ≡ prefixes.old.items ++ map (λ r. r.key.pattern.dst) rules.now) }
 {
     for rule in rules {
         prefixes.push(rule.key.pattern.dst)?;

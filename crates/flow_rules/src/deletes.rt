@@ -27,7 +27,8 @@ fn has_key_sorted(rules: &[Rule], key: &Key) -> bool
 
 /// Takes out the rules with the keys of others, which it sorts.
 pub fn delete_keys(rules: &mut Vec<Rule>, others: &mut [Rule])
-    ensures items { rules.new.items ≡ filter (λ q. not (list_any (λ r. key_eq r.key q.key) others.old)) rules.old.items }
+    ensures items { rules.new.items
+        ≡ filter (λ q. not (list_any (λ r. key_eq r.key q.key) others.old)) rules.old.items }
     ensures capacity { vec_capacity rules.new ≡ vec_capacity rules.old }
 {
     sort_by_key(others);

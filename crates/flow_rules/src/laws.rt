@@ -8,5 +8,6 @@ ghost use Rattle.flow_rules.specs.declared.rules.Rule.{Rule};
 /// In a clear table a lookup depends on the set of the rules alone: two lists of the same rules, in whatever order, give
 /// the same action for every packet.
 pub fn lookup_by_set()
-    ensures { (rules others : List Rule) → IsClear rules → IsSameSet rules others → (header : Header) → lookup header rules ≡ lookup header others }
+    ensures { (rules others : List Rule) → IsClear rules → IsSameSet rules others
+        → (header : Header) → lookup header rules ≡ lookup header others }
 {}

@@ -20,7 +20,8 @@ fn clash_after(rules: &[Rule], i: usize) -> Option<usize>
 
 /// The least two positions of rules that clash.
 pub fn least_clash(rules: &[Rule]) -> Option<(usize, usize)>
-    ensures { MatchOption result ((i : ℕ) → IsFree rules.now i) (λ pair. IsLeastClash rules.now pair.0 pair.1) }
+    ensures { MatchOption result ((i : ℕ) → IsFree rules.now i)
+        (λ pair. IsLeastClash rules.now pair.0 pair.1) }
 {
     for i in 0..rules.len() {
         if let Some(j) = clash_after(rules, i) {

@@ -35,7 +35,8 @@ fn better(best: Option<Rule>, rule: Rule) -> Option<Rule>
 
 /// The first of the covering rules of greatest priority, by a look at each rule.
 pub(crate) fn best_of(rules: &[Rule], packet: Packet) -> Option<Rule>
-    ensures { result ≡ matched (record { port = packet.port; vlan = packet.vlan; dst = packet.dst }) rules.now }
+    ensures { result ≡ matched (record { port = packet.port; vlan = packet.vlan; dst = packet.dst })
+        rules.now }
 {
     let mut best = None;
     for rule in rules {
@@ -69,11 +70,17 @@ fn better_position(rules: &[Rule], best: usize, position: usize) -> usize
 
 /// The best position so far, or another one where its rule covers a packet and is better.
 fn better_at(rules: &[Rule], packet: Packet, best: Option<usize>, position: usize) -> Option<usize>
-    requires hit { IsHit (record { port = packet.port; vlan = packet.vlan; dst = packet.dst }) rules.now best }
+    requires hit { IsHit (record { port = packet.port; vlan = packet.vlan; dst = packet.dst })
+        rules.now best }
     requires position { position < length rules.now }
-    ensures hit { IsHit (record { port = packet.port; vlan = packet.vlan; dst = packet.dst }) rules.now result }
-    ensures kept { (j : ℕ) → IsBeaten (record { port = packet.port; vlan = packet.vlan; dst = packet.dst }) rules.now best j → IsBeaten (record { port = packet.port; vlan = packet.vlan; dst = packet.dst }) rules.now result j }
-    ensures here { IsBeaten (record { port = packet.port; vlan = packet.vlan; dst = packet.dst }) rules.now result position }
+    ensures hit { IsHit (record { port = packet.port; vlan = packet.vlan; dst = packet.dst })
+        rules.now result }
+    ensures kept { (j : ℕ) → IsBeaten
+        (record { port = packet.port; vlan = packet.vlan; dst = packet.dst }) rules.now best j
+        → IsBeaten (record { port = packet.port; vlan = packet.vlan; dst = packet.dst }) rules.now
+        result j }
+    ensures here { IsBeaten (record { port = packet.port; vlan = packet.vlan; dst = packet.dst })
+        rules.now result position }
 {
     if !rules[position]
         .key
@@ -97,10 +104,19 @@ fn best_of_kind(
     best: Option<usize>,
 ) -> Option<usize>
     requires count { length space.now.patterns ≡ length rules.now }
-    requires hit { IsHit (record { port = packet.port; vlan = packet.vlan; dst = packet.dst }) rules.now best }
-    ensures hit { IsHit (record { port = packet.port; vlan = packet.vlan; dst = packet.dst }) rules.now result }
-    ensures kept { (j : ℕ) → IsBeaten (record { port = packet.port; vlan = packet.vlan; dst = packet.dst }) rules.now best j → IsBeaten (record { port = packet.port; vlan = packet.vlan; dst = packet.dst }) rules.now result j }
-    ensures slot { (j : ℕ) → slice_index_or (slots_of space.now) j 0 ≡ slot_of space.now.count (around kind.now (record { port = packet.port; vlan = packet.vlan; dst = packet.dst })) → IsBeaten (record { port = packet.port; vlan = packet.vlan; dst = packet.dst }) rules.now result j }
+    requires hit { IsHit (record { port = packet.port; vlan = packet.vlan; dst = packet.dst })
+        rules.now best }
+    ensures hit { IsHit (record { port = packet.port; vlan = packet.vlan; dst = packet.dst })
+        rules.now result }
+    ensures kept { (j : ℕ) → IsBeaten
+        (record { port = packet.port; vlan = packet.vlan; dst = packet.dst }) rules.now best j
+        → IsBeaten (record { port = packet.port; vlan = packet.vlan; dst = packet.dst }) rules.now
+        result j }
+    ensures slot { (j : ℕ) → slice_index_or (slots_of space.now) j 0
+        ≡ slot_of space.now.count (around kind.now
+        (record { port = packet.port; vlan = packet.vlan; dst = packet.dst }))
+        → IsBeaten (record { port = packet.port; vlan = packet.vlan; dst = packet.dst }) rules.now
+        result j }
 {
     let mut best = best;
     let mut at = space.first(kind, packet.port, packet.vlan, packet.dst);
@@ -114,7 +130,8 @@ fn best_of_kind(
 /// The first of the covering rules of greatest priority, by a look into one slot for each kind of pattern.
 pub(crate) fn best_in_space(rules: &[Rule], space: &TupleSpace, packet: Packet) -> Option<Rule>
     requires { space.now.patterns ≡ patterns_of rules.now }
-    ensures { result ≡ matched (record { port = packet.port; vlan = packet.vlan; dst = packet.dst }) rules.now }
+    ensures { result ≡ matched (record { port = packet.port; vlan = packet.vlan; dst = packet.dst })
+        rules.now }
 {
     let mut best = None;
     for kind in space.kinds() {

@@ -51,7 +51,8 @@ impl Table {
 
     /// The rule that matches a packet.
     fn best(&self, packet: Packet) -> Option<Rule>
-        ensures { result ≡ matched (record { port = packet.port; vlan = packet.vlan; dst = packet.dst }) self.now.rules }
+        ensures { result ≡ matched (record
+            { port = packet.port; vlan = packet.vlan; dst = packet.dst }) self.now.rules }
     {
         match &self.space {
             Some(space) => best_in_space(&self.entries, space, packet),
@@ -96,7 +97,8 @@ fn has_rule_among(rules: &[Rule], rule: &Rule) -> bool
 
 /// Puts a rule in the place of those with its key.
 fn replace_in(rules: &mut Vec<Rule>, rule: Rule)
-    ensures items { rules.new.items ≡ map (λ q. cond (key_eq q.key rule.key) rule q) rules.old.items }
+    ensures items { rules.new.items
+        ≡ map (λ q. cond (key_eq q.key rule.key) rule q) rules.old.items }
     ensures len { vec_len rules.new ≡ vec_len rules.old }
     ensures capacity { vec_capacity rules.new ≡ vec_capacity rules.old }
 {
@@ -182,8 +184,10 @@ impl Table {
 
     /// Takes out the rules with the keys of others, which it sorts. The rest keep their order. It takes time n log n.
     pub fn delete_all(&mut self, others: &mut [Rule])
-        ensures rules { self.new.rules ≡ filter (λ q. not (list_any (λ r. key_eq r.key q.key) others.old)) self.old.rules }
-        ensures room { length self.new.rules + self.new.spare ≡ length self.old.rules + self.old.spare }
+        ensures rules { self.new.rules ≡ filter
+            (λ q. not (list_any (λ r. key_eq r.key q.key) others.old)) self.old.rules }
+        ensures room { length self.new.rules + self.new.spare
+            ≡ length self.old.rules + self.old.spare }
     {
         self.space = None;
         delete_keys(&mut self.entries, others);
@@ -191,7 +195,8 @@ impl Table {
 
     /// Puts a rule in the place of the one with its key.
     pub fn replace(&mut self, rule: Rule)
-        ensures rules { self.new.rules ≡ map (λ q. cond (key_eq q.key rule.key) rule q) self.old.rules }
+        ensures rules { self.new.rules ≡ map (λ q. cond (key_eq q.key rule.key) rule q)
+            self.old.rules }
         ensures spare { self.new.spare ≡ self.old.spare }
     {
         self.space = None;
@@ -212,7 +217,9 @@ impl Table {
     /// Gives the rule with a key another action. All rules keep their places.
     pub fn set_action(&mut self, key: &Key, action: Action)
         requires present { IsIn key.now (keys_of self.old.rules) }
-        ensures rules { self.new.rules ≡ map (λ q. cond (key_eq q.key key.now) (record { key = key.now; action = action }) q) self.old.rules }
+        ensures rules { self.new.rules ≡ map
+            (λ q. cond (key_eq q.key key.now) (record { key = key.now; action = action }) q)
+            self.old.rules }
         ensures spare { self.new.spare ≡ self.old.spare }
     {
         self.replace(Rule { key: *key, action });
@@ -237,7 +244,8 @@ impl Table {
     /// The action of the rule with the key.
     pub fn get(&self, key: &Key) -> Option<Action>
         ensures value { result ≡ action_of key.now self.now.rules }
-        ensures found { IfSome result (λ a. IsIn (record { key = key.now; action = a }) self.now.rules) }
+        ensures found { IfSome result (λ a. IsIn (record { key = key.now; action = a })
+            self.now.rules) }
         ensures none { IsNone result ↔ (¬ IsIn key.now (keys_of self.now.rules)) }
     {
         action_among(&self.entries, key)

@@ -177,7 +177,8 @@ fn empty_slots(heads: &mut Vec<u32>)
 /// Adds the kind of a pattern, where it isn't among these; whether there was room for it.
 fn add_kind(kinds: &mut Vec<Pattern>, pattern: &Pattern) -> bool
     ensures known { IsTrue result → IsTrue (list_any (λ k. kind_eq k pattern.now) kinds.new.items) }
-    ensures kept { (p : PatternModel) → IsTrue (list_any (λ k. kind_eq k p) kinds.old.items) → IsTrue (list_any (λ k. kind_eq k p) kinds.new.items) }
+    ensures kept { (p : PatternModel) → IsTrue (list_any (λ k. kind_eq k p) kinds.old.items)
+        → IsTrue (list_any (λ k. kind_eq k p) kinds.new.items) }
 {
     if has_kind(kinds, pattern) {
         return true;
@@ -246,14 +247,18 @@ impl TupleSpace {
     /// A pattern of each kind. A pattern that covers a packet is the packet's own for its kind.
     pub fn kinds(&self) -> &[Pattern]
         ensures value { result.now ≡ self.now.kinds }
-        ensures complete { (p : PatternModel) (h : Header) → IsIn p self.now.patterns → IsTrue (covers p h) → (k : PatternModel) × IsIn k self.now.kinds × (around k h ≡ p) }
+        ensures complete { (p : PatternModel) (h : Header) → IsIn p self.now.patterns
+            → IsTrue (covers p h) → (k : PatternModel) × IsIn k self.now.kinds × (around k h ≡ p) }
     {
         &self.kinds
     }
 
     /// The last position in the slot that a packet has for the kind of a pattern.
     pub fn first(&self, kind: &Pattern, port: Port, vlan: Vlan, dst: u32) -> Option<usize>
-        ensures { IsLink (slots_of self.now) (slot_of self.now.count (around kind.now (record { port = port; vlan = vlan; dst = dst }))) (length self.now.patterns) (link_number result) }
+        ensures { IsLink (slots_of self.now)
+            (slot_of self.now.count (around kind.now
+            (record { port = port; vlan = vlan; dst = dst }))) (length self.now.patterns)
+            (link_number result) }
     {
         let pattern = pattern_around(kind, port, vlan, dst);
         let slot = slot_of(&pattern, self.heads.len());
@@ -263,7 +268,8 @@ impl TupleSpace {
     /// The last position before this one in the same slot.
     pub fn after(&self, position: usize) -> Option<usize>
         requires { position < length self.now.patterns }
-        ensures { IsLink (slots_of self.now) (slice_index_or (slots_of self.now) position 0) position (link_number result) }
+        ensures { IsLink (slots_of self.now) (slice_index_or (slots_of self.now) position 0)
+            position (link_number result) }
     {
         let entry = &self.entries[position];
         position_of(entry.next)

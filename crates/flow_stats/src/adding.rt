@@ -30,7 +30,8 @@ fn add_rule(
     ensures read { MatchResult result
         (λ _. tables.rules_with place table.old.rules rule ≡ Ok table.new.rules)
         (λ e. Fails Memory e (tables.rules_with place table.old.rules rule)) }
-    ensures index { OnOk result ((table.new.rules ≡ table.old.rules ++ rule ∷ []) × Adds index.old (is_mark_at switch rule.key) index.new × IsBlock rule.key.pattern.dst) }
+    ensures index { OnOk result ((table.new.rules ≡ table.old.rules ++ rule ∷ [])
+        × Adds index.old (is_mark_at switch rule.key) index.new × IsBlock rule.key.pattern.dst) }
 {
     if index.has_key(switch, &rule.key) {
         return Err(StatsFault::KeyTwice(place));
@@ -75,7 +76,8 @@ fn add_entry(
 ) -> Result<(), StatsFault>
     requires within { switch.0 < length config.old }
     requires index { AreIndexed (rules_of_all config.old) index.old }
-    ensures read { let read = tables.entry_at net.now switch place (rules_of_all config.old) entry.now in
+    ensures read { let read = tables.entry_at net.now switch place (rules_of_all config.old)
+        entry.now in
         MatchResult result (λ _. read ≡ Ok (rules_of_all config.new)) (λ e. Fails Memory e read) }
     ensures index { OnOk result (AreIndexed (rules_of_all config.new) index.new) }
     ensures few { OnOk result (place < 2048) }
@@ -100,7 +102,8 @@ pub fn add_entries(
     requires within { switch.0 < length config.old }
     requires index { AreIndexed (rules_of_all config.old) index.old }
     requires first { first ≤ 2048 }
-    ensures read { let read = in_turn (tables.entry_at net.now switch) first (rules_of_all config.old) entries.now in
+    ensures read { let read = in_turn (tables.entry_at net.now switch) first
+        (rules_of_all config.old) entries.now in
         MatchResult result (λ _. read ≡ Ok (rules_of_all config.new)) (λ e. Fails Memory e read) }
     ensures index { OnOk result (AreIndexed (rules_of_all config.new) index.new) }
     ensures few { OnOk result (first + length entries.now ≤ 2048) }

@@ -80,7 +80,8 @@ fn is_entry(bytes: &[u8], at: usize) -> bool
 fn read_entry(bytes: &[u8], at: usize) -> Option<Entry>
     requires { at ≤ length bytes.now }
     ensures value { result ≡ entry_in at bytes.now }
-    ensures within { IfSome result (λ e. (88 ≤ e.fields.len) × (at + e.fields.len ≤ length bytes.now)) }
+    ensures within { IfSome result (λ e. (88 ≤ e.fields.len)
+        × (at + e.fields.len ≤ length bytes.now)) }
 {
     if is_entry(bytes, at) {
         let fields = FlowStatsFields::read(bytes, at);

@@ -83,8 +83,14 @@ impl RuleIndex {
     /// Whether a rule of the group has a prefix around this one.
     fn has_around(&self, group: Group, prefix: &Prefix) -> bool
         ensures found { MatchBool result
-            ((l : ℕ) × (l ≤ prefix.now.len) × (has_mark self.now (record { group = group; area = Exactly (block_around prefix.now.base l) }) ≡ true))
-            ((l : ℕ) → l ≤ prefix.now.len → has_mark self.now (record { group = group; area = Exactly (block_around prefix.now.base l) }) ≡ false) }
+            ((l : ℕ) × (l ≤ prefix.now.len)
+            × (has_mark self.now (record {
+              group = group;
+              area = Exactly
+                  (block_around prefix.now.base l);
+            }) ≡ true))
+            ((l : ℕ) → l ≤ prefix.now.len → has_mark self.now
+            (record { group = group; area = Exactly (block_around prefix.now.base l) }) ≡ false) }
         ensures block { IsBlock prefix.now }
     {
         for len in 0..prefix.len + 1 {
@@ -99,7 +105,8 @@ impl RuleIndex {
     /// Whether a rule of the group has a prefix with an address of this one.
     fn is_met(&self, group: Group, prefix: &Prefix) -> bool
         ensures { (rules : List RuleOf) → IsIndexOf group.switch rules self.now
-            → result ≡ list_any (λ r. is_in_group group r.key && blocks_meet r.key.pattern.dst prefix.now) rules }
+            → result ≡ list_any (λ r. is_in_group group r.key && blocks_meet r.key.pattern.dst
+            prefix.now) rules }
     {
         let area = Area::Within(*prefix);
         if self.has_around(group, prefix) {
@@ -172,7 +179,8 @@ impl RuleIndex {
     }
 
     fn insert(&mut self, group: Group, area: Area) -> Result<(), Memory>
-        ensures { OnOk result (Adds self.old (mark_eq (record { group = group; area = area })) self.new) }
+        ensures { OnOk result (Adds self.old (mark_eq (record { group = group; area = area }))
+            self.new) }
     {
         self.marks.insert(Mark { group, area })?;
         Ok(())
@@ -180,7 +188,9 @@ impl RuleIndex {
 
     /// Adds the marks of the prefixes around one whose own mark was added.
     fn add_around(&mut self, group: Group, prefix: &Prefix) -> Result<(), Memory>
-        ensures added { OnOk result ((old : List MarkOf) → Adds old (mark_eq (record { group = group; area = Exactly prefix.now })) self.old → Adds old (is_mark_in group prefix.now) self.new) }
+        ensures added { OnOk result ((old : List MarkOf)
+            → Adds old (mark_eq (record { group = group; area = Exactly prefix.now })) self.old
+            → Adds old (is_mark_in group prefix.now) self.new) }
         ensures block { IsBlock prefix.now }
     {
         for len in 0..prefix.len + 1 {

@@ -11,9 +11,12 @@ ghost use Rattle.flow_stats.specs.declared.fields.StatsReplyFields.{StatsReplyFi
 /// a gap. It does nothing.
 pub fn fields_stand_at_their_offsets()
     ensures reply_spans { (m : StatsReplyFields) → Spans 0 (stats_reply_table m) 12 }
-    ensures reply_holds { (bytes : List ℕ) → Holds bytes (stats_reply_table (stats_reply_at bytes)) }
-    ensures entry_spans { (at : ℕ) (e : FlowStatsFields) → Spans at (flow_stats_table at e) (at + 88) }
-    ensures entry_holds { (at : ℕ) (bytes : List ℕ) → Holds bytes (flow_stats_table at (flow_stats_at at bytes)) }
+    ensures reply_holds { (bytes : List ℕ)
+        → Holds bytes (stats_reply_table (stats_reply_at bytes)) }
+    ensures entry_spans { (at : ℕ) (e : FlowStatsFields)
+        → Spans at (flow_stats_table at e) (at + 88) }
+    ensures entry_holds { (at : ℕ) (bytes : List ℕ)
+        → Holds bytes (flow_stats_table at (flow_stats_at at bytes)) }
 {}
 
 /// The entries of a message are those that stand one after the other from byte 12 to its end, and no others do. It does

@@ -27,7 +27,8 @@ pub fn is_line_end(byte: &u8) -> bool
 
 /// Reads pairs of hexadecimal digits, at least one.
 fn read_digits(alloc: Global, number: u32, digits: &str) -> Result<Vec<u8>, StatsFault>
-    ensures { Gives Memory (λ v. v.items) result (need (lines.bytes_in digits.now) (BadLine number)) }
+    ensures { Gives Memory (λ v. v.items) result
+        (need (lines.bytes_in digits.now) (BadLine number)) }
 {
     if digits.is_empty() {
         return Err(StatsFault::BadLine(number));

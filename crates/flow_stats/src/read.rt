@@ -66,8 +66,10 @@ fn add_reply(
 ) -> Result<(), StatsFault>
     requires within { switch.0 < switch_count net.now }
     requires kept { AreFor net.now told.old }
-    ensures read { let read = replies.with_reply net.now switch (replies.told_seen told.old) (reply_seen reply.now) in
-        MatchResult result (λ _. read ≡ Ok (replies.told_seen told.new)) (λ e. Fails Memory e read) }
+    ensures read { let read = replies.with_reply net.now switch (replies.told_seen told.old)
+        (reply_seen reply.now) in
+        MatchResult result (λ _. read ≡ Ok (replies.told_seen told.new))
+        (λ e. Fails Memory e read) }
     ensures kept { OnOk result (AreFor net.now told.new) }
 {
     add_entries(
@@ -94,8 +96,10 @@ fn read_message(
 ) -> Result<(), StatsFault>
     requires within { sent.now.switch.0 < switch_count net.now }
     requires kept { AreFor net.now told.old }
-    ensures read { let read = replies.reply_at net.now number (replies.told_seen told.old) (sent_seen sent.now) in
-        MatchResult result (λ _. read ≡ Ok (replies.told_seen told.new)) (λ e. Fails Memory e read) }
+    ensures read { let read = replies.reply_at net.now number (replies.told_seen told.old)
+        (sent_seen sent.now) in
+        MatchResult result (λ _. read ≡ Ok (replies.told_seen told.new))
+        (λ e. Fails Memory e read) }
     ensures kept { OnOk result (AreFor net.now told.new) }
 {
     let reply = read_reply(alloc, &sent.bytes)?.ok_or(StatsFault::BadMessage(number))?;
@@ -115,8 +119,10 @@ fn read_message_line(
     line: &[u8],
 ) -> Result<(), StatsFault>
     requires { AreFor net.now told.old }
-    ensures read { let read = replies.message_at net.now number (replies.told_seen told.old) line.now in
-        MatchResult result (λ _. read ≡ Ok (replies.told_seen told.new)) (λ e. Fails Memory e read) }
+    ensures read { let read = replies.message_at net.now number (replies.told_seen told.old)
+        line.now in
+        MatchResult result (λ _. read ≡ Ok (replies.told_seen told.new))
+        (λ e. Fails Memory e read) }
     ensures kept { OnOk result (AreFor net.now told.new) }
 {
     let sent = read_sent(alloc, net, number, line)?;
@@ -132,8 +138,10 @@ fn read_line(
     line: &[u8],
 ) -> Result<(), StatsFault>
     requires { AreFor net.now told.old }
-    ensures read { let read = replies.line_at net.now number (replies.told_seen told.old) line.now in
-        MatchResult result (λ _. read ≡ Ok (replies.told_seen told.new)) (λ e. Fails Memory e read) }
+    ensures read { let read = replies.line_at net.now number (replies.told_seen told.old) line.now
+        in
+        MatchResult result (λ _. read ≡ Ok (replies.told_seen told.new))
+        (λ e. Fails Memory e read) }
     ensures kept { OnOk result (AreFor net.now told.new) }
 {
     if is_comment(line) {

@@ -85,7 +85,8 @@ fn put_rule(
 ) -> Result<(), Memory>
     requires none { members_view members.old.entries ≡ no_members }
     requires within { switch.0 < switch_count net.now }
-    ensures { OnOk result (members_view members.new.entries ≡ texts.rule_members net.now switch rule.now) }
+    ensures { OnOk result (members_view members.new.entries
+        ≡ texts.rule_members net.now switch rule.now) }
 {
     let pattern = &rule.key.pattern;
     put(members, alloc, "dst", prefix_value(alloc, pattern.dst)?)?;
@@ -116,7 +117,8 @@ fn add_rules(
     rules: &[Rule],
 ) -> Result<(), Memory>
     requires { switch.0 < switch_count net.now }
-    ensures { OnOk result (map view values.new.items ≡ map view values.old.items ++ map (texts.rule_tree net.now switch) rules.now) }
+    ensures { OnOk result (map view values.new.items
+        ≡ map view values.old.items ++ map (texts.rule_tree net.now switch) rules.now) }
 {
     for rule in rules {
         push(values, rule_value(alloc, net, switch, rule)?)?;
@@ -127,7 +129,8 @@ fn add_rules(
 /// The objects of all rules, by switch, and then in the order of its table.
 fn rule_values(alloc: Global, net: &Net, config: &Config) -> Result<Vec<Value>, Memory>
     requires { length config.now ≡ switch_count net.now }
-    ensures { IfOk result (λ v. map view v.items ≡ texts.rule_trees net.now 0 (rules_of_all config.now)) }
+    ensures { IfOk result (λ v. map view v.items
+        ≡ texts.rule_trees net.now 0 (rules_of_all config.now)) }
 {
     let mut values = Vec::new(alloc);
     for s in 0..net.switches() {
@@ -146,7 +149,8 @@ fn rule_values(alloc: Global, net: &Net, config: &Config) -> Result<Vec<Value>, 
 /// The list of these objects.
 fn rules_value(alloc: Global, net: &Net, config: &Config) -> Result<Value, Memory>
     requires { length config.now ≡ switch_count net.now }
-    ensures { IfOk result (λ v. view v ≡ texts.list_tree (texts.rule_trees net.now 0 (rules_of_all config.now))) }
+    ensures { IfOk result (λ v. view v
+        ≡ texts.list_tree (texts.rule_trees net.now 0 (rules_of_all config.now))) }
 {
     Ok(Value::Array(rule_values(alloc, net, config)?))
 }
@@ -166,9 +170,11 @@ fn config_value(alloc: Global, net: &Net, config: &Config) -> Result<Value, Memo
 /// then in the order of its table. Takes a time that is proportional to the text.
 pub fn config_text(alloc: Global, net: &Net, config: &Config) -> Result<Vec<u8>, Memory>
     requires user { IsUserConfig net.now (rules_of_all config.now) }
-    ensures text { IfOk result (λ b. b.items ≡ texts.config_text net.now (rules_of_all config.now)) }
+    ensures text { IfOk result (λ b. b.items
+        ≡ texts.config_text net.now (rules_of_all config.now)) }
     // What was written is read as the same configuration.
-    ensures again { IfOk result (λ b. configuration_in net.now b.items ≡ Ok (rules_of_all config.now)) }
+    ensures again { IfOk result (λ b. configuration_in net.now b.items
+        ≡ Ok (rules_of_all config.now)) }
 {
     net.keeps_rules();
     write_line(alloc, &config_value(alloc, net, config)?)

@@ -10,12 +10,12 @@ use std::marker::Model;
 
 /// Switches of a network, each once.
 #[derive(Drop)]
-pub(crate) struct SwitchSet {
+pub(crate) struct WalkedSwitches {
     list: Vec<SwitchId>,
     marks: Vec<bool>,
 }
 
-impl Model for SwitchSet {
+impl Model for WalkedSwitches {
     ghost use Rattle.std.specs.Prelude.{List, vec_capacity};
     ghost use Rattle.net_base.specs.declared.ids.SwitchId.{SwitchId};
     ghost use Rattle.mixed_walks.specs.Marked.{IsMarked, switch_number};
@@ -39,12 +39,12 @@ fn unmark_switches(list: &[SwitchId], marks: &mut Vec<bool>)
     }
 }
 
-impl SwitchSet {
+impl WalkedSwitches {
     /// No switches.
-    pub(crate) fn make(alloc: Global) -> Result<SwitchSet, Memory>
+    pub(crate) fn make(alloc: Global) -> Result<WalkedSwitches, Memory>
         ensures { IfOk result (λ list. list ≡ []) }
     {
-        Ok(SwitchSet {
+        Ok(WalkedSwitches {
             list: Vec::with_capacity(alloc, 128)?,
             marks: vec![in alloc; false; 128]?,
         })

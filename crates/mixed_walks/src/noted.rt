@@ -7,7 +7,7 @@ ghost use Rattle.mixed_walks.specs.Walks.{switches_of};
 ghost use Rattle.mixed_walks.specs.Walking.{IsNoted, AreFew, IsEntered};
 
 use crate::edges::EdgeSet;
-use crate::marked::SwitchSet;
+use crate::marked::WalkedSwitches;
 use crate::reached::Reached;
 use acyclic_numbering::Edge;
 use net_base::{Memory, Place, SwitchId};
@@ -21,8 +21,8 @@ use std::marker::Model;
 pub(crate) struct Noted {
     reached: Reached,
     steps: EdgeSet,
-    leaving: SwitchSet,
-    dropping: SwitchSet,
+    leaving: WalkedSwitches,
+    dropping: WalkedSwitches,
 }
 
 impl Model for Noted {
@@ -40,8 +40,8 @@ impl Noted {
             (λ noted. noted ≡ record { places = []; steps = []; leaving = []; dropping = [] }) }
     {
         Ok(Noted {
-            leaving: SwitchSet::make(alloc)?,
-            dropping: SwitchSet::make(alloc)?,
+            leaving: WalkedSwitches::make(alloc)?,
+            dropping: WalkedSwitches::make(alloc)?,
             steps: EdgeSet::make(alloc)?,
             reached: Reached::make(alloc)?,
         })

@@ -6,7 +6,7 @@ ghost use Rattle.net_base.specs.declared.ids.SwitchId.{SwitchId};
 ghost use Rattle.mixed_walks.specs.Marked.{slot_number};
 ghost use Rattle.mixed_walks.specs.Walks.{switches_of};
 
-use crate::marked::SwitchSet;
+use crate::marked::WalkedSwitches;
 use net_base::{Memory, Place, SwitchId};
 use std::alloc::Global;
 use std::marker::Model;
@@ -17,7 +17,7 @@ use std::marker::Model;
 pub(crate) struct Reached {
     places: Vec<Place>,
     slots: Vec<u16>,
-    switches: SwitchSet,
+    switches: WalkedSwitches,
 }
 
 impl Model for Reached {
@@ -81,7 +81,7 @@ impl Reached {
         Ok(Reached {
             places: Vec::with_capacity(alloc, 8193)?,
             slots: vec![in alloc; 0; 65536]?,
-            switches: SwitchSet::make(alloc)?,
+            switches: WalkedSwitches::make(alloc)?,
         })
     }
 

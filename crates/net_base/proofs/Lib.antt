@@ -9,3 +9,4 @@ pub mod Turns
 pub mod ItemTurns
 pub mod TextLines
 pub mod Prefixes
+pub mod SetLaws

@@ -6,3 +6,4 @@ pub mod Text
 pub mod Lines
 pub mod Reading
 pub mod Fields
+pub mod Switches

@@ -4,6 +4,10 @@
 #[derive(Clone, Copy, Debug, PartialEq, Eq, PartialOrd, Ord, Hash)]
 pub struct SwitchId(pub u32);
 
+/// The greatest number of a port of a switch (OpenFlow 1.0.0, section 5.2.1: `OFPP_MAX` is 0xff00, and the numbers from it
+/// on name none).
+pub const MAX_PORT: u64 = 65279;
+
 /// A port number of a switch, 1 to 65279 where it is in use (OpenFlow 1.0.0, section 5.2.1).
 #[derive(Clone, Copy, Debug, PartialEq, Eq, PartialOrd, Ord, Hash)]
 pub struct Port(pub u16);

@@ -7,14 +7,16 @@ mod lines;
 mod list_of;
 mod prefix;
 mod spelling;
+mod switch_set;
 mod text;
 mod wants;
 
 pub use field::Field;
-pub use ids::{Place, Port, Stop, SwitchId, Vlan};
+pub use ids::{MAX_PORT, Place, Port, Stop, SwitchId, Vlan};
 pub use lines::is_comment;
 pub use list_of::ListOf;
 pub use prefix::{BadPrefix, Prefix, read_address, read_prefix};
 pub use spelling::{addr_text, prefix_string, prefix_text, vlan_text};
+pub use switch_set::SwitchSet;
 pub use text::{cut_first, cut_last, place_of, read_decimal};
 pub use wants::Memory;

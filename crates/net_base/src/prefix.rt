@@ -93,7 +93,8 @@ pub fn read_prefix(text: &str) -> Result<Prefix, BadPrefix>
     ensures value { result_ok result ≡ texts.prefix_in text.now }
     // It is the one spelling of the prefix.
     ensures spelled { IfOk result (λ p. text.now ≡ texts.prefix_text p) }
-    ensures refused { OnErr result ((block : Block) → IsBlock block → text.now ≢ texts.prefix_text block) }
+    ensures refused { OnErr result ((block : Block) → IsBlock block
+        → text.now ≢ texts.prefix_text block) }
 {
     prefix_of(text).ok_or(BadPrefix)
 }

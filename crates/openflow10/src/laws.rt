@@ -14,7 +14,8 @@ pub fn fields_stand_at_their_offsets()
 
 /// The wire text of a message begins with it, whatever follows: so `decode` gives it back. It does nothing.
 pub fn texts_are_read_back()
-    ensures { (m : Message) (rest : List ℕ) → IsMessage m → BeginsWith (wire_text m ++ rest) m (length_of m) }
+    ensures { (m : Message) (rest : List ℕ) → IsMessage m
+        → BeginsWith (wire_text m ++ rest) m (length_of m) }
 {}
 
 /// Two messages never have the same text, and neither text begins the other. It does nothing.

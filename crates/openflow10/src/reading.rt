@@ -80,7 +80,8 @@ fn is_length(kind: MessageType, length: u16) -> bool
 /// The type and the length of the message that begins the bytes.
 fn read_header(bytes: &[u8]) -> Result<(MessageType, usize), WireFault>
     ensures refused { result_err result ≡ first_failed (header_tests bytes.now) }
-    ensures found { IfOk result (λ h. (type_number h.0 ≡ number_at 1 1 bytes.now) × (h.1 ≡ number_at 2 2 bytes.now)) }
+    ensures found { IfOk result (λ h. (type_number h.0 ≡ number_at 1 1 bytes.now)
+        × (h.1 ≡ number_at 2 2 bytes.now)) }
 {
     if bytes.len() < 8 {
         return Err(WireFault::Short);
@@ -124,7 +125,8 @@ fn read_flow_mod(bytes: &[u8], size: usize) -> Result<FlowMod, WireFault>
     requires stated { size ≡ number_at 2 2 bytes.now }
     requires known { is_length 14 size ≡ true }
     requires room { size ≤ length bytes.now }
-    ensures refused { result_err result ≡ first_failed (flow_tests (flow_mod_at bytes.now) (actions_in bytes.now)) }
+    ensures refused { result_err result
+        ≡ first_failed (flow_tests (flow_mod_at bytes.now) (actions_in bytes.now)) }
     ensures found { IfOk result (λ m. (m.xid ≡ number_at 4 4 bytes.now) × NamesFlow bytes.now m) }
 {
     let fields = FlowModFields::read(bytes);
@@ -159,7 +161,8 @@ fn read_body(bytes: &[u8], kind: MessageType, size: usize) -> Result<Message, Wi
 /// The message that the fields of the bytes name, and its length.
 fn read_message(bytes: &[u8]) -> Result<(Message, usize), WireFault>
     ensures refused { result_err result ≡ refusal_of bytes.now }
-    ensures found { IfOk result (λ found. Names bytes.now found.0 × (found.1 ≡ number_at 2 2 bytes.now)) }
+    ensures found { IfOk result (λ found. Names bytes.now found.0
+        × (found.1 ≡ number_at 2 2 bytes.now)) }
 {
     let (kind, size) = read_header(bytes)?;
     let message = read_body(bytes, kind, size)?;

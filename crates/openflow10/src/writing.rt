@@ -74,7 +74,8 @@ fn wildcards_number(pattern: &Pattern) -> u32
 
 /// Appends the 40 bytes of a match (OpenFlow 1.0.0, section 5.2.3).
 fn push_match(out: &mut Vec<u8>, pattern: &Pattern) -> Result<(), Memory>
-    ensures { IfOk result (λ _. out.new.items ≡ out.old.items ++ text_of (match_table 8 (match_of pattern.now))) }
+    ensures { IfOk result (λ _. out.new.items
+        ≡ out.old.items ++ text_of (match_table 8 (match_of pattern.now))) }
 {
     push_u32(out, wildcards_number(pattern))?;
     push_u16(out, in_port_number(pattern))?;
@@ -104,7 +105,8 @@ fn command_number(verb: &Verb) -> u16
 
 /// Appends what stands between the match and the actions.
 fn push_command(out: &mut Vec<u8>, verb: &Verb, key: &Key) -> Result<(), Memory>
-    ensures { IfOk result (λ _. out.new.items ≡ out.old.items ++ text_of (command_table (flow_mod_of verb.now key.now))) }
+    ensures { IfOk result (λ _. out.new.items
+        ≡ out.old.items ++ text_of (command_table (flow_mod_of verb.now key.now))) }
 {
     // cookie
     push_zeros(out, 8)?;
@@ -142,7 +144,8 @@ fn action_of(kind: u16, argument: u16) -> ActionFields
 
 /// Appends what rewrites the VLAN before an output.
 fn push_rewrite(out: &mut Vec<u8>, rewrite: Rewrite) -> Result<(), Memory>
-    ensures { IfOk result (λ _. out.new.items ≡ out.old.items ++ text_of (actions_table 72 (rewrite_actions rewrite))) }
+    ensures { IfOk result (λ _. out.new.items
+        ≡ out.old.items ++ text_of (actions_table 72 (rewrite_actions rewrite))) }
 {
     match rewrite {
         Rewrite::Keep => Ok(()),
@@ -153,7 +156,8 @@ fn push_rewrite(out: &mut Vec<u8>, rewrite: Rewrite) -> Result<(), Memory>
 
 /// Appends the actions of an entry.
 fn push_actions(out: &mut Vec<u8>, action: &Action) -> Result<(), Memory>
-    ensures { IfOk result (λ _. out.new.items ≡ out.old.items ++ text_of (actions_table 72 (actions_of action.now))) }
+    ensures { IfOk result (λ _. out.new.items
+        ≡ out.old.items ++ text_of (actions_table 72 (actions_of action.now))) }
 {
     match action {
         Action::Discard => Ok(()),
@@ -166,7 +170,8 @@ fn push_actions(out: &mut Vec<u8>, action: &Action) -> Result<(), Memory>
 
 /// Appends the actions of a command.
 fn push_verb_actions(out: &mut Vec<u8>, verb: &Verb) -> Result<(), Memory>
-    ensures { IfOk result (λ _. out.new.items ≡ out.old.items ++ text_of (actions_table 72 (verb_actions verb.now))) }
+    ensures { IfOk result (λ _. out.new.items
+        ≡ out.old.items ++ text_of (actions_table 72 (verb_actions verb.now))) }
 {
     match verb {
         Verb::Add(action) => push_actions(out, action),
@@ -199,7 +204,8 @@ fn message_length(verb: &Verb) -> u16
 
 /// Appends the header of a flow message (OpenFlow 1.0.0, section 5.1).
 fn push_header(out: &mut Vec<u8>, message: &FlowMod) -> Result<(), Memory>
-    ensures { IfOk result (λ _. out.new.items ≡ out.old.items ++ text_of (header_table (Flow message.now))) }
+    ensures { IfOk result (λ _. out.new.items
+        ≡ out.old.items ++ text_of (header_table (Flow message.now))) }
 {
     push_u8(out, VERSION)?;
     push_u8(out, FLOW_MOD)?;

@@ -16,10 +16,9 @@ use crate::cases::{OrderedCase, PreparedRound};
 use crate::least::least_not_lower;
 use certificates::OrderedPick;
 use check_reasons::has_positions;
-use class_watch::SwitchSet;
 use dest_classes::NumberedClass;
 use mixed_walks::WalkRoom;
-use net_base::Vlan;
+use net_base::{SwitchSet, Vlan};
 
 /// What classes that are walked together have in common: the first address of their atom, the VLAN of their entries, the
 /// index of the use of their picks in force, and whether their packets must arrive.

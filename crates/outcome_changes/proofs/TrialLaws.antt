@@ -19,7 +19,7 @@ use Rattle.flow_rules.proofs.LookupLaws.{matched_is_top, matched_none}
 use Rattle.path_walk.specs.Outcomes.{header_at, acted, outcome}
 use Rattle.path_walk.specs.declared.Outcome.{Outcome}
 use Rattle.update_model.specs.Changes.{AppliesTo, rules_after}
-use Rattle.update_model.specs.Mixtures.{IsMixture, MayBe}
+use Rattle.update_model.specs.Mixtures.{IsMixture, MayBe, is_delete}
 use Rattle.update_model.proofs.Matches.{IsDelete, Writes, IsKept, MayMatch, MayMiss}
 use Rattle.update_model.specs.declared.Change.{Change}
 use Rattle.update_model.specs.declared.Change.TheVariants.{Insert, Delete, Replace}
@@ -27,14 +27,14 @@ use Rattle.update_model.proofs.ChangeLaws.{key_named, writes_key, stands_all_fro
 use Rattle.update_model.proofs.MadeLaws.{distinct_some, each_some}
 use Rattle.update_model.proofs.MatchLaws.{some_filter, may_match, may_miss}
 use Rattle.round_mix.specs.Prepared.{AreGood, AreClear}
-use Rattle.outcome_changes.specs.Trials.{deletes, covers_packet, is_turned, is_above, is_tried}
+use Rattle.outcome_changes.specs.Trials.{covers_packet, is_turned, is_above, is_tried}
 
-is_deletes : (c : Change) → IsDelete c → deletes c ≡ true
+is_deletes : (c : Change) → IsDelete c → is_delete c ≡ true
 is_deletes (Insert s r) d = absurd d
 is_deletes (Delete s r) d = refl
 is_deletes (Replace s r) d = absurd d
 
-writes_no_delete : (r : Rule) (c : Change) → Writes r c → deletes c ≡ false
+writes_no_delete : (r : Rule) (c : Change) → Writes r c → is_delete c ≡ false
 writes_no_delete r (Insert s q) w = refl
 writes_no_delete r (Delete s q) w = absurd w
 writes_no_delete r (Replace s q) w = refl
@@ -70,30 +70,30 @@ module _ (rules : List Rule) (changes : List Change) (good : AreGood rules chang
 
   -- what a trial wants of the changes that cover the packet
   abbrev wants : Option Key → Change → Bool
-  wants turned c = cond (is_turned turned (key_named c)) (not (deletes c)) (deletes c && is_above turned (key_named c))
+  wants turned c = cond (is_turned turned (key_named c)) (not (is_delete c)) (is_delete c && is_above turned (key_named c))
 
   -- of a key that isn't turned the deletes above it are tried
   tried_delete : (turned : Option Key) (c : Change) → covers_packet h c ≡ true → is_turned turned (key_named c) ≡ false → is_above turned (key_named c) ≡ true
-      → deletes c ≡ true → is_tried h turned c ≡ true
+      → is_delete c ≡ true → is_tried h turned c ≡ true
   tried_delete turned c covered other above d =
       and_from (covers_packet h c) (wants turned c) covered
-      (cond-false (is_turned turned (key_named c)) (not (deletes c)) (deletes c && is_above turned (key_named c)) other ∙ and_from (deletes c) (is_above turned (key_named c)) d above)
+      (cond-false (is_turned turned (key_named c)) (not (is_delete c)) (is_delete c && is_above turned (key_named c)) other ∙ and_from (is_delete c) (is_above turned (key_named c)) d above)
 
-  delete_tried : (turned : Option Key) (c : Change) → is_turned turned (key_named c) ≡ false → is_tried h turned c ≡ true → deletes c ≡ true
+  delete_tried : (turned : Option Key) (c : Change) → is_turned turned (key_named c) ≡ false → is_tried h turned c ≡ true → is_delete c ≡ true
   delete_tried turned c other tried =
-      (and_parts (deletes c) (is_above turned (key_named c)) (
-      sym (cond-false (is_turned turned (key_named c)) (not (deletes c)) (deletes c && is_above turned (key_named c)) other)
+      (and_parts (is_delete c) (is_above turned (key_named c)) (
+      sym (cond-false (is_turned turned (key_named c)) (not (is_delete c)) (is_delete c && is_above turned (key_named c)) other)
       ∙ (and_parts (covers_packet h c) (wants turned c) tried).1)).0
 
   -- and of the turned key the others
-  tried_other : (c : Change) → covers_packet h c ≡ true → deletes c ≡ false → is_tried h (Some (key_named c)) c ≡ true
+  tried_other : (c : Change) → covers_packet h c ≡ true → is_delete c ≡ false → is_tried h (Some (key_named c)) c ≡ true
   tried_other c covered d =
       and_from (covers_packet h c) (wants (Some (key_named c)) c) covered
-      (cond-true (key_eq (key_named c) (key_named c)) (not (deletes c)) (deletes c && is_above (Some (key_named c)) (key_named c)) (key_eq-refl (key_named c)) ∙ ap not d)
+      (cond-true (key_eq (key_named c) (key_named c)) (not (is_delete c)) (is_delete c && is_above (Some (key_named c)) (key_named c)) (key_eq-refl (key_named c)) ∙ ap not d)
 
-  other_tried : (c : Change) → is_tried h (Some (key_named c)) c ≡ true → not (deletes c) ≡ true
+  other_tried : (c : Change) → is_tried h (Some (key_named c)) c ≡ true → not (is_delete c) ≡ true
   other_tried c tried =
-      sym (cond-true (key_eq (key_named c) (key_named c)) (not (deletes c)) (deletes c && is_above (Some (key_named c)) (key_named c)) (key_eq-refl (key_named c)))
+      sym (cond-true (key_eq (key_named c) (key_named c)) (not (is_delete c)) (is_delete c && is_above (Some (key_named c)) (key_named c)) (key_eq-refl (key_named c)))
       ∙ (and_parts (covers_packet h c) (wants (Some (key_named c)) c) tried).1
 
   -- what stands after a trial, covers the packet and is above the turned key is kept
@@ -111,8 +111,8 @@ module _ (rules : List Rule) (changes : List Change) (good : AreGood rules chang
         }
         | inr w ↦ (
             let (j, tried) = in_from_filter (is_tried h turned) w.0 changes w.1 in
-            let deleting : deletes w.0 ≡ true = delete_tried turned w.0 (subst (λ (k : Key). is_turned turned k ≡ false) (writes_key q w.0 w.2) other) tried in
-            absurd (both_ways (deletes w.0) (writes_no_delete q w.0 w.2) deleting))
+            let deleting : is_delete w.0 ≡ true = delete_tried turned w.0 (subst (λ (k : Key). is_turned turned k ≡ false) (writes_key q w.0 w.2) other) tried in
+            absurd (both_ways (is_delete w.0) (writes_no_delete q w.0 w.2) deleting))
       ]
 
   -- no key that isn't above the turned one, if there is one, has a greater priority than the rule
@@ -143,7 +143,7 @@ module _ (rules : List Rule) (changes : List Change) (good : AreGood rules chang
       ])
 
   -- a rule of the table whose key a change deletes stands where that key is turned
-  undeleted : (r : Rule) (c : Change) → IsIn r rules → IsIn c changes → deletes c ≡ true → r.key ≡ key_named c → IsIn r (mixed_by (Some (key_named c)))
+  undeleted : (r : Rule) (c : Change) → IsIn r rules → IsIn c changes → is_delete c ≡ true → r.key ≡ key_named c → IsIn r (mixed_by (Some (key_named c)))
   undeleted r c i j deleting e =
       let turned = Some (key_named c) in
       in_from_stands_all rules (made_by turned) r (some_apply turned) (some_distinct turned) (inl (
@@ -152,29 +152,29 @@ module _ (rules : List Rule) (changes : List Change) (good : AreGood rules chang
             let (d, m, f) = in_from_map key_named r.key (made_by turned) named in
             let (n, tried) = in_from_filter (is_tried h turned) d changes m in
             let same : d ≡ c = told_from_distinct key_named changes good.distinct d c n j (sym f ∙ e) in
-            let other : not (deletes c) ≡ true = other_tried c (subst (λ (x : Change). is_tried h (Some (key_named c)) x ≡ true) same tried) in
-            both_ways (not (deletes c)) (ap not deleting) other,
+            let other : not (is_delete c) ≡ true = other_tried c (subst (λ (x : Change). is_tried h (Some (key_named c)) x ≡ true) same tried) in
+            both_ways (not (is_delete c)) (ap not deleting) other,
       ))
 
   -- one whose key no change deletes stands where no key is turned
-  stays : (r : Rule) → IsIn r rules → ¬ IsIn r.key (map key_named (filter deletes changes)) → IsIn r (mixed_by None)
+  stays : (r : Rule) → IsIn r rules → ¬ IsIn r.key (map key_named (filter is_delete changes)) → IsIn r (mixed_by None)
   stays r i free =
       in_from_stands_all rules (made_by None) r (some_apply None) (some_distinct None) (inl (
         i,
         λ named.
             let (d, m, f) = in_from_map key_named r.key (made_by None) named in
             let (n, tried) = in_from_filter (is_tried h None) d changes m in
-            free (subst (λ z. IsIn z (map key_named (filter deletes changes))) (sym f) (in_map key_named d (filter deletes changes) (in_filter deletes d changes n (delete_tried None d refl tried)))),
+            free (subst (λ z. IsIn z (map key_named (filter is_delete changes))) (sym f) (in_map key_named d (filter is_delete changes) (in_filter is_delete d changes n (delete_tried None d refl tried)))),
       ))
 
   -- what may match does after some trial
   some_matches : (r : Rule) → MayMatch rules changes h r → SomeTrial h changes (λ turned. matched h (mixed_by turned) ≡ Some r)
   some_matches r may =
       elim may.available [
-        | inl i ↦ elim (cases_named r.key (filter deletes changes)) [
+        | inl i ↦ elim (cases_named r.key (filter is_delete changes)) [
           | inl named ↦ (
-              let (c, m, e) = in_from_map key_named r.key (filter deletes changes) named in
-              let (j, deleting) = in_from_filter deletes c changes m in
+              let (c, m, e) = in_from_map key_named r.key (filter is_delete changes) named in
+              let (j, deleting) = in_from_filter is_delete c changes m in
               inr (
                 c,
                 j,

@@ -9,15 +9,10 @@ use Rattle.flow_rules.specs.declared.rules.Rule.{Rule}
 use Rattle.path_walk.specs.Outcomes.{header_at, outcome}
 use Rattle.path_walk.specs.declared.Outcome.{Outcome}
 use Rattle.update_model.specs.Changes.{switch_of, rule_of, rules_after}
+use Rattle.update_model.specs.Mixtures.{is_delete}
 use Rattle.update_model.specs.declared.Change.{Change}
 use Rattle.update_model.specs.declared.Change.TheVariants.{Insert, Delete, Replace}
 use Rattle.outcome_changes.specs.declared.trying.Trial.{Trial}
-
--- whether a change deletes
-abbrev pub deletes : Change → Bool
-deletes (Insert s r) = false
-deletes (Delete s r) = true
-deletes (Replace s r) = false
 
 -- whether a change is at the switch
 abbrev pub is_at : SwitchId → Change → Bool
@@ -39,7 +34,7 @@ is_above (Some turned) k = nat_lt turned.priority k.priority
 
 -- whether a change is tried for a packet: it covers it and deletes above the turned key; or, of the turned key, doesn't delete
 abbrev pub is_tried : Header → Option Key → Change → Bool
-is_tried h turned c = covers_packet h c && cond (is_turned turned (rule_of c).key) (not (deletes c)) (deletes c && is_above turned (rule_of c).key)
+is_tried h turned c = covers_packet h c && cond (is_turned turned (rule_of c).key) (not (is_delete c)) (is_delete c && is_above turned (rule_of c).key)
 
 -- whether a trial takes a change: it is at the switch and is tried
 abbrev pub takes : Trial → Change → Bool

@@ -3,7 +3,8 @@ ghost use Rattle.std.specs.Prelude.{◌≡◌, ◌++◌, ◌∷◌, [], ◌&&◌
 ghost use Rattle.path_walk.specs.Outcomes.{header_at};
 ghost use Rattle.update_model.specs.Changes.{AppliesTo, rule_of, changes_at, rules_after};
 ghost use Rattle.round_mix.specs.Prepared.{AreGood};
-ghost use Rattle.outcome_changes.specs.Trials.{deletes, is_at, covers_packet, is_turned, is_above, is_tried, takes, numbers_from};
+ghost use Rattle.update_model.specs.Mixtures.{is_delete};
+ghost use Rattle.outcome_changes.specs.Trials.{is_at, covers_packet, is_turned, is_above, is_tried, takes, numbers_from};
 
 use flow_rules::{Key, Table};
 use net_base::{ListOf, Memory, Place};
@@ -17,17 +18,6 @@ pub(crate) struct Trial {
     pub(crate) place: Place,
     pub(crate) dst: u32,
     pub(crate) turned: Option<Key>,
-}
-
-/// Whether a change deletes.
-fn is_delete(change: &Change) -> bool
-    ensures { result ≡ deletes change.now }
-{
-    match change {
-        Change::Insert(_, _) => false,
-        Change::Delete(_, _) => true,
-        Change::Replace(_, _) => false,
-    }
 }
 
 /// Adds a number, where it is wanted.
@@ -79,14 +69,14 @@ impl Trial {
     /// Whether a change that covers the packet is wanted: a delete above the turned key, or another change of it.
     fn wants(&self, change: &Change) -> bool
         ensures { result
-            ≡ cond (is_turned self.now.turned (rule_of change.now).key) (not (deletes change.now))
-            (deletes change.now && is_above self.now.turned (rule_of change.now).key) }
+            ≡ cond (is_turned self.now.turned (rule_of change.now).key) (not (is_delete change.now))
+            (is_delete change.now && is_above self.now.turned (rule_of change.now).key) }
     {
         let key = change.rule().key;
         if self.turns(&key) {
-            return !is_delete(change);
+            return !change.is_delete();
         }
-        is_delete(change) && self.is_below(&key)
+        change.is_delete() && self.is_below(&key)
     }
 
     /// Whether a change is tried for the packet.

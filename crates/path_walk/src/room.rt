@@ -59,7 +59,8 @@ impl PathRoom {
         requires switch { place.switch.0 < self.old.switches }
         requires room { length self.old.stops ≤ self.old.switches }
         ensures seen { result ≡ is_visited self.old.stops place.switch }
-        ensures added { self.new ≡ record self.old { stops = self.old.stops ++ stop_of place ∷ [] } }
+        ensures added { self.new ≡ record self.old
+            { stops = self.old.stops ++ stop_of place ∷ [] } }
     {
         let seen = self.visited[place.switch.0 as usize];
         self.visited[place.switch.0 as usize] = true;

@@ -14,20 +14,28 @@ use thiserror::Error;
 #[derive(Clone, Copy, PartialEq, Eq, Error)]
 pub enum PlanFault {
     /// The bytes are no JSON text.
+    #[error("NotJson")]
     NotJson,
     /// The member is absent or of the wrong kind.
+    #[error("Shape")]
     Shape(Field, u32),
     /// The format is neither 1 nor 2.
+    #[error("BadFormat")]
     BadFormat,
     /// No switch has the name.
+    #[error("UnknownSwitch")]
     UnknownSwitch(u32),
     /// A number, a prefix or a port of a rule is out of its range, or its rewrites exclude each other.
+    #[error("BadRule")]
     BadRule(u32),
     /// A number that names a part of the plan is out of its range, or numbers don't ascend.
+    #[error("BadIndex")]
     BadIndex(u32),
     /// More than 4200 rounds, 4096 tried rounds, 2,200,000 changes or 2,200,000 rules.
+    #[error("TooMany")]
     TooMany(Field),
     /// Memory was wanting.
+    #[error("Memory")]
     Memory,
 }
 
@@ -86,12 +94,6 @@ impl PlanFault {
             | PlanFault::BadRule(place)
             | PlanFault::BadIndex(place) => place,
         }
-    }
-}
-
-impl fmt::Display for PlanFault {
-    fn fmt<W: fmt::Write>(&self, f: &mut fmt::Formatter<W>) -> fmt::Result {
-        f.write_str(self.name())
     }
 }
 

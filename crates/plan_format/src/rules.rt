@@ -8,12 +8,10 @@ ghost use Rattle.plan_format.specs.Changes as plan;
 use crate::fault::PlanFault;
 use flat_json::{Node, Tree};
 use flow_rules::{Action, Key, Pattern, Rewrite, Rule, VlanTest};
-use net_base::{Field, Port, Prefix, SwitchId, read_prefix};
+use net_base::{Field, MAX_PORT, Port, Prefix, SwitchId, read_prefix};
 use topology::{Net, is_vlan_id};
 
 const MAX_PRIORITY: u64 = 65535;
-
-const MAX_PORT: u64 = 65279;
 
 /// A VLAN test as it is spelled.
 #[derive(Clone, Copy)]

@@ -61,13 +61,15 @@ fn sets_of(rt: &impl Abort, alloc: Global, sets: &[&[u8]]) -> Befores {
 }
 
 fn is_earlier(pick: OrderedPick, round: u32, class: u32) -> bool
-    ensures { IsTrue result ↔ IsPickBefore pick (record { round = round; class = class; shared = 0 }) }
+    ensures { IsTrue result ↔ IsPickBefore pick
+        (record { round = round; class = class; shared = 0 }) }
 {
     pick.round < round || (pick.round == round && pick.class < class)
 }
 
 fn are_earlier(picks: &[OrderedPick], round: u32, class: u32) -> bool
-    ensures { IsTrue result ↔ AllByRecursion (λ p. IsPickBefore p (record { round = round; class = class; shared = 0 })) picks.now }
+    ensures { IsTrue result ↔ AllByRecursion
+        (λ p. IsPickBefore p (record { round = round; class = class; shared = 0 })) picks.now }
 {
     picks.iter().all(|pick| is_earlier(*pick, round, class))
 }

@@ -18,7 +18,9 @@ pub fn each_switch_gets_its_changes()
 
 /// The messages of a round are those of its requests, with xids that follow those of the rounds before.
 pub fn rounds_are_sent_in_turn()
-    ensures { (net : Network) (rounds : List (List Change)) (k : ℕ) (s : SwitchId) → k < length rounds
+    ensures { (net : Network) (rounds : List (List Change)) (k : ℕ) (s : SwitchId)
+        → k < length rounds
         → messages_to k s (sent_in net rounds)
-        ≡ messages_to k s (sent_from (first_xid net rounds k) (round_requests net k (round_after k rounds))) }
+        ≡ messages_to k s (sent_from (first_xid net rounds k)
+        (round_requests net k (round_after k rounds))) }
 {}

@@ -20,7 +20,7 @@ use Rattle.flow_rules.proofs.DistinctLaws.{keys_moved, flips}
 use Rattle.flow_rules.proofs.OverlapLaws.{meet_in, meet_out}
 use Rattle.flow_rules.proofs.KeyLaws.{key_eq-true, key_eq-refl, key_ne}
 use Rattle.update_model.specs.Changes.{AppliesTo, rules_after_change, rules_after}
-use Rattle.update_model.specs.Mixtures.{is_insert}
+use Rattle.update_model.specs.Mixtures.{is_insert, is_delete}
 use Rattle.update_model.specs.declared.Change.{Change}
 use Rattle.update_model.specs.declared.Change.TheVariants.{Insert, Delete, Replace}
 use Rattle.update_model.proofs.ChangeLaws.{key_named}
@@ -30,7 +30,7 @@ use Rattle.round_mix.specs.Marks.{mark_by, marked, all_rules, marked_rules, rule
 use Rattle.round_mix.specs.Named.{with_mark}
 use Rattle.round_mix.specs.Prepared.{AreGood, AreClear, IsFalling, IsPrepared}
 use Rattle.round_mix.specs.Tried.{settled, rule_after, put_in, marked_where, without, is_refused, tried, given_up, kept}
-use Rattle.round_mix.specs.Nearest.{patterns_in, is_delete}
+use Rattle.round_mix.specs.Nearest.{patterns_in}
 use Rattle.round_mix.specs.declared.Mark.{Mark}
 use Rattle.round_mix.specs.declared.Mark.TheVariants.{Sure, Possible, Replaced}
 use Rattle.round_mix.specs.declared.MarkedRule.{MarkedRule}

@@ -22,8 +22,3 @@ IsMet h marks from found = IfSome found (λ i. (from ≤ i) × (covers_there h m
 -- the position found is no further than this one, or this one's rule doesn't cover the packet
 abbrev pub IsNear : Header → List MarkedRule → ℕ → Option ℕ → ℕ → Type 0
 IsNear h marks from found j = from ≤ j → covers_there h marks j ≡ true → (i : ℕ) × (found ≡ Some i) × (i ≤ j)
-
--- whether a change deletes
-abbrev pub is_delete : Change → Bool
-is_delete (Delete s r) = true
-is_delete _ = false

@@ -26,7 +26,8 @@ fn is_good_after(table: &Table, before: &[Change], change: &Change) -> bool
 
 /// The position of the first change that isn't good.
 pub fn first_bad(table: &Table, changes: &[Change]) -> Option<usize>
-    ensures { MatchOption result (AreGood table.now.rules changes.now) (λ i. IsFirstBad table.now.rules changes.now i) }
+    ensures { MatchOption result (AreGood table.now.rules changes.now)
+        (λ i. IsFirstBad table.now.rules changes.now i) }
 {
     for (i, change) in changes.iter().enumerate() {
         if !is_good_after(table, &changes[..i], change) {

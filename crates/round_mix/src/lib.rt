@@ -7,13 +7,13 @@ ghost use Rattle.path_walk.specs.Outcomes.{acted, header_at};
 ghost use Rattle.flow_rules.specs.Tables.{IsTable};
 ghost use Rattle.round_mix.specs.Faults.{IsFault};
 ghost use Rattle.update_model.specs.Changes.{AppliesTo, rules_after_change};
-ghost use Rattle.update_model.specs.Mixtures.{entries_needed, is_insert};
+ghost use Rattle.update_model.specs.Mixtures.{entries_needed, is_insert, is_delete};
 ghost use Rattle.round_mix.specs.Marks.{all_rules};
 ghost use Rattle.round_mix.specs.Found.{AreAllOutcomes};
 ghost use Rattle.round_mix.specs.Prepared.{AreClear, IsPrepared};
 ghost use Rattle.table_index.specs.Candidates.{AreCandidates, IsAscending};
 ghost use Rattle.round_mix.specs.Among.{AreOutcomesAmong, AreWithin, HoldCandidates, blocks_of, picked};
-ghost use Rattle.round_mix.specs.Nearest.{is_delete, patterns_in};
+ghost use Rattle.round_mix.specs.Nearest.{patterns_in};
 ghost use Rattle.round_mix.specs.Scan.{actions_by, is_kept, scan};
 
 mod apart;
@@ -158,8 +158,11 @@ impl Mark {
 /// Puts the outcomes by the actions that a marked rule may have.
 fn put_actions(net: &Net, place: Place, marked: &MarkedRule, outcomes: &mut Vec<Outcome>)
     requires { vec_len outcomes.old + 1 < vec_capacity outcomes.old }
-    ensures items { outcomes.new.items ≡ outcomes.old.items ++ map (acted net.now place) (actions_by marked.now.mark marked.now.rule.action) }
-    ensures few { is_kept marked.now.mark ≡ false → vec_len outcomes.new ≡ vec_len outcomes.old + 1 }
+    ensures items { outcomes.new.items
+        ≡ outcomes.old.items ++ map (acted net.now place)
+        (actions_by marked.now.mark marked.now.rule.action) }
+    ensures few { is_kept marked.now.mark ≡ false
+        → vec_len outcomes.new ≡ vec_len outcomes.old + 1 }
     ensures room { vec_capacity outcomes.old ≤ vec_capacity outcomes.new }
 {
     put(outcomes, act(net, place, marked.rule.action));
@@ -171,7 +174,8 @@ fn put_actions(net: &Net, place: Place, marked: &MarkedRule, outcomes: &mut Vec<
 /// Puts the outcomes that the marked scan finds.
 fn put_scan(net: &Net, place: Place, dst: u32, rules: &[MarkedRule], outcomes: &mut Vec<Outcome>)
     requires { vec_len outcomes.old + length rules.now < vec_capacity outcomes.old }
-    ensures items { outcomes.new.items ≡ outcomes.old.items ++ map (acted net.now place) (scan (header_at place dst) rules.now) }
+    ensures items { outcomes.new.items
+        ≡ outcomes.old.items ++ map (acted net.now place) (scan (header_at place dst) rules.now) }
     ensures room { vec_capacity outcomes.old ≤ vec_capacity outcomes.new }
 {
     for marked in rules {
@@ -197,11 +201,17 @@ fn put_nearest(
     requires fresh { space.now.patterns ≡ patterns_in rules.now }
     requires within { from ≤ length rules.now }
     requires room { vec_len outcomes.old + length rules.now < vec_capacity outcomes.old + from }
-    ensures ends { result ≡ None → outcomes.new.items ≡ outcomes.old.items ++ map (acted net.now packet.place) (scan (header_at packet.place packet.dst) (drop from rules.now)) }
-    ensures goes_on { (next : ℕ) → result ≡ Some next → outcomes.new.items ++ map (acted net.now packet.place) (scan (header_at packet.place packet.dst) (drop next rules.now))
-        ≡ outcomes.old.items ++ map (acted net.now packet.place) (scan (header_at packet.place packet.dst) (drop from rules.now)) }
+    ensures ends { result ≡ None → outcomes.new.items
+        ≡ outcomes.old.items ++ map (acted net.now packet.place)
+        (scan (header_at packet.place packet.dst) (drop from rules.now)) }
+    ensures goes_on { (next : ℕ) → result ≡ Some next
+        → outcomes.new.items ++ map (acted net.now packet.place)
+        (scan (header_at packet.place packet.dst) (drop next rules.now))
+        ≡ outcomes.old.items ++ map (acted net.now packet.place)
+        (scan (header_at packet.place packet.dst) (drop from rules.now)) }
     ensures within { (next : ℕ) → result ≡ Some next → next ≤ length rules.now }
-    ensures left { (next : ℕ) → result ≡ Some next → vec_len outcomes.new + length rules.now < vec_capacity outcomes.new + next }
+    ensures left { (next : ℕ) → result ≡ Some next
+        → vec_len outcomes.new + length rules.now < vec_capacity outcomes.new + next }
     ensures room { vec_capacity outcomes.old ≤ vec_capacity outcomes.new }
 {
     match nearest(rules, space, packet, from) {
@@ -234,7 +244,9 @@ fn put_found(
 )
     requires fresh { space.now.patterns ≡ patterns_in rules.now }
     requires room { vec_len outcomes.old + length rules.now < vec_capacity outcomes.old }
-    ensures items { outcomes.new.items ≡ outcomes.old.items ++ map (acted net.now packet.place) (scan (header_at packet.place packet.dst) rules.now) }
+    ensures items { outcomes.new.items
+        ≡ outcomes.old.items ++ map (acted net.now packet.place)
+        (scan (header_at packet.place packet.dst) rules.now) }
     ensures room { vec_capacity outcomes.old ≤ vec_capacity outcomes.new }
 {
     let mut from = 0;
@@ -259,7 +271,8 @@ fn put_among(
     requires empty { vec_len outcomes.old ≡ 0 }
     requires within { AreWithin positions.now (length rules.now) }
     requires room { length positions.now < vec_capacity outcomes.old }
-    ensures items { outcomes.new.items ≡ map (acted net.now place) (scan (header_at place dst) (picked rules.now positions.now)) }
+    ensures items { outcomes.new.items
+        ≡ map (acted net.now place) (scan (header_at place dst) (picked rules.now positions.now)) }
     ensures room { vec_capacity outcomes.old ≤ vec_capacity outcomes.new }
 {
     for i in 0..positions.len() {
@@ -333,20 +346,6 @@ const LEAST_INDEXED: usize = 16;
 /// How many times the number of rules the room may be. A space is emptied in time by its room.
 const MOST_ROOM: usize = 64;
 
-/// Whether a change inserts a rule.
-fn is_insert(change: &Change) -> bool
-    ensures { result ≡ is_insert change.now }
-{
-    matches!(change, Change::Insert(_, _))
-}
-
-/// Whether a change deletes a rule.
-fn is_delete(change: &Change) -> bool
-    ensures { result ≡ is_delete change.now }
-{
-    matches!(change, Change::Delete(_, _))
-}
-
 /// Whether what was indexed still is, after a change that may move rules.
 fn stays_indexed(was_indexed: bool, is_moved: bool) -> bool
     ensures was { result ≡ true → was_indexed ≡ true }
@@ -378,10 +377,12 @@ impl Mixed {
     /// compared with all rules and all changes; and where it answers that a mixture is unclear, it compares each two rules.
     pub fn load(&mut self, table: &Table, changes: &[Change]) -> Result<(), MixFault>
         requires { entries_needed table.now.rules changes.now ≤ self.old.room }
-        ensures ok { OnOk result (IsSomeAnd self.new.prepared (IsPrepared table.now.rules changes.now)) }
+        ensures ok { OnOk result (IsSomeAnd self.new.prepared
+            (IsPrepared table.now.rules changes.now)) }
         ensures err { IfErr result (λ fault. IsFault table.now.rules changes.now fault) }
         ensures nothing { OnErr result (self.new.prepared ≡ None) }
-        ensures count { IfSome self.new.prepared (λ marks. length marks ≡ entries_needed table.now.rules changes.now) }
+        ensures count { IfSome self.new.prepared
+            (λ marks. length marks ≡ entries_needed table.now.rules changes.now) }
         ensures room { self.old.room ≤ self.new.room }
     {
         self.is_prepared = false;
@@ -396,47 +397,56 @@ impl Mixed {
     /// whether it is. Where one isn't, what is prepared stays. It looks at each prepared rule, and takes no memory.
     pub fn begin(&mut self, change: &Change) -> bool
         requires { IsSomeAnd self.old.prepared (λ marks. length marks < self.old.room) }
-        ensures yes { (table : List Rule) → IsTable table → AppliesTo table change.now → IsSomeAnd self.old.prepared (IsPrepared table [])
+        ensures yes { (table : List Rule) → IsTable table → AppliesTo table change.now
+            → IsSomeAnd self.old.prepared (IsPrepared table [])
             → result ≡ true → IsSomeAnd self.new.prepared (IsPrepared table (change.now ∷ [])) }
-        ensures no { (table : List Rule) → AppliesTo table change.now → IsSomeAnd self.old.prepared (IsPrepared table [])
+        ensures no { (table : List Rule) → AppliesTo table change.now
+            → IsSomeAnd self.old.prepared (IsPrepared table [])
             → result ≡ false → ¬ AreClear table (change.now ∷ []) }
         ensures same { result ≡ false → self.new.prepared ≡ self.old.prepared }
-        ensures few { IfSome self.old.prepared (λ old. IsSomeAnd self.new.prepared (λ marks. length marks ≤ length old + 1)) }
+        ensures few { IfSome self.old.prepared
+            (λ old. IsSomeAnd self.new.prepared (λ marks. length marks ≤ length old + 1)) }
         ensures room { self.old.room ≤ self.new.room }
     {
         self.aimed = None;
-        self.is_indexed = stays_indexed(self.is_indexed, is_insert(change));
+        self.is_indexed = stays_indexed(self.is_indexed, change.is_insert());
         try_change(&mut self.rules, change)
     }
 
     /// Prepares a switch that is prepared for one change of a table for the table alone again.
     pub fn give_up(&mut self, change: &Change)
-        ensures alone { (table : List Rule) → IsTable table → IsSomeAnd self.old.prepared (IsPrepared table (change.now ∷ []))
+        ensures alone { (table : List Rule) → IsTable table
+            → IsSomeAnd self.old.prepared (IsPrepared table (change.now ∷ []))
             → IsSomeAnd self.new.prepared (IsPrepared table []) }
-        ensures few { IfSome self.old.prepared (λ old. IsSomeAnd self.new.prepared (λ marks. length marks ≤ length old)) }
+        ensures few { IfSome self.old.prepared
+            (λ old. IsSomeAnd self.new.prepared (λ marks. length marks ≤ length old)) }
         ensures room { self.old.room ≤ self.new.room }
     {
         self.aimed = None;
-        self.is_indexed = stays_indexed(self.is_indexed, is_insert(change));
+        self.is_indexed = stays_indexed(self.is_indexed, change.is_insert());
         take_back(&mut self.rules, change);
     }
 
     /// Prepares a switch that is prepared for one change of a table for the table after it.
     pub fn keep(&mut self, change: &Change)
-        ensures after { (table : List Rule) → IsTable table → IsSomeAnd self.old.prepared (IsPrepared table (change.now ∷ []))
+        ensures after { (table : List Rule) → IsTable table
+            → IsSomeAnd self.old.prepared (IsPrepared table (change.now ∷ []))
             → IsSomeAnd self.new.prepared (IsPrepared (rules_after_change change.now table) []) }
-        ensures few { IfSome self.old.prepared (λ old. IsSomeAnd self.new.prepared (λ marks. length marks ≤ length old)) }
+        ensures few { IfSome self.old.prepared
+            (λ old. IsSomeAnd self.new.prepared (λ marks. length marks ≤ length old)) }
         ensures room { self.old.room ≤ self.new.room }
     {
         self.aimed = None;
-        self.is_indexed = stays_indexed(self.is_indexed, is_delete(change));
+        self.is_indexed = stays_indexed(self.is_indexed, change.is_delete());
         make(&mut self.rules, change);
     }
 
     /// The need of the round at the switch: the entries before it and its inserts.
     pub fn most_entries(&self) -> u64
         requires { IsSome self.now.prepared }
-        ensures { (table : List Rule) (changes : List Change) → IsSomeAnd self.now.prepared (IsPrepared table changes) → result ≡ entries_needed table changes }
+        ensures { (table : List Rule) (changes : List Change)
+            → IsSomeAnd self.now.prepared (IsPrepared table changes)
+            → result ≡ entries_needed table changes }
     {
         self.rules.len() as u64
     }
@@ -461,8 +471,11 @@ impl Mixed {
     /// pattern, four times at most.
     pub fn possible(&self, net: &Net, place: Place, dst: u32, out: &mut Outcomes)
         requires prepared { IsSome self.now.prepared }
-        requires room { ForSome self.now.prepared (λ marks. length marks < length out.old.list + out.old.spare) }
-        ensures exact { (table : List Rule) (changes : List Change) → IsSomeAnd self.now.prepared (IsPrepared table changes) → AreAllOutcomes net.now table changes place dst out.new.list }
+        requires room { ForSome self.now.prepared
+            (λ marks. length marks < length out.old.list + out.old.spare) }
+        ensures exact { (table : List Rule) (changes : List Change)
+            → IsSomeAnd self.now.prepared (IsPrepared table changes)
+            → AreAllOutcomes net.now table changes place dst out.new.list }
         ensures room { length out.old.list + out.old.spare ≤ length out.new.list + out.new.spare }
     {
         out.outcomes.clear();
@@ -488,7 +501,9 @@ impl Mixed {
     /// The positions, ascending, of the prepared rules whose prefix holds the aimed address.
     pub fn aimed(&self) -> &[u32]
         requires { IsSome self.now.aimed }
-        ensures exact { IfSome self.now.prepared (λ marks. IfSome self.now.aimed (λ dst. AreCandidates (blocks_of marks) dst result.now)) }
+        ensures exact { IfSome self.now.prepared
+            (λ marks. IfSome self.now.aimed
+            (λ dst. AreCandidates (blocks_of marks) dst result.now)) }
         ensures ascending { IsAscending result.now }
         ensures within { ForSome self.now.prepared (λ marks. AreWithin result.now (length marks)) }
     {
@@ -500,13 +515,19 @@ impl Mixed {
     pub fn among(&self, net: &Net, place: Place, dst: u32, positions: &[u32], out: &mut Outcomes)
         requires prepared { IsSome self.now.prepared }
         requires ascending { IsAscending positions.now }
-        requires within { ForSome self.now.prepared (λ marks. AreWithin positions.now (length marks)) }
-        requires room { ForSome self.now.prepared (λ marks. length marks < length out.old.list + out.old.spare) }
-        ensures exact { (table : List Rule) (changes : List Change) → IsTable table → IsSomeAnd self.now.prepared (IsPrepared table changes)
-            → IfSome self.now.prepared (λ marks. AreOutcomesAmong net.now table changes marks positions.now place dst out.new.list) }
+        requires within { ForSome self.now.prepared
+            (λ marks. AreWithin positions.now (length marks)) }
+        requires room { ForSome self.now.prepared
+            (λ marks. length marks < length out.old.list + out.old.spare) }
+        ensures exact { (table : List Rule) (changes : List Change) → IsTable table
+            → IsSomeAnd self.now.prepared (IsPrepared table changes)
+            → IfSome self.now.prepared (λ marks. AreOutcomesAmong net.now table changes marks
+            positions.now place dst out.new.list) }
         // With the positions of all rules whose prefix holds the address they are all outcomes.
-        ensures all { (table : List Rule) (changes : List Change) → IsTable table → IsSomeAnd self.now.prepared (IsPrepared table changes)
-            → IsSomeAnd self.now.prepared (λ marks. HoldCandidates marks dst positions.now) → AreAllOutcomes net.now table changes place dst out.new.list }
+        ensures all { (table : List Rule) (changes : List Change) → IsTable table
+            → IsSomeAnd self.now.prepared (IsPrepared table changes)
+            → IsSomeAnd self.now.prepared (λ marks. HoldCandidates marks dst positions.now)
+            → AreAllOutcomes net.now table changes place dst out.new.list }
         ensures room { length out.old.list + out.old.spare ≤ length out.new.list + out.new.spare }
     {
         out.outcomes.clear();

@@ -61,7 +61,8 @@ fn put_table(changes: &[Change], rules: &[Rule], marks: &mut Vec<MarkedRule>)
 /// Puts the rules that changes insert, marked by the others.
 fn put_inserted(naming: &[Change], changes: &[Change], marks: &mut Vec<MarkedRule>)
     requires { vec_len marks.old + length (inserted changes.now) ≤ vec_capacity marks.old }
-    ensures items { marks.new.items ≡ marks.old.items ++ map (marked naming.now) (inserted changes.now) }
+    ensures items { marks.new.items
+        ≡ marks.old.items ++ map (marked naming.now) (inserted changes.now) }
     ensures room { vec_capacity marks.old ≤ vec_capacity marks.new }
 {
     for change in changes {

@@ -45,7 +45,9 @@ fn place_of(marks: &[MarkedRule], change: &Change) -> Option<usize>
 /// Gives the rule at a position another mark.
 fn set_mark(marks: &mut Vec<MarkedRule>, i: usize, mark: Mark)
     requires { i < vec_len marks.old }
-    ensures items { marks.new.items ≡ option_map_or (λ m. slice_set marks.old.items i (record m { mark = mark })) (slice_get marks.old.items i) marks.old.items }
+    ensures items { marks.new.items
+        ≡ option_map_or (λ m. slice_set marks.old.items i (record m { mark = mark }))
+        (slice_get marks.old.items i) marks.old.items }
     ensures room { vec_capacity marks.new ≡ vec_capacity marks.old }
 {
     marks[i].mark = mark;
@@ -68,7 +70,8 @@ fn put_mark(marks: &mut Vec<MarkedRule>, change: &Change) -> bool
 fn put_marks(marks: &mut Vec<MarkedRule>, changes: &[Change]) -> bool
     requires sure { AllByRecursion (λ m. m.mark ≡ Mark.Sure) marks.old.items }
     requires distinct { IsDistinct (keys_of (rules_of marks.old.items)) }
-    ensures marked { IsTrue result → AreMarked (rules_of marks.old.items) changes.now marks.new.items }
+    ensures marked { IsTrue result → AreMarked (rules_of marks.old.items) changes.now
+        marks.new.items }
     ensures room { vec_capacity marks.new ≡ vec_capacity marks.old }
 {
     for change in changes {

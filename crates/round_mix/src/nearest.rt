@@ -26,7 +26,8 @@ fn nearer(
     requires met { IsMet (header_at packet.place packet.dst) rules.now from best }
     requires position { position < length rules.now }
     ensures met { IsMet (header_at packet.place packet.dst) rules.now from result }
-    ensures kept { (j : ℕ) → IsNear (header_at packet.place packet.dst) rules.now from best j → IsNear (header_at packet.place packet.dst) rules.now from result j }
+    ensures kept { (j : ℕ) → IsNear (header_at packet.place packet.dst) rules.now from best j
+        → IsNear (header_at packet.place packet.dst) rules.now from result j }
     ensures here { IsNear (header_at packet.place packet.dst) rules.now from result position }
 {
     let pattern = &rules[position].rule.key.pattern;
@@ -58,8 +59,11 @@ fn nearest_of_kind(
     requires count { length space.now.patterns ≡ length rules.now }
     requires met { IsMet (header_at packet.place packet.dst) rules.now from best }
     ensures met { IsMet (header_at packet.place packet.dst) rules.now from result }
-    ensures kept { (j : ℕ) → IsNear (header_at packet.place packet.dst) rules.now from best j → IsNear (header_at packet.place packet.dst) rules.now from result j }
-    ensures slot { (j : ℕ) → slice_index_or (slots_of space.now) j 0 ≡ slot_of space.now.count (around kind.now (header_at packet.place packet.dst)) → IsNear (header_at packet.place packet.dst) rules.now from result j }
+    ensures kept { (j : ℕ) → IsNear (header_at packet.place packet.dst) rules.now from best j
+        → IsNear (header_at packet.place packet.dst) rules.now from result j }
+    ensures slot { (j : ℕ) → slice_index_or (slots_of space.now) j 0
+        ≡ slot_of space.now.count (around kind.now (header_at packet.place packet.dst))
+        → IsNear (header_at packet.place packet.dst) rules.now from result j }
 {
     let mut best = best;
     let place = packet.place;

@@ -12,7 +12,8 @@ use update_model::Change;
 impl MarkedRule {
     /// Gives the rule another mark, if it has the key.
     fn mark_where(&mut self, key: &Key, mark: Mark)
-        ensures { self.new ≡ cond (key_eq key.now self.old.rule.key) (with_mark self.old.rule mark) self.old }
+        ensures { self.new ≡ cond (key_eq key.now self.old.rule.key) (with_mark self.old.rule mark)
+            self.old }
     {
         if key.is_same(&self.rule.key) {
             self.mark = mark;
@@ -68,7 +69,8 @@ fn has_clash(marks: &[MarkedRule], rule: &Rule) -> bool
 /// The place behind the marked rules of at least a priority, in descending priority.
 fn place_of(marks: &[MarkedRule], priority: u16) -> usize
     ensures within { result ≤ length marks.now }
-    ensures place { (m : MarkedRuleOf) → m.rule.key.priority ≡ priority → insert marks.now result m ≡ put_in m marks.now }
+    ensures place { (m : MarkedRuleOf) → m.rule.key.priority ≡ priority
+        → insert marks.now result m ≡ put_in m marks.now }
 {
     for i in 0..marks.len() {
         if marks[i].rule.key.priority < priority {
@@ -91,7 +93,8 @@ fn put_in(marks: &mut Vec<MarkedRule>, marked: MarkedRule)
 /// Puts a rule that may stand among marked ones in descending priority, unless it clashes with one of them.
 fn put_free(marks: &mut Vec<MarkedRule>, rule: &Rule) -> bool
     requires { vec_len marks.old < vec_capacity marks.old }
-    ensures yes { result ≡ true → marks.new.items ≡ put_in (with_mark rule.now Mark.Possible) marks.old.items }
+    ensures yes { result ≡ true → marks.new.items
+        ≡ put_in (with_mark rule.now Mark.Possible) marks.old.items }
     ensures no { result ≡ false → marks.new.items ≡ marks.old.items }
     ensures is { result ≡ not (clashes_with rule.now.key marks.old.items) }
     ensures room { vec_capacity marks.old ≤ vec_capacity marks.new }

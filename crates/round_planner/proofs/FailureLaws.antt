@@ -28,7 +28,7 @@ use Rattle.round_tables.specs.Trials.{single, HasRoomAlone, IsSettled}
 use Rattle.round_tables.proofs.TrialLaws.{changes_here, changes_there}
 use Rattle.round_mix.proofs.TriedLaws.{clear_none}
 use Rattle.round_planner.specs.Search.{Aim, duties_in, CanBeSafe, Qualifies}
-use Rattle.class_watch.specs.Switches.{has}
+use Rattle.net_base.specs.Switches.{has}
 use Rattle.class_watch.specs.Alike.{AreAlike}
 use Rattle.class_watch.proofs.CoveringLaws.{covering_kept}
 use Rattle.class_watch.proofs.StandLaws.{alike_walks, alike_safe}

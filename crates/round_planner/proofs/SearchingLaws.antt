@@ -33,7 +33,7 @@ use Rattle.round_planner.specs.declared.judging.Found.{Found}
 use Rattle.round_planner.specs.Search.{Aim, duties_in, update_by, single_rounds, CanBeSafe, Qualifies, IsFirstQualifying}
 use Rattle.round_planner.specs.Standing.{Stands, IsCertifiedClass, IsNextRound, AreSafeBelow, HasUnsafe, AreWithPicks}
 use Rattle.round_planner.specs.declared.failing.UnsafeClass.{UnsafeClass}
-use Rattle.class_watch.specs.Switches.{has}
+use Rattle.net_base.specs.Switches.{has}
 use Rattle.class_watch.proofs.StandLaws.{all_held}
 use Rattle.round_planner.specs.Failures.{IsUnsafeClass}
 use Rattle.round_planner.specs.Searching.{SearchState, HasAtoms, IsAt, IsTryingAt}

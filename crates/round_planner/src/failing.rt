@@ -2,9 +2,9 @@
 ghost use Rattle.std.specs.Prelude.{◌↔◌, IsTrue};
 ghost use Rattle.round_planner.specs.Failures.{IsTouched};
 
-use class_watch::{SwitchSet, meets};
+use class_watch::meets;
 use dest_classes::Class;
-use net_base::SwitchId;
+use net_base::{SwitchId, SwitchSet};
 use update_model::Change;
 
 /// A class that no evidence keeps safe while a change is made, and the switches that its mixed walks come to then.

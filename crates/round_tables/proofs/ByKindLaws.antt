@@ -16,14 +16,14 @@ use Rattle.flow_rules.proofs.DistinctLaws.{flips}
 use Rattle.flow_rules.proofs.KeyLaws.{key_eq-true}
 use Rattle.flow_rules.proofs.ReplaceLaws.{keys_in_turn}
 use Rattle.update_model.specs.Changes.{rule_of, AppliesTo, rules_after_change, rules_after}
-use Rattle.update_model.specs.Mixtures.{is_insert}
+use Rattle.update_model.specs.Mixtures.{is_insert, is_delete, is_replace}
 use Rattle.update_model.specs.declared.Change.{Change}
 use Rattle.update_model.specs.declared.Change.TheVariants.{Insert, Delete, Replace}
 use Rattle.update_model.proofs.ChangeLaws.{key_named, applies_kept}
 use Rattle.round_mix.specs.Prepared.{AreGood}
 use Rattle.round_tables.specs.Loading.{insert_count}
 use Rattle.round_tables.proofs.LoadLaws.{filter_few}
-use Rattle.round_tables.specs.ByKind.{is_delete, is_replace, deleted, replacing, inserts, without}
+use Rattle.round_tables.specs.ByKind.{deleted, replacing, inserts, without}
 
 abbrev has : Key → List Rule → Bool
 has k gone = list_any (λ r. key_eq r.key k) gone

@@ -4,21 +4,9 @@ use Rattle.std.specs.List.{list_any}
 use Rattle.flow_rules.specs.Patterns.{key_eq}
 use Rattle.flow_rules.specs.declared.rules.Rule.{Rule}
 use Rattle.update_model.specs.Changes.{rule_of}
-use Rattle.update_model.specs.Mixtures.{is_insert}
+use Rattle.update_model.specs.Mixtures.{is_insert, is_delete, is_replace}
 use Rattle.update_model.specs.declared.Change.{Change}
 use Rattle.update_model.specs.declared.Change.TheVariants.{Insert, Delete, Replace}
-
--- whether a change deletes
-abbrev pub is_delete : Change → Bool
-is_delete (Insert s r) = false
-is_delete (Delete s r) = true
-is_delete (Replace s r) = false
-
--- whether a change replaces
-abbrev pub is_replace : Change → Bool
-is_replace (Insert s r) = false
-is_replace (Delete s r) = false
-is_replace (Replace s r) = true
 
 -- the rules that the changes delete
 abbrev pub deleted : List Change → List Rule

@@ -3,11 +3,11 @@ ghost use Rattle.std.specs.Prelude.{◌≡◌, ◌≢◌, suc, ◌<◌, ◌≤�
 ghost use Rattle.net_base.specs.declared.ids.SwitchId.{SwitchId as Switch};
 ghost use Rattle.topology.specs.Networks.{switch_count};
 ghost use Rattle.update_model.specs.Changes.{AppliesTo, rules_after, rules_after_change, round_after, spare_after_change};
-ghost use Rattle.update_model.specs.Mixtures.{is_insert, need_of};
+ghost use Rattle.update_model.specs.Mixtures.{is_insert, need_of, is_delete, is_replace};
 ghost use Rattle.round_mix.specs.Prepared.{AreGood};
 ghost use Rattle.round_tables.specs.PreparedTables.{HoldsRounds, StandsBefore, IsMixed, is_touched, limit_at, list_at, mix_at, room_of, rules_there, table_at};
 ghost use Rattle.round_tables.specs.Loading.{ArePrepared, AreWithin, insert_count};
-ghost use Rattle.round_tables.specs.ByKind.{is_delete, is_replace, deleted, replacing, inserts};
+ghost use Rattle.round_tables.specs.ByKind.{deleted, replacing, inserts};
 
 use crate::changed::keep_at;
 use crate::gathering::SwitchChanges;
@@ -19,27 +19,6 @@ use net_base::SwitchId;
 use round_mix::Mixed;
 use update_model::Change;
 
-/// Whether a change deletes.
-fn is_delete(change: &Change) -> bool
-    ensures { result ≡ is_delete change.now }
-{
-    matches!(change, Change::Delete(_, _))
-}
-
-/// Whether a change replaces.
-fn is_replace(change: &Change) -> bool
-    ensures { result ≡ is_replace change.now }
-{
-    matches!(change, Change::Replace(_, _))
-}
-
-/// Whether a change inserts.
-fn is_insert(change: &Change) -> bool
-    ensures { result ≡ is_insert change.now }
-{
-    matches!(change, Change::Insert(_, _))
-}
-
 /// Replaces the list by the rules that changes delete.
 fn collect_deleted(changes: &[Change], rules: &mut Vec<Rule>)
     requires { length changes.now ≤ vec_capacity rules.old }
@@ -48,7 +27,7 @@ fn collect_deleted(changes: &[Change], rules: &mut Vec<Rule>)
 {
     rules.clear();
     for change in changes {
-        if is_delete(change) {
+        if change.is_delete() {
             rules.push_reserved(change.rule());
         }
     }
@@ -62,7 +41,7 @@ fn collect_replacing(changes: &[Change], rules: &mut Vec<Rule>)
 {
     rules.clear();
     for change in changes {
-        if is_replace(change) {
+        if change.is_replace() {
             rules.push_reserved(change.rule());
         }
     }
@@ -88,7 +67,7 @@ fn insert_rules(table: &mut Table, changes: &[Change])
     ensures room { room_of table.new ≡ room_of table.old }
 {
     for change in changes {
-        if is_insert(change) {
+        if change.is_insert() {
             change_table(table, change);
         }
     }

@@ -137,7 +137,8 @@ fn a_record_is_a_schedule_with_the_same_traces(rt: HostRuntime) {
 
 /// Whether a place is one that a line has room for.
 fn is_place(net: &Net, place: Place) -> bool
-    ensures { IsTrue result → (place.switch.0 < switch_count net.now) × IsPortNumber place.port.0 × IsVlan place.vlan }
+    ensures { IsTrue result → (place.switch.0 < switch_count net.now) × IsPortNumber place.port.0
+        × IsVlan place.vlan }
 {
     if place.switch.0 >= net.switches() || place.port.0 < 1 || place.port.0 > 65279 {
         return false;

@@ -3,11 +3,11 @@ ghost use Rattle.std.specs.Prelude.{◌≡◌, IfSome, ◌≤◌, ◌<◌, ◌^�
 ghost use Rattle.schedule_replay.specs.EventLines as spelled;
 ghost use Rattle.update_model.specs.declared.Event.TheVariants as event;
 
-use net_base::{Place, Port, Stop, Vlan, cut_first, cut_last, read_address, read_decimal};
+use net_base::{
+    MAX_PORT, Place, Port, Stop, Vlan, cut_first, cut_last, read_address, read_decimal,
+};
 use topology::Net;
 use update_model::Event;
-
-const MAX_PORT: u64 = 65279;
 
 const MAX_VLAN: u64 = 4094;
 

@@ -5,17 +5,19 @@ ghost use Rattle.schedule_replay.specs.Faults.{fault_number, fault_name, fault_f
 
 use net_base::Field;
 use std::alloc::{AllocError, AllocFailed};
-use std::fmt;
 use thiserror::Error;
 
 /// Why bytes are no schedule.
 #[derive(Clone, Copy, Debug, PartialEq, Eq, Error)]
 pub enum ScheduleFault {
     /// The line of this number, from 1, is neither a comment nor an event.
+    #[error("BadLine")]
     BadLine(u32),
     /// More than 4,000,000 events.
+    #[error("TooMany")]
     TooMany,
     /// Memory was wanting.
+    #[error("Memory")]
     Memory,
 }
 
@@ -57,12 +59,6 @@ impl ScheduleFault {
             ScheduleFault::BadLine(line) => line,
             ScheduleFault::TooMany | ScheduleFault::Memory => 0,
         }
-    }
-}
-
-impl fmt::Display for ScheduleFault {
-    fn fmt<W: fmt::Write>(&self, f: &mut fmt::Formatter<W>) -> fmt::Result {
-        f.write_str(self.name())
     }
 }
 

@@ -64,7 +64,8 @@ impl Index {
     /// Goes on to the prefix of the next rule, whose position it is told.
     pub fn next(&mut self, position: u32, prefix: &Prefix, dst: u32)
         requires { length self.old.candidates < self.old.room }
-        ensures next { (blocks : List Block) → length blocks ≡ position → AreCandidates blocks dst self.old.candidates
+        ensures next { (blocks : List Block) → length blocks ≡ position
+            → AreCandidates blocks dst self.old.candidates
             → AreCandidates (blocks ++ prefix.now ∷ []) dst self.new.candidates }
         ensures few { length self.new.candidates ≤ length self.old.candidates + 1 }
         ensures room { self.old.room ≤ self.new.room }

@@ -59,7 +59,8 @@ impl TagMap {
 
 /// Adds the id where no declared VLAN has it.
 fn add_free(tags: &mut Vec<u16>, net: &Net, id: u16) -> Result<(), Memory>
-    ensures { OnOk result (tags.new.items ≡ tags.old.items ++ filter (λ n. not (list_any (has_id n) net.now.vlans)) (id ∷ [])) }
+    ensures { OnOk result (tags.new.items
+        ≡ tags.old.items ++ filter (λ n. not (list_any (has_id n) net.now.vlans)) (id ∷ [])) }
 {
     if !net.is_declared(Vlan::Id(id)) {
         tags.push(id)?;
@@ -71,7 +72,9 @@ fn add_free(tags: &mut Vec<u16>, net: &Net, id: u16) -> Result<(), Memory>
 fn free_ids(alloc: Global, net: &Net, first: u16, last: u16) -> Result<Vec<u16>, Memory>
     requires order { first ≤ last }
     requires within { last ≤ 4094 }
-    ensures { IfOk result (λ v. v.items ≡ filter (λ n. not (list_any (has_id n) net.now.vlans)) (numbers_from first (suc last - first))) }
+    ensures { IfOk result (λ v. v.items
+        ≡ filter (λ n. not (list_any (has_id n) net.now.vlans))
+        (numbers_from first (suc last - first))) }
 {
     let mut tags = Vec::new(alloc);
     for id in first..last + 1 {

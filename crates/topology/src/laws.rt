@@ -6,5 +6,6 @@ ghost use Rattle.topology.specs.declared.net.End.TheVariants.{Link};
 
 /// Links lead both ways: whoever follows the link at a port and then the link at the port where it leads, is back.
 pub fn links_lead_back()
-    ensures { (net : Network) (port far : Stop) → IsNetwork net → end_at net port ≡ Link far.switch far.port → end_at net far ≡ Link port.switch port.port }
+    ensures { (net : Network) (port far : Stop) → IsNetwork net
+        → end_at net port ≡ Link far.switch far.port → end_at net far ≡ Link port.switch port.port }
 {}

@@ -229,8 +229,10 @@ fn put_link(ends: &mut Ports, links: &mut Vec<Link>, a: Stop, b: Stop) -> Result
     requires within { (a.switch.0 < 128) × (b.switch.0 < 128) }
     requires a_room { count_by (is_on a.switch) (map (λ p. p.0) ends.old) < 64 }
     requires b_room { count_by (is_on b.switch) (map (λ p. p.0) ends.old ++ a ∷ []) < 64 }
-    ensures ends { OnOk result (ends.new ≡ (ends.old ++ (a, at.Link b.switch b.port) ∷ []) ++ (b, at.Link a.switch a.port) ∷ []) }
-    ensures links { OnOk result (links.new.items ≡ links.old.items ++ record { one = a; other = b } ∷ []) }
+    ensures ends { OnOk result (ends.new
+        ≡ (ends.old ++ (a, at.Link b.switch b.port) ∷ []) ++ (b, at.Link a.switch a.port) ∷ []) }
+    ensures links { OnOk result (links.new.items
+        ≡ links.old.items ++ record { one = a; other = b } ∷ []) }
 {
     ends.add(a, End::Link(b.switch, b.port))?;
     ends.add(b, End::Link(a.switch, a.port))?;
@@ -347,7 +349,8 @@ impl Net {
     /// Takes this tag range, the first and the last id, or none, in place of the one before.
     pub fn set_tags(&mut self, tags: Option<(u16, u16)>)
         requires { IfSome tags (λ t. IsVlanId t.0 × IsVlanId t.1 × (t.0 ≤ t.1)) }
-        ensures { self.new ≡ with_tags self.old (option_map (λ t. record { first = t.0; last = t.1 }) tags) }
+        ensures { self.new ≡ with_tags self.old
+            (option_map (λ t. record { first = t.0; last = t.1 }) tags) }
     {
         self.tags = tags;
     }

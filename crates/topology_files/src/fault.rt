@@ -14,30 +14,43 @@ use thiserror::Error;
 #[derive(Clone, Copy, PartialEq, Eq, Error)]
 pub enum NetFault {
     /// The bytes are no JSON text.
+    #[error("NotJson")]
     NotJson,
     /// The member is absent or of the wrong kind.
+    #[error("Shape")]
     Shape(Field, u32),
     /// The name isn't 1 to 32 ASCII letters, digits, `-` and `_`.
+    #[error("BadName")]
     BadName(u32),
     /// An earlier switch has the name.
+    #[error("DoubleName")]
     DoubleName(u32),
     /// No switch has the name.
+    #[error("UnknownSwitch")]
     UnknownSwitch(u32),
     /// The port number isn't 1 to 65279.
+    #[error("BadPort")]
     BadPort(u32),
     /// The port is used before, by a link or a host.
+    #[error("PortTwice")]
     PortTwice(u32),
     /// The VLAN id isn't 1 to 4094.
+    #[error("BadVlan")]
     BadVlan(u32),
     /// The VLAN is declared before.
+    #[error("VlanTwice")]
     VlanTwice(u32),
     /// The tags aren't 1 to 4094, or from is above to.
+    #[error("BadTags")]
     BadTags,
     /// The capacity isn't 1 to 8192.
+    #[error("BadCapacity")]
     BadCapacity(u32),
     /// More than 128 switches, 64 used ports of a switch, or 64 declared VLANs.
+    #[error("TooMany")]
     TooMany(Field, u32),
     /// Memory was wanting.
+    #[error("Memory")]
     Memory,
 }
 
@@ -111,12 +124,6 @@ impl NetFault {
             | NetFault::BadCapacity(place)
             | NetFault::TooMany(_, place) => place,
         }
-    }
-}
-
-impl fmt::Display for NetFault {
-    fn fmt<W: fmt::Write>(&self, f: &mut fmt::Formatter<W>) -> fmt::Result {
-        f.write_str(self.name())
     }
 }
 

@@ -17,7 +17,7 @@ use crate::fault::NetFault;
 use crate::small::{is_capacity, is_name, is_range, range_at, vlan_id, vlan_with};
 use flat_json::{Node, Tree, parse_tree};
 use json::Scratch;
-use net_base::{Field, Port, Stop, Vlan, place_of};
+use net_base::{Field, MAX_PORT, Port, Stop, Vlan, place_of};
 use std::alloc::Global;
 use topology::{Net, reference_parts};
 
@@ -30,13 +30,11 @@ const MAX_PORTS: usize = 64;
 /// The most declared VLANs.
 const MAX_VLANS: usize = 64;
 
-/// The greatest number of a port in use (OpenFlow 1.0.0, section 5.2.1).
-const MAX_PORT: u64 = 65279;
-
 /// Reads the name of one switch.
 #[tactic(auto, unfolding(crate::specs::Topology::name_at))]
 fn read_name<'t>(net: &Net, place: u32, tree: &Tree<'t>, item: &Node) -> Result<&'t str, NetFault>
-    ensures value { Gives Memory (λ s. s.now) result (topology.name_at place net.now (data_of tree.now item.now)) }
+    ensures value { Gives Memory (λ s. s.now) result
+        (topology.name_at place net.now (data_of tree.now item.now)) }
     ensures form { IfOk result (λ s. networks.is_name s.now ≡ true) }
     ensures new { IfOk result (λ s. switch_named net.now.names s.now ≡ None) }
 {
@@ -63,7 +61,8 @@ fn read_named<'t>(
     tree: &Tree<'t>,
     item: &Node,
 ) -> Result<(&'t str, u32), NetFault>
-    ensures value { Gives Memory (λ s. (s.0.now, s.1)) result (topology.named_at place net.now (data_of tree.now item.now)) }
+    ensures value { Gives Memory (λ s. (s.0.now, s.1)) result
+        (topology.named_at place net.now (data_of tree.now item.now)) }
     ensures room { OnOk result (length net.now.names < 128) }
     ensures form { IfOk result (λ s. networks.is_name s.0.now ≡ true) }
     ensures new { IfOk result (λ s. switch_named net.now.names s.0.now ≡ None) }
@@ -91,7 +90,9 @@ fn read_switch(
     tree: &Tree<'_>,
     item: &Node,
 ) -> Result<(), NetFault>
-    ensures value { MatchResult result (λ _. topology.switch_at place net.old (data_of tree.now item.now) ≡ Ok net.new) (λ e. Fails Memory e (topology.switch_at place net.old (data_of tree.now item.now))) }
+    ensures value { MatchResult result
+        (λ _. topology.switch_at place net.old (data_of tree.now item.now) ≡ Ok net.new)
+        (λ e. Fails Memory e (topology.switch_at place net.old (data_of tree.now item.now))) }
     ensures hosts { OnOk result (net.new.hosts ≡ net.old.hosts) }
 {
     let (name, capacity) = read_named(net, place, tree, item)?;
@@ -106,7 +107,10 @@ fn read_each_switch(
     tree: &Tree<'_>,
     items: &[Node],
 ) -> Result<(), NetFault>
-    ensures value { MatchResult result (λ _. in_turn topology.switch_at 0 net.old (map (data_of tree.now) items.now) ≡ Ok net.new) (λ e. Fails Memory e (in_turn topology.switch_at 0 net.old (map (data_of tree.now) items.now))) }
+    ensures value { MatchResult result
+        (λ _. in_turn topology.switch_at 0 net.old (map (data_of tree.now) items.now) ≡ Ok net.new)
+        (λ e. Fails Memory e (in_turn topology.switch_at 0 net.old
+        (map (data_of tree.now) items.now))) }
     ensures hosts { OnOk result (net.new.hosts ≡ net.old.hosts) }
 {
     for (i, item) in items.iter().enumerate() {
@@ -118,7 +122,9 @@ fn read_each_switch(
 /// Reads the member `switches`.
 #[tactic(auto, unfolding(crate::specs::Topology::switches_in))]
 fn read_switches(alloc: Global, net: &mut Net, tree: &Tree<'_>, top: &Node) -> Result<(), NetFault>
-    ensures value { MatchResult result (λ _. topology.switches_in net.old (data_of tree.now top.now) ≡ Ok net.new) (λ e. Fails Memory e (topology.switches_in net.old (data_of tree.now top.now))) }
+    ensures value { MatchResult result
+        (λ _. topology.switches_in net.old (data_of tree.now top.now) ≡ Ok net.new)
+        (λ e. Fails Memory e (topology.switches_in net.old (data_of tree.now top.now))) }
     ensures hosts { OnOk result (net.new.hosts ≡ net.old.hosts) }
 {
     let items = tree
@@ -191,7 +197,8 @@ fn read_free_port(
 
 /// The texts of a list of two.
 fn texts_of<'t>(tree: &Tree<'t>, items: &[Node]) -> Option<(&'t str, &'t str)>
-    ensures { option_map (λ p. (p.0.now, p.1.now)) result ≡ topology.two_texts (map (data_of tree.now) items.now) }
+    ensures { option_map (λ p. (p.0.now, p.1.now)) result
+        ≡ topology.two_texts (map (data_of tree.now) items.now) }
 {
     match items {
         [a, b] => tree.as_str(a).zip(tree.as_str(b)),
@@ -215,12 +222,15 @@ fn read_linked(
     tree: &Tree<'_>,
     item: &Node,
 ) -> Result<(Stop, Stop), NetFault>
-    ensures value { Gives Memory (λ p. p) result (topology.linked_at place net.now (data_of tree.now item.now)) }
+    ensures value { Gives Memory (λ p. p) result
+        (topology.linked_at place net.now (data_of tree.now item.now)) }
     ensures ports { IfOk result (λ p. IsPort net.now p.0 × IsPort net.now p.1) }
     ensures first_free { IfOk result (λ p. list_any (stop_eq p.0) (used_ports net.now) ≡ false) }
-    ensures second_free { IfOk result (λ p. list_any (stop_eq p.1) (used_ports net.now ++ p.0 ∷ []) ≡ false) }
+    ensures second_free { IfOk result
+        (λ p. list_any (stop_eq p.1) (used_ports net.now ++ p.0 ∷ []) ≡ false) }
     ensures first_room { IfOk result (λ p. count_by (is_on p.0.switch) (used_ports net.now) < 64) }
-    ensures second_room { IfOk result (λ p. count_by (is_on p.1.switch) (used_ports net.now ++ p.0 ∷ []) < 64) }
+    ensures second_room { IfOk result
+        (λ p. count_by (is_on p.1.switch) (used_ports net.now ++ p.0 ∷ []) < 64) }
 {
     let (first, second) = two_texts(tree, item).ok_or(NetFault::Shape(Field::Links, place))?;
     let a = read_free_port(net, None, Field::Links, place, first)?;
@@ -232,7 +242,9 @@ fn read_linked(
 #[tactic(auto, unfolding(crate::specs::Topology::link_at))]
 fn read_link(net: &mut Net, place: u32, tree: &Tree<'_>, item: &Node) -> Result<(), NetFault>
     requires { net.old.hosts ≡ [] }
-    ensures value { MatchResult result (λ _. topology.link_at place net.old (data_of tree.now item.now) ≡ Ok net.new) (λ e. Fails Memory e (topology.link_at place net.old (data_of tree.now item.now))) }
+    ensures value { MatchResult result
+        (λ _. topology.link_at place net.old (data_of tree.now item.now) ≡ Ok net.new)
+        (λ e. Fails Memory e (topology.link_at place net.old (data_of tree.now item.now))) }
     ensures hosts { OnOk result (net.new.hosts ≡ []) }
 {
     let (a, b) = read_linked(net, place, tree, item)?;
@@ -243,7 +255,10 @@ fn read_link(net: &mut Net, place: u32, tree: &Tree<'_>, item: &Node) -> Result<
 /// Reads the links in their order.
 fn read_each_link(net: &mut Net, tree: &Tree<'_>, items: &[Node]) -> Result<(), NetFault>
     requires { net.old.hosts ≡ [] }
-    ensures { MatchResult result (λ _. in_turn topology.link_at 0 net.old (map (data_of tree.now) items.now) ≡ Ok net.new) (λ e. Fails Memory e (in_turn topology.link_at 0 net.old (map (data_of tree.now) items.now))) }
+    ensures { MatchResult result (λ _. in_turn topology.link_at 0 net.old
+        (map (data_of tree.now) items.now) ≡ Ok net.new)
+        (λ e. Fails Memory e (in_turn topology.link_at 0 net.old
+        (map (data_of tree.now) items.now))) }
 {
     for (i, item) in items.iter().enumerate() {
         read_link(net, place_of(i), tree, item)?;
@@ -255,7 +270,8 @@ fn read_each_link(net: &mut Net, tree: &Tree<'_>, items: &[Node]) -> Result<(), 
 #[tactic(auto, unfolding(crate::specs::Topology::links_in))]
 fn read_links(net: &mut Net, tree: &Tree<'_>, top: &Node) -> Result<(), NetFault>
     requires { net.old.hosts ≡ [] }
-    ensures { MatchResult result (λ _. topology.links_in net.old (data_of tree.now top.now) ≡ Ok net.new) (λ e. Fails Memory e (topology.links_in net.old (data_of tree.now top.now))) }
+    ensures { MatchResult result (λ _. topology.links_in net.old (data_of tree.now top.now)
+        ≡ Ok net.new) (λ e. Fails Memory e (topology.links_in net.old (data_of tree.now top.now))) }
 {
     let items = tree
         .list_at(top, "links")
@@ -266,7 +282,8 @@ fn read_links(net: &mut Net, tree: &Tree<'_>, top: &Node) -> Result<(), NetFault
 /// Reads the port of one host.
 #[tactic(auto, unfolding(crate::specs::Topology::host_port_at))]
 fn read_host_port(net: &Net, place: u32, tree: &Tree<'_>, item: &Node) -> Result<Stop, NetFault>
-    ensures value { Gives Memory (λ s. s) result (topology.host_port_at place net.now (data_of tree.now item.now)) }
+    ensures value { Gives Memory (λ s. s) result
+        (topology.host_port_at place net.now (data_of tree.now item.now)) }
     ensures port { IfOk result (λ s. IsPort net.now s) }
     ensures free { IfOk result (λ s. list_any (stop_eq s) (used_ports net.now) ≡ false) }
     ensures room { IfOk result (λ s. count_by (is_on s.switch) (used_ports net.now) < 64) }
@@ -280,7 +297,9 @@ fn read_host_port(net: &Net, place: u32, tree: &Tree<'_>, item: &Node) -> Result
 /// Reads one host port.
 #[tactic(auto, unfolding(crate::specs::Topology::host_at))]
 fn read_host(net: &mut Net, place: u32, tree: &Tree<'_>, item: &Node) -> Result<(), NetFault>
-    ensures { MatchResult result (λ _. topology.host_at place net.old (data_of tree.now item.now) ≡ Ok net.new) (λ e. Fails Memory e (topology.host_at place net.old (data_of tree.now item.now))) }
+    ensures { MatchResult result (λ _. topology.host_at place net.old (data_of tree.now item.now)
+        ≡ Ok net.new) (λ e. Fails Memory e
+        (topology.host_at place net.old (data_of tree.now item.now))) }
 {
     let stop = read_host_port(net, place, tree, item)?;
     net.add_host(stop)?;
@@ -289,7 +308,10 @@ fn read_host(net: &mut Net, place: u32, tree: &Tree<'_>, item: &Node) -> Result<
 
 /// Reads the host ports in their order.
 fn read_each_host(net: &mut Net, tree: &Tree<'_>, items: &[Node]) -> Result<(), NetFault>
-    ensures { MatchResult result (λ _. in_turn topology.host_at 0 net.old (map (data_of tree.now) items.now) ≡ Ok net.new) (λ e. Fails Memory e (in_turn topology.host_at 0 net.old (map (data_of tree.now) items.now))) }
+    ensures { MatchResult result (λ _. in_turn topology.host_at 0 net.old
+        (map (data_of tree.now) items.now) ≡ Ok net.new)
+        (λ e. Fails Memory e (in_turn topology.host_at 0 net.old
+        (map (data_of tree.now) items.now))) }
 {
     for (i, item) in items.iter().enumerate() {
         read_host(net, place_of(i), tree, item)?;
@@ -300,7 +322,8 @@ fn read_each_host(net: &mut Net, tree: &Tree<'_>, items: &[Node]) -> Result<(), 
 /// Reads the member `hosts`.
 #[tactic(auto, unfolding(crate::specs::Topology::hosts_in))]
 fn read_hosts(net: &mut Net, tree: &Tree<'_>, top: &Node) -> Result<(), NetFault>
-    ensures { MatchResult result (λ _. topology.hosts_in net.old (data_of tree.now top.now) ≡ Ok net.new) (λ e. Fails Memory e (topology.hosts_in net.old (data_of tree.now top.now))) }
+    ensures { MatchResult result (λ _. topology.hosts_in net.old (data_of tree.now top.now)
+        ≡ Ok net.new) (λ e. Fails Memory e (topology.hosts_in net.old (data_of tree.now top.now))) }
 {
     let items = tree
         .list_at(top, "hosts")
@@ -311,7 +334,8 @@ fn read_hosts(net: &mut Net, tree: &Tree<'_>, top: &Node) -> Result<(), NetFault
 /// Reads a VLAN that isn't declared yet.
 #[tactic(auto, unfolding(crate::specs::Topology::new_vlan_at))]
 fn read_new_vlan(net: &Net, place: u32, tree: &Tree<'_>, item: &Node) -> Result<Vlan, NetFault>
-    ensures value { Gives Memory (λ v. v) result (topology.new_vlan_at place net.now (data_of tree.now item.now)) }
+    ensures value { Gives Memory (λ v. v) result
+        (topology.new_vlan_at place net.now (data_of tree.now item.now)) }
     ensures room { OnOk result (length net.now.vlans < 64) }
     ensures form { IfOk result IsVlan }
     ensures new { IfOk result (λ v. list_any (vlan_eq v) net.now.vlans ≡ false) }
@@ -330,7 +354,9 @@ fn read_new_vlan(net: &Net, place: u32, tree: &Tree<'_>, item: &Node) -> Result<
 /// Reads one declared VLAN.
 #[tactic(auto, unfolding(crate::specs::Topology::vlan_at))]
 fn read_vlan(net: &mut Net, place: u32, tree: &Tree<'_>, item: &Node) -> Result<(), NetFault>
-    ensures { MatchResult result (λ _. topology.vlan_at place net.old (data_of tree.now item.now) ≡ Ok net.new) (λ e. Fails Memory e (topology.vlan_at place net.old (data_of tree.now item.now))) }
+    ensures { MatchResult result (λ _. topology.vlan_at place net.old (data_of tree.now item.now)
+        ≡ Ok net.new) (λ e. Fails Memory e
+        (topology.vlan_at place net.old (data_of tree.now item.now))) }
 {
     let vlan = read_new_vlan(net, place, tree, item)?;
     net.add_vlan(vlan)?;
@@ -339,7 +365,10 @@ fn read_vlan(net: &mut Net, place: u32, tree: &Tree<'_>, item: &Node) -> Result<
 
 /// Reads the declared VLANs in their order.
 fn read_each_vlan(net: &mut Net, tree: &Tree<'_>, items: &[Node]) -> Result<(), NetFault>
-    ensures { MatchResult result (λ _. in_turn topology.vlan_at 0 net.old (map (data_of tree.now) items.now) ≡ Ok net.new) (λ e. Fails Memory e (in_turn topology.vlan_at 0 net.old (map (data_of tree.now) items.now))) }
+    ensures { MatchResult result (λ _. in_turn topology.vlan_at 0 net.old
+        (map (data_of tree.now) items.now) ≡ Ok net.new)
+        (λ e. Fails Memory e (in_turn topology.vlan_at 0 net.old
+        (map (data_of tree.now) items.now))) }
 {
     for (i, item) in items.iter().enumerate() {
         read_vlan(net, place_of(i), tree, item)?;
@@ -350,7 +379,8 @@ fn read_each_vlan(net: &mut Net, tree: &Tree<'_>, items: &[Node]) -> Result<(), 
 /// Reads the member `vlans`.
 #[tactic(auto, unfolding(crate::specs::Topology::vlans_in))]
 fn read_vlans(net: &mut Net, tree: &Tree<'_>, top: &Node) -> Result<(), NetFault>
-    ensures { MatchResult result (λ _. topology.vlans_in net.old (data_of tree.now top.now) ≡ Ok net.new) (λ e. Fails Memory e (topology.vlans_in net.old (data_of tree.now top.now))) }
+    ensures { MatchResult result (λ _. topology.vlans_in net.old (data_of tree.now top.now)
+        ≡ Ok net.new) (λ e. Fails Memory e (topology.vlans_in net.old (data_of tree.now top.now))) }
 {
     let items = tree
         .list_at(top, "vlans")
@@ -361,8 +391,10 @@ fn read_vlans(net: &mut Net, tree: &Tree<'_>, top: &Node) -> Result<(), NetFault
 /// Reads a tag range, as the member `tags` has it.
 #[tactic(auto, unfolding(crate::specs::Topology::range_in))]
 fn read_range(tree: &Tree<'_>, top: &Node) -> Result<Option<(u16, u16)>, NetFault>
-    ensures value { Gives Memory (option_map (λ t. record { first = t.0; last = t.1 })) result (topology.range_in (data_of tree.now top.now)) }
-    ensures meaning { IfOk result (λ range. IfSome range (λ t. IsVlanId t.0 × IsVlanId t.1 × (t.0 ≤ t.1))) }
+    ensures value { Gives Memory (option_map (λ t. record { first = t.0; last = t.1 })) result
+        (topology.range_in (data_of tree.now top.now)) }
+    ensures meaning { IfOk result (λ range. IfSome range
+        (λ t. IsVlanId t.0 × IsVlanId t.1 × (t.0 ≤ t.1))) }
 {
     let range = range_at(tree, top, "tags").ok_or(NetFault::Shape(Field::Tags, 0))?;
     match range {
@@ -379,7 +411,8 @@ fn read_range(tree: &Tree<'_>, top: &Node) -> Result<Option<(u16, u16)>, NetFaul
 /// Reads the member `tags`.
 #[tactic(auto, unfolding(crate::specs::Topology::tags_in))]
 fn read_tags(net: &mut Net, tree: &Tree<'_>, top: &Node) -> Result<(), NetFault>
-    ensures { MatchResult result (λ _. topology.tags_in net.old (data_of tree.now top.now) ≡ Ok net.new) (λ e. Fails Memory e (topology.tags_in net.old (data_of tree.now top.now))) }
+    ensures { MatchResult result (λ _. topology.tags_in net.old (data_of tree.now top.now)
+        ≡ Ok net.new) (λ e. Fails Memory e (topology.tags_in net.old (data_of tree.now top.now))) }
 {
     let range = read_range(tree, top)?;
     net.set_tags(range);
@@ -390,7 +423,8 @@ fn read_tags(net: &mut Net, tree: &Tree<'_>, top: &Node) -> Result<(), NetFault>
 #[tactic(auto, unfolding(crate::specs::Topology::ports_in))]
 fn read_ports(alloc: Global, net: &mut Net, tree: &Tree<'_>, top: &Node) -> Result<(), NetFault>
     requires { net.old ≡ no_network }
-    ensures { MatchResult result (λ _. topology.ports_in (data_of tree.now top.now) ≡ Ok net.new) (λ e. Fails Memory e (topology.ports_in (data_of tree.now top.now))) }
+    ensures { MatchResult result (λ _. topology.ports_in (data_of tree.now top.now) ≡ Ok net.new)
+        (λ e. Fails Memory e (topology.ports_in (data_of tree.now top.now))) }
 {
     read_switches(alloc, net, tree, top)?;
     read_links(net, tree, top)?;
@@ -401,7 +435,8 @@ fn read_ports(alloc: Global, net: &mut Net, tree: &Tree<'_>, top: &Node) -> Resu
 #[tactic(auto, unfolding(crate::specs::Topology::members_in))]
 fn read_members(alloc: Global, net: &mut Net, tree: &Tree<'_>, top: &Node) -> Result<(), NetFault>
     requires { net.old ≡ no_network }
-    ensures { MatchResult result (λ _. topology.members_in (data_of tree.now top.now) ≡ Ok net.new) (λ e. Fails Memory e (topology.members_in (data_of tree.now top.now))) }
+    ensures { MatchResult result (λ _. topology.members_in (data_of tree.now top.now) ≡ Ok net.new)
+        (λ e. Fails Memory e (topology.members_in (data_of tree.now top.now))) }
 {
     if !tree.is_object(top) {
         return Err(NetFault::Shape(Field::Top, 0));

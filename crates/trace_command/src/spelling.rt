@@ -5,9 +5,7 @@ ghost use Rattle.topology.specs.Networks as networks;
 ghost use Rattle.trace_command.specs.Names as spelled;
 
 use crate::names::EntryName;
-use net_base::{Port, Vlan, cut_last, read_decimal};
-
-const MAX_PORT: u64 = 65279;
+use net_base::{MAX_PORT, Port, Vlan, cut_last, read_decimal};
 
 const MAX_VLAN: u64 = 4094;
 

@@ -55,21 +55,11 @@ fn add_rank_rounds(
     Ok(())
 }
 
-/// Whether a change inserts a rule.
-fn is_insert(change: &Change) -> bool
-    ensures { result ≡ is_insert change.now }
-{
-    match change {
-        Change::Insert(_, _) => true,
-        _ => false,
-    }
-}
-
 /// The changes that insert a rule.
 fn inserts(alloc: Global, changes: &[Change]) -> Result<Vec<Change>, Memory>
     ensures { IfOk result (λ v. v.items ≡ filter is_insert changes.now) }
 {
-    let inserts = changes.iter().copied().filter(|change| is_insert(change));
+    let inserts = changes.iter().copied().filter(|change| change.is_insert());
     Ok(inserts.collect(alloc)?)
 }
 
@@ -77,7 +67,7 @@ fn inserts(alloc: Global, changes: &[Change]) -> Result<Vec<Change>, Memory>
 fn others(alloc: Global, changes: &[Change]) -> Result<Vec<Change>, Memory>
     ensures { IfOk result (λ v. v.items ≡ filter (λ c. not (is_insert c)) changes.now) }
 {
-    let others = changes.iter().copied().filter(|change| !is_insert(change));
+    let others = changes.iter().copied().filter(|change| !change.is_insert());
     Ok(others.collect(alloc)?)
 }
 

@@ -11,7 +11,7 @@ use Rattle.path_walk.specs.Outcomes.{outcome}
 use Rattle.path_walk.specs.declared.Outcome.{Outcome}
 use Rattle.path_walk.specs.declared.Outcome.TheVariants.{Go}
 use Rattle.update_model.specs.declared.Change.{Change}
-use Rattle.update_model.specs.declared.Change.TheVariants.{Insert}
+use Rattle.update_model.specs.declared.Change.TheVariants.{Insert, Delete, Replace}
 use Rattle.update_model.specs.Changes.{rules_after, changes_at, round_after, settled_tables, IsGoodRound}
 
 -- an update of a network: the tables before it, and its rounds. Round k is the one after the first k rounds
@@ -68,6 +68,18 @@ AreClearRounds u = (k : ℕ) → k < length u.rounds → (s : SwitchId) (mixed :
 abbrev pub is_insert : Change → Bool
 is_insert (Insert s r) = true
 is_insert _ = false
+
+-- whether a change deletes
+abbrev pub is_delete : Change → Bool
+is_delete (Insert s r) = false
+is_delete (Delete s r) = true
+is_delete (Replace s r) = false
+
+-- whether a change replaces
+abbrev pub is_replace : Change → Bool
+is_replace (Insert s r) = false
+is_replace (Delete s r) = false
+is_replace (Replace s r) = true
 
 -- the entries that a table needs while these changes of it are made: its rules and the inserts
 abbrev pub entries_needed : List Rule → List Change → ℕ

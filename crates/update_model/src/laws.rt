@@ -11,8 +11,12 @@ ghost use Rattle.update_model.specs.declared.Change.{Change};
 /// Each change that remains applies, and after it one fewer remains. So no more changes can be made than remain at first,
 /// in whatever order they are taken, and a search among them has an end.
 pub fn one_fewer_remains()
-    ensures fewer { (now new : List (List Rule)) → AllByRecursion IsTable now → AllByRecursion IsTable new → (c : Change) → IsIn c (remaining now new)
-        → Applies now c × (length (remaining now new) ≡ suc (length (remaining (tables_after_change c now) new))) }
-    ensures ends { (now new : List (List Rule)) → AllByRecursion IsTable now → AllByRecursion IsTable new → (changes : List Change) → AreRemaining now new changes
-        → length (remaining now new) ≡ length changes + length (remaining (tables_after changes now) new) }
+    ensures fewer { (now new : List (List Rule)) → AllByRecursion IsTable now
+        → AllByRecursion IsTable new → (c : Change) → IsIn c (remaining now new)
+        → Applies now c × (length (remaining now new)
+        ≡ suc (length (remaining (tables_after_change c now) new))) }
+    ensures ends { (now new : List (List Rule)) → AllByRecursion IsTable now
+        → AllByRecursion IsTable new → (changes : List Change) → AreRemaining now new changes
+        → length (remaining now new) ≡ length changes + length
+        (remaining (tables_after changes now) new) }
 {}

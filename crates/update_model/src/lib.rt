@@ -8,7 +8,7 @@ ghost use Rattle.topology.specs.Networks.{IsEntry, switch_count};
 ghost use Rattle.flow_rules.specs.Tables.{rules_at, rules_of_all};
 ghost use Rattle.path_walk.specs.Paths.{ended_by, outcome_in};
 ghost use Rattle.update_model.specs.Changes.{with_change, rule_of, Applies, AppliesTo, switch_of, rules_after_change, spare_after_change, tables_after_change, round_after};
-ghost use Rattle.update_model.specs.Mixtures.{is_insert};
+ghost use Rattle.update_model.specs.Mixtures.{is_insert, is_delete, is_replace};
 ghost use Rattle.update_model.specs.States.{with_packet, hopped, entered, settled_count, first_state, IsUnderWay, IsHopping, IsEnabled, MayStart, MayChange, MaySettle};
 
 pub mod laws;
@@ -104,7 +104,8 @@ pub struct Packet {
 /// Ends packet i.
 fn end_packet(packets: &mut Vec<Packet>, i: usize, ended: Ended)
     requires { i < vec_len packets.old }
-    ensures { packets.new.items ≡ with_packet (λ p. record p { ended = ended }) i packets.old.items }
+    ensures { packets.new.items ≡ with_packet (λ p. record p { ended = ended }) i
+        packets.old.items }
 {
     packets[i].ended = ended;
 }
@@ -130,7 +131,8 @@ impl Visits {
 /// Packet i goes on to the next place.
 fn move_packet(packets: &mut Vec<Packet>, i: usize, next: Place) -> Result<(), Memory>
     requires { i < vec_len packets.old }
-    ensures ok { IfOk result (λ _. packets.new.items ≡ with_packet (λ p. hopped p (Outcome.Go next)) i packets.old.items) }
+    ensures ok { IfOk result (λ _. packets.new.items
+        ≡ with_packet (λ p. hopped p (Outcome.Go next)) i packets.old.items) }
     ensures err { OnErr result (packets.new.items ≡ packets.old.items) }
 {
     let packet = &mut packets[i];
@@ -261,6 +263,27 @@ impl Change {
         }
     }
 
+    /// Whether it inserts a rule.
+    pub fn is_insert(&self) -> bool
+        ensures { result ≡ is_insert self.now }
+    {
+        matches!(self, Change::Insert(_, _))
+    }
+
+    /// Whether it deletes a rule.
+    pub fn is_delete(&self) -> bool
+        ensures { result ≡ is_delete self.now }
+    {
+        matches!(self, Change::Delete(_, _))
+    }
+
+    /// Whether it replaces a rule.
+    pub fn is_replace(&self) -> bool
+        ensures { result ≡ is_replace self.now }
+    {
+        matches!(self, Change::Replace(_, _))
+    }
+
     /// Whether the change applies to the table of its switch: an insert where its key is absent, a delete where its rule
     /// is present with the same action, a replace where its key is present.
     pub fn applies_to(&self, table: &Table) -> bool
@@ -300,7 +323,8 @@ pub fn applies(config: &Config, change: &Change) -> bool
 /// Makes a change in the table of its switch, with room for what it inserts.
 fn change_table(table: &mut Table, change: &Change) -> Result<(), Memory>
     requires { AppliesTo table.old.rules change.now }
-    ensures ok { IfOk result (λ _. table.new.rules ≡ rules_after_change change.now table.old.rules) }
+    ensures ok { IfOk result (λ _. table.new.rules
+        ≡ rules_after_change change.now table.old.rules) }
     ensures err { OnErr result (table.new.rules ≡ table.old.rules) }
 {
     if let Change::Insert(_, _) = change {
@@ -313,7 +337,8 @@ fn change_table(table: &mut Table, change: &Change) -> Result<(), Memory>
 /// Makes a change in the tables, with room for what it inserts. After a refusal the rules are as before.
 pub fn change_tables(config: &mut Config, change: &Change) -> Result<(), Memory>
     requires { Applies (rules_of_all config.old) change.now }
-    ensures ok { IfOk result (λ _. rules_of_all config.new ≡ tables_after_change change.now (rules_of_all config.old)) }
+    ensures ok { IfOk result (λ _. rules_of_all config.new
+        ≡ tables_after_change change.now (rules_of_all config.old)) }
     ensures err { OnErr result (rules_of_all config.new ≡ rules_of_all config.old) }
 {
     change_table(config.table_mut(change.switch()), change)

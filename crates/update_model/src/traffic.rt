@@ -69,7 +69,8 @@ impl Traffic {
 
     /// Whether no packet is under way that entered when fewer rounds were settled.
     pub(crate) fn has_none_older(&self) -> bool
-        ensures { IsTrue result ↔ AllByRecursion (λ p. IsUnderWay p → self.now.settled ≤ p.born) self.now.packets }
+        ensures { IsTrue result ↔ AllByRecursion (λ p. IsUnderWay p → self.now.settled ≤ p.born)
+            self.now.packets }
     {
         self.older == 0
     }
@@ -85,7 +86,11 @@ impl Traffic {
 
     /// A packet enters. After a refusal all is as before.
     pub(crate) fn enter(&mut self, place: Place, dst: u32) -> Result<(), Memory>
-        ensures ok { IfOk result (λ _. self.new ≡ record self.old { packets = self.old.packets ++ entered place dst self.old.settled ∷ [] }) }
+        ensures ok { IfOk result (λ _. self.new
+            ≡ record self.old {
+              packets = self.old.packets ++ entered place dst
+                  self.old.settled ∷ [];
+            }) }
         ensures err { OnErr result (self.new ≡ self.old) }
     {
         let packet = enter_packet(*self.packets.allocator(), place, dst, self.settled)?;
@@ -97,7 +102,11 @@ impl Traffic {
     /// Packet i, which is under way, goes on to the next place. After a refusal all is as before.
     fn go_on(&mut self, i: usize, next: Place) -> Result<(), Memory>
         requires { IsHopping self.old.packets i }
-        ensures ok { IfOk result (λ _. self.new ≡ record self.old { packets = with_packet (λ p. hopped p (Outcome.Go next)) i self.old.packets }) }
+        ensures ok { IfOk result (λ _. self.new
+            ≡ record self.old {
+              packets = with_packet (λ p. hopped p (Outcome.Go next)) i
+                  self.old.packets;
+            }) }
         ensures err { OnErr result (self.new ≡ self.old) }
     {
         move_packet(&mut self.packets, i, next)
@@ -107,7 +116,8 @@ impl Traffic {
     pub(crate) fn end(&mut self, i: usize, ended: Ended)
         requires hopping { IsHopping self.old.packets i }
         requires ends { goes_on ended ≡ false }
-        ensures { self.new ≡ record self.old { packets = with_packet (λ p. record p { ended = ended }) i self.old.packets } }
+        ensures { self.new ≡ record self.old
+            { packets = with_packet (λ p. record p { ended = ended }) i self.old.packets } }
     {
         self.older -= usize::from(self.packets[i].born < self.settled);
         self.under_way -= 1;
@@ -117,7 +127,8 @@ impl Traffic {
     /// Packet i, which is under way, moves by an outcome at its place. After a refusal all is as before.
     pub(crate) fn hop(&mut self, i: usize, found: Outcome) -> Result<(), Memory>
         requires { IsHopping self.old.packets i }
-        ensures ok { IfOk result (λ _. self.new ≡ record self.old { packets = with_packet (λ p. hopped p found) i self.old.packets }) }
+        ensures ok { IfOk result (λ _. self.new
+            ≡ record self.old { packets = with_packet (λ p. hopped p found) i self.old.packets }) }
         ensures err { OnErr result (self.new ≡ self.old) }
     {
         let switch = self.packets[i].at.switch;

@@ -136,7 +136,8 @@ impl<'a> World<'a> {
     ) -> Result<World<'a>, Memory>
         requires tables { length old.now ≡ switch_count net.now }
         requires few { length rounds.now < 2 ^ 32 }
-        ensures { IfOk result (λ w. w ≡ record { net = net.now; rounds = rounds.now; state = first_state (rules_of_all old.now) }) }
+        ensures { IfOk result (λ w. w ≡ record
+            { net = net.now; rounds = rounds.now; state = first_state (rules_of_all old.now) }) }
     {
         let tables = old.copy()?;
         Ok(World {
@@ -311,8 +312,10 @@ impl<'a> World<'a> {
     pub fn step(&mut self, event: Event) -> Result<(), StepFault>
         ensures ok { IfOk result (λ _. self.new ≡ world_after self.old event) }
         ensures err { OnErr result (self.new ≡ self.old) }
-        ensures enabled { IfOk result (λ _. IsEnabled self.old.net self.old.rounds self.old.state event) }
-        ensures not_enabled { result ≡ Err StepFault.NotEnabled ↔ ¬ IsEnabled self.old.net self.old.rounds self.old.state event }
+        ensures enabled { IfOk result (λ _. IsEnabled self.old.net self.old.rounds self.old.state
+            event) }
+        ensures not_enabled { result ≡ Err StepFault.NotEnabled
+            ↔ ¬ IsEnabled self.old.net self.old.rounds self.old.state event }
     {
         if !self.enabled(&event) {
             return Err(StepFault::NotEnabled);

@@ -102,7 +102,8 @@ fn holds_earlier(earlier: Option<&Before>, s: SwitchId) -> bool
 /// leaves is below 128.
 pub fn meets(edge: Edge, waypoint: SwitchId, earlier: Option<&Before>) -> bool
     requires { edge.from.0 < 128 }
-    ensures { IsTrue result ↔ ((¬ HoldsEarlier (option_copied earlier.entry) edge.from) × (edge.to ≡ waypoint)) }
+    ensures { IsTrue result ↔ ((¬ HoldsEarlier (option_copied earlier.entry) edge.from)
+        × (edge.to ≡ waypoint)) }
 {
     edge.to.0 == waypoint.0 && !holds_earlier(earlier, edge.from)
 }
@@ -123,7 +124,9 @@ fn way_out(
     earlier: Option<&Before>,
 ) -> Option<Edge>
     requires { All (λ e. (e.from.0 < 128) × (e.to.0 < 128)) edges.now }
-    ensures { MatchOption result (All (Stays before.now waypoint (option_copied earlier.entry)) edges.now) (λ e. IsIn e edges.now × ¬ Stays before.now waypoint (option_copied earlier.entry) e) }
+    ensures { MatchOption result (All (Stays before.now waypoint (option_copied earlier.entry))
+        edges.now) (λ e. IsIn e edges.now
+        × ¬ Stays before.now waypoint (option_copied earlier.entry) e) }
 {
     for edge in edges {
         if !stays(before, *edge, waypoint, earlier) {
@@ -136,7 +139,8 @@ fn way_out(
 /// The first of the switches that the set holds.
 fn first_held(before: &Before, switches: &[SwitchId]) -> Option<SwitchId>
     requires { All (λ s. s.0 < 128) switches.now }
-    ensures { MatchOption result (All (λ s. ¬ Holds before.now s) switches.now) (λ s. IsIn s switches.now × Holds before.now s) }
+    ensures { MatchOption result (All (λ s. ¬ Holds before.now s) switches.now)
+        (λ s. IsIn s switches.now × Holds before.now s) }
 {
     for s in switches {
         if before.holds(*s) {
@@ -161,7 +165,8 @@ pub fn begins(
     earlier: Option<&Before>,
 ) -> bool
     requires { start.0 < 128 }
-    ensures { IsTrue result ↔ (Holds before.now start ⊎ (IsFirst (option_copied earlier.entry) × (start ≡ waypoint))) }
+    ensures { IsTrue result ↔ (Holds before.now start
+        ⊎ (IsFirst (option_copied earlier.entry) × (start ≡ waypoint))) }
 {
     before.holds(start) || starts_there(start, waypoint, earlier)
 }
@@ -169,7 +174,8 @@ pub fn begins(
 /// Whether each edge stays in the set, or goes from outside the set before to the waypoint.
 fn all_stay(before: &Before, edges: &[Edge], waypoint: SwitchId, earlier: Option<&Before>) -> bool
     requires { All (λ e. (e.from.0 < 128) × (e.to.0 < 128)) edges.now }
-    ensures { IsTrue result ↔ All (Stays before.now waypoint (option_copied earlier.entry)) edges.now }
+    ensures { IsTrue result ↔ All (Stays before.now waypoint (option_copied earlier.entry))
+        edges.now }
 {
     match way_out(before, edges, waypoint, earlier) {
         None => true,
@@ -198,7 +204,8 @@ fn is_before_set(
 ) -> bool
     requires start { start.0 < 128 }
     requires edges { All (λ e. (e.from.0 < 128) × (e.to.0 < 128)) edges.now }
-    ensures { IsTrue result ↔ IsBeforeSet start (IsEdge edges.now) waypoint (option_copied earlier.entry) before.now }
+    ensures { IsTrue result ↔ IsBeforeSet start (IsEdge edges.now) waypoint
+        (option_copied earlier.entry) before.now }
 {
     begins(before, start, waypoint, earlier) && all_stay(before, edges, waypoint, earlier)
 }
@@ -216,7 +223,8 @@ pub fn closed(
     requires start { start.0 < 128 }
     requires edges { All (λ e. (e.from.0 < 128) × (e.to.0 < 128)) edges.now }
     requires leaving { All (λ s. s.0 < 128) leaving.now }
-    ensures { IsTrue result ↔ IsGuard start (IsEdge edges.now) (λ s. IsIn s leaving.now) waypoint (option_copied earlier.entry) before.now }
+    ensures { IsTrue result ↔ IsGuard start (IsEdge edges.now) (λ s. IsIn s leaving.now) waypoint
+        (option_copied earlier.entry) before.now }
 {
     is_before_set(before, start, edges, waypoint, earlier) && holds_none(before, leaving)
 }
@@ -234,8 +242,11 @@ fn grow(
     requires empty { before.old ≡ [] }
     requires start { start.0 < 128 }
     requires edges { All (λ e. (e.from.0 < 128) × (e.to.0 < 128)) edges.now }
-    ensures grown { IfOk result (λ steps. IsGrown start (MissesStep (IsEdge edges.now) waypoint (option_copied earlier.entry)) steps.items before.new) }
-    ensures full { OnOk result (All (Stays before.new waypoint (option_copied earlier.entry)) edges.now) }
+    ensures grown { IfOk result (λ steps. IsGrown start
+        (MissesStep (IsEdge edges.now) waypoint (option_copied earlier.entry)) steps.items
+        before.new) }
+    ensures full { OnOk result (All (Stays before.new waypoint (option_copied earlier.entry))
+        edges.now) }
 {
     let mut steps = Vec::new(alloc);
     before.put(start);
@@ -288,7 +299,8 @@ pub fn before_set(
     requires start { start.0 < switches }
     requires edges { All (λ e. (e.from.0 < switches) × (e.to.0 < switches)) edges.now }
     requires leaving { All (λ s. s.0 < switches) leaving.now }
-    ensures { IfOk result (λ found. IsBefored start edges.now leaving.now waypoint (option_copied earlier.entry) found) }
+    ensures { IfOk result (λ found. IsBefored start edges.now leaving.now waypoint
+        (option_copied earlier.entry) found) }
 {
     let mut before = Before::none();
     if starts_there(start, waypoint, earlier) {

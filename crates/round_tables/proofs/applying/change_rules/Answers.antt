@@ -3,7 +3,8 @@ use Rattle.flow_rules.specs.Tables.{IsTable}
 use Rattle.flow_rules.specs.declared.rules.Rule.{Rule}
 use Rattle.update_model.specs.Changes.{rules_after}
 use Rattle.round_mix.specs.Prepared.{AreGood}
-use Rattle.round_tables.specs.ByKind.{is_replace, inserts}
+use Rattle.update_model.specs.Mixtures.{is_replace}
+use Rattle.round_tables.specs.ByKind.{inserts}
 use Rattle.round_tables.proofs.ByKindLaws.{good_inserts, inserts_few, length-in_turn, passes_made, same_after, table_of, without_few}
 use Rattle.round_tables.proofs.applying.change_rules.Goals as goal
 

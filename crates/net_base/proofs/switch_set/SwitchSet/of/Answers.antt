@@ -1,8 +1,8 @@
 use Rattle.std.proofs.Common.{take, get_or, sym, subst}
 use Rattle.std.proofs.lemmas.List.{take_more, take_all}
 use Rattle.net_base.specs.declared.ids.SwitchId.{SwitchId}
-use Rattle.class_watch.proofs.SetLaws.{IsSetOf, set_none, set_more}
-use Rattle.class_watch.proofs.switch_set.SwitchSet.of.Goals as goal
+use Rattle.net_base.proofs.SetLaws.{IsSetOf, set_none, set_more}
+use Rattle.net_base.proofs.switch_set.SwitchSet.of.Goals as goal
 
 pub loop-switch-init : goal.loop-switch-init
 loop-switch-init c = set_none c.none-set.result c.none-set.ensures

@@ -3,7 +3,7 @@ use Rattle.net_base.specs.declared.ids.SwitchId.{SwitchId}
 use Rattle.mixed_walks.specs.Marked.{switch_number}
 use Rattle.mixed_walks.proofs.MarkedLaws.{member_below}
 use Rattle.net_base.proofs.ItemLaws.{in_at}
-use Rattle.mixed_walks.proofs.marked.SwitchSet.list.Goals as goal
+use Rattle.mixed_walks.proofs.marked.WalkedSwitches.list.Goals as goal
 
 pub returns-clause-near : goal.returns-clause-near
 returns-clause-near c =

@@ -3,7 +3,7 @@ use Rattle.net_base.specs.declared.ids.SwitchId.{SwitchId}
 use Rattle.std.proofs.Common.{List}
 use Rattle.mixed_walks.specs.Marked.{IsMarked, switch_number}
 use Rattle.mixed_walks.proofs.MarkedLaws.{marked_none}
-use Rattle.mixed_walks.proofs.marked.SwitchSet.make.Goals as goal
+use Rattle.mixed_walks.proofs.marked.WalkedSwitches.make.Goals as goal
 
 pub invariant_of-result : goal.invariant_of-result
 invariant_of-result c =

@@ -4,7 +4,7 @@ use Rattle.net_base.specs.declared.ids.SwitchId.{SwitchId}
 use Rattle.net_base.proofs.NameLaws.{same_switch}
 use Rattle.mixed_walks.specs.Marked.{IsMarked, switch_number}
 use Rattle.mixed_walks.proofs.MarkedLaws.{read_mark, marked_put, room_for, in_push, in_still, marked_member}
-use Rattle.mixed_walks.proofs.marked.SwitchSet.put.Goals as goal
+use Rattle.mixed_walks.proofs.marked.WalkedSwitches.put.Goals as goal
 
 pub push_reserved-requires : goal.push_reserved-requires
 push_reserved-requires c =

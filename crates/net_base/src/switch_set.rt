@@ -3,9 +3,9 @@ ghost use Rattle.std.specs.Prelude.{◌≡◌, ◌≢◌, ◌↔◌, ◌==◌, �
 ghost use Rattle.std.specs.Int.{bit_at};
 ghost use Rattle.net_base.specs.Members.{IsIn};
 ghost use Rattle.net_base.specs.declared.ids.SwitchId.{SwitchId as Switch};
-ghost use Rattle.class_watch.specs.Switches.{has};
+ghost use Rattle.net_base.specs.Switches.{has};
 
-use net_base::SwitchId;
+use crate::ids::SwitchId;
 use std::marker::Model;
 
 /// A set of switches with numbers below 128, in 16 bytes. Bit n is that of switch n.

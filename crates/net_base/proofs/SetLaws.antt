@@ -5,7 +5,7 @@ use Rattle.net_base.specs.Members.{IsIn}
 use Rattle.net_base.specs.declared.ids.SwitchId.{SwitchId}
 use Rattle.net_base.proofs.MemberLaws.{in_append_left, in_append_right, in_append_cases}
 use Rattle.net_base.proofs.NameLaws.{same_switch}
-use Rattle.class_watch.specs.Switches.{has}
+use Rattle.net_base.specs.Switches.{has}
 
 -- the set has the switches of the list
 abbrev pub IsSetOf : ℕ → List SwitchId → Type 0

@@ -2,7 +2,7 @@ use Rattle.std.proofs.Common.{◌≡◌, ◌<◌, ◌≤◌, arith, tests}
 use Rattle.std.specs.Int.{bit_at}
 use Rattle.std.proofs.lemmas.Nat.{one_shl, pow_pos}
 use Rattle.std.proofs.lemmas.Nat.Bits.{and_pow, bit_at_above}
-use Rattle.class_watch.proofs.switch_set.has_bit.Goals as goal
+use Rattle.net_base.proofs.switch_set.has_bit.Goals as goal
 
 pub returns-then-n-lt128 : goal.returns-then-n-lt128
 returns-then-n-lt128 c = let less : c.args.n < 128 = c.if-n-lt128.true in grind (arith, tests, one_shl c.args.n 128 less, and_pow c.args.bits c.args.n, pow_pos c.args.n)

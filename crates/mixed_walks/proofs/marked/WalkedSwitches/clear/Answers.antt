@@ -3,7 +3,7 @@ use Rattle.net_base.specs.declared.ids.SwitchId.{SwitchId}
 use Rattle.mixed_walks.specs.Marked.{IsMarked, switch_number}
 use Rattle.mixed_walks.proofs.MarkedLaws.{member_below, marked_cleared, AreTaken}
 use Rattle.net_base.proofs.ItemLaws.{in_at}
-use Rattle.mixed_walks.proofs.marked.SwitchSet.clear.Goals as goal
+use Rattle.mixed_walks.proofs.marked.WalkedSwitches.clear.Goals as goal
 
 pub unmark_switches-requires : goal.unmark_switches-requires
 unmark_switches-requires c =
