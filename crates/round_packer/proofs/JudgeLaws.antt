@@ -20,7 +20,7 @@ use Rattle.certificates.specs.Rounds.{one_round_of, IsSafeByEvidence}
 use Rattle.check_reasons.specs.AtomMarks.{AreTouched}
 use Rattle.check_reasons.specs.Touched.{touches}
 use Rattle.mixed_walks.specs.Walks.{TablesKeepVlans, KeepVlansUpTo}
-use Rattle.class_watch.specs.Switches.{has}
+use Rattle.net_base.specs.Switches.{has}
 use Rattle.class_watch.specs.Walks.{meets}
 use Rattle.evidence_store.specs.Found.{IsFound}
 use Rattle.evidence_store.specs.declared.class_evidence.ClassEvidence.{ClassEvidence}

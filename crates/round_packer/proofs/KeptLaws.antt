@@ -26,7 +26,7 @@ use Rattle.check_reasons.proofs.TouchLaws.{not_covered}
 use Rattle.check_reasons.proofs.SameWalks.{was_on_walk, was_safe}
 use Rattle.mixed_walks.specs.Walks.{KeepVlansUpTo, TablesKeepVlans}
 use Rattle.mixed_walks.proofs.PlaceLaws.{on_walk_vlan}
-use Rattle.class_watch.specs.Switches.{has}
+use Rattle.net_base.specs.Switches.{has}
 use Rattle.class_watch.specs.Walks.{meets}
 use Rattle.class_watch.specs.Alike.{covering_changes, AreAlike}
 use Rattle.class_watch.proofs.StandLaws.{alike_walks, alike_safe}

@@ -1,24 +1,28 @@
 -- One more change of a round, one less, and all of them made: whether they fit the tables.
-use Rattle.std.proofs.Common.{◌≡◌, ◌≢◌, ℕ, ◌+◌, ◌<◌, ◌≤◌, Bool, true, false, cond, List, [], ◌∷◌, ◌++◌, suc, length, map, refl, sym, ◌∙◌, subst, ap, inl, inr, arith, length-append, append-nil}
-use Rattle.std.specs.Prelude.{◌==◌, filter}
+use Rattle.std.proofs.Common.{◌≡◌, ◌≢◌, ℕ, ◌+◌, ◌<◌, ◌≤◌, Bool, true, false, cond, List, [], ◌∷◌, ◌++◌, suc, length, map, refl, sym, ◌∙◌, subst, ap, inl, inr, arith, length-set, append-nil}
+use Rattle.std.specs.Prelude.{◌==◌, filter, zero, take, slice_get, Some, None}
 use Rattle.std.specs.List.{AllByRecursion}
-use Rattle.std.proofs.lemmas.Bool.{eq-eqb, cases_eq, cond-true}
-use Rattle.net_base.specs.Members.{IsIn, IsSubsequence}
-use Rattle.net_base.proofs.MemberLaws.{IsSubsequence_refl, in_map, in_from_map, in_filter, each_append, in_append_right, each_at}
+use Rattle.std.proofs.lemmas.Bool.{eq-eqb, ne_eqb, cases_eq, cond-true, cond-false}
+use Rattle.net_base.specs.Members.{IsIn, IsDistinct, IsSubsequence}
+use Rattle.net_base.proofs.ItemLaws.{in_from_get}
+use Rattle.net_base.proofs.MemberLaws.{IsSubsequence_refl, in_map, in_from_map, in_filter, each_append, in_append_right, each_at, each_from_in}
 use Rattle.net_base.specs.declared.ids.SwitchId.{SwitchId}
 use Rattle.topology.specs.Networks.{Network, switch_count, capacity_of}
 use Rattle.flow_rules.specs.Tables.{IsClear, rules_at}
 use Rattle.flow_rules.specs.declared.rules.Rule.{Rule}
-use Rattle.update_model.specs.Changes.{switch_of, rule_of, EntryName, entry_named, changes_at, rules_after, tables_after, Applies, IsGoodRound}
+use Rattle.update_model.specs.Changes.{switch_of, rule_of, EntryName, entry_named, changes_at, AppliesTo, rules_after, tables_after, tables_after_change, Applies, IsGoodRound}
 use Rattle.update_model.specs.Mixtures.{IsMixture, MayHold, entries_needed, need_of, is_insert}
 use Rattle.update_model.specs.declared.Change.{Change}
-use Rattle.update_model.proofs.ChangeLaws.{IsWithin, key_named, rules_at-after, length-tables_after}
-use Rattle.update_model.proofs.MadeLaws.{apply_there, keys_distinct, distinct_some, each_some}
+use Rattle.update_model.proofs.ChangeLaws.{IsWithin, key_named, applies_kept, rules_at-after, rules_at-after_change}
+use Rattle.update_model.proofs.MadeLaws.{apply_there, keys_distinct, distinct_some, each_some, same_entry}
 use Rattle.certificates.specs.Rounds.{one_round_of}
-use Rattle.round_mix.specs.Prepared.{MixedState, AreGood, AreClear}
+use Rattle.round_mix.specs.Prepared.{AreGood, AreClear}
+use Rattle.round_mix.specs.Faults.{IsFault, IsGoodAfter}
+use Rattle.round_mix.specs.declared.MixFault.{MixFault}
+use Rattle.round_mix.specs.declared.MixFault.TheVariants.{BadChange, Ambiguous}
 use Rattle.round_mix.proofs.TriedLaws.{clear_none}
 use Rattle.round_tables.proofs.ApplyLaws.{rules_few}
-use Rattle.round_tables.proofs.TrialLaws.{same_switch, changes_here, changes_there}
+use Rattle.round_tables.proofs.TrialLaws.{changes_here, changes_there}
 use Rattle.round_trials.specs.Filling.{FitTables, FitTable}
 
 -- ---- the changes at a switch
@@ -85,6 +89,29 @@ within_good tables (c ∷ round) applies = (applies.0.0, within_good tables roun
 -- the changes of a good round at a switch are good
 pub good_there : (tables : List (List Rule)) (round : List Change) (s : SwitchId) → IsGoodRound tables round → AreGood (rules_at tables s) (changes_at s round)
 good_there tables round s good = record { applies = apply_there tables s round good.applies; distinct = keys_distinct s round good.distinct }
+
+-- a change still applies to the tables after one that names another entry
+applies_next : (tables : List (List Rule)) (c d : Change) → Applies tables c → Applies tables d → ¬ (entry_named d ≡ entry_named c) → Applies (tables_after_change c tables) d
+applies_next tables c d first second differ =
+    let table = rules_at-after_change c tables (switch_of d) first.0 in (
+      subst (λ (n : ℕ). (switch_of d).0 < n) (sym (length-set tables (switch_of c).0 _)) second.0,
+      elim (cases_eq (switch_of c).0 (switch_of d).0) [
+        | inl e ↦ (
+            let same : switch_of c ≡ switch_of d = ap (λ (n : ℕ). let x : SwitchId = record { 0 = n } in x) e in
+            subst (λ (rs : List Rule). AppliesTo rs d) (sym (table ∙ cond-true ((switch_of c).0 == (switch_of d).0) _ _ (eq-eqb _ _ e)))
+            (applies_kept (rules_at tables (switch_of d)) c d (subst (λ (x : SwitchId). AppliesTo (rules_at tables x) c) same first.1) second.1
+            (λ k. differ (same_entry d c (sym e) k))))
+        | inr ne ↦ subst (λ (rs : List Rule). AppliesTo rs d) (sym (table ∙ cond-false ((switch_of c).0 == (switch_of d).0) _ _ (ne_eqb _ _ ne))) second.1
+      ],
+    )
+
+-- the rest of a good round is good after its first change
+pub good_rest : (tables : List (List Rule)) (c : Change) (cs : List Change) → IsGoodRound tables (c ∷ cs) → IsGoodRound (tables_after_change c tables) cs
+good_rest tables c cs good = record {
+  applies = each_from_in (Applies (tables_after_change c tables)) cs (λ d i. applies_next tables c d good.applies.0 (each_at (Applies tables) cs d good.applies.1 i)
+      (λ e. good.distinct.0 (subst (λ n. IsIn n (map entry_named cs)) e (in_map entry_named d cs i))));
+  distinct = good.distinct.1;
+}
 
 -- ---- fitting
 
@@ -190,6 +217,15 @@ need_more net tables round c fit less =
 
 -- ---- faults
 
+-- a member isn't named by those before it
+distinct_before : {A B : Type 0} (f : A → B) (xs : List A) (i : ℕ) (x : A) → IsDistinct (map f xs) → slice_get xs i ≡ Some x → ¬ IsIn (f x) (map f (take i xs))
+distinct_before f [] i x distinct at = absurd (let e : None ≡ Some x = at in cc)
+distinct_before f (y ∷ xs) zero x distinct at = λ i. i
+distinct_before f (y ∷ xs) (suc i) x distinct at = λ h. elim h [
+  | inl e ↦ distinct.0 (subst (λ z. IsIn z (map f xs)) e (in_map f x xs (in_from_get xs i x at)))
+  | inr j ↦ distinct_before f xs i x distinct.1 at j
+]
+
 -- where a fault is found the changes don't fit
 pub fault_unfit : (rules : List Rule) (changes : List Change) (fault : MixFault) (capacity : ℕ) → IsFault rules changes fault → ¬ FitTable rules changes capacity
 fault_unfit rules changes (BadChange i) capacity bad fit = bad.bad (record {
@@ -197,3 +233,8 @@ fault_unfit rules changes (BadChange i) capacity bad fit = bad.bad (record {
   fresh = distinct_before key_named changes i bad.change fit.good.distinct bad.at;
 })
 fault_unfit rules changes (Ambiguous i j) capacity ambiguous fit = ambiguous.unclear fit.clear
+
+-- a clear table without changes has no fault
+pub clear_no_fault : (rules : List Rule) (fault : MixFault) → IsClear rules → IsFault rules [] fault → ⊥
+clear_no_fault rules fault clear found =
+    fault_unfit rules [] fault (length rules + 0) found (record { good = record { applies = tt; distinct = tt }; clear = clear_none rules clear; fits = omega arith })
