@@ -1,5 +1,5 @@
 -- A change that is tried beside those that are taken.
-use Rattle.std.proofs.Common.{◌≡◌, ◌⊎◌, ℕ, ◌<◌, Bool, true, false, List, [], ◌∷◌, ◌++◌, refl, sym, ◌∙◌, subst, ap, inl, inr}
+use Rattle.std.proofs.Common.{◌≡◌, ◌⊎◌, ℕ, zero, suc, ◌<◌, ◌≤◌, Bool, true, false, List, [], ◌∷◌, ◌++◌, length, drop, get_or, refl, sym, ◌∙◌, subst, ap, inl, inr, arith}
 use Rattle.std.specs.List.{AllByRecursion}
 use Rattle.net_base.proofs.MemberLaws.{each_append}
 use Rattle.topology.specs.Networks.{Network, IsNetwork, switch_count}
@@ -83,3 +83,16 @@ pub filled_next : (to : Target) (tables : List (List Rule)) (taken round : List 
     → (next : List Change) × IsFilling to tables next q new marks × ((last : List Change) → IsFilled (CanStand to tables) next rest last → IsFilled (CanStand to tables) taken front last)
 filled_next to tables taken round c front rest q new marks so_far (inl (can, filling)) = (round ++ c ∷ [], filling, λ last filled. so_far last (inl (can, filled)))
 filled_next to tables taken round c front rest q new marks so_far (inr (never, filling)) = (round, filling, λ last filled. so_far last (inr (never, filled)))
+
+-- a member of a list, of which all hold
+pub each_there : {A : Type 0} (P : A → Type 0) (xs : List A) (i : ℕ) (x : A) → i < length xs → x ≡ get_or xs i x → AllByRecursion P xs → P x
+each_there P [] i x less is all = absurd (omega arith)
+each_there P (y ∷ xs) zero x less is all = subst P (sym is) all.0
+each_there P (y ∷ xs) (suc i) x less is all = each_there P xs i x (omega arith) is all.1
+
+-- nothing stands past the end
+pub drop_past : {A : Type 0} (xs : List A) (i : ℕ) → length xs ≤ i → drop i xs ≡ []
+drop_past [] zero le = refl
+drop_past [] (suc i) le = refl
+drop_past (x ∷ xs) zero le = absurd (omega arith)
+drop_past (x ∷ xs) (suc i) le = drop_past xs i (omega arith)

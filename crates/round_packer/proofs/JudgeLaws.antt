@@ -2,7 +2,8 @@
 use Rattle.std.proofs.Common.{◌≡◌, ◌≢◌, ◌⊎◌, ◌↔◌, ℕ, zero, suc, ◌+◌, ◌-◌, ◌%◌, ◌<◌, ◌≤◌, Bool, true, false, List, [], ◌∷◌, ◌++◌, length, get_or, set, refl, sym, ◌∙◌, subst, ap, inl, inr, arith, get_or-set_same, get_or-set_other}
 use Rattle.std.specs.Prelude.{◌&&◌, IsTrue, IsSome, Option, Some, None}
 use Rattle.std.specs.List.{AllByRecursion}
-use Rattle.std.proofs.lemmas.Bool.{cases_eq, cases_lt, cases_Bool, or_parts}
+use Rattle.std.proofs.lemmas.Bool.{cases_eq, cases_lt, cases_Bool, or_parts, false≢true}
+use Rattle.std.proofs.lemmas.List.{get_or_default}
 use Rattle.net_base.specs.Blocks.{in_block}
 use Rattle.flow_rules.specs.Patterns.{admits_vlan}
 use Rattle.flow_rules.specs.declared.rules.Rule.{Rule}
@@ -12,7 +13,7 @@ use Rattle.dest_classes.specs.Numbered.{IsNumbered}
 use Rattle.dest_classes.specs.declared.Class.{Class}
 use Rattle.dest_classes.specs.declared.NumberedClass.{NumberedClass}
 use Rattle.dest_classes.proofs.MapLaws.{number_fits, class_is as same_class}
-use Rattle.demands.specs.Duties.{duties_of}
+use Rattle.demands.specs.Duties.{DemandView, duties_of}
 use Rattle.update_model.specs.Changes.{rule_of, switch_of}
 use Rattle.update_model.specs.declared.Change.{Change}
 use Rattle.certificates.specs.Certified.{KeepsVlan}
@@ -31,14 +32,27 @@ use Rattle.round_packer.proofs.KeptLaws.{held_without, kept_unmet}
 -- ---- one class
 
 -- what was found decides
-pub found_decides : (net : Network) (to : Target) (tables : List (List Rule)) (changes : List Change) (class : Class) (found : Option ClassEvidence)
-    → IsFound (one_round_of net tables changes) 0 class (duties_of to.demands class.entry class.first) found → IsSome found ↔ IsSafeByEvidence net to.demands tables changes class
-found_decides net to tables changes class (Some e) h = (λ _. record { numbers = e.numbering; sets = e.befores; safe = h.safe }, λ _. tt)
-found_decides net to tables changes class None h = (λ some. absurd some, λ by. absurd (h by.numbers by.sets by.safe))
+pub found_decides : (net : Network) (demands : List DemandView) (tables : List (List Rule)) (changes : List Change) (class : Class) (found : Option ClassEvidence)
+    → IsFound (one_round_of net tables changes) 0 class (duties_of demands class.entry class.first) found → IsSome found ↔ IsSafeByEvidence net demands tables changes class
+found_decides net demands tables changes class (Some e) h = (λ _. record { numbers = e.numbering; sets = e.befores; safe = h.safe }, λ _. refl)
+found_decides net demands tables changes class None h = (λ some. absurd (false≢true some), λ by. absurd (h by.numbers by.sets by.safe))
 
 -- the class that was made for a number is each class with the number
 pub numbered_class : (classes : ClassList) (n : ℕ) (numbered : NumberedClass) → numbered.number ≡ n → IsNumbered classes numbered → (class : Class) → IsClass classes n class → numbered.class ≡ class
 numbered_class classes n numbered number is class is_n = same_class classes n numbered.class class (subst (λ (i : ℕ). IsClass classes i numbered.class) number is) is_n
+
+-- what is found for the class is told of it
+pub told_by : (to : Target) (tables : List (List Rule)) (changes : List Change) (c : Change) (own : Bool) (n : ℕ) (came : List ℕ) (numbered : NumberedClass) → numbered.number ≡ n → IsNumbered to.classes numbered
+    → HoldsClass to.net tables changes numbered.class (set_at came numbered.number) → (kept : Bool) → IsTrue kept ↔ IsSafeByEvidence to.net to.demands tables changes numbered.class
+    → IsTold to tables changes c own n came kept
+told_by to tables changes c own n came numbered number is held true safe = λ class is_n at.
+    let same = numbered_class to.classes n numbered number is class is_n in
+    record {
+      safe = subst (λ (x : Class). IsSafeByEvidence to.net to.demands tables changes x) same (safe.0 refl);
+      held = subst (λ (x : Class). HoldsClass to.net tables changes x (set_at came n)) same (subst (λ (i : ℕ). HoldsClass to.net tables changes numbered.class (set_at came i)) number held);
+    }
+told_by to tables changes c own n came numbered number is held false safe =
+    record { number = numbered.number; class = numbered.class; is_class = is; never = λ by. false≢true (safe.1 by) }
 
 -- ---- the sets
 
@@ -124,3 +138,13 @@ module _ (to : Target) (tables : List (List Rule)) (taken : List Change) (c : Ch
         let none : touches (c ∷ []) class.first ≡ false = sym (touched n class is) ∙ subst (λ (m : ℕ). get_or looked (n % m) false ≡ false) (atoms (omega arith)) off in
         let out = (or_parts (in_block (rule_of c).key.pattern.dst class.first) false none).0 in
         ap (λ b. (b && admits_vlan (rule_of c).key.pattern.vlan class.entry.vlan) && has (set_at came n) (switch_of c)) out)
+
+-- ---- the front of changes that keep the VLANs
+
+pub keeps_front : (xs ys : List Change) → AllByRecursion (λ d. KeepsVlan (rule_of d).action) (xs ++ ys) → AllByRecursion (λ d. KeepsVlan (rule_of d).action) xs
+keeps_front [] ys all = tt
+keeps_front (x ∷ xs) ys all = (all.0, keeps_front xs ys all.1)
+
+-- a member that was read, whatever would stand past the end
+pub read_as : (came : List ℕ) (n read : ℕ) → n < length came → read ≡ get_or came n read → read ≡ set_at came n
+read_as came n read within is = is ∙ get_or_default came n read 0 within

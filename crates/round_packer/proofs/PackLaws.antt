@@ -19,10 +19,13 @@ use Rattle.update_model.proofs.RemainingLaws.{AllUnique, remaining_made}
 use Rattle.certificates.specs.Certified.{KeepsVlan}
 use Rattle.certificates.proofs.Fewer.{safe_fewer}
 use Rattle.mixed_walks.specs.Walks.{TablesKeepVlans}
+use Rattle.mixed_walks.proofs.PlaceLaws.{tables_keep}
+use Rattle.certificates.proofs.TreeTables.{unique_in_table}
+use Rattle.path_walk.specs.UserConfigs.{IsUserConfig}
 use Rattle.packed_rounds.specs.Packing.{Target, CanStand, IsFilled, IsPackedRound, ArePacked, PacksOrdered, PacksStuck, tables_past}
 use Rattle.packed_rounds.proofs.Packed.{packed_part, part_made, some_more}
 use Rattle.round_trials.specs.Filling.{TrialState, IsTrial}
-use Rattle.round_packer.specs.Kept.{HasUnsafe}
+use Rattle.round_packer.specs.Kept.{HasUnsafe, HasAtoms, AreKept}
 use Rattle.round_packer.specs.Filling.{IsPlain, IsFilling, IsFilledBy, IsPackedTo, EndsAt}
 use Rattle.round_packer.proofs.KeptLaws.{kept_after}
 
@@ -164,3 +167,31 @@ ends_unsafe to old unsafe left is false empty some = record {
   some_remain = λ none. some refl (is ∙ none);
   none_stands = none_filled (CanStand to old) [] (remaining old to.new) (never_stands to old unsafe);
 }
+
+-- ---- what remains, as it is listed
+
+module _ (to : Target) (old : List (List Rule)) (rounds : List (List Change)) (p : TrialState) (came : List ℕ) (looked : List Bool) (at : IsPackedTo to old rounds p came looked) (left : List Change)
+    (left_is : left ≡ remaining p.tables to.new) where
+  pub left_remains : left ≡ remaining (tables_past rounds old) to.new
+  left_remains = left_is ∙ ap (λ (ts : List (List Rule)). remaining ts to.new) at.filling.tables_are
+
+  pub plain_left : TablesKeepVlans to.new → AllByRecursion (IsPlain to.net) left
+  plain_left keeps_new =
+      subst (AllByRecursion (IsPlain to.net)) (sym left_remains)
+      (plain_remaining to.net (tables_past rounds old) to.new at.filling.rules keeps_new
+      (subst (λ (ts : List (List Rule)). length ts ≡ switch_count to.net) at.filling.tables_are at.filling.trial_is.space.tables))
+
+  pub filled_left : (q : TrialState) (now : List ℕ) (marks : List Bool) → IsFilledBy to (tables_past rounds old) [] left q now marks
+      → IsFilledBy to (tables_past rounds old) [] (remaining (tables_past rounds old) to.new) q now marks
+  filled_left q now marks = subst (λ (cs : List Change). IsFilledBy to (tables_past rounds old) [] cs q now marks) left_remains
+
+-- before the first round
+pub packed_first : (to : Target) (p : TrialState) (came : List ℕ) (looked : List Bool) → IsTrial to.net p → p.round ≡ [] → IsUserConfig to.net p.tables → AreKept to p.tables [] came
+    → HasAtoms to.classes looked → (rounds : List (List Change)) → rounds ≡ [] → IsPackedTo to p.tables rounds p came looked
+packed_first to p came looked trial none user kept atoms rounds is =
+    subst (λ (rs : List (List Change)). IsPackedTo to p.tables rs p came looked) (sym is)
+    (record {
+      packed = tt;
+      filling = record { trial_is = trial; tables_are = refl; round_is = none; rules = tables_keep to.net p.tables user; changes = tt; kept = kept; atoms = atoms };
+      unique = λ s. unique_in_table (rules_at p.tables s) (user.distinct s);
+    })

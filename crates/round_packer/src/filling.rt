@@ -45,9 +45,10 @@ fn try_change(
         change,
         mixes: trial.mixes(),
     };
-    if !all_kept(goal, watch, &tried, looked)? {
-        trial.leave_last(alloc, goal.net, change)?;
+    if all_kept(goal, watch, &tried, looked)? {
+        return Ok(());
     }
+    trial.leave_last(alloc, goal.net, change)?;
     Ok(())
 }
 

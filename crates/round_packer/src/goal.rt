@@ -21,6 +21,17 @@ pub(crate) struct Goal<'a> {
     pub(crate) list: &'a [Class],
 }
 
+/// Does nothing: its contract says that a class enters at a switch of the network.
+fn enters_within(goal: &Goal, class: NumberedClass)
+    requires goal { IsGoal goal.now.net.now goal.now.new.now goal.now.duties.now
+        goal.now.classes.now goal.now.list.now }
+    requires class { IsNumbered goal.now.classes.now class }
+    ensures { class.class.entry.switch.0 < switch_count goal.now.net.now }
+{
+    goal.net.keeps_rules();
+    let _ = class;
+}
+
 /// The class with a number, and that number.
 pub(crate) fn numbered(goal: &Goal, number: u32) -> NumberedClass
     requires goal { IsGoal goal.now.net.now goal.now.new.now goal.now.duties.now
@@ -30,9 +41,10 @@ pub(crate) fn numbered(goal: &Goal, number: u32) -> NumberedClass
     ensures class { IsNumbered goal.now.duties.now.classes result }
     ensures entry { result.class.entry.switch.0 < switch_count goal.now.net.now }
 {
-    goal.net.keeps_rules();
-    NumberedClass {
+    let class = NumberedClass {
         number,
         class: goal.list[number as usize],
-    }
+    };
+    enters_within(goal, class);
+    class
 }

@@ -103,10 +103,14 @@ fn is_kept(
 {
     let class = numbered(goal, number);
     let enters = class.class.entry.switch.0 == tried.change.switch().0;
-    if enters != own || !meets(tried.change, class.class, watch.came[number as usize]) {
+    if enters != own {
         return Ok(true);
     }
-    is_safe(tried.alloc, goal, watch, tried.mixes, last, class)
+    if !meets(tried.change, class.class, watch.came[number as usize]) {
+        return Ok(true);
+    }
+    let safe = is_safe(tried.alloc, goal, watch, tried.mixes, last, class)?;
+    Ok(safe)
 }
 
 /// Whether the classes stay safe that enter at the change's own switch, or those that don't, class by class up to the first
@@ -187,7 +191,8 @@ pub(crate) fn all_kept(
     if !are_kept(goal, watch, tried, looked, &mut last, true)? {
         return Ok(false);
     }
-    are_kept(goal, watch, tried, looked, &mut last, false)
+    let kept = are_kept(goal, watch, tried, looked, &mut last, false)?;
+    Ok(kept)
 }
 
 /// Whether all classes are safe while the changes are made that the switches are prepared for, class by class up to the first

@@ -4,7 +4,7 @@
 mod filling;
 mod goal;
 mod judging;
-mod packing;
+mod rounds;
 
 ghost use Rattle.std.specs.Prelude.{◌≡◌, IfOk};
 ghost use Rattle.flow_rules.specs.Tables.{rules_of_all};
@@ -13,7 +13,7 @@ ghost use Rattle.round_packer.specs.Kept.{target_of};
 ghost use Rattle.round_packer.specs.Ends.{IsPacking};
 
 use crate::goal::Goal;
-use crate::packing::packing_of;
+use crate::rounds::packing_of;
 use class_watch::all_classes;
 use demands::Duties;
 use dest_classes::ClassMap;

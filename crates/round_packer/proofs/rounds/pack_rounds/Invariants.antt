@@ -4,7 +4,7 @@ use Rattle.flow_rules.specs.declared.rules.Rule.{Rule}
 use Rattle.update_model.specs.Remaining.{remaining}
 use Rattle.round_packer.specs.Kept.{target_of}
 use Rattle.round_packer.specs.Filling.{IsPackedTo}
-use Rattle.round_packer.proofs.packing.pack_rounds.Given as goal
+use Rattle.round_packer.proofs.rounds.pack_rounds.Given as goal
 
 abbrev pub invariant-packing : goal.invariant-packing
 invariant-packing l =
