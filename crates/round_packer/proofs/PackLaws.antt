@@ -1,8 +1,8 @@
 -- One packed round more, and where packing ends.
 use Rattle.std.proofs.Common.{◌≡◌, ◌≢◌, ℕ, suc, ◌<◌, ◌≤◌, Bool, true, false, cond, not, map, List, [], ◌∷◌, ◌++◌, length, refl, sym, ◌∙◌, subst, ap, inl, inr, arith}
-use Rattle.std.specs.Prelude.{filter}
+use Rattle.std.specs.Prelude.{◌==◌}
 use Rattle.std.specs.List.{AllByRecursion}
-use Rattle.std.proofs.lemmas.Bool.{cond_both}
+use Rattle.std.proofs.lemmas.Bool.{cond_both, both_ways, eq-eqb, eqb-true}
 use Rattle.net_base.specs.Members.{IsIn, IsSubsequence}
 use Rattle.net_base.proofs.MemberLaws.{each_append, each_at, each_filter, each_from_in, each_get_or, each_set}
 use Rattle.net_base.specs.declared.ids.SwitchId.{SwitchId}
@@ -195,3 +195,12 @@ packed_first to p came looked trial none user kept atoms rounds is =
       filling = record { trial_is = trial; tables_are = refl; round_is = none; rules = tables_keep to.net p.tables user; changes = tt; kept = kept; atoms = atoms };
       unique = λ s. unique_in_table (rules_at p.tables s) (user.distinct s);
     })
+
+-- ---- whether a list is empty, as it is told
+
+pub told_empty : (xs : List Change) (n : ℕ) (b : Bool) → n ≡ length xs → b ≡ (n == 0) → b ≡ true → xs ≡ []
+told_empty [] n b count means on = refl
+told_empty (x ∷ xs) n b count means on = absurd (let e : n ≡ 0 = eqb-true n 0 (sym means ∙ on) in omega arith)
+
+pub told_some : (xs : List Change) (n : ℕ) (b : Bool) → n ≡ length xs → b ≡ (n == 0) → b ≡ false → xs ≢ []
+told_some xs n b count means off none = both_ways (n == 0) (sym means ∙ off) (eq-eqb n 0 (count ∙ ap (λ (ys : List Change). length ys) none))

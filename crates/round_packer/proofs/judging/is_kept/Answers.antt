@@ -40,3 +40,7 @@ returns-clause-watched c = λ tables changes prepared.
     (λ class is.
     let same = numbered_class to.classes numbered.number numbered refl c.numbered-class.ensures.class class is in
     subst (λ (x : Class). HoldsClass to.net tables changes x (set_at c.is_safe.new.watch.came.items numbered.number)) same (found.held tables changes prepared))
+
+pub returns-then-enters-own-clause-told : goal.returns-then-enters-own-clause-told
+returns-then-enters-own-clause-told c = λ tables taken prepared kept class is at.
+    ?

@@ -1,7 +1,6 @@
 use Rattle.std.proofs.Common.{◌≡◌, ◌<◌, ℕ, Bool, true, false, List, [], refl, sym, ◌∙◌, ap, subst, arith, length}
-use Rattle.std.proofs.lemmas.List.{length-map}
 use Rattle.std.proofs.lemmas.Result.{IfOk-weaker}
-use Rattle.flow_rules.specs.Tables.{TableState, rules_of_all}
+use Rattle.flow_rules.specs.Tables.{rules_of_all}
 use Rattle.flow_rules.specs.declared.rules.Rule.{Rule}
 use Rattle.update_model.specs.Remaining.{remaining}
 use Rattle.update_model.specs.declared.Change.{Change}
@@ -11,7 +10,7 @@ use Rattle.mixed_walks.proofs.PlaceLaws.{tables_keep}
 use Rattle.round_packer.specs.Kept.{AreJudged, ArePreparedFor, target_of}
 use Rattle.round_packer.specs.Filling.{IsPackedTo, EndsAt}
 use Rattle.round_packer.proofs.FillLaws.{prepared_here}
-use Rattle.round_packer.proofs.PackLaws.{packed_first, ends_unsafe}
+use Rattle.round_packer.proofs.PackLaws.{packed_first, ends_unsafe, told_empty, told_some}
 use Rattle.round_packer.proofs.rounds.pack_from.Goals as goal
 
 pub all_safe-requires-clause-prepared : goal.all_safe-requires-clause-prepared
@@ -47,12 +46,6 @@ returns-then-branch c =
     (λ none ends. ends p.tables (packed_first to p came c.args.looked.now c.requires.trial c.requires.none c.requires.old kept c.requires.atoms c.args.rounds.now c.requires.rounds))
     c.pack_rounds.ensures
 
-pub remaining-left-requires : goal.remaining-left-requires
-remaining-left-requires c =
-    let count = sym (length-map c.tables.result.now (λ (t : TableState). t.rules)) ∙ ap (λ (ts : List (List Rule)). length ts) c.tables.ensures ∙ c.requires.trial.space.tables in
-    let few = c.keeps_rules.ensures.few in
-    omega arith
-
 pub returns : goal.returns
 returns c =
     let to = (target_of c.args.goal.now.net.now c.args.goal.now.new.now c.args.goal.now.duties.now) in
@@ -65,4 +58,6 @@ returns c =
     let unsafe = subst (AreJudged to p.tables [] came) c.if-branch.false (c.in_ok-all_safe.ensures p.tables [] prepared) in
     let left : c.in_ok-left.left.items ≡ remaining p.tables to.new =
     c.in_ok-left.ensures ∙ ap (λ (ts : List (List Rule)). remaining ts (rules_of_all c.args.goal.now.new.now)) c.tables.ensures in
-    ?
+    subst (λ (rs : List (List Change)). EndsAt to p.tables rs c.is_empty.result) (sym c.requires.rounds)
+    (ends_unsafe to p.tables unsafe c.in_ok-left.left.items left c.is_empty.result (told_empty c.in_ok-left.left.items c.in_ok-left.left.len c.is_empty.result (omega arith) c.is_empty.ensures)
+    (told_some c.in_ok-left.left.items c.in_ok-left.left.len c.is_empty.result (omega arith) c.is_empty.ensures))

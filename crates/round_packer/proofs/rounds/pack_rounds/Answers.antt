@@ -11,15 +11,8 @@ use Rattle.mixed_walks.proofs.PlaceLaws.{tables_keep}
 use Rattle.packed_rounds.specs.Packing.{tables_past}
 use Rattle.round_trials.specs.Filling.{TrialState}
 use Rattle.round_packer.specs.Kept.{target_of}
-use Rattle.round_packer.proofs.PackLaws.{left_remains, plain_left, filled_left, packed_next, fewer_left, stuck_here, ordered_here}
+use Rattle.round_packer.proofs.PackLaws.{left_remains, plain_left, filled_left, packed_next, fewer_left, stuck_here, ordered_here, told_empty, told_some}
 use Rattle.round_packer.proofs.rounds.pack_rounds.Goals as goal
-
-pub remaining-left-requires : goal.remaining-left-requires
-remaining-left-requires c =
-    let (old, packed) = c.requires.packed in
-    let count = sym (length-map c.tables.result.now (λ (t : TableState). t.rules)) ∙ ap (λ (ts : List (List Rule)). length ts) c.tables.ensures ∙ packed.filling.trial_is.space.tables in
-    let few = c.keeps_rules.ensures.few in
-    omega arith
 
 pub packing-init : goal.packing-init
 packing-init c = (
@@ -47,12 +40,9 @@ keep_round-requires c =
     let (left, so_far) = c.packing.invariant in
     (c.in_ok-fill.ensures (tables_past c.packing.rounds old) [] (so_far old packed).filling).filling.trial_is
 
-pub remaining-requires : goal.remaining-requires
-remaining-requires c = ?
-
 pub packing-preserved : goal.packing-preserved
 packing-preserved c = (
-  c.in_ok-remaining.ensures ∙ ap (λ (ts : List (List Rule)). remaining ts (rules_of_all c.args.goal.now.new.now)) c.tables-in-packing.ensures,
+  c.in_ok-left-2.ensures ∙ ap (λ (ts : List (List Rule)). remaining ts (rules_of_all c.args.goal.now.new.now)) c.tables-in-packing.ensures,
   λ old packed.
       let to = (target_of c.args.goal.now.net.now c.args.goal.now.new.now c.args.goal.now.duties.now) in
       let new_unique : AllUnique to.new = λ s. unique_in_table (rules_at to.new s) (c.requires.goal.user.distinct s) in
@@ -62,11 +52,28 @@ packing-preserved c = (
       c.fill.new.watch.came.items c.fill.new.looked (c.in_ok-fill.ensures (tables_past c.packing.rounds old) [] at.filling) in
       let kept = c.in_ok-keep_round.ensures in
       packed_next to new_unique old c.packing.rounds c.packing.trial c.packing.watch.came.items c.packing.looked at c.fill.new.trial c.fill.new.watch.came.items c.fill.new.looked filled
-      ? c.keep_round.new.trial kept.trial kept.tables kept.none c.keep_round.new.rounds kept.rounds,
+      (subst (λ (cs : List Change). cs ≢ []) c.round.ensures (told_some c.round.result.now (length c.round.result.now) c.is_empty-in-packing.result refl c.is_empty-in-packing.ensures c.if-is_empty.false))
+      c.keep_round.new.trial kept.trial kept.tables kept.none c.keep_round.new.rounds kept.rounds,
 )
 
 pub packing-smaller : goal.packing-smaller
-packing-smaller c = ?
+packing-smaller c =
+    let to = (target_of c.args.goal.now.net.now c.args.goal.now.new.now c.args.goal.now.duties.now) in
+    let new_unique : AllUnique to.new = λ s. unique_in_table (rules_at to.new s) (c.requires.goal.user.distinct s) in
+    let (old, packed) = c.requires.packed in
+    let (left, so_far) = c.packing.invariant in
+    let at = so_far old packed in
+    let filled = filled_left to old c.packing.rounds c.packing.trial c.packing.watch.came.items c.packing.looked at c.deref.result.now (c.deref.ensures.value ∙ left) c.fill.new.trial
+    c.fill.new.watch.came.items c.fill.new.looked (c.in_ok-fill.ensures (tables_past c.packing.rounds old) [] at.filling) in
+    let kept = c.in_ok-keep_round.ensures in
+    let fewer = fewer_left to new_unique old c.packing.rounds c.packing.trial c.packing.watch.came.items c.packing.looked at c.fill.new.trial c.fill.new.watch.came.items c.fill.new.looked filled
+    (subst (λ (cs : List Change). cs ≢ []) c.round.ensures (told_some c.round.result.now (length c.round.result.now) c.is_empty-in-packing.result refl c.is_empty-in-packing.ensures c.if-is_empty.false)) c.keep_round.new.trial kept.tables in
+    let next : c.in_ok-left-2.left.items ≡ remaining c.keep_round.new.trial.tables to.new =
+    c.in_ok-left-2.ensures ∙ ap (λ (ts : List (List Rule)). remaining ts (rules_of_all c.args.goal.now.new.now)) c.tables-in-packing.ensures in
+    let here = left_remains to old c.packing.rounds c.packing.trial c.packing.watch.came.items c.packing.looked at c.packing.left.items left in
+    let long : length c.in_ok-left-2.left.items < length c.packing.left.items =
+    (let a = ap (λ (cs : List Change). length cs) next in let b = ap (λ (cs : List Change). length cs) here in omega arith) in
+    long
 
 pub returns-then-is_empty : goal.returns-then-is_empty
 returns-then-is_empty c = λ old packed.
@@ -75,7 +82,11 @@ returns-then-is_empty c = λ old packed.
     let at = so_far old packed in
     let filled = filled_left to old c.packing.rounds c.packing.trial c.packing.watch.came.items c.packing.looked at c.deref.result.now (c.deref.ensures.value ∙ left) c.fill.new.trial
     c.fill.new.watch.came.items c.fill.new.looked (c.in_ok-fill.ensures (tables_past c.packing.rounds old) [] at.filling) in
-    stuck_here to ? old c.packing.rounds c.packing.trial c.packing.watch.came.items c.packing.looked at c.fill.new.trial c.fill.new.watch.came.items c.fill.new.looked filled ? ?
+    let new_unique : AllUnique to.new = λ s. unique_in_table (rules_at to.new s) (c.requires.goal.user.distinct s) in
+    stuck_here to new_unique old c.packing.rounds c.packing.trial c.packing.watch.came.items c.packing.looked at c.fill.new.trial c.fill.new.watch.came.items c.fill.new.looked filled
+    (subst (λ (cs : List Change). cs ≢ []) (left_remains to old c.packing.rounds c.packing.trial c.packing.watch.came.items c.packing.looked at c.packing.left.items left)
+    (told_some c.packing.left.items c.packing.left.len c.is_empty.result (omega arith) c.is_empty.ensures c.packing-test.true))
+    (sym c.round.ensures ∙ told_empty c.round.result.now (length c.round.result.now) c.is_empty-in-packing.result refl c.is_empty-in-packing.ensures c.if-is_empty.true)
 
 pub returns : goal.returns
 returns c = λ old packed.
@@ -83,4 +94,5 @@ returns c = λ old packed.
     let (left, so_far) = c.packing.invariant in
     let at = so_far old packed in
     ordered_here to old c.packing.rounds c.packing.trial c.packing.watch.came.items c.packing.looked at c.packing.left.items
-    (left_remains to old c.packing.rounds c.packing.trial c.packing.watch.came.items c.packing.looked at c.packing.left.items left) ?
+    (left_remains to old c.packing.rounds c.packing.trial c.packing.watch.came.items c.packing.looked at c.packing.left.items left)
+    (told_empty c.packing.left.items c.packing.left.len c.is_empty.result (omega arith) c.is_empty.ensures c.packing-test.false)
