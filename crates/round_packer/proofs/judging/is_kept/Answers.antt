@@ -1,5 +1,8 @@
 use Rattle.std.proofs.Common.{◌≡◌, ◌≢◌, ◌<◌, ℕ, Bool, true, false, List, [], ◌∷◌, ◌++◌, refl, sym, ◌∙◌, ap, subst, arith, length}
-use Rattle.std.proofs.lemmas.Bool.{both_ways}
+use mathlib.Core.Bool.{beq}
+use Rattle.std.specs.Prelude.{◌==◌, not}
+use Rattle.std.proofs.lemmas.Bool.{false≢true}
+use Rattle.net_base.specs.declared.ids.SwitchId.{SwitchId}
 use Rattle.dest_classes.specs.declared.Class.{Class}
 use Rattle.class_watch.specs.Walks.{meets}
 use Rattle.round_packer.specs.Kept.{HoldsClass, enters_at, set_at, target_of}
@@ -41,6 +44,18 @@ returns-clause-watched c = λ tables changes prepared.
     let same = numbered_class to.classes numbered.number numbered refl c.numbered-class.ensures.class class is in
     subst (λ (x : Class). HoldsClass to.net tables changes x (set_at c.is_safe.new.watch.came.items numbered.number)) same (found.held tables changes prepared))
 
+-- what differs isn't the same
+not_other : (told own : Bool) → told ≡ own → not (beq told own) ≡ true → ⊥
+not_other told own same differs = other_than own (subst (λ (b : Bool). not (beq b own) ≡ true) same differs)
+  where
+    other_than : (b : Bool) → not (beq b b) ≡ true → ⊥
+    other_than true h = false≢true h
+    other_than false h = false≢true h
+
 pub returns-then-enters-own-clause-told : goal.returns-then-enters-own-clause-told
 returns-then-enters-own-clause-told c = λ tables taken prepared kept class is at.
-    ?
+    let numbered = c.numbered-class.result in
+    let same = numbered_class c.args.goal.now.duties.now.classes c.args.number numbered c.numbered-class.ensures.number c.numbered-class.ensures.class class is in
+    let told : (numbered.class.entry.switch.0 == c.switch.result.0) ≡ c.args.own =
+    ap (λ (x : Class). x.entry.switch.0 == c.switch.result.0) same ∙ ap (λ (s : SwitchId). class.entry.switch.0 == s.0) c.switch.ensures ∙ at in
+    absurd (not_other (numbered.class.entry.switch.0 == c.switch.result.0) c.args.own told c.if-enters-own.true)
