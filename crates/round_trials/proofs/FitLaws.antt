@@ -5,19 +5,18 @@ use Rattle.std.specs.List.{AllByRecursion}
 use Rattle.std.proofs.lemmas.Bool.{eq-eqb, ne_eqb, cases_eq, cond-true, cond-false}
 use Rattle.net_base.specs.Members.{IsIn, IsDistinct, IsSubsequence}
 use Rattle.net_base.proofs.ItemLaws.{in_from_get}
-use Rattle.net_base.proofs.MemberLaws.{IsSubsequence_refl, in_map, in_from_map, in_filter, each_append, in_append_right, each_at, each_from_in}
+use Rattle.net_base.proofs.MemberLaws.{IsSubsequence_refl, in_map, in_from_map, in_filter, each_append, each_at, each_from_in}
 use Rattle.net_base.specs.declared.ids.SwitchId.{SwitchId}
 use Rattle.topology.specs.Networks.{Network, switch_count, capacity_of}
 use Rattle.flow_rules.specs.Tables.{IsClear, rules_at}
 use Rattle.flow_rules.specs.declared.rules.Rule.{Rule}
-use Rattle.update_model.specs.Changes.{switch_of, rule_of, EntryName, entry_named, changes_at, AppliesTo, rules_after, tables_after, tables_after_change, Applies, IsGoodRound}
-use Rattle.update_model.specs.Mixtures.{IsMixture, MayHold, entries_needed, need_of, is_insert}
+use Rattle.update_model.specs.Changes.{switch_of, EntryName, entry_named, changes_at, AppliesTo, tables_after, tables_after_change, Applies, IsGoodRound}
+use Rattle.update_model.specs.Mixtures.{IsMixture, entries_needed, is_insert}
 use Rattle.update_model.specs.declared.Change.{Change}
 use Rattle.update_model.proofs.ChangeLaws.{IsWithin, key_named, applies_kept, rules_at-after, rules_at-after_change}
 use Rattle.update_model.proofs.MadeLaws.{apply_there, keys_distinct, distinct_some, each_some, same_entry}
-use Rattle.certificates.specs.Rounds.{one_round_of}
-use Rattle.round_mix.specs.Prepared.{AreGood, AreClear}
-use Rattle.round_mix.specs.Faults.{IsFault, IsGoodAfter}
+use Rattle.round_mix.specs.Prepared.{AreGood}
+use Rattle.round_mix.specs.Faults.{IsFault}
 use Rattle.round_mix.specs.declared.MixFault.{MixFault}
 use Rattle.round_mix.specs.declared.MixFault.TheVariants.{BadChange, Ambiguous}
 use Rattle.round_mix.proofs.TriedLaws.{clear_none}

@@ -16,11 +16,7 @@ use topology::Net;
 use update_model::{Change, change_tables};
 
 /// The changes of a round at a switch, in its order.
-fn changes_there(
-    alloc: Global,
-    round: &[Change],
-    switch: SwitchId,
-) -> Result<Vec<Change>, Memory>
+fn changes_there(alloc: Global, round: &[Change], switch: SwitchId) -> Result<Vec<Change>, Memory>
     ensures { IfOk result (λ list. list.items ≡ changes_at switch round.now) }
 {
     let mut list = Vec::new(alloc);

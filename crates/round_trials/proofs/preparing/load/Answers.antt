@@ -1,6 +1,5 @@
-use Rattle.std.proofs.Common.{◌≡◌, ◌≤◌, List, sym, ◌∙◌, subst, arith}
+use Rattle.std.proofs.Common.{sym, subst, arith}
 use Rattle.std.proofs.lemmas.Bool.{false≢true, leb-true, le-leb}
-use Rattle.update_model.specs.Mixtures.{entries_needed}
 use Rattle.round_mix.specs.Prepared.{MixedState}
 use Rattle.round_tables.specs.PreparedTables.{IsMixed}
 use Rattle.round_tables.proofs.LoadLaws.{good_mixed, clear_mixed}

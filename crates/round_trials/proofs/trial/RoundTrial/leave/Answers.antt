@@ -1,7 +1,6 @@
-use Rattle.std.proofs.Common.{◌≡◌, ◌-◌, ℕ, Bool, List, [], length, refl, sym, ◌∙◌, ap, arith}
+use Rattle.std.proofs.Common.{◌≡◌, ◌∙◌, ap, arith}
 use Rattle.flow_rules.specs.Tables.{rules_of_all}
 use Rattle.update_model.specs.Changes.{switch_of}
-use Rattle.update_model.specs.declared.Change.{Change}
 use Rattle.round_trials.specs.Filling.{TrialState}
 use Rattle.round_trials.proofs.TrialLaws.{left_trial, popped}
 use Rattle.round_trials.proofs.trial.RoundTrial.leave.Goals as goal

@@ -1,6 +1,4 @@
-use Rattle.std.proofs.Common.{List, ◌≡◌, ◌++◌, ◌∷◌, []}
 use Rattle.std.proofs.lemmas.Result.{on_ok_weaker}
-use Rattle.update_model.specs.Changes.{switch_of}
 use Rattle.round_trials.proofs.TrialLaws.{beside_last}
 use Rattle.round_trials.proofs.trial.RoundTrial.leave_last.Goals as goal
 

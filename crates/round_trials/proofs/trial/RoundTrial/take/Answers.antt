@@ -1,7 +1,6 @@
-use Rattle.std.proofs.Common.{◌≡◌, ℕ, Bool, List, [], ◌∷◌, ◌++◌, refl, sym, ◌∙◌, ap, arith}
+use Rattle.std.proofs.Common.{◌≡◌, [], ◌∷◌, ◌++◌, ◌∙◌, ap}
 use Rattle.std.proofs.lemmas.Bool.{both_ways}
 use Rattle.flow_rules.specs.Tables.{rules_of_all}
-use Rattle.update_model.specs.declared.Change.{Change}
 use Rattle.round_trials.specs.Filling.{TrialState}
 use Rattle.round_trials.proofs.TrialLaws.{taken_trial, unfit_there}
 use Rattle.round_trials.proofs.trial.RoundTrial.take.Goals as goal
