@@ -1,10 +1,10 @@
 -- A change that is tried beside those that are taken.
-use Rattle.std.proofs.Common.{◌≡◌, ◌⊎◌, ℕ, zero, suc, ◌<◌, ◌≤◌, Bool, true, false, List, [], ◌∷◌, ◌++◌, length, drop, get_or, refl, sym, ◌∙◌, subst, ap, inl, inr, arith}
+use Rattle.std.proofs.Common.{◌≡◌, ℕ, zero, suc, ◌<◌, ◌≤◌, Bool, List, [], ◌∷◌, ◌++◌, length, drop, get_or, refl, sym, ◌∙◌, subst, ap, inl, inr, arith}
 use Rattle.std.specs.List.{AllByRecursion}
 use Rattle.net_base.proofs.MemberLaws.{each_append}
-use Rattle.topology.specs.Networks.{Network, IsNetwork, switch_count}
+use Rattle.topology.specs.Networks.{Network}
 use Rattle.flow_rules.specs.declared.rules.Rule.{Rule}
-use Rattle.update_model.specs.Changes.{switch_of, rule_of}
+use Rattle.update_model.specs.Changes.{rule_of}
 use Rattle.update_model.specs.declared.Change.{Change}
 use Rattle.certificates.specs.Certified.{KeepsVlan}
 use Rattle.certificates.specs.Rounds.{one_round_of}
@@ -14,7 +14,7 @@ use Rattle.mixed_walks.specs.Walks.{TablesKeepVlans}
 use Rattle.packed_rounds.specs.Packing.{Target, CanStand, IsFilled}
 use Rattle.round_trials.specs.Filling.{TrialState, FitTables, IsTrial}
 use Rattle.round_packer.specs.Kept.{AreKept, HasUnsafe, HasAtoms, ArePreparedFor}
-use Rattle.round_packer.specs.Filling.{IsPlain, IsFilling, IsTried, IsFilledBy}
+use Rattle.round_packer.specs.Filling.{IsPlain, IsFilling, IsTried}
 use Rattle.round_packer.proofs.KeptLaws.{keeps_round}
 
 -- the switches are prepared for the taken changes, as walks want it

@@ -1,8 +1,8 @@
 -- What is told of the classes, class by class.
-use Rattle.std.proofs.Common.{◌≡◌, ◌≢◌, ◌⊎◌, ◌↔◌, ℕ, zero, suc, ◌+◌, ◌-◌, ◌%◌, ◌<◌, ◌≤◌, Bool, true, false, List, [], ◌∷◌, ◌++◌, length, get_or, set, refl, sym, ◌∙◌, subst, ap, inl, inr, arith, get_or-set_same, get_or-set_other}
+use Rattle.std.proofs.Common.{◌≡◌, ◌≢◌, ◌↔◌, ℕ, ◌%◌, ◌<◌, Bool, true, false, List, [], ◌∷◌, ◌++◌, length, get_or, refl, sym, ◌∙◌, subst, ap, inl, inr, arith}
 use Rattle.std.specs.Prelude.{◌&&◌, IsTrue, IsSome, Option, Some, None}
 use Rattle.std.specs.List.{AllByRecursion}
-use Rattle.std.proofs.lemmas.Bool.{cases_eq, cases_lt, cases_Bool, or_parts, false≢true}
+use Rattle.std.proofs.lemmas.Bool.{cases_eq, cases_Bool, or_parts, false≢true}
 use Rattle.std.proofs.lemmas.List.{get_or_default}
 use Rattle.net_base.specs.Blocks.{in_block}
 use Rattle.flow_rules.specs.Patterns.{admits_vlan}
@@ -20,13 +20,13 @@ use Rattle.certificates.specs.Certified.{KeepsVlan}
 use Rattle.certificates.specs.Rounds.{one_round_of, IsSafeByEvidence}
 use Rattle.check_reasons.specs.AtomMarks.{AreTouched}
 use Rattle.check_reasons.specs.Touched.{touches}
-use Rattle.mixed_walks.specs.Walks.{TablesKeepVlans, KeepVlansUpTo}
+use Rattle.mixed_walks.specs.Walks.{TablesKeepVlans}
 use Rattle.net_base.specs.Switches.{has}
 use Rattle.class_watch.specs.Walks.{meets}
 use Rattle.evidence_store.specs.Found.{IsFound}
 use Rattle.evidence_store.specs.declared.class_evidence.ClassEvidence.{ClassEvidence}
 use Rattle.packed_rounds.specs.Packing.{Target}
-use Rattle.round_packer.specs.Kept.{HoldsClass, IsKept, AreKept, AreWatched, HasUnsafe, HasAtoms, IsTold, AreTold, AreJudged, enters_at, set_at}
+use Rattle.round_packer.specs.Kept.{HoldsClass, IsKept, AreKept, AreWatched, HasAtoms, IsTold, AreTold, AreJudged, enters_at, set_at}
 use Rattle.round_packer.proofs.KeptLaws.{held_without, kept_unmet}
 
 -- ---- one class

@@ -1,9 +1,9 @@
 -- A class beside one more change, beside one less, and after a round.
-use Rattle.std.proofs.Common.{◌≡◌, ◌≢◌, ◌⊎◌, ◌≤◌, ℕ, zero, suc, Bool, true, false, cond, List, [], ◌∷◌, ◌++◌, refl, sym, ◌∙◌, subst, ap, inl, inr}
-use Rattle.std.specs.Prelude.{◌==◌, ◌&&◌, filter, IsTrue}
+use Rattle.std.proofs.Common.{◌≡◌, ℕ, zero, suc, true, false, cond, List, [], ◌∷◌, ◌++◌, refl, sym, ◌∙◌, subst, ap, inl, inr}
+use Rattle.std.specs.Prelude.{◌&&◌}
 use Rattle.std.specs.List.{AllByRecursion}
 use Rattle.std.proofs.lemmas.Bool.{both_ways, and_from, cases_eq}
-use Rattle.net_base.specs.Members.{IsIn, IsSameSet, IsSubsequence}
+use Rattle.net_base.specs.Members.{IsSameSet, IsSubsequence}
 use Rattle.net_base.proofs.MemberLaws.{IsSubsequence_refl}
 use Rattle.net_base.specs.declared.ids.SwitchId.{SwitchId}
 use Rattle.net_base.specs.declared.ids.Place.{Place}
@@ -15,7 +15,7 @@ use Rattle.path_walk.specs.Outcomes.{header_at}
 use Rattle.path_walk.specs.declared.Outcome.{Outcome}
 use Rattle.dest_classes.specs.declared.Class.{Class}
 use Rattle.demands.specs.Duties.{duties_of}
-use Rattle.update_model.specs.Changes.{switch_of, rule_of, changes_at, round_after, rules_after, tables_after, IsGoodRound}
+use Rattle.update_model.specs.Changes.{switch_of, rule_of, changes_at, rules_after, tables_after, IsGoodRound}
 use Rattle.update_model.specs.Mixtures.{Rollout, IsPossible, IsOnMixedWalk}
 use Rattle.update_model.specs.declared.Change.{Change}
 use Rattle.update_model.proofs.ChangeLaws.{rules_at-after}

@@ -1,9 +1,9 @@
 -- One packed round more, and where packing ends.
-use Rattle.std.proofs.Common.{◌≡◌, ◌≢◌, ℕ, suc, ◌<◌, ◌≤◌, Bool, true, false, cond, not, map, List, [], ◌∷◌, ◌++◌, length, refl, sym, ◌∙◌, subst, ap, inl, inr, arith}
+use Rattle.std.proofs.Common.{◌≡◌, ◌≢◌, ℕ, ◌<◌, Bool, true, false, cond, not, map, List, [], ◌∷◌, ◌++◌, length, refl, sym, ◌∙◌, subst, ap, inr, arith}
 use Rattle.std.specs.Prelude.{◌==◌}
 use Rattle.std.specs.List.{AllByRecursion}
 use Rattle.std.proofs.lemmas.Bool.{cond_both, both_ways, eq-eqb, eqb-true}
-use Rattle.net_base.specs.Members.{IsIn, IsSubsequence}
+use Rattle.net_base.specs.Members.{IsIn}
 use Rattle.net_base.proofs.MemberLaws.{each_append, each_at, each_filter, each_from_in, each_get_or, each_set}
 use Rattle.net_base.specs.declared.ids.SwitchId.{SwitchId}
 use Rattle.topology.specs.Networks.{Network, switch_count}

@@ -129,7 +129,14 @@ pub(crate) fn packing_of(alloc: Global, goal: &Goal, old: &Config) -> Result<Pac
     let mut looked = LookedAtoms::make(alloc, goal.classes)?;
     let mut watch = ClassWatch::make(alloc, goal.classes.count(), SwitchSet::all())?;
     let mut trial = RoundTrial::make(alloc, goal.net, old)?;
-    let ended = pack_from(alloc, goal, &mut trial, &mut watch, &mut looked, &mut rounds);
+    let ended = pack_from(
+        alloc,
+        goal,
+        &mut trial,
+        &mut watch,
+        &mut looked,
+        &mut rounds,
+    );
     drop(trial);
     drop(watch);
     drop(looked);

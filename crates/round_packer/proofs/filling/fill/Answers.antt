@@ -1,8 +1,5 @@
-use Rattle.std.proofs.Common.{◌≡◌, ◌<◌, ◌+◌, ℕ, Bool, List, [], ◌∷◌, ◌++◌, drop, suc, refl, sym, ◌∙◌, ap, subst, arith, length, add-one}
+use Rattle.std.proofs.Common.{◌≡◌, ◌+◌, List, ◌∷◌, drop, suc, refl, sym, ◌∙◌, ap, subst, add-one}
 use Rattle.std.proofs.Math.Seq.{drop-cons}
-use Rattle.std.specs.List.{AllByRecursion}
-use Rattle.net_base.proofs.MemberLaws.{each_at}
-use Rattle.flow_rules.specs.declared.rules.Rule.{Rule}
 use Rattle.update_model.specs.declared.Change.{Change}
 use Rattle.packed_rounds.specs.Packing.{CanStand, IsFilled}
 use Rattle.round_packer.specs.Kept.{target_of}

@@ -1,11 +1,8 @@
-use Rattle.std.proofs.Common.{◌≡◌, ◌<◌, ℕ, Bool, true, false, List, [], ◌∷◌, ◌++◌, refl, sym, ◌∙◌, ap, subst, arith, length}
-use Rattle.dest_classes.specs.Classes.{ClassList, class_count, atom_count}
-use Rattle.round_mix.specs.Prepared.{MixedState}
+use Rattle.std.proofs.Common.{List, [], ◌∷◌, ◌++◌, sym, ◌∙◌, ap, subst}
+use Rattle.dest_classes.specs.Classes.{ClassList}
 use Rattle.update_model.specs.declared.Change.{Change}
-use Rattle.certificates.specs.Rounds.{one_round_of}
-use Rattle.check_reasons.specs.Loaded.{AreLoaded}
 use Rattle.class_watch.specs.Classes.{AreClasses}
-use Rattle.round_packer.specs.Kept.{AreJudged, ArePreparedFor, HasAtoms, target_of}
+use Rattle.round_packer.specs.Kept.{AreJudged, target_of}
 use Rattle.round_packer.proofs.JudgeLaws.{kept_watched}
 use Rattle.round_packer.proofs.FillLaws.{prepared_beside, tried_unfit, tried_taken, tried_unsafe}
 use Rattle.round_packer.proofs.filling.try_change.Goals as goal
@@ -23,9 +20,12 @@ all_kept-requires-clause-prepared c =
     let (tables, round, at) = c.requires.filling in
     let change = c.args.change.now in
     let q = c.take.new.self in
-    let taken = c.in_ok-take.ensures.taken c.if-not-branch.false ∙ ap (λ (cs : List Change). cs ++ change ∷ []) at.round_is in
-    (tables, round ++ change ∷ [], prepared_beside (target_of c.args.goal.now.net.now c.args.goal.now.new.now c.args.goal.now.duties.now) tables round c.args.trial.now c.args.watch.now.came.items c.args.looked.now at change c.requires.plain q c.mixes.result.now c.take.ensures.tables taken
-    (c.mixes.ensures.loaded c.args.goal.now.net.now c.keeps_rules.ensures c.in_ok-take.ensures.trial))
+    let taken = c.in_ok-take.ensures.taken c.if-not-branch.false ∙ ap (λ (cs : List Change). cs ++ change ∷ []) at.round_is in (
+      tables,
+      round ++ change ∷ [],
+      prepared_beside (target_of c.args.goal.now.net.now c.args.goal.now.new.now c.args.goal.now.duties.now) tables round c.args.trial.now c.args.watch.now.came.items c.args.looked.now at change c.requires.plain q c.mixes.result.now c.take.ensures.tables taken
+          (c.mixes.ensures.loaded c.args.goal.now.net.now c.keeps_rules.ensures c.in_ok-take.ensures.trial),
+    )
 
 pub all_kept-requires-clause-came : goal.all_kept-requires-clause-came
 all_kept-requires-clause-came c = c.requires.filling.2.kept.count

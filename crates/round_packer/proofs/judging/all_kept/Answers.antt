@@ -1,4 +1,4 @@
-use Rattle.std.proofs.Common.{◌≡◌, ℕ, Bool, true, false, List, [], ◌∷◌, ◌++◌, refl, sym, ◌∙◌, ap, subst, arith, length}
+use Rattle.std.proofs.Common.{true, [], ◌∷◌, ◌++◌, ◌∙◌, subst}
 use Rattle.round_packer.specs.Kept.{AreTold, target_of}
 use Rattle.round_packer.proofs.JudgeLaws.{told_both, watched_then, kept_watched}
 use Rattle.round_packer.proofs.judging.all_kept.Goals as goal

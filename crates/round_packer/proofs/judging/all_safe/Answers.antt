@@ -1,10 +1,10 @@
-use Rattle.std.proofs.Common.{◌≡◌, ◌<◌, ◌+◌, ℕ, Bool, true, false, List, refl, sym, ◌∙◌, ap, subst, inl, inr, arith, length}
-use Rattle.std.proofs.lemmas.Bool.{cases_lt, cases_eq, false≢true}
+use Rattle.std.proofs.Common.{ℕ, sym, ◌∙◌, ap, subst, inl, inr, arith}
+use Rattle.std.proofs.lemmas.Bool.{cases_eq, false≢true}
 use Rattle.dest_classes.specs.Classes.{IsClass, class_count}
 use Rattle.dest_classes.specs.declared.Class.{Class}
 use Rattle.dest_classes.proofs.MapLaws.{number_fits}
 use Rattle.certificates.specs.Rounds.{IsSafeByEvidence}
-use Rattle.round_packer.specs.Kept.{HoldsClass, IsKept, set_at, target_of}
+use Rattle.round_packer.specs.Kept.{HoldsClass, set_at, target_of}
 use Rattle.round_packer.proofs.JudgeLaws.{numbered_class}
 use Rattle.round_packer.proofs.judging.all_safe.Goals as goal
 

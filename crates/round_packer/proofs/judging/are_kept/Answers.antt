@@ -1,8 +1,8 @@
-use Rattle.std.proofs.Common.{◌≡◌, ◌+◌, ◌<◌, ◌≤◌, ℕ, Bool, true, false, List, [], ◌∷◌, ◌++◌, refl, sym, ◌∙◌, ap, subst, inl, inr, arith, length}
+use Rattle.std.proofs.Common.{ℕ, true, [], ◌∷◌, ◌++◌, refl, sym, ◌∙◌, ap, subst, inl, inr, arith}
 use Rattle.std.proofs.lemmas.Bool.{cases_lt, cases_eq}
 use Rattle.dest_classes.specs.Classes.{class_count}
 use Rattle.dest_classes.proofs.MapLaws.{number_fits}
-use Rattle.round_packer.specs.Kept.{AreWatched, IsTold, target_of}
+use Rattle.round_packer.specs.Kept.{IsTold, target_of}
 use Rattle.round_packer.proofs.JudgeLaws.{told_passed, told_on, watched_same, watched_then, kept_watched, keeps_front}
 use Rattle.round_packer.proofs.judging.are_kept.Goals as goal
 

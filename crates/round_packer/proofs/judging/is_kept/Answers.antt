@@ -1,12 +1,12 @@
-use Rattle.std.proofs.Common.{◌≡◌, ◌≢◌, ◌<◌, ℕ, Bool, true, false, List, [], ◌∷◌, ◌++◌, refl, sym, ◌∙◌, ap, subst, arith, length}
+use Rattle.std.proofs.Common.{◌≡◌, ℕ, Bool, true, false, [], ◌∷◌, ◌++◌, refl, sym, ◌∙◌, ap, subst, arith}
 use mathlib.Core.Bool.{beq}
 use Rattle.std.specs.Prelude.{◌==◌, not}
 use Rattle.std.proofs.lemmas.Bool.{false≢true}
 use Rattle.net_base.specs.declared.ids.SwitchId.{SwitchId}
 use Rattle.dest_classes.specs.declared.Class.{Class}
 use Rattle.class_watch.specs.Walks.{meets}
-use Rattle.round_packer.specs.Kept.{HoldsClass, enters_at, set_at, target_of}
-use Rattle.round_packer.proofs.JudgeLaws.{numbered_class, told_by, told_unmet, watched_same, watched_one, keeps_front, read_as}
+use Rattle.round_packer.specs.Kept.{HoldsClass, set_at, target_of}
+use Rattle.round_packer.proofs.JudgeLaws.{numbered_class, told_by, told_unmet, watched_one, keeps_front, read_as}
 use Rattle.round_packer.proofs.judging.is_kept.Goals as goal
 
 pub index-requires : goal.index-requires

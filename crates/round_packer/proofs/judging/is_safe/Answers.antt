@@ -1,4 +1,4 @@
-use Rattle.std.proofs.Common.{◌≡◌, ◌<◌, ℕ, List, refl, sym, ◌∙◌, ap, subst, arith, length, get_or-set_same}
+use Rattle.std.proofs.Common.{ℕ, List, refl, sym, ◌∙◌, ap, subst, arith, get_or-set_same}
 use Rattle.certificates.specs.Rounds.{one_round_of}
 use Rattle.round_packer.specs.Kept.{HoldsClass, set_at}
 use Rattle.round_packer.proofs.JudgeLaws.{found_decides}

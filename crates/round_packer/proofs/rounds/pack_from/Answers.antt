@@ -1,4 +1,4 @@
-use Rattle.std.proofs.Common.{◌≡◌, ◌<◌, ℕ, Bool, true, false, List, [], refl, sym, ◌∙◌, ap, subst, arith, length}
+use Rattle.std.proofs.Common.{◌≡◌, Bool, List, [], sym, ◌∙◌, ap, subst, arith}
 use Rattle.std.proofs.lemmas.Result.{IfOk-weaker}
 use Rattle.flow_rules.specs.Tables.{rules_of_all}
 use Rattle.flow_rules.specs.declared.rules.Rule.{Rule}
@@ -16,9 +16,12 @@ use Rattle.round_packer.proofs.rounds.pack_from.Goals as goal
 pub all_safe-requires-clause-prepared : goal.all_safe-requires-clause-prepared
 all_safe-requires-clause-prepared c =
     let net = c.args.goal.now.net.now in
-    let p = c.args.trial.now in
-    (p.tables, [], prepared_here net c.mixes.result.now p.tables [] (tables_keep net p.tables c.requires.old) tt
-    (subst (λ (cs : List Change). AreLoaded (one_round_of net p.tables cs) 0 c.mixes.result.now) c.requires.none (c.mixes.ensures.loaded net c.keeps_rules.ensures c.requires.trial)))
+    let p = c.args.trial.now in (
+      p.tables,
+      [],
+      prepared_here net c.mixes.result.now p.tables [] (tables_keep net p.tables c.requires.old) tt
+          (subst (λ (cs : List Change). AreLoaded (one_round_of net p.tables cs) 0 c.mixes.result.now) c.requires.none (c.mixes.ensures.loaded net c.keeps_rules.ensures c.requires.trial)),
+    )
 
 pub pack_rounds-requires-clause-packed : goal.pack_rounds-requires-clause-packed
 pack_rounds-requires-clause-packed c =

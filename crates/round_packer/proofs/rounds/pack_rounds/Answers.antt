@@ -1,15 +1,12 @@
-use Rattle.std.proofs.Common.{◌≡◌, ◌≢◌, ◌<◌, ℕ, Bool, List, [], ◌∷◌, ◌++◌, refl, sym, ◌∙◌, ap, subst, arith, length}
-use Rattle.std.proofs.lemmas.List.{length-map}
-use Rattle.flow_rules.specs.Tables.{TableState, rules_at, rules_of_all}
+use Rattle.std.proofs.Common.{◌≡◌, ◌≢◌, ◌<◌, List, [], refl, sym, ◌∙◌, ap, subst, arith, length}
+use Rattle.flow_rules.specs.Tables.{rules_at, rules_of_all}
 use Rattle.flow_rules.specs.declared.rules.Rule.{Rule}
-use Rattle.update_model.specs.Changes.{tables_after}
 use Rattle.update_model.specs.Remaining.{remaining}
 use Rattle.update_model.specs.declared.Change.{Change}
 use Rattle.update_model.proofs.RemainingLaws.{AllUnique}
 use Rattle.certificates.proofs.TreeTables.{unique_in_table}
 use Rattle.mixed_walks.proofs.PlaceLaws.{tables_keep}
 use Rattle.packed_rounds.specs.Packing.{tables_past}
-use Rattle.round_trials.specs.Filling.{TrialState}
 use Rattle.round_packer.specs.Kept.{target_of}
 use Rattle.round_packer.proofs.PackLaws.{left_remains, plain_left, filled_left, packed_next, fewer_left, stuck_here, ordered_here, told_empty, told_some}
 use Rattle.round_packer.proofs.rounds.pack_rounds.Goals as goal
