@@ -90,12 +90,12 @@ part_behind (z ∷ front) (x ∷ xs) ys h = inr (part_behind front (x ∷ xs) ys
 
 -- changes that remain, in their order, are changes that remain one after the other, and the rest remains behind them
 module _ (new : List (List Rule)) (new_unique : AllUnique new) where
-  record IsMade (now : List (List Rule)) (changes : List Change) : Type 0 where
-    made : AreRemaining now new changes
-    unique : AllUnique (tables_after changes now)
-    others : (d : Change) → IsIn d (remaining now new) → ¬ IsIn d changes → IsIn d (remaining (tables_after changes now) new)
+  pub record IsMade (now : List (List Rule)) (changes : List Change) : Type 0 where
+    pub made : AreRemaining now new changes
+    pub unique : AllUnique (tables_after changes now)
+    pub others : (d : Change) → IsIn d (remaining now new) → ¬ IsIn d changes → IsIn d (remaining (tables_after changes now) new)
 
-  part_made : (now : List (List Rule)) → AllUnique now → (changes : List Change) → IsSubsequence changes (remaining now new) → IsMade now changes
+  pub part_made : (now : List (List Rule)) → AllUnique now → (changes : List Change) → IsSubsequence changes (remaining now new) → IsMade now changes
   part_made now unique [] part = record { made = tt; unique = unique; others = λ d i out. i }
   part_made now unique (c ∷ changes) part =
       let (front, back, are, behind) = first_part c changes (remaining now new) part in
@@ -114,7 +114,7 @@ module _ (new : List (List Rule)) (new_unique : AllUnique new) where
             ])) (λ j. out (inr j));
       }
 
-  some_more : (round : List Change) → round ≢ [] → 1 ≤ length round
+  pub some_more : (round : List Change) → round ≢ [] → 1 ≤ length round
   some_more [] some = absurd (some refl)
   some_more (c ∷ round) some = omega arith
 

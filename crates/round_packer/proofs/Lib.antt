@@ -1,0 +1,4 @@
+pub mod KeptLaws
+pub mod JudgeLaws
+pub mod FillLaws
+pub mod PackLaws

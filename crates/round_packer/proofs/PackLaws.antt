@@ -1,0 +1,206 @@
+-- One packed round more, and where packing ends.
+use Rattle.std.proofs.Common.{◌≡◌, ◌≢◌, ℕ, ◌<◌, Bool, true, false, cond, not, map, List, [], ◌∷◌, ◌++◌, length, refl, sym, ◌∙◌, subst, ap, inr, arith}
+use Rattle.std.specs.Prelude.{◌==◌}
+use Rattle.std.specs.List.{AllByRecursion}
+use Rattle.std.proofs.lemmas.Bool.{cond_both, both_ways, eq-eqb, eqb-true}
+use Rattle.net_base.specs.Members.{IsIn}
+use Rattle.net_base.proofs.MemberLaws.{each_append, each_at, each_filter, each_from_in, each_get_or, each_set}
+use Rattle.net_base.specs.declared.ids.SwitchId.{SwitchId}
+use Rattle.topology.specs.Networks.{Network, switch_count}
+use Rattle.flow_rules.specs.Patterns.{key_eq}
+use Rattle.flow_rules.specs.Tables.{rules_at}
+use Rattle.flow_rules.specs.declared.rules.Rule.{Rule}
+use Rattle.update_model.specs.Changes.{switch_of, rule_of, rules_after_change, tables_after_change, tables_after, IsGoodRound}
+use Rattle.update_model.specs.Remaining.{remaining}
+use Rattle.update_model.specs.declared.Change.{Change}
+use Rattle.update_model.specs.declared.Change.TheVariants.{Insert, Delete, Replace}
+use Rattle.update_model.proofs.DifferenceLaws.{IsDifference, difference_switch, remaining_is}
+use Rattle.update_model.proofs.RemainingLaws.{AllUnique, remaining_made}
+use Rattle.certificates.specs.Certified.{KeepsVlan}
+use Rattle.certificates.proofs.Fewer.{safe_fewer}
+use Rattle.mixed_walks.specs.Walks.{TablesKeepVlans}
+use Rattle.mixed_walks.proofs.PlaceLaws.{tables_keep}
+use Rattle.certificates.proofs.TreeTables.{unique_in_table}
+use Rattle.path_walk.specs.UserConfigs.{IsUserConfig}
+use Rattle.packed_rounds.specs.Packing.{Target, CanStand, IsFilled, IsPackedRound, ArePacked, PacksOrdered, PacksStuck, tables_past}
+use Rattle.packed_rounds.proofs.Packed.{packed_part, part_made, some_more}
+use Rattle.round_trials.specs.Filling.{TrialState, IsTrial}
+use Rattle.round_packer.specs.Kept.{HasUnsafe, HasAtoms, AreKept}
+use Rattle.round_packer.specs.Filling.{IsPlain, IsFilling, IsFilledBy, IsPackedTo, EndsAt}
+use Rattle.round_packer.proofs.KeptLaws.{kept_after}
+
+-- ---- tables that keep the VLANs
+
+abbrev Keeps : Rule → Type 0
+Keeps r = KeepsVlan r.action
+
+replaced : (r : Rule) (rules : List Rule) → AllByRecursion Keeps rules → Keeps r → AllByRecursion Keeps (map (λ q. cond (key_eq q.key r.key) r q) rules)
+replaced r [] all this = tt
+replaced r (q ∷ rules) all this = (cond_both (key_eq q.key r.key) r q Keeps (λ _. this) (λ _. all.0), replaced r rules all.1 this)
+
+each_after : (d : Change) (rules : List Rule) → AllByRecursion Keeps rules → Keeps (rule_of d) → AllByRecursion Keeps (rules_after_change d rules)
+each_after (Insert s r) rules all this = each_append Keeps rules (r ∷ []) all (this, tt)
+each_after (Delete s r) rules all this = each_filter Keeps (λ q. not (key_eq q.key r.key)) rules all
+each_after (Replace s r) rules all this = replaced r rules all this
+
+keeps_after : (d : Change) (tables : List (List Rule)) → TablesKeepVlans tables → KeepsVlan (rule_of d).action → TablesKeepVlans (tables_after_change d tables)
+keeps_after d tables all keeps =
+    each_set (AllByRecursion Keeps) tables (switch_of d).0 (rules_after_change d (rules_at tables (switch_of d))) all
+    (each_after d (rules_at tables (switch_of d)) (each_get_or (AllByRecursion Keeps) tables (switch_of d).0 [] all tt) keeps)
+
+-- they do after changes that keep them
+keeps_all : (changes : List Change) (tables : List (List Rule)) → TablesKeepVlans tables → AllByRecursion (λ d. KeepsVlan (rule_of d).action) changes → TablesKeepVlans (tables_after changes tables)
+keeps_all [] tables all keeps = all
+keeps_all (d ∷ changes) tables all keeps = keeps_all changes (tables_after_change d tables) (keeps_after d tables all keeps.0) keeps.1
+
+module _ (net : Network) (tables new : List (List Rule)) (keeps : TablesKeepVlans tables) (keeps_new : TablesKeepVlans new) where
+  keeps_at : (ts : List (List Rule)) → TablesKeepVlans ts → (s : SwitchId) (r : Rule) → IsIn r (rules_at ts s) → KeepsVlan r.action
+  keeps_at ts all s r i = each_at Keeps (rules_at ts s) r (each_get_or (AllByRecursion Keeps) ts s.0 [] all tt) i
+
+  difference_keeps : (s : SwitchId) (c : Change) → IsDifference s (rules_at tables s) (rules_at new s) c → KeepsVlan (rule_of c).action
+  difference_keeps s (Delete t r) h = keeps_at tables keeps s r h.1
+  difference_keeps s (Insert t r) h = keeps_at new keeps_new s r h.1
+  difference_keeps s (Replace t q) h = keeps_at new keeps_new s q h.1
+
+  -- each change that remains is at a switch of the network and keeps the VLAN
+  pub plain_remaining : length tables ≡ switch_count net → AllByRecursion (IsPlain net) (remaining tables new)
+  plain_remaining count = each_from_in (IsPlain net) (remaining tables new) (λ c i.
+      let (s, less, is) = remaining_is tables new c i in
+      let at = difference_switch s (rules_at tables s) (rules_at new s) c is in
+      record {
+        within = subst (λ (x : SwitchId). x.0 < switch_count net) (sym at) (subst (λ (n : ℕ). s.0 < n) count less);
+        keeps = difference_keeps s c is;
+      })
+
+-- ---- one round more
+
+packed_more : (to : Target) (old : List (List Rule)) (rounds : List (List Change)) (round : List Change) → ArePacked to old rounds → IsPackedRound to (tables_past rounds old) round → round ≢ []
+    → ArePacked to old (rounds ++ round ∷ [])
+packed_more to old [] round packed is some = (is, some, tt)
+packed_more to old (first ∷ rounds) round packed is some = (packed.0, packed.1, packed_more to (tables_after first old) rounds round packed.2 is some)
+
+past_more : (rounds : List (List Change)) (round : List Change) (old : List (List Rule)) → tables_past (rounds ++ round ∷ []) old ≡ tables_after round (tables_past rounds old)
+past_more [] round old = refl
+past_more (first ∷ rounds) round old = past_more rounds round (tables_after first old)
+
+module _ (to : Target) (new_unique : AllUnique to.new) (old : List (List Rule)) (rounds : List (List Change)) (p : TrialState) (came : List ℕ) (looked : List Bool)
+    (at : IsPackedTo to old rounds p came looked) (q : TrialState) (now : List ℕ) (marks : List Bool)
+    (filled : IsFilledBy to (tables_past rounds old) [] (remaining (tables_past rounds old) to.new) q now marks) where
+  abbrev tables : List (List Rule)
+  tables = tables_past rounds old
+
+  abbrev round : List Change
+  round = filled.round
+
+  good : IsGoodRound tables round
+  good = subst (λ (ts : List (List Rule)). IsGoodRound ts round) filled.filling.tables_are (subst (IsGoodRound q.tables) filled.filling.round_is filled.filling.trial_is.fit.good)
+
+  made_is : (t : TrialState) → t.tables ≡ tables_after q.round q.tables → t.tables ≡ tables_after round tables
+  made_is t is = is ∙ ap (λ (cs : List Change). tables_after cs q.tables) filled.filling.round_is ∙ ap (tables_after round) filled.filling.tables_are
+
+  some_taken : q.round ≢ [] → round ≢ []
+  some_taken some none = some (filled.filling.round_is ∙ none)
+
+  -- the round is made
+  pub packed_next : q.round ≢ [] → (t : TrialState) → IsTrial to.net t → t.tables ≡ tables_after q.round q.tables → t.round ≡ [] → (all : List (List Change)) → all ≡ rounds ++ q.round ∷ []
+      → IsPackedTo to old all t now marks
+  packed_next some t trial tables_are none all all_is =
+      let made = part_made to.new new_unique tables at.unique round (packed_part to tables round filled.filled) in
+      let is : all ≡ rounds ++ round ∷ [] = all_is ∙ ap (λ (cs : List Change). rounds ++ cs ∷ []) filled.filling.round_is in
+      let past : tables_past (rounds ++ round ∷ []) old ≡ tables_after round tables = past_more rounds round old in
+      let filling : IsFilling to (tables_after round tables) [] t now marks =
+      record {
+        trial_is = trial;
+        tables_are = made_is t tables_are;
+        round_is = none;
+        rules = keeps_all round tables filled.filling.rules filled.filling.changes;
+        changes = tt;
+        kept = record { count = filled.filling.kept.count; each = λ n class is. kept_after to tables round good class _ (filled.filling.kept.each n class is) };
+        atoms = filled.filling.atoms;
+      } in
+      subst (λ (rs : List (List Change)). IsPackedTo to old rs t now marks) (sym is)
+      (record {
+        packed = packed_more to old rounds round at.packed filled.filled (some_taken some);
+        filling = subst (λ (ts : List (List Rule)). IsFilling to ts [] t now marks) (sym past) filling;
+        unique = subst AllUnique (sym past) made.unique;
+      })
+
+  -- and fewer remain
+  pub fewer_left : q.round ≢ [] → (t : TrialState) → t.tables ≡ tables_after q.round q.tables → length (remaining t.tables to.new) < length (remaining tables to.new)
+  fewer_left some t tables_are =
+      let made = part_made to.new new_unique tables at.unique round (packed_part to tables round filled.filled) in
+      let count = remaining_made to.new new_unique tables at.unique round made.made in
+      let one = some_more to.new new_unique round (some_taken some) in
+      let same = ap (λ (ts : List (List Rule)). length (remaining ts to.new)) (made_is t tables_are) in
+      omega arith
+
+  -- no change is taken: packing is stuck
+  pub stuck_here : remaining tables to.new ≢ [] → q.round ≡ [] → PacksStuck to old rounds
+  stuck_here some none = record {
+    packed = at.packed;
+    some_remain = some;
+    none_stands = subst (λ (cs : List Change). IsPackedRound to tables cs) (sym filled.filling.round_is ∙ none) filled.filled;
+  }
+
+-- nothing remains: packing ends ordered
+pub ordered_here : (to : Target) (old : List (List Rule)) (rounds : List (List Change)) (p : TrialState) (came : List ℕ) (looked : List Bool) → IsPackedTo to old rounds p came looked
+    → (left : List Change) → left ≡ remaining (tables_past rounds old) to.new → left ≡ [] → PacksOrdered to old rounds
+ordered_here to old rounds p came looked at left is none = record { packed = at.packed; none_remains = sym is ∙ none }
+
+-- ---- a class that isn't safe at first
+
+none_filled : (can : List Change → Type 0) (taken rest : List Change) → ((changes : List Change) → ¬ can changes) → IsFilled can taken rest taken
+none_filled can taken [] never = refl
+none_filled can taken (c ∷ rest) never = inr (never (taken ++ c ∷ []), none_filled can taken rest never)
+
+-- where a class isn't safe in the tables no change can stand
+never_stands : (to : Target) (old : List (List Rule)) → HasUnsafe to old [] → (changes : List Change) → ¬ CanStand to old changes
+never_stands to old unsafe changes can =
+    let by = can.safe unsafe.number unsafe.class unsafe.is_class in
+    unsafe.never (record { numbers = by.numbers; sets = by.sets; safe = safe_fewer to.net old [] changes tt unsafe.class.first unsafe.class.entry _ by.numbers by.sets by.safe })
+
+pub ends_unsafe : (to : Target) (old : List (List Rule)) → HasUnsafe to old [] → (left : List Change) → left ≡ remaining old to.new → (none : Bool) → (none ≡ true → left ≡ []) → (none ≡ false → left ≢ [])
+    → EndsAt to old [] none
+ends_unsafe to old unsafe left is true empty some = record { packed = tt; none_remains = sym is ∙ empty refl }
+ends_unsafe to old unsafe left is false empty some = record {
+  packed = tt;
+  some_remain = λ none. some refl (is ∙ none);
+  none_stands = none_filled (CanStand to old) [] (remaining old to.new) (never_stands to old unsafe);
+}
+
+-- ---- what remains, as it is listed
+
+module _ (to : Target) (old : List (List Rule)) (rounds : List (List Change)) (p : TrialState) (came : List ℕ) (looked : List Bool) (at : IsPackedTo to old rounds p came looked) (left : List Change)
+    (left_is : left ≡ remaining p.tables to.new) where
+  pub left_remains : left ≡ remaining (tables_past rounds old) to.new
+  left_remains = left_is ∙ ap (λ (ts : List (List Rule)). remaining ts to.new) at.filling.tables_are
+
+  pub plain_left : TablesKeepVlans to.new → AllByRecursion (IsPlain to.net) left
+  plain_left keeps_new =
+      subst (AllByRecursion (IsPlain to.net)) (sym left_remains)
+      (plain_remaining to.net (tables_past rounds old) to.new at.filling.rules keeps_new
+      (subst (λ (ts : List (List Rule)). length ts ≡ switch_count to.net) at.filling.tables_are at.filling.trial_is.space.tables))
+
+  pub filled_left : (q : TrialState) (now : List ℕ) (marks : List Bool) → IsFilledBy to (tables_past rounds old) [] left q now marks
+      → IsFilledBy to (tables_past rounds old) [] (remaining (tables_past rounds old) to.new) q now marks
+  filled_left q now marks = subst (λ (cs : List Change). IsFilledBy to (tables_past rounds old) [] cs q now marks) left_remains
+
+-- before the first round
+pub packed_first : (to : Target) (p : TrialState) (came : List ℕ) (looked : List Bool) → IsTrial to.net p → p.round ≡ [] → IsUserConfig to.net p.tables → AreKept to p.tables [] came
+    → HasAtoms to.classes looked → (rounds : List (List Change)) → rounds ≡ [] → IsPackedTo to p.tables rounds p came looked
+packed_first to p came looked trial none user kept atoms rounds is =
+    subst (λ (rs : List (List Change)). IsPackedTo to p.tables rs p came looked) (sym is)
+    (record {
+      packed = tt;
+      filling = record { trial_is = trial; tables_are = refl; round_is = none; rules = tables_keep to.net p.tables user; changes = tt; kept = kept; atoms = atoms };
+      unique = λ s. unique_in_table (rules_at p.tables s) (user.distinct s);
+    })
+
+-- ---- whether a list is empty, as it is told
+
+pub told_empty : (xs : List Change) (n : ℕ) (b : Bool) → n ≡ length xs → b ≡ (n == 0) → b ≡ true → xs ≡ []
+told_empty [] n b count means on = refl
+told_empty (x ∷ xs) n b count means on = absurd (let e : n ≡ 0 = eqb-true n 0 (sym means ∙ on) in omega arith)
+
+pub told_some : (xs : List Change) (n : ℕ) (b : Bool) → n ≡ length xs → b ≡ (n == 0) → b ≡ false → xs ≢ []
+told_some xs n b count means off none = both_ways (n == 0) (sym means ∙ off) (eq-eqb n 0 (count ∙ ap (λ (ys : List Change). length ys) none))

@@ -1,0 +1,60 @@
+use Rattle.std.proofs.Common.{ℕ, sym, ◌∙◌, ap, subst, inl, inr, arith}
+use Rattle.std.proofs.lemmas.Bool.{cases_eq, false≢true}
+use Rattle.dest_classes.specs.Classes.{IsClass, class_count}
+use Rattle.dest_classes.specs.declared.Class.{Class}
+use Rattle.dest_classes.proofs.MapLaws.{number_fits}
+use Rattle.certificates.specs.Rounds.{IsSafeByEvidence}
+use Rattle.round_packer.specs.Kept.{HoldsClass, set_at, target_of}
+use Rattle.round_packer.proofs.JudgeLaws.{numbered_class}
+use Rattle.round_packer.proofs.judging.all_safe.Goals as goal
+
+pub numbered-class-requires-clause-number : goal.numbered-class-requires-clause-number
+numbered-class-requires-clause-number c =
+    let count = c.count-number-end.ensures.count ∙ sym (ap class_count c.requires.goal.duties_of_them) in
+    let less = c.loop-number-test.true in
+    omega arith
+
+pub loop-number-preserved : goal.loop-number-preserved
+loop-number-preserved c =
+    let to = (target_of c.args.goal.now.net.now c.args.goal.now.new.now c.args.goal.now.duties.now) in
+    let number = c.loop-number.number in
+    let mid = c.loop-number.watch.came.items in
+    let new = c.is_safe.new.watch.came.items in
+    let numbered = c.numbered-class.result in
+    let one = c.in_ok-is_safe.ensures in
+    let inv = c.loop-number.invariant in
+    record {
+      count = one.count ∙ inv.count;
+      last = one.last;
+      kept = λ tables changes prepared n class less is.
+          elim (cases_eq n number) [
+            | inl e ↦ (
+                let is_n = subst (λ (i : ℕ). IsClass to.classes i class) e is in
+                let same = numbered_class to.classes number numbered c.numbered-class.ensures.number c.numbered-class.ensures.class class is_n in
+                record {
+                  safe = subst (λ (x : Class). IsSafeByEvidence to.net to.demands tables changes x) same ((one.safe tables changes prepared).0 c.if-not-branch.false);
+                  held = subst (λ (x : Class). HoldsClass to.net tables changes x (set_at new n)) same
+                      (subst (λ (i : ℕ). HoldsClass to.net tables changes numbered.class (set_at new i)) (c.numbered-class.ensures.number ∙ sym e) (one.held tables changes prepared));
+                })
+            | inr ne ↦ (
+                let had = inv.kept tables changes prepared n class (omega arith) is in
+                record { safe = had.safe; held = subst (HoldsClass to.net tables changes class) (sym (one.others n (λ e. ne (e ∙ c.numbered-class.ensures.number)))) had.held })
+          ];
+    }
+
+pub returns-then-not-branch : goal.returns-then-not-branch
+returns-then-not-branch c = λ tables changes prepared.
+    record {
+      number = c.numbered-class.result.number;
+      class = c.numbered-class.result.class;
+      is_class = c.numbered-class.ensures.class;
+      never = λ by. false≢true (sym c.if-not-branch.true ∙ (c.in_ok-is_safe.ensures.safe tables changes prepared).1 by);
+    }
+
+pub returns : goal.returns
+returns c = λ tables changes prepared.
+    let count = c.count-number-end.ensures.count ∙ sym (ap class_count c.requires.goal.duties_of_them) in
+    record {
+      count = c.loop-number.invariant.count ∙ c.requires.came;
+      each = λ n class is. (let fits = number_fits c.args.goal.now.duties.now.classes n class is in c.loop-number.invariant.kept tables changes prepared n class (omega arith) is);
+    }

@@ -1,0 +1,224 @@
+//! Whether all classes stay safe while changes are made.
+ghost use Rattle.std.specs.Prelude.{◌≡◌, ◌≢◌, ◌↔◌, ◌<◌, ℕ, List, ◌∷◌, ◌++◌, [], length, IsTrue, IsSome, IfOk, OnOk};
+ghost use Rattle.topology.specs.Networks.{switch_count};
+ghost use Rattle.flow_rules.specs.declared.rules.Rule.{Rule};
+ghost use Rattle.dest_classes.specs.Classes.{class_count};
+ghost use Rattle.dest_classes.specs.Numbered.{IsNumbered};
+ghost use Rattle.update_model.specs.declared.Change.{Change as ChangeOf};
+ghost use Rattle.certificates.specs.Rounds.{IsSafeByEvidence};
+ghost use Rattle.check_reasons.specs.AtomMarks.{AreTouched};
+ghost use Rattle.evidence_store.specs.Last.{HoldsLast};
+ghost use Rattle.round_packer.specs.Kept.{IsGoal, ArePreparedFor, AreKept, AreWatched, AreJudged, AreTold, HasAtoms, HoldsClass, IsTold, set_at, target_of};
+
+use crate::goal::{Goal, numbered};
+use class_watch::{ClassWatch, LookedAtoms, meets};
+use dest_classes::NumberedClass;
+use evidence_store::{ClassEvidence, LastSets, evidence_by_last};
+use net_base::Memory;
+use round_mix::Mixed;
+use std::alloc::Global;
+use update_model::Change;
+
+/// A change that is tried beside those that are taken, and the switches as they are prepared for all of these.
+#[derive(Clone, Copy)]
+pub(crate) struct Tried<'a> {
+    pub(crate) alloc: Global,
+    pub(crate) change: &'a Change,
+    pub(crate) mixes: &'a [Mixed],
+}
+
+/// Whether evidence was found.
+fn is_found(found: Option<ClassEvidence>) -> bool
+    ensures { IsTrue result ↔ IsSome found }
+{
+    found.is_some()
+}
+
+/// Whether some evidence keeps a class safe while the changes are made that the switches are prepared for. Its mixed walks
+/// are walked, and the switches that they come to are noted.
+fn is_safe(
+    alloc: Global,
+    goal: &Goal,
+    watch: &mut ClassWatch,
+    mixes: &[Mixed],
+    last: &mut LastSets,
+    class: NumberedClass,
+) -> Result<bool, Memory>
+    requires number { class.number < class_count goal.now.duties.now.classes }
+    requires class { IsNumbered goal.now.duties.now.classes class }
+    requires entry { class.class.entry.switch.0 < switch_count goal.now.net.now }
+    requires prepared { (tables : List (List Rule)) × (changes : List ChangeOf)
+        × ArePreparedFor goal.now.net.now mixes.now tables changes }
+    requires came { length watch.old.came.items ≡ class_count goal.now.duties.now.classes }
+    requires last { HoldsLast goal.now.net.now goal.now.duties.now last.old }
+    ensures safe { IfOk result (λ safe. (tables : List (List Rule)) (changes : List ChangeOf)
+        → ArePreparedFor goal.now.net.now mixes.now tables changes → IsTrue safe
+        ↔ IsSafeByEvidence goal.now.net.now goal.now.duties.now.demands tables changes
+        class.class) }
+    ensures held { OnOk result ((tables : List (List Rule)) (changes : List ChangeOf)
+        → ArePreparedFor goal.now.net.now mixes.now tables changes
+        → HoldsClass goal.now.net.now tables changes class.class
+        (set_at watch.new.came.items class.number)) }
+    ensures others { (n : ℕ) → n ≢ class.number
+        → set_at watch.new.came.items n ≡ set_at watch.old.came.items n }
+    ensures count { length watch.new.came.items ≡ length watch.old.came.items }
+    ensures last { OnOk result (HoldsLast goal.now.net.now goal.now.duties.now last.new) }
+{
+    let _ = watch.walk(goal.net, mixes, class);
+    let found = evidence_by_last(alloc, goal.net, &watch.walk, goal.duties, class, last)?;
+    Ok(is_found(found))
+}
+
+/// Whether the class of a number stays safe beside the change that is tried, where it enters at the change's own switch, or
+/// where it doesn't. A class that the change meets at no switch that its walks come to stays as it is.
+fn is_kept(
+    goal: &Goal,
+    watch: &mut ClassWatch,
+    tried: &Tried,
+    last: &mut LastSets,
+    number: u32,
+    own: bool,
+) -> Result<bool, Memory>
+    requires goal { IsGoal goal.now.net.now goal.now.new.now goal.now.duties.now
+        goal.now.classes.now goal.now.list.now }
+    requires number { number < class_count goal.now.duties.now.classes }
+    requires prepared { (tables : List (List Rule)) × (changes : List ChangeOf)
+        × ArePreparedFor goal.now.net.now tried.now.mixes.now tables changes }
+    requires came { length watch.old.came.items ≡ class_count goal.now.duties.now.classes }
+    requires last { HoldsLast goal.now.net.now goal.now.duties.now last.old }
+    ensures told { IfOk result (λ kept. (tables : List (List Rule)) (taken : List ChangeOf)
+        → ArePreparedFor goal.now.net.now tried.now.mixes.now tables
+        (taken ++ tried.now.change.now ∷ [])
+        → AreKept (target_of goal.now.net.now goal.now.new.now goal.now.duties.now) tables taken
+        watch.old.came.items
+        → IsTold (target_of goal.now.net.now goal.now.new.now goal.now.duties.now) tables
+        (taken ++ tried.now.change.now ∷ []) tried.now.change.now own number
+        watch.new.came.items kept) }
+    ensures watched { OnOk result ((tables : List (List Rule)) (changes : List ChangeOf)
+        → ArePreparedFor goal.now.net.now tried.now.mixes.now tables changes
+        → AreWatched (target_of goal.now.net.now goal.now.new.now goal.now.duties.now) tables
+        changes watch.old.came.items watch.new.came.items) }
+    ensures count { length watch.new.came.items ≡ length watch.old.came.items }
+    ensures last { OnOk result (HoldsLast goal.now.net.now goal.now.duties.now last.new) }
+{
+    let class = numbered(goal, number);
+    let enters = class.class.entry.switch.0 == tried.change.switch().0;
+    if enters != own {
+        return Ok(true);
+    }
+    if !meets(tried.change, class.class, watch.came[number as usize]) {
+        return Ok(true);
+    }
+    let safe = is_safe(tried.alloc, goal, watch, tried.mixes, last, class)?;
+    Ok(safe)
+}
+
+/// Whether the classes stay safe that enter at the change's own switch, or those that don't, class by class up to the first
+/// that doesn't. It looks at those whose atoms the change touches.
+fn are_kept(
+    goal: &Goal,
+    watch: &mut ClassWatch,
+    tried: &Tried,
+    looked: &LookedAtoms,
+    last: &mut LastSets,
+    own: bool,
+) -> Result<bool, Memory>
+    requires goal { IsGoal goal.now.net.now goal.now.new.now goal.now.duties.now
+        goal.now.classes.now goal.now.list.now }
+    requires prepared { (tables : List (List Rule)) × (changes : List ChangeOf)
+        × ArePreparedFor goal.now.net.now tried.now.mixes.now tables changes }
+    requires came { length watch.old.came.items ≡ class_count goal.now.duties.now.classes }
+    requires last { HoldsLast goal.now.net.now goal.now.duties.now last.old }
+    requires atoms { HasAtoms goal.now.duties.now.classes looked.now }
+    requires touched { AreTouched goal.now.duties.now.classes (tried.now.change.now ∷ [])
+        looked.now }
+    ensures told { IfOk result (λ kept. (tables : List (List Rule)) (taken : List ChangeOf)
+        → ArePreparedFor goal.now.net.now tried.now.mixes.now tables
+        (taken ++ tried.now.change.now ∷ [])
+        → AreKept (target_of goal.now.net.now goal.now.new.now goal.now.duties.now) tables taken
+        watch.old.came.items
+        → AreTold (target_of goal.now.net.now goal.now.new.now goal.now.duties.now) tables
+        (taken ++ tried.now.change.now ∷ []) tried.now.change.now own
+        watch.new.came.items kept) }
+    ensures watched { OnOk result ((tables : List (List Rule)) (changes : List ChangeOf)
+        → ArePreparedFor goal.now.net.now tried.now.mixes.now tables changes
+        → AreWatched (target_of goal.now.net.now goal.now.new.now goal.now.duties.now) tables
+        changes watch.old.came.items watch.new.came.items) }
+    ensures count { length watch.new.came.items ≡ length watch.old.came.items }
+    ensures last { OnOk result (HoldsLast goal.now.net.now goal.now.duties.now last.new) }
+{
+    let end = goal.classes.count();
+    let mut number = looked.next_number(0, end);
+    'judging: while number < end {
+        if !is_kept(goal, watch, tried, last, number, own)? {
+            return Ok(false);
+        }
+        number = looked.next_number(number + 1, end);
+    }
+    Ok(true)
+}
+
+/// Whether all classes stay safe beside the change that is tried: first those that enter at its own switch, since one that
+/// doesn't is mostly among them.
+pub(crate) fn all_kept(
+    goal: &Goal,
+    watch: &mut ClassWatch,
+    tried: &Tried,
+    looked: &LookedAtoms,
+) -> Result<bool, Memory>
+    requires goal { IsGoal goal.now.net.now goal.now.new.now goal.now.duties.now
+        goal.now.classes.now goal.now.list.now }
+    requires prepared { (tables : List (List Rule)) × (changes : List ChangeOf)
+        × ArePreparedFor goal.now.net.now tried.now.mixes.now tables changes }
+    requires came { length watch.old.came.items ≡ class_count goal.now.duties.now.classes }
+    requires atoms { HasAtoms goal.now.duties.now.classes looked.now }
+    requires touched { AreTouched goal.now.duties.now.classes (tried.now.change.now ∷ [])
+        looked.now }
+    ensures judged { IfOk result (λ kept. (tables : List (List Rule)) (taken : List ChangeOf)
+        → ArePreparedFor goal.now.net.now tried.now.mixes.now tables
+        (taken ++ tried.now.change.now ∷ [])
+        → AreKept (target_of goal.now.net.now goal.now.new.now goal.now.duties.now) tables taken
+        watch.old.came.items
+        → AreJudged (target_of goal.now.net.now goal.now.new.now goal.now.duties.now) tables
+        (taken ++ tried.now.change.now ∷ []) watch.new.came.items kept) }
+    ensures watched { OnOk result ((tables : List (List Rule)) (changes : List ChangeOf)
+        → ArePreparedFor goal.now.net.now tried.now.mixes.now tables changes
+        → AreWatched (target_of goal.now.net.now goal.now.new.now goal.now.duties.now) tables
+        changes watch.old.came.items watch.new.came.items) }
+    ensures count { length watch.new.came.items ≡ length watch.old.came.items }
+{
+    let mut last = LastSets::none();
+    if !are_kept(goal, watch, tried, looked, &mut last, true)? {
+        return Ok(false);
+    }
+    let kept = are_kept(goal, watch, tried, looked, &mut last, false)?;
+    Ok(kept)
+}
+
+/// Whether all classes are safe while the changes are made that the switches are prepared for, class by class up to the first
+/// that isn't. The switches that their mixed walks come to are noted.
+pub(crate) fn all_safe(
+    alloc: Global,
+    goal: &Goal,
+    watch: &mut ClassWatch,
+    mixes: &[Mixed],
+) -> Result<bool, Memory>
+    requires goal { IsGoal goal.now.net.now goal.now.new.now goal.now.duties.now
+        goal.now.classes.now goal.now.list.now }
+    requires prepared { (tables : List (List Rule)) × (changes : List ChangeOf)
+        × ArePreparedFor goal.now.net.now mixes.now tables changes }
+    requires came { length watch.old.came.items ≡ class_count goal.now.duties.now.classes }
+    ensures { IfOk result (λ safe. (tables : List (List Rule)) (changes : List ChangeOf)
+        → ArePreparedFor goal.now.net.now mixes.now tables changes
+        → AreJudged (target_of goal.now.net.now goal.now.new.now goal.now.duties.now) tables
+        changes watch.new.came.items safe) }
+{
+    let mut last = LastSets::none();
+    for number in 0..goal.classes.count() {
+        let class = numbered(goal, number);
+        if !is_safe(alloc, goal, watch, mixes, &mut last, class)? {
+            return Ok(false);
+        }
+    }
+    Ok(true)
+}

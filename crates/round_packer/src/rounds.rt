@@ -1,0 +1,144 @@
+//! Rounds are packed until nothing remains, or until nothing that remains can stand in a round.
+ghost use Rattle.std.specs.Prelude.{◌≡◌, ◌<◌, ◌++◌, ◌∷◌, [], ℕ, List, length, IfOk, OnOk};
+ghost use Rattle.flow_rules.specs.Tables.{rules_of_all};
+ghost use Rattle.flow_rules.specs.declared.rules.Rule.{Rule};
+ghost use Rattle.path_walk.specs.UserConfigs.{IsUserConfig};
+ghost use Rattle.dest_classes.specs.Classes.{class_count};
+ghost use Rattle.update_model.specs.Changes.{tables_after};
+ghost use Rattle.packed_rounds.specs.Packing.{Target};
+ghost use Rattle.round_trials.specs.Filling.{IsTrial};
+ghost use Rattle.round_packer.specs.Kept.{IsGoal, HasAtoms, target_of};
+ghost use Rattle.round_packer.specs.Filling.{EndsAt, IsPackedTo};
+ghost use Rattle.round_packer.specs.Ends.{IsPacking};
+
+use crate::Packing;
+use crate::filling::fill;
+use crate::goal::Goal;
+use crate::judging::all_safe;
+use class_watch::{ClassWatch, LookedAtoms};
+use flow_rules::Config;
+use net_base::{Memory, SwitchSet};
+use round_trials::RoundTrial;
+use std::alloc::Global;
+use table_difference::remaining;
+use topology::Net;
+use update_model::Rounds;
+
+/// Makes the taken changes as one round more. After a refusal the rounds are lost.
+fn keep_round(
+    alloc: Global,
+    net: &Net,
+    trial: &mut RoundTrial,
+    rounds: &mut Rounds,
+) -> Result<(), Memory>
+    requires { IsTrial net.now trial.old }
+    ensures rounds { OnOk result (rounds.new ≡ rounds.old ++ trial.old.round ∷ []) }
+    ensures tables { OnOk result
+        (trial.new.tables ≡ tables_after trial.old.round trial.old.tables) }
+    ensures none { OnOk result (trial.new.round ≡ []) }
+    ensures trial { OnOk result (IsTrial net.now trial.new) }
+{
+    rounds.push_round(Vec::from_slice(alloc, trial.round())?)?;
+    trial.make_round(net)
+}
+
+/// Packs rounds from the tables on. The answer is whether nothing remains at last.
+fn pack_rounds(
+    alloc: Global,
+    goal: &Goal,
+    trial: &mut RoundTrial,
+    watch: &mut ClassWatch,
+    looked: &mut LookedAtoms,
+    rounds: &mut Rounds,
+) -> Result<bool, Memory>
+    requires goal { IsGoal goal.now.net.now goal.now.new.now goal.now.duties.now
+        goal.now.classes.now goal.now.list.now }
+    requires packed { (old : List (List Rule))
+        × IsPackedTo (target_of goal.now.net.now goal.now.new.now goal.now.duties.now) old
+        rounds.old trial.old watch.old.came.items looked.old }
+    ensures { IfOk result (λ none_remains. (old : List (List Rule))
+        → IsPackedTo (target_of goal.now.net.now goal.now.new.now goal.now.duties.now) old
+        rounds.old trial.old watch.old.came.items looked.old
+        → EndsAt (target_of goal.now.net.now goal.now.new.now goal.now.duties.now) old
+        rounds.new none_remains) }
+{
+    goal.net.keeps_rules();
+    let mut left = remaining(alloc, trial.tables(), goal.new)?;
+    'packing: while !left.is_empty() {
+        fill(alloc, goal, trial, watch, looked, &left)?;
+        if trial.round().is_empty() {
+            return Ok(false);
+        }
+        keep_round(alloc, goal.net, trial, rounds)?;
+        left = remaining(alloc, trial.tables(), goal.new)?;
+    }
+    Ok(true)
+}
+
+/// Packs rounds from the tables of a configuration on. The answer is whether nothing remains at last.
+fn pack_from(
+    alloc: Global,
+    goal: &Goal,
+    trial: &mut RoundTrial,
+    watch: &mut ClassWatch,
+    looked: &mut LookedAtoms,
+    rounds: &mut Rounds,
+) -> Result<bool, Memory>
+    requires goal { IsGoal goal.now.net.now goal.now.new.now goal.now.duties.now
+        goal.now.classes.now goal.now.list.now }
+    requires trial { IsTrial goal.now.net.now trial.old }
+    requires none { trial.old.round ≡ [] }
+    requires old { IsUserConfig goal.now.net.now trial.old.tables }
+    requires came { length watch.old.came.items ≡ class_count goal.now.duties.now.classes }
+    requires atoms { HasAtoms goal.now.duties.now.classes looked.old }
+    requires rounds { rounds.old ≡ [] }
+    ensures { IfOk result (EndsAt
+        (target_of goal.now.net.now goal.now.new.now goal.now.duties.now) trial.old.tables
+        rounds.new) }
+{
+    goal.net.keeps_rules();
+    if all_safe(alloc, goal, watch, trial.mixes())? {
+        return pack_rounds(alloc, goal, trial, watch, looked, rounds);
+    }
+    let left = remaining(alloc, trial.tables(), goal.new)?;
+    Ok(left.is_empty())
+}
+
+/// The rounds, as ordered where nothing remains after them.
+fn answer_of(rounds: Rounds, none_remains: bool) -> Packing
+    ensures { (to : Target) (old : List (List Rule)) → EndsAt to old rounds none_remains
+        → IsPacking to old result }
+{
+    if none_remains {
+        Packing::Ordered(rounds)
+    } else {
+        Packing::Stuck(rounds)
+    }
+}
+
+/// The packing from the tables of a configuration on.
+pub(crate) fn packing_of(alloc: Global, goal: &Goal, old: &Config) -> Result<Packing, Memory>
+    requires goal { IsGoal goal.now.net.now goal.now.new.now goal.now.duties.now
+        goal.now.classes.now goal.now.list.now }
+    requires old { IsUserConfig goal.now.net.now (rules_of_all old.now) }
+    ensures { IfOk result (IsPacking
+        (target_of goal.now.net.now goal.now.new.now goal.now.duties.now)
+        (rules_of_all old.now)) }
+{
+    let mut rounds = Rounds::make(alloc)?;
+    let mut looked = LookedAtoms::make(alloc, goal.classes)?;
+    let mut watch = ClassWatch::make(alloc, goal.classes.count(), SwitchSet::all())?;
+    let mut trial = RoundTrial::make(alloc, goal.net, old)?;
+    let ended = pack_from(
+        alloc,
+        goal,
+        &mut trial,
+        &mut watch,
+        &mut looked,
+        &mut rounds,
+    );
+    drop(trial);
+    drop(watch);
+    drop(looked);
+    Ok(answer_of(rounds, ended?))
+}

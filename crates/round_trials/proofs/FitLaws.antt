@@ -1,0 +1,239 @@
+-- One more change of a round, one less, and all of them made: whether they fit the tables.
+use Rattle.std.proofs.Common.{◌≡◌, ◌≢◌, ℕ, ◌+◌, ◌<◌, ◌≤◌, Bool, true, false, cond, List, [], ◌∷◌, ◌++◌, suc, length, map, refl, sym, ◌∙◌, subst, ap, inl, inr, arith, length-set, append-nil}
+use Rattle.std.specs.Prelude.{◌==◌, filter, zero, take, slice_get, Some, None}
+use Rattle.std.specs.List.{AllByRecursion}
+use Rattle.std.proofs.lemmas.Bool.{eq-eqb, ne_eqb, cases_eq, cond-true, cond-false}
+use Rattle.net_base.specs.Members.{IsIn, IsDistinct, IsSubsequence}
+use Rattle.net_base.proofs.ItemLaws.{in_from_get}
+use Rattle.net_base.proofs.MemberLaws.{IsSubsequence_refl, in_map, in_from_map, in_filter, each_append, each_at, each_from_in}
+use Rattle.net_base.specs.declared.ids.SwitchId.{SwitchId}
+use Rattle.topology.specs.Networks.{Network, switch_count, capacity_of}
+use Rattle.flow_rules.specs.Tables.{IsClear, rules_at}
+use Rattle.flow_rules.specs.declared.rules.Rule.{Rule}
+use Rattle.update_model.specs.Changes.{switch_of, EntryName, entry_named, changes_at, AppliesTo, tables_after, tables_after_change, Applies, IsGoodRound}
+use Rattle.update_model.specs.Mixtures.{IsMixture, entries_needed, is_insert}
+use Rattle.update_model.specs.declared.Change.{Change}
+use Rattle.update_model.proofs.ChangeLaws.{IsWithin, key_named, applies_kept, rules_at-after, rules_at-after_change}
+use Rattle.update_model.proofs.MadeLaws.{apply_there, keys_distinct, distinct_some, each_some, same_entry}
+use Rattle.round_mix.specs.Prepared.{AreGood}
+use Rattle.round_mix.specs.Faults.{IsFault}
+use Rattle.round_mix.specs.declared.MixFault.{MixFault}
+use Rattle.round_mix.specs.declared.MixFault.TheVariants.{BadChange, Ambiguous}
+use Rattle.round_mix.proofs.TriedLaws.{clear_none}
+use Rattle.round_tables.proofs.ApplyLaws.{rules_few}
+use Rattle.round_tables.proofs.TrialLaws.{changes_here, changes_there}
+use Rattle.round_trials.specs.Filling.{FitTables, FitTable}
+
+-- ---- the changes at a switch
+
+-- those of one change more
+pub at_more : (s : SwitchId) (round : List Change) (c : Change) → changes_at s (round ++ c ∷ []) ≡ changes_at s round ++ changes_at s (c ∷ [])
+at_more s [] c = refl
+at_more s (d ∷ round) c =
+    elim ((switch_of d).0 == s.0) as (λ b. cond b (d ∷ changes_at s (round ++ c ∷ [])) (changes_at s (round ++ c ∷ [])) ≡ cond b (d ∷ changes_at s round) (changes_at s round) ++ changes_at s (c ∷ [])) [
+      | true ↦ ap (λ zs. d ∷ zs) (at_more s round c)
+      | false ↦ at_more s round c
+    ]
+
+pub more_here : (round : List Change) (c : Change) → changes_at (switch_of c) (round ++ c ∷ []) ≡ changes_at (switch_of c) round ++ c ∷ []
+more_here round c = at_more (switch_of c) round c ∙ ap (λ zs. changes_at (switch_of c) round ++ zs) (changes_here c)
+
+pub more_there : (round : List Change) (c : Change) (s : SwitchId) → s.0 ≢ (switch_of c).0 → changes_at s (round ++ c ∷ []) ≡ changes_at s round
+more_there round c s ne = at_more s round c ∙ ap (λ zs. changes_at s round ++ zs) (changes_there c s ne) ∙ append-nil (changes_at s round)
+
+-- what holds at the switch of the change, and at the others without it, holds at each
+pub each_more : (round : List Change) (c : Change) (P : SwitchId → List Change → Type 0) → P (switch_of c) (changes_at (switch_of c) (round ++ c ∷ []))
+    → ((s : SwitchId) → s.0 ≢ (switch_of c).0 → P s (changes_at s round)) → (s : SwitchId) → P s (changes_at s (round ++ c ∷ []))
+each_more round c P here there s =
+    elim (cases_eq s.0 (switch_of c).0) [
+      | inl e ↦ subst (λ (x : SwitchId). P x (changes_at x (round ++ c ∷ []))) (sym (switch_same s (switch_of c) e)) here
+      | inr ne ↦ subst (P s) (sym (more_there round c s ne)) (there s ne)
+    ]
+  where
+    switch_same : (s t : SwitchId) → s.0 ≡ t.0 → s ≡ t
+    switch_same s t e = ap (λ (n : ℕ). let x : SwitchId = record { 0 = n } in x) e
+
+-- ---- good rounds, switch by switch
+
+-- the changes at a switch without those of the first change
+good_tail : (rules : List Rule) (b : Bool) (c : Change) (cs : List Change) → AreGood rules (cond b (c ∷ cs) cs) → AreGood rules cs
+good_tail rules true c cs good = record { applies = good.applies.1; distinct = good.distinct.1 }
+good_tail rules false c cs good = good
+
+-- changes that are good at each switch are a good round
+good_round : (tables : List (List Rule)) (round : List Change) → AllByRecursion (IsWithin (length tables)) round → ((s : SwitchId) → AreGood (rules_at tables s) (changes_at s round))
+    → IsGoodRound tables round
+good_round tables [] within good = record { applies = tt; distinct = tt }
+good_round tables (c ∷ cs) within good =
+    let s = switch_of c in
+    let rest = good_round tables cs within.1 (λ o. good_tail (rules_at tables o) ((switch_of c).0 == o.0) c (changes_at o cs) (good o)) in
+    let here : AreGood (rules_at tables s) (c ∷ changes_at s cs) =
+    subst (AreGood (rules_at tables s)) (cond-true ((switch_of c).0 == s.0) (c ∷ changes_at s cs) (changes_at s cs) (eq-eqb s.0 s.0 refl)) (good s) in
+    record {
+      applies = ((within.0, here.applies.0), rest.applies);
+      distinct = (
+        λ i.
+            let (d, j, e) = in_from_map entry_named (entry_named c) cs i in
+            let there : IsIn d (changes_at s cs) = in_filter (λ x. (switch_of x).0 == s.0) d cs j (eq-eqb _ _ (sym (ap (λ (n : EntryName). n.switch.0) e))) in
+            here.distinct.0 (subst (λ k. IsIn k (map key_named (changes_at s cs))) (sym (ap (λ (n : EntryName). n.key) e)) (in_map key_named d (changes_at s cs) there)),
+        rest.distinct,
+      );
+    }
+
+-- each change of a good round is at a switch of the tables
+pub within_good : (tables : List (List Rule)) (round : List Change) → AllByRecursion (Applies tables) round → AllByRecursion (IsWithin (length tables)) round
+within_good tables [] applies = tt
+within_good tables (c ∷ round) applies = (applies.0.0, within_good tables round applies.1)
+
+-- the changes of a good round at a switch are good
+pub good_there : (tables : List (List Rule)) (round : List Change) (s : SwitchId) → IsGoodRound tables round → AreGood (rules_at tables s) (changes_at s round)
+good_there tables round s good = record { applies = apply_there tables s round good.applies; distinct = keys_distinct s round good.distinct }
+
+-- a change still applies to the tables after one that names another entry
+applies_next : (tables : List (List Rule)) (c d : Change) → Applies tables c → Applies tables d → ¬ (entry_named d ≡ entry_named c) → Applies (tables_after_change c tables) d
+applies_next tables c d first second differ =
+    let table = rules_at-after_change c tables (switch_of d) first.0 in (
+      subst (λ (n : ℕ). (switch_of d).0 < n) (sym (length-set tables (switch_of c).0 _)) second.0,
+      elim (cases_eq (switch_of c).0 (switch_of d).0) [
+        | inl e ↦ (
+            let same : switch_of c ≡ switch_of d = ap (λ (n : ℕ). let x : SwitchId = record { 0 = n } in x) e in
+            subst (λ (rs : List Rule). AppliesTo rs d) (sym (table ∙ cond-true ((switch_of c).0 == (switch_of d).0) _ _ (eq-eqb _ _ e)))
+            (applies_kept (rules_at tables (switch_of d)) c d (subst (λ (x : SwitchId). AppliesTo (rules_at tables x) c) same first.1) second.1
+            (λ k. differ (same_entry d c (sym e) k))))
+        | inr ne ↦ subst (λ (rs : List Rule). AppliesTo rs d) (sym (table ∙ cond-false ((switch_of c).0 == (switch_of d).0) _ _ (ne_eqb _ _ ne))) second.1
+      ],
+    )
+
+-- the rest of a good round is good after its first change
+pub good_rest : (tables : List (List Rule)) (c : Change) (cs : List Change) → IsGoodRound tables (c ∷ cs) → IsGoodRound (tables_after_change c tables) cs
+good_rest tables c cs good = record {
+  applies = each_from_in (Applies (tables_after_change c tables)) cs (λ d i. applies_next tables c d good.applies.0 (each_at (Applies tables) cs d good.applies.1 i)
+      (λ e. good.distinct.0 (subst (λ n. IsIn n (map entry_named cs)) e (in_map entry_named d cs i))));
+  distinct = good.distinct.1;
+}
+
+-- ---- fitting
+
+-- no changes fit clear tables within capacity
+pub fit_none : (net : Network) (tables : List (List Rule)) → ((s : SwitchId) → IsClear (rules_at tables s))
+    → ((s : SwitchId) → s.0 < switch_count net → length (rules_at tables s) ≤ capacity_of net s) → FitTables net tables []
+fit_none net tables clear fits = record {
+  good = record { applies = tt; distinct = tt };
+  clear = λ s mixed held. clear_none (rules_at tables s) (clear s) mixed held;
+  fits = λ s less. let most = fits s less in omega arith;
+}
+
+module _ (net : Network) (tables : List (List Rule)) (round : List Change) (fit : FitTables net tables round) where
+  -- what fits the tables fits each of them
+  pub fit_there : (s : SwitchId) → s.0 < switch_count net → FitTable (rules_at tables s) (changes_at s round) (capacity_of net s)
+  fit_there s less = record { good = good_there tables round s fit.good; clear = λ mixed held. fit.clear s mixed held; fits = fit.fits s less }
+
+  -- and so does what fits the table of its last change besides
+  pub fit_more : (c : Change) → length tables ≡ switch_count net → (switch_of c).0 < switch_count net
+      → FitTable (rules_at tables (switch_of c)) (changes_at (switch_of c) (round ++ c ∷ [])) (capacity_of net (switch_of c)) → FitTables net tables (round ++ c ∷ [])
+  fit_more c count within here = record {
+    good = good_round tables (round ++ c ∷ [])
+        (each_append (IsWithin (length tables)) round (c ∷ []) (within_good tables round fit.good.applies) (subst (λ (n : ℕ). (switch_of c).0 < n) (sym count) within, tt))
+        (each_more round c (λ s cs. AreGood (rules_at tables s) cs) here.good (λ s ne. good_there tables round s fit.good));
+    clear = each_more round c (λ s cs. (mixed : List Rule) → IsMixture (rules_at tables s) cs mixed → IsClear mixed) here.clear (λ s ne mixed held. fit.clear s mixed held);
+    fits = each_more round c (λ s cs. s.0 < switch_count net → entries_needed (rules_at tables s) cs ≤ capacity_of net s) (λ _. here.fits) (λ s ne. fit.fits s);
+  }
+
+  -- all of them made, the tables are clear and within capacity
+  pub clear_made : (s : SwitchId) → IsClear (rules_at (tables_after round tables) s)
+  clear_made s =
+      let made = changes_at s round in
+      let is = rules_at-after round tables s (within_good tables round fit.good.applies) in
+      fit.clear s (rules_at (tables_after round tables) s)
+      (record { made = made; some = IsSubsequence_refl made; same = λ r. (λ i. subst (IsIn r) is i, λ i. subst (IsIn r) (sym is) i) })
+
+  pub fits_made : (s : SwitchId) → s.0 < switch_count net → length (rules_at (tables_after round tables) s) ≤ capacity_of net s
+  fits_made s less =
+      let few = rules_few (changes_at s round) (rules_at tables s) in
+      let same = ap (λ (rs : List Rule). length rs) (rules_at-after round tables s (within_good tables round fit.good.applies)) in
+      let most = fit.fits s less in
+      omega arith
+
+  pub fit_made : FitTables net (tables_after round tables) []
+  fit_made = fit_none net (tables_after round tables) clear_made fits_made
+
+-- ---- one change less
+
+begins : (xs : List Change) (c : Change) → IsSubsequence xs (xs ++ c ∷ [])
+begins [] c = tt
+begins (x ∷ xs) c = inl (refl, begins xs c)
+
+pub part_longer : {A : Type 0} (xs ys zs : List A) → IsSubsequence xs ys → IsSubsequence xs (ys ++ zs)
+part_longer [] ys zs h = tt
+part_longer (x ∷ xs) [] zs h = absurd h
+part_longer (x ∷ xs) (y ∷ ys) zs (inl (e, h)) = inl (e, part_longer xs ys zs h)
+part_longer (x ∷ xs) (y ∷ ys) zs (inr h) = inr (part_longer (x ∷ xs) ys zs h)
+
+insert_more : (xs ys : List Change) → length (filter is_insert xs) ≤ length (filter is_insert (xs ++ ys))
+insert_more [] ys = omega arith
+insert_more (x ∷ xs) ys =
+    let rest = insert_more xs ys in
+    elim (is_insert x) as (λ b. length (cond b (x ∷ filter is_insert xs) (filter is_insert xs)) ≤ length (cond b (x ∷ filter is_insert (xs ++ ys)) (filter is_insert (xs ++ ys)))) [
+      | true ↦ omega arith
+      | false ↦ rest
+    ]
+
+pub fit_less : (net : Network) (tables : List (List Rule)) (round : List Change) (c : Change) → FitTables net tables (round ++ c ∷ []) → FitTables net tables round
+fit_less net tables round c fit = record {
+  good = record {
+    applies = each_some (Applies tables) round (round ++ c ∷ []) (begins round c) fit.good.applies;
+    distinct = distinct_some entry_named round (round ++ c ∷ []) (begins round c) fit.good.distinct;
+  };
+  clear = λ s mixed held. fit.clear s mixed (record {
+    made = held.made;
+    some = subst (IsSubsequence held.made) (sym (at_more s round c)) (part_longer held.made (changes_at s round) (changes_at s (c ∷ [])) held.some);
+    same = held.same;
+  });
+  fits = λ s less.
+      let most = fit.fits s less in
+      let more = insert_more (changes_at s round) (changes_at s (c ∷ [])) in
+      let same = ap (λ (cs : List Change). length (filter is_insert cs)) (at_more s round c) in
+      omega arith;
+}
+
+-- what needs within capacity without a change needs at most one entry more with it
+pub need_more : (net : Network) (tables : List (List Rule)) (round : List Change) (c : Change) → FitTables net tables round → (switch_of c).0 < switch_count net
+    → entries_needed (rules_at tables (switch_of c)) (changes_at (switch_of c) (round ++ c ∷ [])) ≤ capacity_of net (switch_of c) + 1
+need_more net tables round c fit less =
+    let most = fit.fits (switch_of c) less in
+    let same = ap (λ (cs : List Change). length (filter is_insert cs)) (more_here round c) in
+    let one = one_more (changes_at (switch_of c) round) c in
+    omega arith
+  where
+    one_more : (xs : List Change) (d : Change) → length (filter is_insert (xs ++ d ∷ [])) ≤ length (filter is_insert xs) + 1
+    one_more [] d = elim (is_insert d) as (λ b. length (cond b (d ∷ []) []) ≤ 0 + 1) [ true ↦ omega arith | false ↦ omega arith ]
+    one_more (x ∷ xs) d =
+        let rest = one_more xs d in
+        elim (is_insert x) as (λ b. length (cond b (x ∷ filter is_insert (xs ++ d ∷ [])) (filter is_insert (xs ++ d ∷ []))) ≤ length (cond b (x ∷ filter is_insert xs) (filter is_insert xs)) + 1) [
+          | true ↦ omega arith
+          | false ↦ rest
+        ]
+
+-- ---- faults
+
+-- a member isn't named by those before it
+distinct_before : {A B : Type 0} (f : A → B) (xs : List A) (i : ℕ) (x : A) → IsDistinct (map f xs) → slice_get xs i ≡ Some x → ¬ IsIn (f x) (map f (take i xs))
+distinct_before f [] i x distinct at = absurd (let e : None ≡ Some x = at in cc)
+distinct_before f (y ∷ xs) zero x distinct at = λ i. i
+distinct_before f (y ∷ xs) (suc i) x distinct at = λ h. elim h [
+  | inl e ↦ distinct.0 (subst (λ z. IsIn z (map f xs)) e (in_map f x xs (in_from_get xs i x at)))
+  | inr j ↦ distinct_before f xs i x distinct.1 at j
+]
+
+-- where a fault is found the changes don't fit
+pub fault_unfit : (rules : List Rule) (changes : List Change) (fault : MixFault) (capacity : ℕ) → IsFault rules changes fault → ¬ FitTable rules changes capacity
+fault_unfit rules changes (BadChange i) capacity bad fit = bad.bad (record {
+  applies = each_at (AppliesTo rules) changes bad.change fit.good.applies (in_from_get changes i bad.change bad.at);
+  fresh = distinct_before key_named changes i bad.change fit.good.distinct bad.at;
+})
+fault_unfit rules changes (Ambiguous i j) capacity ambiguous fit = ambiguous.unclear fit.clear
+
+-- a clear table without changes has no fault
+pub clear_no_fault : (rules : List Rule) (fault : MixFault) → IsClear rules → IsFault rules [] fault → ⊥
+clear_no_fault rules fault clear found =
+    fault_unfit rules [] fault (length rules + 0) found (record { good = record { applies = tt; distinct = tt }; clear = clear_none rules clear; fits = omega arith })
