@@ -1,23 +1,14 @@
-use Rattle.std.proofs.Common.{◌≡◌, ◌<◌, false, List, sym, ◌∙◌, subst, ap}
+use Rattle.std.proofs.Common.{◌<◌, sym, subst}
 use Rattle.std.specs.Prelude.{Option, IfSome, IfNone}
 use Rattle.topology.specs.Networks.{switch_count}
 use Rattle.demands.specs.Duties.{duties_of}
-use Rattle.check_reasons.specs.Touched.{touches}
 use Rattle.breaking_walks.specs.Breaking.{IsBreakingWalk, HasBreakingWalk}
 use Rattle.breaking_walks.specs.declared.BreakingWalk.{BreakingWalk}
 use Rattle.round_outcomes.specs.Rounds.{RoundView, alone}
-use Rattle.update_model.specs.declared.Change.{Change}
 use Rattle.counter_run.specs.Showing.{update_in}
 use Rattle.counter_run.proofs.ViewLaws.{has_walk}
-use Rattle.counter_run.proofs.ClassLaws.{class_unchanged, entry_within, walk_shown, none_shown}
-use Rattle.counter_run.proofs.class_run.Goals as goal
-
-pub returns-then-is_unchanged-clause-none : goal.returns-then-is_unchanged-clause-none
-returns-then-is_unchanged-clause-none c =
-    let stage = c.args.stage in
-    let off = c.is_unchanged.ensures c.if-is_unchanged.true in
-    class_unchanged (update_in stage) c.requires.stage.good c.requires.stage.clear c.args.duties.now.demands stage.number c.args.numbered.class c.requires.stage.within off.0
-    (subst (λ (round : List Change). touches round c.args.numbered.class.first ≡ false) (c.round.ensures ∙ ap (λ (v : RoundView). v.round) c.requires.view) off.1) c.requires.before
+use Rattle.counter_run.proofs.ClassLaws.{entry_within, walk_shown, none_shown}
+use Rattle.counter_run.proofs.finding.class_run.Goals as goal
 
 pub breaking_walk-requires-clause-entry : goal.breaking_walk-requires-clause-entry
 breaking_walk-requires-clause-entry c =
