@@ -82,8 +82,9 @@ impl RoundSurvey {
         ensures classes { self.new.classes.items ≡ self.old.classes.items }
         ensures came { length self.new.came.items ≡ length self.old.came.items }
         ensures good { length self.new.good.items ≡ length self.old.good.items }
-        ensures known { OnOk result (AreKnown (update_of round.entry) duties.now.demands round.entry.number
-            self.new.classes.items self.new.came.items self.new.good.items) }
+        ensures known { OnOk result (AreKnown (update_of round.entry) duties.now.demands
+            round.entry.number self.new.classes.items self.new.came.items
+            self.new.good.items) }
     {
         gather(&mut self.members, &self.classes, &self.good, first, step)?;
         if self.members.len() < 2 {
@@ -110,8 +111,9 @@ impl RoundSurvey {
             self.old.classes.items self.old.came.items self.old.good.items }
         ensures room { OnOk result (HasRoom duties.now.classes self.new.classes.items
             self.new.came.items self.new.good.items) }
-        ensures known { OnOk result (AreKnown (update_of round.entry) duties.now.demands round.entry.number
-            self.new.classes.items self.new.came.items self.new.good.items) }
+        ensures known { OnOk result (AreKnown (update_of round.entry) duties.now.demands
+            round.entry.number self.new.classes.items self.new.came.items
+            self.new.good.items) }
     {
         let step = self.classes_of_host(round);
         for first in 0..step {
@@ -139,10 +141,11 @@ impl RoundSurvey {
             self.old.classes.items self.old.came.items }
         ensures room { OnOk result (HasRoom duties.now.classes self.new.classes.items
             self.new.came.items self.new.good.items) }
-        ensures known { OnOk result (AreKnown (update_of round.entry) duties.now.demands round.entry.number
-            self.new.classes.items self.new.came.items self.new.good.items) }
-        ensures below { OnOk result (AreWalkedBelow (number + 1) (update_of round.entry) round.entry.number
-            self.new.classes.items self.new.came.items) }
+        ensures known { OnOk result (AreKnown (update_of round.entry) duties.now.demands
+            round.entry.number self.new.classes.items self.new.came.items
+            self.new.good.items) }
+        ensures below { OnOk result (AreWalkedBelow (number + 1) (update_of round.entry)
+            round.entry.number self.new.classes.items self.new.came.items) }
     {
         round.net.keeps_rules();
         let place = number as usize;
@@ -172,10 +175,11 @@ impl RoundSurvey {
             self.old.classes.items self.old.came.items }
         ensures room { OnOk result (HasRoom duties.now.classes self.new.classes.items
             self.new.came.items self.new.good.items) }
-        ensures known { OnOk result (AreKnown (update_of round.entry) duties.now.demands round.entry.number
-            self.new.classes.items self.new.came.items self.new.good.items) }
-        ensures below { OnOk result (AreWalkedBelow (number + 1) (update_of round.entry) round.entry.number
-            self.new.classes.items self.new.came.items) }
+        ensures known { OnOk result (AreKnown (update_of round.entry) duties.now.demands
+            round.entry.number self.new.classes.items self.new.came.items
+            self.new.good.items) }
+        ensures below { OnOk result (AreWalkedBelow (number + 1) (update_of round.entry)
+            round.entry.number self.new.classes.items self.new.came.items) }
     {
         if self.good[number as usize] {
             return Ok(());
@@ -198,8 +202,9 @@ impl RoundSurvey {
             self.old.classes.items self.old.came.items self.old.good.items }
         ensures room { OnOk result (HasRoom duties.now.classes self.new.classes.items
             self.new.came.items self.new.good.items) }
-        ensures known { OnOk result (AreKnown (update_of round.entry) duties.now.demands round.entry.number
-            self.new.classes.items self.new.came.items self.new.good.items) }
+        ensures known { OnOk result (AreKnown (update_of round.entry) duties.now.demands
+            round.entry.number self.new.classes.items self.new.came.items
+            self.new.good.items) }
         ensures walks { OnOk result (WalksStand (update_of round.entry) (suc round.entry.number)
             self.new.classes.items self.new.came.items) }
     {
@@ -235,8 +240,8 @@ impl RoundSurvey {
             self.new.came.items self.new.good.items) }
         ensures walks { OnOk result (WalksStand (update_of round.entry) (suc round.entry.number)
             self.new.classes.items self.new.came.items) }
-        ensures good { OnOk result (AreGood (update_of round.entry) duties.now.demands round.entry.number
-            duties.now.classes self.new.good.items) }
+        ensures good { OnOk result (AreGood (update_of round.entry) duties.now.demands
+            round.entry.number duties.now.classes self.new.good.items) }
     {
         mark_missed(&mut self.good, round, &self.classes, &self.came);
         self.settle(alloc, round, duties)?;
