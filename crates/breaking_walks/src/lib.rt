@@ -23,6 +23,7 @@ use net_base::{ListOf, Memory, Place};
 use path_walk::Outcome;
 use round_outcomes::RoundOutcomes;
 use std::alloc::Global;
+pub use surveying::have_falling;
 
 /// A mixed walk that breaks its duties at its end: the places after the entry, and the outcome at the last place by which the
 /// packet leaves or is discarded. Where there is none, the switch of the last place stands earlier in the walk.

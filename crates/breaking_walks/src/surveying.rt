@@ -49,15 +49,31 @@ fn number_at(numbers: &[u32], switch: SwitchId) -> u32
     }
 }
 
+/// Raises the number of the switch that a step leaves above that of the one to which it leads.
+fn raise(numbers: &mut Vec<u32>, edge: &Edge)
+    ensures { length numbers.new.items ≡ length numbers.old.items }
+{
+    let least = number_at(numbers, edge.to).saturating_add(1);
+    if let Some(number) = numbers.get_mut(edge.from.0 as usize) {
+        *number = least.max(*number);
+    }
+}
+
 /// Raises the number of each switch above those to which its steps lead, the last steps first.
-fn raise(numbers: &mut Vec<u32>, edges: &[Edge])
+fn raise_from_last(numbers: &mut Vec<u32>, edges: &[Edge])
     ensures { length numbers.new.items ≡ length numbers.old.items }
 {
     for edge in edges.iter().rev() {
-        let least = number_at(numbers, edge.to).saturating_add(1);
-        if let Some(number) = numbers.get_mut(edge.from.0 as usize) {
-            *number = least.max(*number);
-        }
+        raise(numbers, edge);
+    }
+}
+
+/// Raises the number of each switch above those to which its steps lead, the first steps first.
+fn raise_from_first(numbers: &mut Vec<u32>, edges: &[Edge])
+    ensures { length numbers.new.items ≡ length numbers.old.items }
+{
+    for edge in edges {
+        raise(numbers, edge);
     }
 }
 
@@ -80,14 +96,17 @@ fn are_falling(numbers: &[u32], edges: &[Edge]) -> bool
     true
 }
 
-/// Whether there are numbers that fall along each step: they are raised as often as there are switches, at most.
-fn have_falling(alloc: Global, switches: u32, edges: &[Edge]) -> Result<bool, Memory>
+/// Whether there are numbers for so many switches that fall along each step, so that the steps have no cycle: they are raised
+/// along each step twice, as often as there are switches at most. Once is enough where the steps stand in the order of a walk,
+/// or of walks that one after the other lead into those before.
+pub fn have_falling(alloc: Global, switches: u32, edges: &[Edge]) -> Result<bool, Memory>
     ensures { IfOk result
         (λ found. found ≡ true → (numbers : List ℕ) × Falls (IsEdge edges.now) numbers) }
 {
     let mut numbers = vec![in alloc; 0; switches as usize]?;
     for _ in 0..switches {
-        raise(&mut numbers, edges);
+        raise_from_last(&mut numbers, edges);
+        raise_from_first(&mut numbers, edges);
         if are_falling(&numbers, edges) {
             return Ok(true);
         }

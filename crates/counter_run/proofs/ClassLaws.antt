@@ -1,14 +1,12 @@
 -- Whether a class breaks in a round, by what is known of the round and of those before it.
-use Rattle.std.proofs.Common.{◌≡◌, ℕ, zero, suc, ◌+◌, ◌<◌, ◌≤◌, false, List, length, sym, ◌∙◌, subst, ap, inl, inr, arith}
-use Rattle.std.specs.Prelude.{Option, Some, None, IfSome, IfNone}
-use Rattle.std.specs.List.{AllByRecursion}
+use Rattle.std.proofs.Common.{◌≡◌, ℕ, zero, suc, ◌+◌, ◌<◌, false, List, length, sym, ◌∙◌, subst, ap, inl, inr, arith}
+use Rattle.std.specs.Prelude.{Option}
 use Rattle.std.proofs.lemmas.Bool.{cases_lt}
 use Rattle.net_base.specs.declared.ids.Place.{Place}
 use Rattle.net_base.specs.declared.ids.Stop.{Stop}
 use Rattle.net_base.specs.Places.{stop_of}
 use Rattle.net_base.proofs.MemberLaws.{each_at, in_append_left}
 use Rattle.topology.specs.Networks.{Network, IsNetwork, IsEntry, IsPortNumber, switch_count, used_ports}
-use Rattle.flow_rules.specs.Tables.{rules_of_all}
 use Rattle.dest_classes.specs.Classes.{ClassList, IsClass, classes_of}
 use Rattle.dest_classes.specs.declared.Class.{Class}
 use Rattle.dest_classes.proofs.EntryLaws.{class_entry}
@@ -17,7 +15,6 @@ use Rattle.update_model.specs.Changes.{round_after}
 use Rattle.update_model.specs.Mixtures.{Rollout, AreGoodRounds, AreClearRounds}
 use Rattle.check_reasons.specs.Touched.{touches}
 use Rattle.breaking_walks.specs.Breaking.{IsBreakingWalk, HasBreakingWalk}
-use Rattle.breaking_walks.specs.declared.BreakingWalk.{BreakingWalk}
 use Rattle.round_outcomes.specs.Rounds.{RoundView, alone}
 use Rattle.counter_run.specs.Showing.{update_in}
 use Rattle.counter_run.specs.Explaining.{ClassBreaks, NoneBreaks}

@@ -9,3 +9,4 @@ pub mod AddLaws
 pub mod ViewLaws
 pub mod TouchLaws
 pub mod ClassLaws
+pub mod PrepareLaws

@@ -35,16 +35,16 @@ use Rattle.counter_run.proofs.ShownLaws.{along_stops, end_in}
 
 -- ---- the tables of a stage
 
-length_settled : (rounds : List (List Change)) (k : ℕ) (tables : List (List Rule)) → length (settled_tables rounds k tables) ≡ length tables
+pub length_settled : (rounds : List (List Change)) (k : ℕ) (tables : List (List Rule)) → length (settled_tables rounds k tables) ≡ length tables
 length_settled [] k tables = refl
 length_settled (r ∷ rounds) zero tables = refl
 length_settled (r ∷ rounds) (suc k) tables = length_settled rounds k (tables_after r tables) ∙ length-tables_after r tables
 
-length_all : (tables : List TableState) → length (rules_of_all tables) ≡ length tables
+pub length_all : (tables : List TableState) → length (rules_of_all tables) ≡ length tables
 length_all [] = refl
 length_all (t ∷ tables) = ap suc (length_all tables)
 
-rules_of_one : (tables : List TableState) (i : ℕ) (t : TableState) → slice_get tables i ≡ Some t → get_or (rules_of_all tables) i [] ≡ t.rules
+pub rules_of_one : (tables : List TableState) (i : ℕ) (t : TableState) → slice_get tables i ≡ Some t → get_or (rules_of_all tables) i [] ≡ t.rules
 rules_of_one [] i t at = absurd (let f : None ≡ Some t = at in cc)
 rules_of_one (x ∷ tables) zero t at = let f : Some x ≡ Some t = at in let g : x ≡ t = cc in ap (λ (y : TableState). y.rules) g
 rules_of_one (x ∷ tables) (suc i) t at = rules_of_one tables i t at

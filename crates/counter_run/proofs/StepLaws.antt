@@ -24,7 +24,7 @@ use Rattle.demands.specs.Good.{switches_of}
 use Rattle.update_model.specs.Changes.{switch_of, AppliesTo, rules_after, changes_at, round_after, IsGoodRound}
 use Rattle.update_model.specs.Mixtures.{Rollout, tables_before}
 use Rattle.update_model.specs.Runs.{AreEnabled, state_after}
-use Rattle.update_model.specs.States.{State, hopped, with_packet, IsHopping, state_after_event}
+use Rattle.update_model.specs.States.{State, hopped, with_packet, IsHopping}
 use Rattle.update_model.specs.declared.Change.{Change}
 use Rattle.update_model.specs.declared.Event.TheVariants as event
 use Rattle.update_model.specs.declared.Packet.{Packet}

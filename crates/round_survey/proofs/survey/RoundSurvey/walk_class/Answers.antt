@@ -1,0 +1,39 @@
+use Rattle.std.proofs.Common.{arith}
+use Rattle.dest_classes.specs.Classes.{IsClass}
+use Rattle.class_watch.proofs.ListLaws.{read_at}
+use Rattle.round_survey.specs.Rounds.{update_of}
+use Rattle.round_survey.proofs.SeenLaws.{covers_walked}
+use Rattle.round_survey.proofs.MarkLaws.{known_put, walked_put, host_within}
+use Rattle.round_survey.proofs.survey.RoundSurvey.walk_class.Goals as goal
+
+pub walk-requires-clause-entry : goal.walk-requires-clause-entry
+walk-requires-clause-entry c =
+    let classes = c.args.self.now.classes.items in
+    let n = c.args.number in
+    let class = c.index.result.now in
+    let at = read_at classes n class (let count = c.requires.room.classes_are.count in let less = c.requires.number in omega arith) c.index.ensures in
+    host_within c.args.duties.now.classes c.args.round.net.now c.keeps_rules.ensures c.requires.hosts n class (c.requires.room.classes_are.each n class at)
+
+pub returns-clause-known : goal.returns-clause-known
+returns-clause-known c =
+    let u = update_of c.args.round in
+    let k = c.args.round.number in
+    let classes = c.args.self.now.classes.items in
+    let n = c.args.number in
+    let class = c.index.result.now in
+    let at = read_at classes n class (let count = c.requires.room.classes_are.count in let less = c.requires.number in omega arith) c.index.ensures in
+    let is : IsClass c.args.duties.now.classes n class = c.requires.room.classes_are.each n class at in
+    let seen = c.in_ok-seen.ensures u k class (covers_walked u k class.first class.entry c.walk.new.self (c.walk.ensures u k c.requires.round.is)) in
+    known_put u c.args.duties.now.demands k classes c.args.self.now.came.items c.args.self.now.good.items n class at c.in_ok-seen.seen.came c.keeps_duties.result
+    (λ on. record { walks = seen.walks; keeps = c.keeps_duties.ensures u k class is seen on }) c.requires.known
+
+pub returns-clause-below : goal.returns-clause-below
+returns-clause-below c =
+    let u = update_of c.args.round in
+    let k = c.args.round.number in
+    let classes = c.args.self.now.classes.items in
+    let n = c.args.number in
+    let class = c.index.result.now in
+    let at = read_at classes n class (let count = c.requires.room.classes_are.count in let less = c.requires.number in omega arith) c.index.ensures in
+    let seen = c.in_ok-seen.ensures u k class (covers_walked u k class.first class.entry c.walk.new.self (c.walk.ensures u k c.requires.round.is)) in
+    walked_put u c.args.duties.now.demands k classes c.args.self.now.came.items c.args.self.now.good.items n class at c.in_ok-seen.seen.came c.keeps_duties.result seen.walks c.requires.below

@@ -1,0 +1,25 @@
+-- A round of an update, prepared.
+use Rattle.std.specs.Prelude.{◌≡◌, ℕ, ◌<◌, false, length}
+use Rattle.flow_rules.specs.Tables.{rules_of_all}
+use Rattle.dest_classes.specs.declared.Class.{Class}
+use Rattle.update_model.specs.Changes.{round_after}
+use Rattle.update_model.specs.Mixtures.{Rollout, AreGoodRounds, AreClearRounds}
+use Rattle.mixed_walks.specs.Walks.{IsRoundOf}
+use Rattle.class_watch.specs.Walks.{meets_any}
+use Rattle.round_survey.specs.declared.round.PreparedRound.{PreparedRound}
+
+-- the update of a round
+abbrev pub update_of : PreparedRound → Rollout
+update_of round = record { net = round.net.now; old = rules_of_all round.old.now; rounds = round.rounds.now }
+
+-- the switches are prepared for the round, in which packets keep their VLANs; the rounds of the update are good and clear
+pub record IsPreparedRound (round : PreparedRound) : Type 0 where
+  pub is : IsRoundOf round.net.now round.mixes.now (update_of round) round.number
+  pub within : round.number < length round.rounds.now
+  pub good : AreGoodRounds (update_of round)
+  pub clear : AreClearRounds (update_of round)
+
+-- the round isn't the first, and no change of it may be met by packets of the class at a switch of the set
+pub record IsMissed (round : PreparedRound) (class : Class) (set : ℕ) : Type 0 where
+  pub later : 0 < round.number
+  pub missed : meets_any (round_after round.number round.rounds.now) class set ≡ false

@@ -1,0 +1,13 @@
+//! What the mixed walks of the classes in a round show: which of them can't break their duties there.
+#![tactic(auto)]
+
+mod keeping;
+mod members;
+mod missed;
+mod round;
+mod seen;
+mod survey;
+
+pub use keeping::keep_vlans;
+pub use round::PreparedRound;
+pub use survey::RoundSurvey;

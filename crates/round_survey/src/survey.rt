@@ -1,0 +1,250 @@
+//! The classes of an update, surveyed round by round.
+ghost use Rattle.std.specs.Prelude.{◌≡◌, ◌+◌, ◌<◌, suc, length, IfOk, OnOk};
+ghost use Rattle.dest_classes.specs.Classes.{class_count};
+ghost use Rattle.round_survey.specs.Rounds.{update_of, IsPreparedRound};
+ghost use Rattle.round_survey.specs.Surveys.{AreGood, AreKnown, AreWalkedBelow, HasRoom, KeptBefore, WalksStand};
+
+use crate::members::{gather, settle_members, walk_members};
+use crate::missed::mark_missed;
+use crate::round::PreparedRound;
+use crate::seen::{keeps_duties, see};
+use class_watch::all_classes;
+use demands::Duties;
+use dest_classes::{Class, ClassMap, NumberedClass};
+use mixed_walks::WalkRoom;
+use net_base::{Memory, SwitchSet};
+use std::alloc::Global;
+
+/// Room for walks; the classes of a map; for each class the switches that its walks came to in the round that was surveyed
+/// last, and whether it is known to keep its duties there; and the classes that are walked together.
+#[derive(Drop)]
+pub struct RoundSurvey {
+    pub walk: WalkRoom,
+    pub classes: Vec<Class>,
+    pub came: Vec<SwitchSet>,
+    pub good: Vec<bool>,
+    pub members: Vec<NumberedClass>,
+}
+
+/// Room for the classes of a map.
+fn make_survey(alloc: Global, classes: &ClassMap, walk: WalkRoom) -> Result<RoundSurvey, Memory>
+    ensures { IfOk result (λ s. HasRoom classes.now s.classes.items s.came.items s.good.items) }
+{
+    let count = classes.count() as usize;
+    let came = vec![in alloc; SwitchSet::none(); count]?;
+    let good = vec![in alloc; false; count]?;
+    Ok(RoundSurvey {
+        classes: all_classes(alloc, classes)?,
+        came,
+        good,
+        members: Vec::new(alloc),
+        walk,
+    })
+}
+
+impl RoundSurvey {
+    /// Room for the classes of a map: less than 60 bytes for each, and the room for walks. Nothing is known of any.
+    pub fn make(alloc: Global, classes: &ClassMap) -> Result<RoundSurvey, Memory>
+        ensures { IfOk result
+            (λ s. HasRoom classes.now s.classes.items s.came.items s.good.items) }
+    {
+        let walk = WalkRoom::make(alloc)?;
+        make_survey(alloc, classes, walk)
+    }
+
+    /// How many classes each host port has, of which there is a class for each VLAN and atom. Only the speed rests on it.
+    fn classes_of_host(&self, round: PreparedRound<'_>) -> u32
+        ensures { 0 < result }
+    {
+        let hosts = round.net.hosts().len().max(1);
+        u32::try_from(self.classes.len() / hosts)
+            .unwrap_or(1)
+            .max(1)
+    }
+
+    /// Walks classes together that aren't marked: of each so many from one on the first, if these are at least two. Those that
+    /// keep their duties by what is seen of all of them are marked.
+    fn settle_group(
+        &mut self,
+        alloc: Global,
+        round: PreparedRound<'_>,
+        duties: &Duties,
+        first: u32,
+        step: u32,
+    ) -> Result<(), Memory>
+        requires some { 0 < step }
+        requires round { IsPreparedRound round }
+        requires hosts { duties.now.classes.hosts ≡ round.net.now.hosts }
+        requires room { HasRoom duties.now.classes self.old.classes.items self.old.came.items
+            self.old.good.items }
+        requires known { AreKnown (update_of round) duties.now.demands round.number
+            self.old.classes.items self.old.came.items self.old.good.items }
+        ensures classes { self.new.classes.items ≡ self.old.classes.items }
+        ensures came { length self.new.came.items ≡ length self.old.came.items }
+        ensures good { length self.new.good.items ≡ length self.old.good.items }
+        ensures known { OnOk result (AreKnown (update_of round.entry) duties.now.demands
+            round.entry.number self.new.classes.items self.new.came.items
+            self.new.good.items) }
+    {
+        gather(&mut self.members, &self.classes, &self.good, first, step)?;
+        if self.members.len() < 2 {
+            return Ok(());
+        }
+        walk_members(&mut self.walk, round, &self.members);
+        let seen = see(alloc, round.net, &self.walk)?;
+        settle_members(&self.members, &seen, duties, &mut self.came, &mut self.good);
+        Ok(())
+    }
+
+    /// Walks the classes together that aren't marked, those of one address and VLAN, and marks which of them keep their duties.
+    fn settle(
+        &mut self,
+        alloc: Global,
+        round: PreparedRound<'_>,
+        duties: &Duties,
+    ) -> Result<(), Memory>
+        requires round { IsPreparedRound round }
+        requires hosts { duties.now.classes.hosts ≡ round.net.now.hosts }
+        requires room { HasRoom duties.now.classes self.old.classes.items self.old.came.items
+            self.old.good.items }
+        requires known { AreKnown (update_of round) duties.now.demands round.number
+            self.old.classes.items self.old.came.items self.old.good.items }
+        ensures room { OnOk result (HasRoom duties.now.classes self.new.classes.items
+            self.new.came.items self.new.good.items) }
+        ensures known { OnOk result (AreKnown (update_of round.entry) duties.now.demands
+            round.entry.number self.new.classes.items self.new.came.items
+            self.new.good.items) }
+    {
+        let step = self.classes_of_host(round);
+        for first in 0..step {
+            self.settle_group(alloc, round, duties, first, step)?;
+        }
+        Ok(())
+    }
+
+    /// Walks a class by itself, notes the switches that its walks come to, and whether it keeps its duties by what is seen.
+    fn walk_class(
+        &mut self,
+        alloc: Global,
+        round: PreparedRound<'_>,
+        duties: &Duties,
+        number: u32,
+    ) -> Result<(), Memory>
+        requires number { number < class_count duties.now.classes }
+        requires round { IsPreparedRound round }
+        requires hosts { duties.now.classes.hosts ≡ round.net.now.hosts }
+        requires room { HasRoom duties.now.classes self.old.classes.items self.old.came.items
+            self.old.good.items }
+        requires known { AreKnown (update_of round) duties.now.demands round.number
+            self.old.classes.items self.old.came.items self.old.good.items }
+        requires below { AreWalkedBelow number (update_of round) round.number
+            self.old.classes.items self.old.came.items }
+        ensures room { OnOk result (HasRoom duties.now.classes self.new.classes.items
+            self.new.came.items self.new.good.items) }
+        ensures known { OnOk result (AreKnown (update_of round.entry) duties.now.demands
+            round.entry.number self.new.classes.items self.new.came.items
+            self.new.good.items) }
+        ensures below { OnOk result (AreWalkedBelow (number + 1) (update_of round.entry)
+            round.entry.number self.new.classes.items self.new.came.items) }
+    {
+        round.net.keeps_rules();
+        let place = number as usize;
+        self.walk.walk(round.net, round.mixes, self.classes[place]);
+        let seen = see(alloc, round.net, &self.walk)?;
+        self.good[place] = keeps_duties(&seen, duties, number);
+        self.came[place] = seen.came;
+        Ok(())
+    }
+
+    /// Walks a class by itself, if it isn't marked.
+    fn look_at(
+        &mut self,
+        alloc: Global,
+        round: PreparedRound<'_>,
+        duties: &Duties,
+        number: u32,
+    ) -> Result<(), Memory>
+        requires number { number < class_count duties.now.classes }
+        requires round { IsPreparedRound round }
+        requires hosts { duties.now.classes.hosts ≡ round.net.now.hosts }
+        requires room { HasRoom duties.now.classes self.old.classes.items self.old.came.items
+            self.old.good.items }
+        requires known { AreKnown (update_of round) duties.now.demands round.number
+            self.old.classes.items self.old.came.items self.old.good.items }
+        requires below { AreWalkedBelow number (update_of round) round.number
+            self.old.classes.items self.old.came.items }
+        ensures room { OnOk result (HasRoom duties.now.classes self.new.classes.items
+            self.new.came.items self.new.good.items) }
+        ensures known { OnOk result (AreKnown (update_of round.entry) duties.now.demands
+            round.entry.number self.new.classes.items self.new.came.items
+            self.new.good.items) }
+        ensures below { OnOk result (AreWalkedBelow (number + 1) (update_of round.entry)
+            round.entry.number self.new.classes.items self.new.came.items) }
+    {
+        if self.good[number as usize] {
+            return Ok(());
+        }
+        self.walk_class(alloc, round, duties, number)
+    }
+
+    /// Walks each class by itself that isn't marked.
+    fn look_at_rest(
+        &mut self,
+        alloc: Global,
+        round: PreparedRound<'_>,
+        duties: &Duties,
+    ) -> Result<(), Memory>
+        requires round { IsPreparedRound round }
+        requires hosts { duties.now.classes.hosts ≡ round.net.now.hosts }
+        requires room { HasRoom duties.now.classes self.old.classes.items self.old.came.items
+            self.old.good.items }
+        requires known { AreKnown (update_of round) duties.now.demands round.number
+            self.old.classes.items self.old.came.items self.old.good.items }
+        ensures room { OnOk result (HasRoom duties.now.classes self.new.classes.items
+            self.new.came.items self.new.good.items) }
+        ensures known { OnOk result (AreKnown (update_of round.entry) duties.now.demands
+            round.entry.number self.new.classes.items self.new.came.items
+            self.new.good.items) }
+        ensures walks { OnOk result (WalksStand (update_of round.entry) (suc round.entry.number)
+            self.new.classes.items self.new.came.items) }
+    {
+        let count = self.classes.len() as u32;
+        for number in 0..count {
+            self.look_at(alloc, round, duties, number)?;
+        }
+        Ok(())
+    }
+
+    /// Finds classes that keep their duties in a round: the rounds are surveyed in their order, each once, while each class
+    /// kept them in the rounds before. Classes that no change of the round may be met by at a switch that their walks came to
+    /// in the round before keep them. The others are walked, those of one address and VLAN together first: those keep them
+    /// that have no waypoints, on whose walks the switches have falling numbers, and no packet is discarded that must arrive.
+    /// Of another class it isn't told.
+    ///
+    /// Beside the walks a round takes time by the product of its changes and the classes.
+    pub fn look(
+        &mut self,
+        alloc: Global,
+        round: PreparedRound<'_>,
+        duties: &Duties,
+    ) -> Result<(), Memory>
+        requires round { IsPreparedRound round }
+        requires hosts { duties.now.classes.hosts ≡ round.net.now.hosts }
+        requires room { HasRoom duties.now.classes self.old.classes.items self.old.came.items
+            self.old.good.items }
+        requires walks { WalksStand (update_of round) round.number self.old.classes.items
+            self.old.came.items }
+        requires before { KeptBefore (update_of round) duties.now.demands duties.now.classes
+            round.number }
+        ensures room { OnOk result (HasRoom duties.now.classes self.new.classes.items
+            self.new.came.items self.new.good.items) }
+        ensures walks { OnOk result (WalksStand (update_of round.entry) (suc round.entry.number)
+            self.new.classes.items self.new.came.items) }
+        ensures good { OnOk result (AreGood (update_of round.entry) duties.now.demands
+            round.entry.number duties.now.classes self.new.good.items) }
+    {
+        mark_missed(&mut self.good, round, &self.classes, &self.came);
+        self.settle(alloc, round, duties)?;
+        self.look_at_rest(alloc, round, duties)
+    }
+}
