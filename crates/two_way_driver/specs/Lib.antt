@@ -1,0 +1,5 @@
+pub mod PeerStates
+pub mod Peers
+pub mod Drivers
+pub mod Calls
+pub mod Inside
