@@ -169,3 +169,7 @@ pub fed_step : (s : SwitchId) (bytes : List ℕ) (n : ℕ) (now next whole : Dri
     → next ≡ with_state (fed_byte now.net now.rounds now.inverses s (get_or bytes n 0) now.state) now → fed_view s (drop n bytes) now ≡ whole → fed_view s (drop (n + 1) bytes) next ≡ whole
 fed_step s bytes n now next whole less is so_far =
     ap (fed_view s (drop (n + 1) bytes)) is ∙ ap (λ k. fed_view s (get_or bytes n 0 ∷ drop k bytes) now) (add-one n) ∙ ap (λ l. fed_view s l now) (sym (drop-cons bytes n 0 less)) ∙ so_far
+
+pub fed-append : (s : SwitchId) (a b : List ℕ) (v : DriverView) → fed_view s (a ++ b) v ≡ fed_view s b (fed_view s a v)
+fed-append s [] b v = refl
+fed-append s (x ∷ a) b v = fed-append s a b (with_state (fed_byte v.net v.rounds v.inverses s x v.state) v)

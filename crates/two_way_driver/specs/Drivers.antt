@@ -11,7 +11,7 @@ use Rattle.switch_session.specs.Channels.{hello, is_open, after_byte}
 use Rattle.turned_rounds.specs.Batches.{next_xid, xid_behind, batch_of}
 use Rattle.turned_rounds.specs.declared.outgoing.Outgoing.{Outgoing}
 use Rattle.two_way_driver.specs.PeerStates.{PeerState}
-use Rattle.two_way_driver.specs.Peers.{first_peer, heard_by, peer_after, asks, answers, reopened}
+use Rattle.two_way_driver.specs.Peers.{first_peer, heard_by, peer_after, asks, asks_again, answers, reopened}
 use Rattle.two_way_driver.specs.declared.Stage.{Stage}
 use Rattle.two_way_driver.specs.declared.Stage.TheVariants.{Settled, Onward, Undone}
 use Rattle.two_way_driver.specs.declared.Logged.{Logged}
@@ -146,7 +146,7 @@ answered round s d =
 -- the messages of the running round to a switch are sent again, with the same xids, that of its barrier request is x
 abbrev pub sent_again : Network → List Change → SwitchId → ℕ → DriverState → DriverState
 sent_again net changes s x d =
-    record (with_peer s (asks x (peer_at d s)) d) { said = d.said ++ sends (is_to s) (batch_of net d.first changes) }
+    record (with_peer s (asks_again x (peer_at d s)) d) { said = d.said ++ sends (is_to s) (batch_of net d.first changes) }
 
 -- the session of a switch is open now: its messages are sent again, if they aren't answered
 unfoldable pub opened : Network → List Change → SwitchId → DriverState → DriverState

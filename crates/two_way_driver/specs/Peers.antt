@@ -50,6 +50,10 @@ queued x p = if is_some p.channel.outstanding then record p { behind = Some x } 
 unfoldable pub asks : ℕ → PeerState → PeerState
 asks x p = if is_open p.channel.session then queued x (record p { asked = Some x }) else record p { asked = Some x }
 
+-- the session was just opened, so nothing is outstanding on it: the barrier request is sent again
+abbrev pub asks_again : ℕ → PeerState → PeerState
+asks_again x p = record p { channel = asked [] x p.channel; behind = None }
+
 -- the outstanding barrier request was answered: the one behind it is outstanding now, or it was the last one
 unfoldable pub answers : PeerState → PeerState
 answers p = option_map_or (λ x. record p { channel = asked [] x p.channel; behind = None }) p.behind (record p { asked = None })

@@ -4,6 +4,7 @@
 
 mod drivers;
 mod faults;
+pub mod laws;
 mod legs;
 mod peers;
 mod talks;

@@ -1,7 +1,7 @@
 //! What a driver keeps of one switch.
 ghost use Rattle.std.specs.Prelude.{◌≡◌, is_none, length, IfOk, OnOk};
 ghost use Rattle.switch_session.specs.Channels.{is_open, after_byte};
-ghost use Rattle.two_way_driver.specs.Peers.{first_peer, opened_anew, failure_in, heard_of, heard_by, peer_after, asks, answers, reopened};
+ghost use Rattle.two_way_driver.specs.Peers.{first_peer, opened_anew, failure_in, heard_of, heard_by, peer_after, asks, asks_again, answers, reopened};
 
 use net_base::Memory;
 use std::alloc::Global;
@@ -169,6 +169,14 @@ impl Peer {
         } else {
             self.channel.ask(&[], xid);
         }
+    }
+
+    /// The session was just opened: the barrier request is sent again.
+    pub(crate) fn ask_again(&mut self, xid: u32)
+        ensures { self.new ≡ asks_again xid self.old }
+    {
+        self.channel.ask(&[], xid);
+        self.behind = None;
     }
 
     /// The outstanding barrier request was answered. Whether it was the last one: otherwise the one behind it is outstanding now.

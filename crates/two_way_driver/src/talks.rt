@@ -329,7 +329,7 @@ impl Talks {
         };
         let batch = round_batch(*self.peers.allocator(), net, changes, self.first)?;
         push_to(&mut self.said, &batch.list, switch)?;
-        self.peers[switch.0 as usize].ask(xid);
+        self.peers[switch.0 as usize].ask_again(xid);
         Ok(())
     }
 
