@@ -1,0 +1,2 @@
+pub mod GoodLaws
+pub mod InverseLaws
