@@ -7,7 +7,7 @@ use Rattle.update_model.specs.Changes.{switch_of}
 use Rattle.update_model.specs.declared.Change.{Change}
 use Rattle.openflow10.specs.Messages.{wire_text, message_of}
 use Rattle.openflow10.specs.declared.Message.TheVariants.{BarrierRequest}
-use Rattle.round_messages.specs.Requests.{switches_changed}
+use Rattle.round_messages.specs.Requests.{Sent, switches_changed}
 use Rattle.turned_rounds.specs.declared.outgoing.Outgoing.{Outgoing}
 
 -- the xid behind another: 1 behind the greatest number of 32 bits
@@ -40,6 +40,10 @@ barrier_messages x (s ∷ switches) = barrier_message x s ∷ barrier_messages (
 -- the messages of a round, the first with xid x: its changes in order, then one barrier request to each switch with a change, ascending
 abbrev pub batch_of : Network → ℕ → List Change → List Outgoing
 batch_of net x round = change_messages x round ++ barrier_messages (xid_behind x (length round)) (switches_changed net round)
+
+-- a message of `emit`, as it goes out
+abbrev pub outgoing_of : Sent → Outgoing
+outgoing_of m = record { switch = m.switch; text = wire_text m.message }
 
 -- each message is to a switch of the network
 abbrev pub AreWithin : Network → List Outgoing → Type 0

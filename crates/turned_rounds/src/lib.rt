@@ -2,6 +2,7 @@
 #![tactic(auto)]
 
 mod batches;
+pub mod laws;
 mod outgoing;
 
 pub use batches::{Batch, is_changed, next_xid, round_batch};
