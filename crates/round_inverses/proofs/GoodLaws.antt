@@ -1,18 +1,16 @@
 -- What is left of a good round when a change of it was made.
-use Rattle.std.proofs.Common.{◌≡◌, ℕ, zero, suc, ◌+◌, ◌<◌, true, false, cond, eqb, List, [], ◌∷◌, ◌++◌, length, map, drop, get_or, refl, sym, ap, ◌∙◌, subst, inl, inr, add-one, drop-cons, length-set, arith}
-use Rattle.std.specs.Prelude.{slice_get, Option, Some, None}
-use Rattle.std.specs.List.{AllByRecursion, list_any}
-use Rattle.std.proofs.lemmas.Bool.{cases_Bool, eqb-true, cond-true, cond-false}
-use Rattle.net_base.specs.Members.{IsIn, IsDistinct}
+use Rattle.std.proofs.Common.{◌≡◌, ℕ, zero, suc, ◌+◌, ◌<◌, cond, eqb, List, [], ◌∷◌, ◌++◌, length, map, drop, get_or, sym, ap, ◌∙◌, subst, inl, inr, add-one, drop-cons, length-set, arith}
+use Rattle.std.specs.Prelude.{slice_get, Some, None}
+use Rattle.std.specs.List.{AllByRecursion}
+use Rattle.std.proofs.lemmas.Bool.{cases_Bool, eqb-true}
+use Rattle.net_base.specs.Members.{IsIn}
 use Rattle.net_base.specs.declared.ids.SwitchId.{SwitchId}
-use Rattle.net_base.proofs.MemberLaws.{in_map}
 use Rattle.flow_rules.specs.Tables.{rules_at, TableState}
 use Rattle.flow_rules.specs.declared.rules.Rule.{Rule}
-use Rattle.update_model.specs.Changes.{switch_of, rule_of, AppliesTo, Applies, entry_named, EntryName, rules_after_change, tables_after_change, tables_after, round_after, IsGoodRound}
+use Rattle.update_model.specs.Changes.{switch_of, AppliesTo, Applies, entry_named, EntryName, rules_after_change, tables_after_change, round_after, IsGoodRound}
 use Rattle.update_model.specs.declared.Change.{Change}
 use Rattle.update_model.proofs.ChangeLaws.{key_named, applies_kept, rules_at-after_change}
 use Rattle.two_way_runs.specs.Inverse.{inverse_of, inverse_round}
-use Rattle.round_inverses.specs.Rounds.{AreGoodFrom, inverse_rounds}
 
 applies_still : (tables : List (List Rule)) (c d : Change) → Applies tables c → Applies tables d → ¬ (entry_named d ≡ entry_named c) → Applies (tables_after_change c tables) d
 applies_still tables c d first second differ = (

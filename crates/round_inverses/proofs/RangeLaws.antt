@@ -1,9 +1,8 @@
 -- Inverses of changes in range are in range, where the rules before them are.
-use Rattle.std.proofs.Common.{◌≡◌, ℕ, zero, suc, ◌<◌, Bool, cond, not, List, [], ◌∷◌, ◌++◌, map, set, get_or}
-use Rattle.std.specs.Prelude.{filter, find, unwrap_or, Option, Some, None}
+use Rattle.std.proofs.Common.{ℕ, zero, suc, Bool, cond, not, List, [], ◌∷◌, map, set, get_or}
+use Rattle.std.specs.Prelude.{filter, find, unwrap_or, Option, Some}
 use Rattle.std.specs.List.{AllByRecursion}
 use Rattle.std.proofs.lemmas.Bool.{cond_both}
-use Rattle.net_base.specs.declared.ids.SwitchId.{SwitchId}
 use Rattle.net_base.proofs.MemberLaws.{each_append}
 use Rattle.topology.specs.Networks.{Network}
 use Rattle.flow_rules.specs.Patterns.{key_eq}

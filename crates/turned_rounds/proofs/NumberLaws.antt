@@ -1,14 +1,13 @@
 -- Xids that don't begin again.
-use Rattle.std.proofs.Common.{◌≡◌, ℕ, zero, suc, ◌+◌, ◌<◌, ◌≤◌, cond, eqb, List, [], ◌∷◌, ◌++◌, length, map, refl, sym, ap, ◌∙◌, length-append, arith}
+use Rattle.std.proofs.Common.{◌≡◌, ℕ, zero, suc, ◌+◌, ◌<◌, ◌≤◌, eqb, List, [], ◌∷◌, ◌++◌, length, map, refl, sym, ap, ◌∙◌, length-append, arith}
 use Rattle.std.proofs.lemmas.Bool.{cond-false, ne_eqb}
 use Rattle.std.proofs.lemmas.List.{map-append, length-map}
 use Rattle.net_base.specs.declared.ids.SwitchId.{SwitchId}
 use Rattle.topology.specs.Networks.{Network}
 use Rattle.update_model.specs.declared.Change.{Change}
-use Rattle.round_messages.specs.Requests.{Sent, Request, switches_changed, change_request, barrier_request, round_requests, sent_from}
+use Rattle.round_messages.specs.Requests.{Request, switches_changed, change_request, barrier_request, round_requests, sent_from}
 use Rattle.round_messages.proofs.Requests.{sent_from-append}
 use Rattle.turned_rounds.specs.Batches.{next_xid, xid_behind, change_message, barrier_message, change_messages, barrier_messages, outgoing_of, batch_of}
-use Rattle.turned_rounds.specs.declared.outgoing.Outgoing.{Outgoing}
 
 next_is : (x : ℕ) → x < 4294967295 → next_xid x ≡ suc x
 next_is x less = cond-false (eqb x 4294967295) 1 (suc x) (ne_eqb x 4294967295 (λ e. omega arith))

@@ -1,11 +1,10 @@
 -- A byte makes a reply only where it ends an echo request on an open session: then nothing is unread.
-use Rattle.std.proofs.Common.{◌≡◌, ℕ, ◌+◌, ◌<◌, ◌≤◌, true, false, cond, eqb, ltb, List, [], ◌∷◌, ◌++◌, length, take, drop, refl, sym, ap, ◌∙◌, subst, ◌⊎◌, inl, inr, append-nil, arith}
-use Rattle.std.specs.Prelude.{Option}
-use Rattle.std.proofs.lemmas.Bool.{cases_Bool, cond-true, cond-false, cond_both, ltb-true, le-ltb}
-use Rattle.std.proofs.lemmas.List.{take_at, drop_at}
+use Rattle.std.proofs.Common.{◌≡◌, ℕ, cond, eqb, ltb, List, [], ◌∷◌, ◌++◌, length, take, drop, refl, sym, ap, ◌∙◌, subst, ◌⊎◌, inl, inr, append-nil, arith}
+use Rattle.std.proofs.lemmas.Bool.{cond_both, ltb-true}
+use Rattle.std.proofs.lemmas.List.{drop_at}
 use Rattle.openflow10.specs.Layout.{number_at}
 use Rattle.switch_session.specs.Fronts.{front_of, type_in, xid_in}
-use Rattle.switch_session.specs.Channels.{ChannelState, hello, is_failed, failed, echo_reply, is_outstanding, answered, taken_open, taken_by, taken, acted, after_byte}
+use Rattle.switch_session.specs.Channels.{ChannelState, failed, echo_reply, is_outstanding, answered, taken_by, taken, acted, after_byte}
 use Rattle.switch_session.specs.declared.Cause.TheVariants as cause
 use Rattle.switch_session.specs.declared.Session.{Session}
 use Rattle.switch_session.specs.declared.Session.TheVariants.{Waiting, Open, Failed}

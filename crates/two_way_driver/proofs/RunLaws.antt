@@ -1,9 +1,9 @@
 -- What a driver says is a run.
-use Rattle.std.proofs.Common.{◌≡◌, ◌≢◌, ◌⊎◌, ℕ, zero, suc, ◌+◌, ◌<◌, ◌≤◌, Bool, true, false, cond, not, eqb, ltb, ◌&&◌, List, [], ◌∷◌, ◌++◌, length, map, drop, replicate, set, get_or, get_or-set_same, get_or-set_other, refl, sym, ap, ◌∙◌, subst, inl, inr, append_assoc, length-set, arith}
-use Rattle.std.specs.Prelude.{flat_map, filter_map, slice_get, Option, Some, None, is_some, is_none}
+use Rattle.std.proofs.Common.{◌≡◌, ◌≢◌, ◌⊎◌, ℕ, zero, suc, ◌+◌, ◌<◌, ◌≤◌, Bool, true, false, cond, not, eqb, ltb, ◌&&◌, List, [], ◌∷◌, ◌++◌, length, drop, replicate, set, get_or, get_or-set_same, get_or-set_other, refl, sym, ap, ◌∙◌, subst, inl, inr, length-set, arith}
+use Rattle.std.specs.Prelude.{slice_get, Option, Some, None, is_some, is_none}
 use Rattle.std.specs.List.{AllByRecursion, list_all}
-use Rattle.std.specs.Option.{option_map, option_map_or}
-use Rattle.std.proofs.lemmas.Bool.{cases_Bool, cases_eq, cond-true, cond-false, cond_both, eqb-true, eq-eqb}
+use Rattle.std.specs.Option.{option_map_or}
+use Rattle.std.proofs.lemmas.Bool.{cases_Bool, cases_eq, cond-true, cond_both, eqb-true, eq-eqb}
 use Rattle.std.proofs.lemmas.List.{length-replicate}
 use Rattle.std.proofs.lemmas.Option.{slice_get_within, slice_get-get_or}
 use Rattle.std.proofs.lemmas.List.Elements.{filter_map-append}
@@ -18,36 +18,33 @@ use Rattle.update_model.specs.Ranges.{IsPlanChange}
 use Rattle.update_model.specs.States.{settled_count}
 use Rattle.update_model.specs.declared.Change.{Change}
 use Rattle.update_model.specs.declared.Event.TheVariants as event
-use Rattle.update_model.specs.declared.Phase.{Phase}
 use Rattle.update_model.specs.declared.Phase.TheVariants as phase
 use Rattle.round_messages.specs.Requests.{is_changed, switch_numbered}
 use Rattle.switch_session.specs.declared.Session.{Session}
 use Rattle.switch_session.specs.declared.Session.TheVariants.{Waiting, Open}
 use Rattle.switch_session.specs.declared.Session.TheVariants as session
-use Rattle.switch_session.specs.Channels.{ChannelState, hello, is_open, is_failed, asked, after_byte, after_bytes}
-use Rattle.switch_session.specs.Laws.{KeepsBarrier}
+use Rattle.switch_session.specs.Channels.{ChannelState, hello, is_open, is_failed, asked, after_byte}
 use Rattle.switch_session.proofs.ByteLaws.{keeps_barrier}
 use Rattle.turned_rounds.specs.Batches.{xid_behind, batch_of}
 use Rattle.turned_rounds.specs.declared.outgoing.Outgoing.{Outgoing}
 use Rattle.two_way_runs.specs.States.{TwoWayEvent, TwoWayState, first_two_way, IsTwoWayEnabled, two_way_after, turned_back}
 use Rattle.two_way_runs.specs.States as two_way
 use Rattle.two_way_runs.specs.Runs.{IsTwoWayRun, state_after_two_way}
-use Rattle.two_way_runs.proofs.Turning.{Sound, TablesAre}
+use Rattle.two_way_runs.proofs.Turning.{TablesAre}
 use Rattle.two_way_driver.specs.PeerStates.{PeerState}
-use Rattle.two_way_driver.specs.Peers.{first_peer, failure_in, heard_of, heard_by, kept_of, peer_after, queued, asks, asks_again, answers, reopened}
-use Rattle.two_way_driver.specs.Drivers.{DriverState, peer_at, with_peer, saying, send_if, sends, is_to_open, is_to, asks_if, next_if, asked_from, sent_out, settled_in, all_answered, settled_if_answered, change_notes, undo_notes, made, undone, carried_out, answered, sent_again, opened, running_round, asked_round, heard, fed_byte, fed, first_words, first_driver, flagged, started_with, undone_with, turned_with, start_fault_in, back_fault_in, started_in, turned_in, reopened_driver}
+use Rattle.two_way_driver.specs.Peers.{first_peer, failure_in, heard_of, kept_of, peer_after, queued, asks, asks_again, answers, reopened}
+use Rattle.two_way_driver.specs.Drivers.{DriverState, peer_at, with_peer, saying, send_if, sends, is_to_open, is_to, asks_if, next_if, asked_from, sent_out, settled_in, all_answered, settled_if_answered, undo_notes, made, undone, carried_out, answered, sent_again, opened, running_round, asked_round, heard, fed_byte, fed, first_words, first_driver, flagged, started_with, undone_with, turned_with, start_fault_in, back_fault_in, started_in, turned_in, reopened_driver}
 use Rattle.two_way_driver.specs.Calls.{AreTurnable, DriverView, with_state, IsStageWithin, start_fault, back_fault}
-use Rattle.two_way_driver.specs.Laws.{Call, Start, Back, Reopen, Feed, IsCall, after_call, after_calls, driver_after, event_of, event_in, events_in, phase_of, InForceBySwitch, InForceAs, rollout_of, SaysRun, AllAreFree, BeginsAnswered}
+use Rattle.two_way_driver.specs.Laws.{Call, Start, Back, Reopen, Feed, IsCall, after_call, after_calls, driver_after, event_in, events_in, phase_of, InForceBySwitch, InForceAs, rollout_of, SaysRun, AllAreFree, BeginsAnswered}
 use Rattle.two_way_driver.specs.declared.Stage.{Stage}
 use Rattle.two_way_driver.specs.declared.Stage.TheVariants.{Settled, Onward, Undone}
 use Rattle.two_way_driver.specs.declared.Logged.TheVariants as logged
 use Rattle.two_way_driver.specs.declared.Said.{Said}
 use Rattle.two_way_driver.specs.declared.Said.TheVariants.{Send, Failed, Log}
 use Rattle.two_way_driver.specs.declared.peers.Heard.{Heard}
-use Rattle.two_way_driver.specs.declared.peers.Heard.TheVariants.{Nothing, Opened, Answered, Replied, Broke}
-use Rattle.two_way_driver.specs.declared.faults.CallFault.{CallFault}
+use Rattle.two_way_driver.specs.declared.peers.Heard.TheVariants.{Nothing, Opened, Answered, Replied}
 use Rattle.two_way_driver.specs.declared.faults.CallFault.TheVariants as fault
-use Rattle.two_way_driver.proofs.EventLaws.{Reaches, sound_at, logs, says, AreSet, Leads, changes_made, changes_undone}
+use Rattle.two_way_driver.proofs.EventLaws.{Reaches, sound_at, logs, says, AreSet, changes_made, changes_undone}
 
 -- ---- lists
 

@@ -1,18 +1,18 @@
 -- What every call keeps: something of each switch, and a stage of the rounds.
-use Rattle.std.proofs.Common.{◌≡◌, ℕ, zero, suc, ◌+◌, ◌<◌, ◌≤◌, Bool, true, false, cond, eqb, List, [], ◌∷◌, ◌++◌, length, replicate, set, refl, sym, ap, ◌∙◌, subst, length-set, drop, drop-cons, add-one, get_or, arith}
-use Rattle.std.specs.Prelude.{Option, Some, None, is_some, is_none, slice_index_or}
-use Rattle.std.specs.Option.{option_map, option_map_or}
-use Rattle.std.proofs.lemmas.Bool.{cases_eq, cond-true, cond_both, eq-eqb}
+use Rattle.std.proofs.Common.{◌≡◌, ℕ, zero, suc, ◌+◌, ◌<◌, ◌≤◌, true, false, cond, eqb, List, [], ◌∷◌, ◌++◌, length, set, refl, sym, ap, ◌∙◌, length-set, drop, drop-cons, add-one, get_or, arith}
+use Rattle.std.specs.Prelude.{Option, Some, None, is_some, slice_index_or}
+use Rattle.std.specs.Option.{option_map_or}
+use Rattle.std.proofs.lemmas.Bool.{cond-true, cond_both, eq-eqb}
 use Rattle.std.proofs.lemmas.List.{length-replicate}
 use Rattle.net_base.specs.declared.ids.SwitchId.{SwitchId}
 use Rattle.topology.specs.Networks.{Network, switch_count}
 use Rattle.update_model.specs.Changes.{round_after}
 use Rattle.update_model.specs.declared.Change.{Change}
-use Rattle.round_messages.specs.Requests.{is_changed, switch_numbered, switches_changed}
+use Rattle.round_messages.specs.Requests.{is_changed, switch_numbered}
 use Rattle.switch_session.specs.Channels.{after_byte}
 use Rattle.two_way_driver.specs.PeerStates.{PeerState}
-use Rattle.two_way_driver.specs.Peers.{first_peer, heard_by, peer_after, answers}
-use Rattle.two_way_driver.specs.Drivers.{DriverState, peer_at, with_peer, saying, next_if, asked_from, sent_out, settled_in, all_answered, settled_if_answered, undo_notes, made, undone, carried_out, answered, sent_again, opened, running_round, asked_round, heard, fed_byte, fed, first_driver, flagged, first_not_open, started_with, undone_with, turned_with, start_fault_in, started_in, turned_in}
+use Rattle.two_way_driver.specs.Peers.{heard_by, peer_after, answers}
+use Rattle.two_way_driver.specs.Drivers.{DriverState, peer_at, with_peer, saying, next_if, asked_from, sent_out, settled_in, all_answered, settled_if_answered, undo_notes, made, undone, carried_out, answered, sent_again, opened, running_round, asked_round, heard, fed_byte, fed, flagged, started_with, undone_with, turned_with, start_fault_in, started_in, turned_in}
 use Rattle.two_way_driver.specs.Calls.{AreTurnable, DriverView, with_state, IsStageWithin, IsServing, start_fault, started, turned, fed_view}
 use Rattle.two_way_driver.specs.Inside.{heard_on, fed_on}
 use Rattle.two_way_driver.specs.declared.legs.Leg.{Leg}
@@ -20,7 +20,6 @@ use Rattle.two_way_driver.specs.declared.Stage.{Stage}
 use Rattle.two_way_driver.specs.declared.Stage.TheVariants.{Settled, Onward, Undone}
 use Rattle.two_way_driver.specs.declared.peers.Heard.{Heard}
 use Rattle.two_way_driver.specs.declared.peers.Heard.TheVariants.{Nothing, Opened, Answered, Replied, Broke}
-use Rattle.two_way_driver.specs.declared.faults.CallFault.{CallFault}
 use Rattle.two_way_driver.specs.declared.faults.CallFault.TheVariants as fault
 
 pub length-asked : (x : ℕ) (round : List Change) (n : ℕ) (peers : List PeerState) → length (asked_from x round n peers) ≡ length peers

@@ -1,6 +1,6 @@
 -- The steps of loops: what is still to be said, and who is still to be asked.
-use Rattle.std.proofs.Common.{◌≡◌, ℕ, zero, suc, ◌+◌, ◌-◌, ◌<◌, ◌≤◌, Bool, true, false, cond, eqb, not, ◌&&◌, List, [], ◌∷◌, ◌++◌, length, map, take, drop, set, get_or, refl, sym, ap, ◌∙◌, inl, inr, append_assoc, append-nil, add-one, drop-cons, arith}
-use Rattle.std.specs.Prelude.{flat_map, filter, find, Option, Some, None, Result, Ok, Err, OnOk}
+use Rattle.std.proofs.Common.{◌≡◌, ℕ, zero, suc, ◌+◌, ◌-◌, ◌<◌, Bool, true, false, eqb, ◌&&◌, List, [], ◌∷◌, ◌++◌, length, map, take, drop, set, get_or, refl, sym, ap, ◌∙◌, inl, inr, append_assoc, add-one, drop-cons, arith}
+use Rattle.std.specs.Prelude.{filter, find, Option, Some, None, Result, Ok, Err, OnOk}
 use Rattle.std.specs.List.{range_with_len}
 use Rattle.std.proofs.lemmas.Bool.{cases_Bool}
 use Rattle.net_base.specs.declared.ids.SwitchId.{SwitchId}

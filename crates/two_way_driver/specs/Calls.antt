@@ -1,5 +1,5 @@
 -- What contracts see of a driver, and what its calls answer.
-use Rattle.std.specs.Prelude.{◌≡◌, ◌≢◌, ◌<◌, ◌≤◌, ◌==◌, ℕ, List, [], ◌∷◌, length, is_none, if◌then◌else◌, Option, Some, None}
+use Rattle.std.specs.Prelude.{◌≡◌, ◌<◌, ◌≤◌, ℕ, List, [], length, Option, Some, None}
 use Rattle.std.specs.List.{AllByRecursion}
 use Rattle.net_base.specs.declared.ids.SwitchId.{SwitchId}
 use Rattle.topology.specs.Networks.{Network, switch_count}
@@ -7,7 +7,7 @@ use Rattle.update_model.specs.Changes.{round_after}
 use Rattle.update_model.specs.Ranges.{IsPlanChange}
 use Rattle.update_model.specs.declared.Change.{Change}
 use Rattle.round_messages.specs.Requests.{is_changed}
-use Rattle.two_way_driver.specs.Drivers.{DriverState, fed, start_fault_in, back_fault_in, started_in, turned_in, reopened_driver, first_driver}
+use Rattle.two_way_driver.specs.Drivers.{DriverState, fed, start_fault_in, back_fault_in, started_in, turned_in, reopened_driver}
 use Rattle.two_way_driver.specs.declared.Stage.{Stage}
 use Rattle.two_way_driver.specs.declared.Stage.TheVariants.{Settled, Onward, Undone}
 use Rattle.two_way_driver.specs.declared.faults.CallFault.{CallFault}

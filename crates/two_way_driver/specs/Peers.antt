@@ -1,5 +1,5 @@
 -- One switch: what comes of a byte from it, and its barrier requests, which it answers in the order in which they were sent.
-use Rattle.std.specs.Prelude.{ℕ, ◌&&◌, not, nat_lt, if◌then◌else◌, List, [], length, drop, Option, Some, None, is_some, is_none}
+use Rattle.std.specs.Prelude.{ℕ, ◌&&◌, not, nat_lt, if◌then◌else◌, [], length, drop, Option, Some, None, is_some, is_none}
 use Rattle.std.specs.Option.{option_map_or}
 use Rattle.switch_session.specs.Channels.{ChannelState, first_channel, hello, is_failed, is_open, after_byte, asked}
 use Rattle.switch_session.specs.declared.Session.{Session}

@@ -1,4 +1,4 @@
-use Rattle.std.proofs.Common.{◌≡◌, ◌+◌, ◌<◌, length, drop, get_or, sym, ap, ◌∙◌, subst, arith}
+use Rattle.std.proofs.Common.{◌≡◌, ◌+◌, ◌<◌, length, drop, sym, ap, ◌∙◌, subst, arith}
 use Rattle.flow_rules.specs.Tables.{rules_of_all}
 use Rattle.update_model.specs.Changes.{tables_after, tables_after_change, IsGoodRound}
 use Rattle.round_inverses.proofs.GoodLaws.{front, good_rest}

@@ -1,6 +1,6 @@
-use Rattle.std.proofs.Common.{◌≡◌, ◌<◌, length, get_or, refl, sym, ap, ◌∙◌, subst, arith}
-use Rattle.two_way_driver.specs.Drivers.{DriverState, fed_byte}
-use Rattle.two_way_driver.specs.Calls.{DriverView, IsServing, with_state, fed_view}
+use Rattle.std.proofs.Common.{◌≡◌, get_or, sym, ap, ◌∙◌, subst, arith}
+use Rattle.two_way_driver.specs.Drivers.{fed_byte}
+use Rattle.two_way_driver.specs.Calls.{DriverView, IsServing, with_state}
 use Rattle.two_way_driver.specs.Inside.{view_of}
 use Rattle.two_way_driver.proofs.ServingLaws.{fed_on_is, fed_step, serving_byte}
 use Rattle.two_way_driver.proofs.drivers.feed_on.Goals as goal

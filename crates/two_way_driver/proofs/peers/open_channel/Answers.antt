@@ -1,6 +1,6 @@
-use Rattle.std.proofs.Common.{◌≡◌, refl, sym, ap, ◌∙◌}
-use Rattle.std.specs.Prelude.{ℕ, Option, Some, None, [], ◌∷◌}
-use Rattle.switch_session.specs.Channels.{ChannelState, first_channel, hello, asked, after_bytes}
+use Rattle.std.proofs.Common.{◌≡◌, sym, ap, ◌∙◌}
+use Rattle.std.specs.Prelude.{None, []}
+use Rattle.switch_session.specs.Channels.{hello, asked, after_bytes}
 use Rattle.switch_session.specs.Seen.{ChannelView}
 use Rattle.two_way_driver.specs.Peers.{opened_anew}
 use Rattle.two_way_driver.proofs.StepLaws.{hello_opens}

@@ -1,7 +1,6 @@
-use Rattle.std.proofs.Common.{◌≡◌, ℕ, ◌+◌, ◌-◌, List, ◌++◌, suc, sym, ap, ◌∙◌, append_assoc, add-one, arith}
+use Rattle.std.proofs.Common.{List, ◌++◌, ap, ◌∙◌, arith}
 use Rattle.std.specs.Prelude.{[], ◌∷◌}
 use Rattle.switch_session.specs.Channels.{hello}
-use Rattle.two_way_driver.specs.Drivers.{first_words}
 use Rattle.two_way_driver.specs.declared.Said.{Said}
 use Rattle.two_way_driver.specs.declared.Said.TheVariants.{Send}
 use Rattle.two_way_driver.proofs.StepLaws.{said_one, words_split}

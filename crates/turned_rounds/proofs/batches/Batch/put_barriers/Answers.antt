@@ -1,6 +1,5 @@
-use Rattle.std.proofs.Common.{◌≡◌, ◌-◌, ◌<◌, ◌∷◌, [], length, arith}
-use Rattle.turned_rounds.specs.Batches.{xid_behind, barrier_messages}
-use Rattle.turned_rounds.proofs.BatchLaws.{left_from, barriers_step, barriers_xid}
+use Rattle.std.proofs.Common.{◌<◌, arith}
+use Rattle.turned_rounds.proofs.BatchLaws.{barriers_step, barriers_xid}
 use Rattle.turned_rounds.proofs.batches.Batch.put_barriers.Goals as goal
 
 pub loop-number-preserved : goal.loop-number-preserved

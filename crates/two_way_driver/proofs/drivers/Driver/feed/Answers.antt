@@ -1,5 +1,5 @@
-use Rattle.std.proofs.Common.{◌≡◌, sym, subst, ap, ◌∙◌}
-use Rattle.two_way_driver.specs.Calls.{DriverView, IsServing, fed_view}
+use Rattle.std.proofs.Common.{sym, subst}
+use Rattle.two_way_driver.specs.Calls.{IsServing}
 use Rattle.two_way_driver.proofs.StepLaws.{on_ok_both}
 use Rattle.two_way_driver.proofs.ServingLaws.{serving_fed}
 use Rattle.two_way_driver.proofs.drivers.Driver.feed.Goals as goal
