@@ -1,0 +1,3 @@
+pub mod GoodLaws
+pub mod InverseLaws
+pub mod RangeLaws

@@ -1,0 +1,5 @@
+pub mod StepLaws
+pub mod ServingLaws
+pub mod EventLaws
+pub mod RunLaws
+pub mod ReplyLaws

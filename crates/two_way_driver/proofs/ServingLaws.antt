@@ -1,0 +1,174 @@
+-- What every call keeps: something of each switch, and a stage of the rounds.
+use Rattle.std.proofs.Common.{◌≡◌, ℕ, zero, suc, ◌+◌, ◌<◌, ◌≤◌, true, false, cond, eqb, List, [], ◌∷◌, ◌++◌, length, set, refl, sym, ap, ◌∙◌, length-set, drop, drop-cons, add-one, get_or, arith}
+use Rattle.std.specs.Prelude.{Option, Some, None, is_some, slice_index_or}
+use Rattle.std.specs.Option.{option_map_or}
+use Rattle.std.proofs.lemmas.Bool.{cond-true, cond_both, eq-eqb}
+use Rattle.std.proofs.lemmas.List.{length-replicate}
+use Rattle.net_base.specs.declared.ids.SwitchId.{SwitchId}
+use Rattle.topology.specs.Networks.{Network, switch_count}
+use Rattle.update_model.specs.Changes.{round_after}
+use Rattle.update_model.specs.declared.Change.{Change}
+use Rattle.round_messages.specs.Requests.{is_changed, switch_numbered}
+use Rattle.switch_session.specs.Channels.{after_byte}
+use Rattle.two_way_driver.specs.PeerStates.{PeerState}
+use Rattle.two_way_driver.specs.Peers.{heard_by, peer_after, answers}
+use Rattle.two_way_driver.specs.Drivers.{DriverState, peer_at, with_peer, saying, next_if, asked_from, sent_out, settled_in, all_answered, settled_if_answered, undo_notes, made, undone, carried_out, answered, sent_again, opened, running_round, asked_round, heard, fed_byte, fed, flagged, started_with, undone_with, turned_with, start_fault_in, started_in, turned_in}
+use Rattle.two_way_driver.specs.Calls.{AreTurnable, DriverView, with_state, IsStageWithin, IsServing, start_fault, started, turned, fed_view}
+use Rattle.two_way_driver.specs.Inside.{heard_on, fed_on}
+use Rattle.two_way_driver.specs.declared.legs.Leg.{Leg}
+use Rattle.two_way_driver.specs.declared.Stage.{Stage}
+use Rattle.two_way_driver.specs.declared.Stage.TheVariants.{Settled, Onward, Undone}
+use Rattle.two_way_driver.specs.declared.peers.Heard.{Heard}
+use Rattle.two_way_driver.specs.declared.peers.Heard.TheVariants.{Nothing, Opened, Answered, Replied, Broke}
+use Rattle.two_way_driver.specs.declared.faults.CallFault.TheVariants as fault
+
+pub length-asked : (x : ℕ) (round : List Change) (n : ℕ) (peers : List PeerState) → length (asked_from x round n peers) ≡ length peers
+length-asked x round n [] = refl
+length-asked x round n (p ∷ peers) = ap suc (length-asked (next_if (is_changed round (switch_numbered n)) x) round (suc n) peers)
+
+module _ (net : Network) (rounds inverses : List (List Change)) (count : ℕ) where
+  pub record IsKept (d : DriverState) : Type 0 where
+    pub peers : length d.peers ≡ count
+    pub flags : length d.in_force ≡ count
+    pub stage : IsStageWithin rounds d.stage
+
+  kept_settled : (stage : Stage) (d : DriverState) → IsStageWithin rounds stage → IsKept d → IsKept (settled_in stage d)
+  unfolding settled_in
+  kept_settled (Settled k) d within h = h
+  kept_settled (Onward k) d within h = record { peers = h.peers; flags = h.flags; stage = (let w : k < length rounds = within in omega arith) }
+  kept_settled (Undone k) d within h = record { peers = h.peers; flags = h.flags; stage = (let w : k < length rounds = within in omega arith) }
+
+  pub kept_if_answered : (d : DriverState) → IsKept d → IsKept (settled_if_answered d)
+  unfolding settled_if_answered
+  kept_if_answered d h = cond_both (all_answered d.peers) (settled_in d.stage d) d IsKept (λ e. kept_settled d.stage d h.stage h) (λ e. h)
+
+  kept_made : (round : List Change) (s : SwitchId) (d : DriverState) → IsKept d → IsKept (made round s d)
+  unfolding made
+  kept_made round s d h = record { peers = h.peers; flags = length-set d.in_force s.0 true ∙ h.flags; stage = h.stage }
+
+  kept_undone : (round : List Change) (s : SwitchId) (d : DriverState) → IsKept d → IsKept (undone round s d)
+  unfolding undone
+  kept_undone round s d h =
+      elim (slice_index_or d.in_force s.0 false) as (λ b. IsKept (cond b (record d { in_force = set d.in_force s.0 false; said = d.said ++ undo_notes s 0 round }) d)) [
+        | true ↦ record { peers = h.peers; flags = length-set d.in_force s.0 false ∙ h.flags; stage = h.stage }
+        | false ↦ h
+      ]
+
+  kept_peer : (s : SwitchId) (p : PeerState) (d : DriverState) → IsKept d → IsKept (with_peer s p d)
+  kept_peer s p d h = record { peers = length-set d.peers s.0 p ∙ h.peers; flags = h.flags; stage = h.stage }
+
+  kept_carried : (round : List Change) (s : SwitchId) (stage : Stage) (d : DriverState) → IsKept d → IsKept (carried_out round s stage d)
+  kept_carried round s (Settled k) d h = h
+  kept_carried round s (Onward k) d h = kept_made round s d h
+  kept_carried round s (Undone k) d h = kept_undone round s d h
+
+  kept_answered : (round : List Change) (s : SwitchId) (d : DriverState) → IsKept d → IsKept (answered round s d)
+  unfolding answered
+  kept_answered round s d h =
+      let e = with_peer s (answers (peer_at d s)) d in
+      let k = kept_peer s (answers (peer_at d s)) d h in
+      cond_both (is_some (peer_at d s).behind) (made round s e) (settled_if_answered (carried_out round s e.stage e)) IsKept
+      (λ t. kept_made round s e k) (λ f. kept_if_answered (carried_out round s e.stage e) (kept_carried round s e.stage e k))
+
+  kept_opened : (changes : List Change) (s : SwitchId) (d : DriverState) → IsKept d → IsKept (opened net changes s d)
+  unfolding opened
+  kept_opened changes s d h =
+      elim (peer_at d s).asked as (λ (o : Option ℕ). IsKept (option_map_or (λ x. sent_again net changes s x d) o d)) [
+        | None ↦ h
+        | Some x ↦ record { peers = length-set d.peers s.0 _ ∙ h.peers; flags = h.flags; stage = h.stage }
+      ]
+
+  kept_heard : (s : SwitchId) (came : Heard) (d : DriverState) → IsKept d → IsKept (heard net rounds inverses s came d)
+  kept_heard s Nothing d h = h
+  kept_heard s Opened d h = kept_opened (asked_round rounds inverses d.stage) s d h
+  kept_heard s Answered d h = kept_answered (running_round rounds d.stage) s d h
+  kept_heard s (Replied text) d h = record { peers = h.peers; flags = h.flags; stage = h.stage }
+  kept_heard s (Broke cause) d h = record { peers = h.peers; flags = h.flags; stage = h.stage }
+
+  pub kept_byte : (s : SwitchId) (b : ℕ) (d : DriverState) → IsKept d → IsKept (fed_byte net rounds inverses s b d)
+  unfolding fed_byte
+  kept_byte s b d h =
+      let before = peer_at d s in
+      kept_heard s (heard_by before.channel (after_byte b before.channel)) (with_peer s (peer_after b before) d) (kept_peer s (peer_after b before) d h)
+
+  pub kept_fed : (s : SwitchId) (bytes : List ℕ) (d : DriverState) → IsKept d → IsKept (fed net rounds inverses s bytes d)
+  kept_fed s [] d h = h
+  kept_fed s (b ∷ bytes) d h = kept_fed s bytes (fed_byte net rounds inverses s b d) (kept_byte s b d h)
+
+  kept_sent : (changes : List Change) (stage : Stage) (d : DriverState) → IsStageWithin rounds stage → length d.peers ≡ count → length d.in_force ≡ count → IsKept (sent_out net changes stage d)
+  unfolding sent_out
+  kept_sent changes stage d within peers flags = record { peers = length-asked _ changes 0 d.peers ∙ peers; flags = flags; stage = within }
+
+  pub kept_started : (changes : List Change) (k : ℕ) (d : DriverState) → k < length rounds → length d.peers ≡ count → IsKept (started_with net changes k d)
+  kept_started changes k d less peers =
+      let e = flagged false (saying _ d) in
+      kept_if_answered (sent_out net changes (Onward k) e) (kept_sent changes (Onward k) e less peers (length-replicate (length d.peers) false ∙ peers))
+
+  pub kept_turned : (changes : List Change) (k : ℕ) (d : DriverState) → k < length rounds → length d.peers ≡ count → length d.in_force ≡ count → IsKept (turned_with net changes k d)
+  kept_turned changes k d less peers flags = kept_if_answered (sent_out net changes (Undone k) d) (kept_sent changes (Undone k) d less peers flags)
+
+  pub kept_undone_with : (changes : List Change) (k : ℕ) (d : DriverState) → k < length rounds → length d.peers ≡ count → IsKept (undone_with net changes k d)
+  kept_undone_with changes k d less peers =
+      let e = flagged true (saying _ d) in
+      kept_if_answered (sent_out net changes (Undone k) e) (kept_sent changes (Undone k) e less peers (length-replicate (length d.peers) true ∙ peers))
+
+  started_kept : (stage : Stage) (d : DriverState) → IsStageWithin rounds stage → start_fault_in net rounds d.peers stage ≡ None → IsKept d → IsKept (started_in net rounds stage d)
+  started_kept (Settled k) d within none h =
+      let differs : ¬ (k ≡ length rounds) = λ e. let f : Some fault.Finished ≡ None = sym (cond-true (eqb k (length rounds)) (Some fault.Finished) _ (eq-eqb k (length rounds) e)) ∙ none in cc in
+      let le : k ≤ length rounds = within in
+      kept_started (round_after k rounds) k d (omega (arith, differs)) h.peers
+  started_kept (Onward k) d within none h = h
+  started_kept (Undone k) d within none h = h
+
+  turned_kept : (stage : Stage) (d : DriverState) → IsStageWithin rounds stage → IsKept d → IsKept (turned_in net inverses stage d)
+  turned_kept (Settled zero) d within h = h
+  turned_kept (Settled (suc k)) d within h = kept_undone_with (round_after k inverses) k d (let le : suc k ≤ length rounds = within in omega arith) h.peers
+  turned_kept (Onward k) d within h = kept_turned (round_after k inverses) k d within h.peers h.flags
+  turned_kept (Undone k) d within h = h
+
+-- ---- of what contracts see
+
+kept_of : (v : DriverView) → IsServing v → IsKept v.net v.rounds v.inverses (switch_count v.net) v.state
+kept_of v h = record { peers = h.peers; flags = h.flags; stage = h.stage }
+
+serving_of : (v : DriverView) (d : DriverState) → AreTurnable v.net v.rounds v.inverses → IsKept v.net v.rounds v.inverses (switch_count v.net) d → IsServing (record v { state = d })
+serving_of v d turnable h = record { turnable = turnable; peers = h.peers; flags = h.flags; stage = h.stage }
+
+pub serving_started : (v : DriverView) → IsServing v → start_fault v ≡ None → IsServing (started v)
+serving_started v h none = serving_of v (started_in v.net v.rounds v.state.stage v.state) h.turnable (started_kept v.net v.rounds v.inverses (switch_count v.net) v.state.stage v.state h.stage none (kept_of v h))
+
+pub serving_turned : (v : DriverView) → IsServing v → IsServing (turned v)
+serving_turned v h = serving_of v (turned_in v.net v.inverses v.state.stage v.state) h.turnable (turned_kept v.net v.rounds v.inverses (switch_count v.net) v.state.stage v.state h.stage (kept_of v h))
+
+pub serving_fed : (s : SwitchId) (bytes : List ℕ) (v : DriverView) → IsServing v → IsServing (fed_view s bytes v)
+serving_fed s bytes v h = serving_of v (fed v.net v.rounds v.inverses s bytes v.state) h.turnable (kept_fed v.net v.rounds v.inverses (switch_count v.net) s bytes v.state (kept_of v h))
+
+pub serving_byte : (s : SwitchId) (b : ℕ) (v : DriverView) → IsServing v → IsServing (fed_view s (b ∷ []) v)
+serving_byte s b v h = serving_fed s (b ∷ []) v h
+
+-- ---- bytes, one after the other
+
+module _ (leg : Leg) (net : Network) (rounds inverses : List (List Change)) (s : SwitchId) where
+  heard_on_is : (came : Heard) (d : DriverState) → leg.net.now ≡ net → leg.round.now ≡ running_round rounds d.stage → leg.asked.now ≡ asked_round rounds inverses d.stage
+      → heard_on leg s came d ≡ heard net rounds inverses s came d
+  heard_on_is Nothing d same round asked = refl
+  heard_on_is Opened d same round asked = ap (λ n. opened n leg.asked.now s d) same ∙ ap (λ l. opened net l s d) asked
+  heard_on_is Answered d same round asked = ap (λ l. answered l s d) round
+  heard_on_is (Replied text) d same round asked = refl
+  heard_on_is (Broke cause) d same round asked = refl
+
+  pub fed_on_is : (b : ℕ) (d : DriverState) → leg.net.now ≡ net → leg.round.now ≡ running_round rounds d.stage → leg.asked.now ≡ asked_round rounds inverses d.stage
+      → fed_on leg s b d ≡ fed_byte net rounds inverses s b d
+  unfolding fed_byte
+  fed_on_is b d same round asked =
+      let before = peer_at d s in
+      heard_on_is (heard_by before.channel (after_byte b before.channel)) (with_peer s (peer_after b before) d) same round asked
+
+pub fed_step : (s : SwitchId) (bytes : List ℕ) (n : ℕ) (now next whole : DriverView) → n < length bytes
+    → next ≡ with_state (fed_byte now.net now.rounds now.inverses s (get_or bytes n 0) now.state) now → fed_view s (drop n bytes) now ≡ whole → fed_view s (drop (n + 1) bytes) next ≡ whole
+fed_step s bytes n now next whole less is so_far =
+    ap (fed_view s (drop (n + 1) bytes)) is ∙ ap (λ k. fed_view s (get_or bytes n 0 ∷ drop k bytes) now) (add-one n) ∙ ap (λ l. fed_view s l now) (sym (drop-cons bytes n 0 less)) ∙ so_far
+
+pub fed-append : (s : SwitchId) (a b : List ℕ) (v : DriverView) → fed_view s (a ++ b) v ≡ fed_view s b (fed_view s a v)
+fed-append s [] b v = refl
+fed-append s (x ∷ a) b v = fed-append s a b (with_state (fed_byte v.net v.rounds v.inverses s x v.state) v)

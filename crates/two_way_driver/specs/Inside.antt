@@ -1,0 +1,43 @@
+-- What a driver keeps, as contracts see it.
+use Rattle.std.specs.Prelude.{ℕ, ◌+◌, ◌<◌, ◌^◌, [], ◌∷◌}
+use Rattle.net_base.specs.declared.ids.SwitchId.{SwitchId}
+use Rattle.switch_session.specs.Channels.{after_byte}
+use Rattle.two_way_driver.specs.Peers.{heard_by, peer_after}
+use Rattle.two_way_driver.specs.Drivers.{DriverState, peer_at, with_peer, saying, opened, answered}
+use Rattle.two_way_driver.specs.Calls.{DriverView}
+use Rattle.two_way_driver.specs.declared.Said.TheVariants.{Send, Failed}
+use Rattle.two_way_driver.specs.declared.legs.Leg.{Leg}
+use Rattle.two_way_driver.specs.declared.legs.Plan.{Plan}
+use Rattle.two_way_driver.specs.declared.peers.Heard.{Heard}
+use Rattle.two_way_driver.specs.declared.peers.Heard.TheVariants.{Nothing, Opened, Answered, Replied, Broke}
+use Rattle.two_way_driver.specs.declared.Stage.{Stage}
+use Rattle.two_way_driver.specs.declared.Stage.TheVariants.{Settled, Onward, Undone}
+use Rattle.two_way_driver.specs.declared.talks.Talks.{Talks}
+
+-- the state of what is said with all switches
+abbrev pub state_of : Talks → DriverState
+state_of t = record { stage = t.stage; first = t.first; next = t.next; peers = t.peers.items; in_force = t.in_force.items; said = t.said.items }
+
+-- a driver of a plan, of which this is said with all switches
+abbrev pub view_of : Plan → Talks → DriverView
+view_of plan t = record { net = plan.net.now; rounds = plan.rounds.now; inverses = plan.inverses.now; state = state_of t }
+
+-- a round that is carried out has a next one whose number fits
+abbrev pub FitsNext : Stage → Type 0
+FitsNext (Settled k) = Unit {0}
+FitsNext (Onward k) = k + 1 < 2 ^ 32
+FitsNext (Undone k) = Unit {0}
+
+-- a driver after this came of a byte from a switch, where the running round is this one
+abbrev pub heard_on : Leg → SwitchId → Heard → DriverState → DriverState
+heard_on leg s Nothing d = d
+heard_on leg s Opened d = opened leg.net.now leg.asked.now s d
+heard_on leg s Answered d = answered leg.round.now s d
+heard_on leg s (Replied text) d = saying (Send s text ∷ []) d
+heard_on leg s (Broke cause) d = saying (Failed s cause ∷ []) d
+
+-- a driver after a byte from a switch, where the running round is this one
+abbrev pub fed_on : Leg → SwitchId → ℕ → DriverState → DriverState
+fed_on leg s b d =
+    let before = peer_at d s in
+    heard_on leg s (heard_by before.channel (after_byte b before.channel)) (with_peer s (peer_after b before) d)

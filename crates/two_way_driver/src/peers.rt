@@ -1,0 +1,209 @@
+//! What a driver keeps of one switch.
+ghost use Rattle.std.specs.Prelude.{◌≡◌, is_none, length, IfOk, OnOk};
+ghost use Rattle.switch_session.specs.Channels.{is_open, after_byte};
+ghost use Rattle.two_way_driver.specs.Peers.{first_peer, opened_anew, failure_in, heard_of, heard_by, peer_after, asks, asks_again, answers, reopened};
+
+use net_base::Memory;
+use std::alloc::Global;
+use std::marker::Model;
+use switch_session::{Cause, Channel, Session};
+use turned_rounds::Text;
+
+/// HELLO (OpenFlow 1.0.0, section 5.5.1).
+pub(crate) const HELLO: [u8; 8] = [1, 0, 0, 8, 0, 0, 0, 0];
+
+/// What came of a byte from a switch.
+#[derive(Drop)]
+pub enum Heard {
+    /// Nothing that is told further.
+    Nothing,
+    /// The session is open now.
+    Opened,
+    /// The outstanding barrier request is answered.
+    Answered,
+    /// An echo request is replied to by this message.
+    Replied(Text),
+    /// The session failed.
+    Broke(Cause),
+}
+
+/// What a driver keeps of one switch: the channel to it, and its barrier requests.
+#[derive(Drop)]
+pub struct Peer {
+    channel: Channel,
+    /// The barrier request that was sent on this session behind the outstanding one.
+    behind: Option<u32>,
+    /// The barrier request of the running round, in the way it goes, that isn't answered.
+    asked: Option<u32>,
+}
+
+impl Model for Peer {
+    ghost use Rattle.two_way_driver.specs.PeerStates.{PeerState};
+
+    ghost Value = { PeerState };
+
+    ghost view = { λ p. record { channel = p.channel.state; behind = p.behind; asked = p.asked } };
+}
+
+/// A channel that is open, with nothing unread, on which this barrier request is outstanding.
+fn open_channel(alloc: Global, outstanding: Option<u32>) -> Result<Channel, Memory>
+    ensures { IfOk result (λ c. c.state ≡ opened_anew outstanding) }
+{
+    let mut channel = Channel::make(alloc)?;
+    channel.feed(&HELLO)?;
+    if let Some(xid) = outstanding {
+        channel.ask(&[], xid);
+    }
+    Ok(channel)
+}
+
+/// The failure of a session, if it failed.
+fn failure_in(session: Session) -> Heard
+    ensures { result ≡ failure_in session }
+{
+    match session {
+        Session::Waiting => Heard::Nothing,
+        Session::Open => Heard::Nothing,
+        Session::Failed(cause) => Heard::Broke(cause),
+    }
+}
+
+/// What came of a byte to a channel that had this session, this outstanding barrier request, and so many bytes sent.
+#[tactic(auto, unfolding(crate::specs::Peers::heard_of))]
+fn heard_since(
+    alloc: Global,
+    session: Session,
+    outstanding: Option<u32>,
+    sent: usize,
+    after: &Channel,
+) -> Result<Heard, Memory>
+    ensures { IfOk result (λ h. h ≡ heard_of session outstanding sent after.now.state) }
+{
+    if outstanding.is_some() && after.outstanding().is_none() {
+        return Ok(Heard::Answered);
+    }
+    if after.is_open() && !matches!(session, Session::Open) {
+        return Ok(Heard::Opened);
+    }
+    let text = after.sent();
+    if sent < text.len() {
+        let reply = Vec::from_slice(alloc, &text[sent..])?;
+        return Ok(Heard::Replied(Text::make(reply)));
+    }
+    if matches!(session, Session::Failed(_)) {
+        return Ok(Heard::Nothing);
+    }
+    Ok(failure_in(after.session()))
+}
+
+impl Peer {
+    /// A switch at the beginning: HELLO was sent to it, and nothing came.
+    pub(crate) fn make(alloc: Global) -> Result<Peer, Memory>
+        ensures { IfOk result (λ p. p ≡ first_peer) }
+    {
+        let channel = Channel::make(alloc)?;
+        Ok(Peer {
+            channel,
+            behind: None,
+            asked: None,
+        })
+    }
+
+    /// Whether the session is open.
+    pub(crate) fn is_open(&self) -> bool
+        ensures { result ≡ is_open self.now.channel.session }
+    {
+        self.channel.is_open()
+    }
+
+    /// The session.
+    pub(crate) fn session(&self) -> Session
+        ensures { result ≡ self.now.channel.session }
+    {
+        self.channel.session()
+    }
+
+    /// The barrier request of the running round that isn't answered.
+    pub(crate) fn asked(&self) -> Option<u32>
+        ensures { result ≡ self.now.asked }
+    {
+        self.asked
+    }
+
+    /// Whether no barrier request of the running round waits for its answer.
+    pub(crate) fn is_answered(&self) -> bool
+        ensures { result ≡ is_none self.now.asked }
+    {
+        self.asked.is_none()
+    }
+
+    /// A byte comes.
+    #[tactic(auto, unfolding(crate::specs::Peers::peer_after))]
+    pub(crate) fn hear(&mut self, alloc: Global, byte: u8) -> Result<Heard, Memory>
+        ensures ok { OnOk result (self.new ≡ peer_after byte self.old) }
+        ensures heard { IfOk result
+            (λ h. h ≡ heard_by self.old.channel (after_byte byte self.old.channel)) }
+    {
+        let session = self.channel.session();
+        let outstanding = self.channel.outstanding();
+        let sent = self.channel.sent().len();
+        self.channel.feed(&[byte])?;
+        let heard = heard_since(alloc, session, outstanding, sent, &self.channel)?;
+        if sent < self.channel.sent().len() {
+            self.channel = open_channel(alloc, self.channel.outstanding())?;
+        }
+        Ok(heard)
+    }
+
+    /// A barrier request of the running round waits for its answer; on an open session it is sent now.
+    #[tactic(auto, unfolding(crate::specs::Peers::asks))]
+    pub(crate) fn ask(&mut self, xid: u32)
+        ensures { self.new ≡ asks xid self.old }
+    {
+        self.asked = Some(xid);
+        if !self.channel.is_open() {
+            return;
+        }
+        if self.channel.outstanding().is_some() {
+            self.behind = Some(xid);
+        } else {
+            self.channel.ask(&[], xid);
+        }
+    }
+
+    /// The session was just opened: the barrier request is sent again.
+    pub(crate) fn ask_again(&mut self, xid: u32)
+        ensures { self.new ≡ asks_again xid self.old }
+    {
+        self.channel.ask(&[], xid);
+        self.behind = None;
+    }
+
+    /// The outstanding barrier request was answered. Whether it was the last one: otherwise the one behind it is outstanding now.
+    #[tactic(auto, unfolding(crate::specs::Peers::answers))]
+    pub(crate) fn answer(&mut self) -> bool
+        ensures after { self.new ≡ answers self.old }
+        ensures last { result ≡ is_none self.old.behind }
+    {
+        match self.behind {
+            Some(xid) => {
+                self.channel.ask(&[], xid);
+                self.behind = None;
+                false
+            }
+            None => {
+                self.asked = None;
+                true
+            }
+        }
+    }
+
+    /// The session waits for HELLO again, with nothing unread and no barrier request sent.
+    pub(crate) fn reopen(&mut self, alloc: Global) -> Result<(), Memory>
+        ensures { OnOk result (self.new ≡ reopened self.old) }
+    {
+        self.channel = Channel::make(alloc)?;
+        self.behind = None;
+        Ok(())
+    }
+}

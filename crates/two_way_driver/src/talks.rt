@@ -1,0 +1,424 @@
+//! What is said with all switches.
+ghost use Rattle.std.specs.Prelude.{◌≡◌, ◌<◌, ◌≤◌, ◌+◌, ◌^◌, ◌∷◌, ◌++◌, [], length, vec_len, is_none, not, replicate, slice_index_or, OnOk, IfOk};
+ghost use Rattle.std.specs.List.{AllByRecursion, list_all};
+ghost use Rattle.topology.specs.Networks.{switch_count};
+ghost use Rattle.update_model.specs.Ranges.{IsPlanChange};
+ghost use Rattle.turned_rounds.specs.Batches.{xid_behind};
+ghost use Rattle.switch_session.specs.Channels.{after_byte, hello};
+ghost use Rattle.two_way_driver.specs.Peers.{first_peer, heard_by, peer_after};
+ghost use Rattle.two_way_driver.specs.Drivers.{saying, log_if, send_if, sends, is_to_open, is_to, asks_if, next_if, asked_from, sent_out, settled_in, all_answered, settled_if_answered, change_notes, undo_notes, made, undone, carried_out, answered, opened, heard, fed_byte, first_driver, first_words, flagged, started_with, undone_with, turned_with, reopened_driver};
+ghost use Rattle.two_way_driver.specs.Inside.{state_of, FitsNext, heard_on, fed_on};
+
+use crate::legs::Leg;
+use crate::peers::{HELLO, Heard, Peer};
+use crate::{Logged, Said, Stage};
+use net_base::{Memory, SwitchId};
+use std::alloc::Global;
+use topology::Net;
+use turned_rounds::{Outgoing, Text, is_changed, next_xid, round_batch};
+use update_model::Change;
+
+/// What is said with all switches, and how far the update is.
+#[derive(Drop)]
+pub struct Talks {
+    pub(crate) stage: Stage,
+    /// The xid of the first message of the running round, in the way it goes.
+    pub(crate) first: u32,
+    /// The xid of the next message.
+    pub(crate) next: u32,
+    pub(crate) peers: Vec<Peer>,
+    /// For each switch whether its changes in the running round are in force.
+    pub(crate) in_force: Vec<bool>,
+    pub(crate) said: Vec<Said>,
+}
+
+/// Whether no barrier request of the running round waits for its answer.
+fn all_answered(peers: &[Peer]) -> bool
+    ensures { result ≡ all_answered peers.now }
+{
+    peers.iter().all(|peer| peer.is_answered())
+}
+
+/// Says an event, if it came about.
+fn push_log(said: &mut Vec<Said>, wanted: bool, event: Logged) -> Result<(), Memory>
+    ensures { OnOk result (said.new.items ≡ said.old.items ++ log_if wanted event) }
+{
+    if wanted {
+        said.push(Said::Log(event))?;
+    }
+    Ok(())
+}
+
+/// Adds the events of a switch's changes that are made, ascending.
+fn push_changes(said: &mut Vec<Said>, round: &[Change], switch: SwitchId) -> Result<(), Memory>
+    ensures { OnOk result (said.new.items ≡ said.old.items ++ change_notes switch 0 round.now) }
+{
+    for number in 0..round.len() {
+        let is_here = round[number].switch().0 == switch.0;
+        push_log(said, is_here, Logged::Change(number))?;
+    }
+    Ok(())
+}
+
+/// Adds the events of a switch's changes that are taken back, descending.
+fn push_undone(said: &mut Vec<Said>, round: &[Change], switch: SwitchId) -> Result<(), Memory>
+    ensures { OnOk result (said.new.items ≡ said.old.items ++ undo_notes switch 0 round.now) }
+{
+    let mut left = round.len();
+    while left > 0 {
+        left -= 1;
+        let is_here = round[left].switch().0 == switch.0;
+        push_log(said, is_here, Logged::Undo(left))?;
+    }
+    Ok(())
+}
+
+/// Says a message, if it is wanted.
+fn push_if(said: &mut Vec<Said>, message: &Outgoing, wanted: bool) -> Result<(), Memory>
+    ensures { OnOk result (said.new.items ≡ said.old.items ++ send_if wanted message.now) }
+{
+    if wanted {
+        let text = message.text.copy()?;
+        said.push(Said::Send(message.switch, text))?;
+    }
+    Ok(())
+}
+
+/// Says those of the messages that are to switches with open sessions.
+fn push_open(said: &mut Vec<Said>, messages: &[Outgoing], peers: &[Peer]) -> Result<(), Memory>
+    requires { AllByRecursion (λ (m : Outgoing). m.switch.0 < length peers.now) messages.now }
+    ensures { OnOk result
+        (said.new.items ≡ said.old.items ++ sends (is_to_open peers.now) messages.now) }
+{
+    for message in messages {
+        push_if(said, message, peers[message.switch.0 as usize].is_open())?;
+    }
+    Ok(())
+}
+
+/// Says those of the messages that are to a switch.
+fn push_to(said: &mut Vec<Said>, messages: &[Outgoing], switch: SwitchId) -> Result<(), Memory>
+    ensures { OnOk result
+        (said.new.items ≡ said.old.items ++ sends (is_to switch) messages.now) }
+{
+    for message in messages {
+        push_if(said, message, message.switch.0 == switch.0)?;
+    }
+    Ok(())
+}
+
+/// A switch waits for the answer to a barrier request, if it has a change.
+fn ask_if(peer: &mut Peer, changed: bool, xid: u32)
+    ensures { peer.new ≡ asks_if changed xid peer.old }
+{
+    if changed {
+        peer.ask(xid);
+    }
+}
+
+/// The xid behind another, if that is used.
+fn next_if(changed: bool, xid: u32) -> u32
+    ensures { result ≡ next_if changed xid }
+{
+    if changed { next_xid(xid) } else { xid }
+}
+
+/// The xid behind those of changes.
+fn xid_behind(first: u32, changes: &[Change]) -> u32
+    ensures { result ≡ xid_behind first (length changes.now) }
+{
+    let mut xid = first;
+    for _number in 0..changes.len() {
+        xid = next_xid(xid);
+    }
+    xid
+}
+
+/// Each switch with a change in a round waits for the answer to its barrier request, of which the first has this xid.
+fn ask_all(peers: &mut Vec<Peer>, round: &[Change], first: u32)
+    requires { length peers.old.items ≤ 128 }
+    ensures { peers.new.items ≡ asked_from first round.now 0 peers.old.items }
+{
+    let mut xid = first;
+    for number in 0..peers.len() {
+        let changed = is_changed(round, number as u32);
+        ask_if(&mut peers[number], changed, xid);
+        xid = next_if(changed, xid);
+    }
+}
+
+/// What is kept of so many switches at the beginning.
+fn first_peers(alloc: Global, switches: u32) -> Result<Vec<Peer>, Memory>
+    ensures { IfOk result (λ v. v.items ≡ replicate switches first_peer) }
+{
+    let mut peers = Vec::new(alloc);
+    for _number in 0..switches {
+        peers.push(Peer::make(alloc)?)?;
+    }
+    Ok(peers)
+}
+
+/// HELLO to a switch.
+fn hello_to(alloc: Global, switch: SwitchId) -> Result<Said, Memory>
+    ensures { IfOk result (λ said. said ≡ Said.Send switch hello) }
+{
+    let bytes = Vec::from_slice(alloc, &HELLO)?;
+    Ok(Said::Send(switch, Text::make(bytes)))
+}
+
+/// HELLO to each of so many switches.
+fn hello_to_all(alloc: Global, switches: u32) -> Result<Vec<Said>, Memory>
+    ensures { IfOk result (λ v. v.items ≡ first_words 0 switches) }
+{
+    let mut said = Vec::new(alloc);
+    for number in 0..switches {
+        said.push(hello_to(alloc, SwitchId(number))?)?;
+    }
+    Ok(said)
+}
+
+impl Talks {
+    /// No round is begun, and HELLO is sent to each of so many switches.
+    pub(crate) fn make(alloc: Global, net: &Net) -> Result<Talks, Memory>
+        ensures { IfOk result (λ t. state_of t ≡ first_driver net.now) }
+    {
+        let switches = net.switches();
+        let peers = first_peers(alloc, switches)?;
+        let said = hello_to_all(alloc, switches)?;
+        Ok(Talks {
+            stage: Stage::Settled(0),
+            first: 1,
+            next: 1,
+            peers,
+            in_force: vec![in alloc; false; switches as usize]?,
+            said,
+        })
+    }
+
+    /// Says one thing more.
+    fn say(&mut self, words: Said) -> Result<(), Memory>
+        ensures { OnOk result (state_of self.new ≡ saying (words ∷ []) (state_of self.old)) }
+    {
+        self.said.push(words)?;
+        Ok(())
+    }
+
+    /// A round begins to run in a way, which asks for these changes.
+    #[tactic(auto, unfolding(crate::specs::Drivers::sent_out))]
+    fn send_out(&mut self, net: &Net, changes: &[Change], stage: Stage) -> Result<(), Memory>
+        requires plan { AllByRecursion (IsPlanChange net.now) changes.now }
+        requires count { length self.old.peers.items ≡ switch_count net.now }
+        ensures after { OnOk result
+            (state_of self.new ≡ sent_out net.now changes.now stage (state_of self.old)) }
+        ensures stage { OnOk result (self.new.stage ≡ stage) }
+    {
+        net.keeps_rules();
+        let batch = round_batch(*self.peers.allocator(), net, changes, self.next)?;
+        push_open(&mut self.said, &batch.list, &self.peers)?;
+        ask_all(&mut self.peers, changes, xid_behind(self.next, changes));
+        self.stage = stage;
+        self.first = self.next;
+        self.next = batch.xid;
+        Ok(())
+    }
+
+    /// The running round is settled.
+    #[tactic(auto, unfolding(crate::specs::Drivers::settled_in))]
+    fn settle(&mut self) -> Result<(), Memory>
+        requires { FitsNext self.old.stage }
+        ensures { OnOk result
+            (state_of self.new ≡ settled_in self.old.stage (state_of self.old)) }
+    {
+        match self.stage {
+            Stage::Settled(_) => Ok(()),
+            Stage::Onward(k) => {
+                self.stage = Stage::Settled(k + 1);
+                self.say(Said::Log(Logged::Settle))
+            }
+            Stage::Undone(k) => {
+                self.stage = Stage::Settled(k);
+                self.say(Said::Log(Logged::SettleBack))
+            }
+        }
+    }
+
+    /// The running round is settled, if all its barrier requests are answered.
+    #[tactic(auto, unfolding(crate::specs::Drivers::settled_if_answered))]
+    fn settle_if_answered(&mut self) -> Result<(), Memory>
+        requires { FitsNext self.old.stage }
+        ensures { OnOk result
+            (state_of self.new ≡ settled_if_answered (state_of self.old)) }
+    {
+        if all_answered(&self.peers) {
+            return self.settle();
+        }
+        Ok(())
+    }
+
+    /// The changes of a switch are made.
+    #[tactic(auto, unfolding(crate::specs::Drivers::made))]
+    fn make_changes(&mut self, round: &[Change], switch: SwitchId) -> Result<(), Memory>
+        requires { switch.0 < length self.old.in_force.items }
+        ensures after { OnOk result
+            (state_of self.new ≡ made round.now switch (state_of self.old)) }
+        ensures stage { self.new.stage ≡ self.old.stage }
+    {
+        push_changes(&mut self.said, round, switch)?;
+        self.in_force[switch.0 as usize] = true;
+        Ok(())
+    }
+
+    /// The changes of a switch are taken back, if they are in force.
+    #[tactic(auto, unfolding(crate::specs::Drivers::undone))]
+    fn undo_changes(&mut self, round: &[Change], switch: SwitchId) -> Result<(), Memory>
+        requires { switch.0 < length self.old.in_force.items }
+        ensures after { OnOk result
+            (state_of self.new ≡ undone round.now switch (state_of self.old)) }
+        ensures stage { self.new.stage ≡ self.old.stage }
+    {
+        if !self.in_force[switch.0 as usize] {
+            return Ok(());
+        }
+        push_undone(&mut self.said, round, switch)?;
+        self.in_force[switch.0 as usize] = false;
+        Ok(())
+    }
+
+    /// The last barrier request of a switch was answered.
+    fn carry_out(&mut self, round: &[Change], switch: SwitchId) -> Result<(), Memory>
+        requires { switch.0 < length self.old.in_force.items }
+        ensures after { OnOk result
+            (state_of self.new
+            ≡ carried_out round.now switch self.old.stage (state_of self.old)) }
+        ensures stage { self.new.stage ≡ self.old.stage }
+    {
+        match self.stage {
+            Stage::Settled(_) => Ok(()),
+            Stage::Onward(_) => self.make_changes(round, switch),
+            Stage::Undone(_) => self.undo_changes(round, switch),
+        }
+    }
+
+    /// The outstanding barrier request of a switch was answered.
+    #[tactic(auto, unfolding(crate::specs::Drivers::answered))]
+    fn answer(&mut self, round: &[Change], switch: SwitchId) -> Result<(), Memory>
+        requires peer { switch.0 < length self.old.peers.items }
+        requires flag { switch.0 < length self.old.in_force.items }
+        requires fits { FitsNext self.old.stage }
+        ensures { OnOk result
+            (state_of self.new ≡ answered round.now switch (state_of self.old)) }
+    {
+        if !self.peers[switch.0 as usize].answer() {
+            return self.make_changes(round, switch);
+        }
+        self.carry_out(round, switch)?;
+        self.settle_if_answered()
+    }
+
+    /// The session of a switch is open now: what isn't answered is sent again.
+    #[tactic(auto, unfolding(crate::specs::Drivers::opened))]
+    fn open(&mut self, net: &Net, changes: &[Change], switch: SwitchId) -> Result<(), Memory>
+        requires plan { AllByRecursion (IsPlanChange net.now) changes.now }
+        requires peer { switch.0 < length self.old.peers.items }
+        ensures { OnOk result
+            (state_of self.new
+            ≡ opened net.now changes.now switch (state_of self.old)) }
+    {
+        let Some(xid) = self.peers[switch.0 as usize].asked() else {
+            return Ok(());
+        };
+        let batch = round_batch(*self.peers.allocator(), net, changes, self.first)?;
+        push_to(&mut self.said, &batch.list, switch)?;
+        self.peers[switch.0 as usize].ask_again(xid);
+        Ok(())
+    }
+
+    /// This came of a byte from a switch.
+    fn take(&mut self, leg: &Leg, switch: SwitchId, heard: Heard) -> Result<(), Memory>
+        requires plan { AllByRecursion (IsPlanChange leg.now.net.now) leg.now.asked.now }
+        requires peer { switch.0 < length self.old.peers.items }
+        requires flag { switch.0 < length self.old.in_force.items }
+        requires fits { FitsNext self.old.stage }
+        ensures { OnOk result
+            (state_of self.new ≡ heard_on leg.now switch heard (state_of self.old)) }
+    {
+        match heard {
+            Heard::Nothing => Ok(()),
+            Heard::Opened => self.open(leg.net, leg.asked, switch),
+            Heard::Answered => self.answer(leg.round, switch),
+            Heard::Replied(text) => self.say(Said::Send(switch, text)),
+            Heard::Broke(cause) => self.say(Said::Failed(switch, cause)),
+        }
+    }
+
+    /// A byte comes from a switch.
+    pub(crate) fn feed_byte(&mut self, leg: &Leg, switch: SwitchId, byte: u8) -> Result<(), Memory>
+        requires plan { AllByRecursion (IsPlanChange leg.now.net.now) leg.now.asked.now }
+        requires peer { switch.0 < length self.old.peers.items }
+        requires flag { switch.0 < length self.old.in_force.items }
+        requires fits { FitsNext self.old.stage }
+        ensures { OnOk result
+            (state_of self.new ≡ fed_on leg.now switch byte (state_of self.old)) }
+    {
+        let alloc = *self.peers.allocator();
+        let heard = self.peers[switch.0 as usize].hear(alloc, byte)?;
+        self.take(leg, switch, heard)
+    }
+
+    /// The changes of the running round are all in force, or none is.
+    fn flag(&mut self, in_force: bool) -> Result<(), Memory>
+        ensures { OnOk result (state_of self.new ≡ flagged in_force (state_of self.old)) }
+    {
+        let alloc = *self.peers.allocator();
+        self.in_force = vec![in alloc; in_force; self.peers.len()]?;
+        Ok(())
+    }
+
+    /// The next round starts, which has these changes and stands behind k others.
+    pub(crate) fn start(&mut self, net: &Net, changes: &[Change], k: u32) -> Result<(), Memory>
+        requires plan { AllByRecursion (IsPlanChange net.now) changes.now }
+        requires count { length self.old.peers.items ≡ switch_count net.now }
+        requires fits { k + 1 < 2 ^ 32 }
+        ensures { OnOk result
+            (state_of self.new ≡ started_with net.now changes.now k (state_of self.old)) }
+    {
+        self.say(Said::Log(Logged::Start))?;
+        self.flag(false)?;
+        self.send_out(net, changes, Stage::Onward(k))?;
+        self.settle_if_answered()
+    }
+
+    /// The round that was settled last begins to be taken back, by these changes. It stands behind k others.
+    pub(crate) fn undo(&mut self, net: &Net, changes: &[Change], k: u32) -> Result<(), Memory>
+        requires plan { AllByRecursion (IsPlanChange net.now) changes.now }
+        requires count { length self.old.peers.items ≡ switch_count net.now }
+        ensures { OnOk result
+            (state_of self.new ≡ undone_with net.now changes.now k (state_of self.old)) }
+    {
+        self.say(Said::Log(Logged::Back))?;
+        self.flag(true)?;
+        self.turn(net, changes, k)
+    }
+
+    /// The running round is turned back, by these changes. It stands behind k others.
+    pub(crate) fn turn(&mut self, net: &Net, changes: &[Change], k: u32) -> Result<(), Memory>
+        requires plan { AllByRecursion (IsPlanChange net.now) changes.now }
+        requires count { length self.old.peers.items ≡ switch_count net.now }
+        ensures { OnOk result
+            (state_of self.new ≡ turned_with net.now changes.now k (state_of self.old)) }
+    {
+        self.send_out(net, changes, Stage::Undone(k))?;
+        self.settle_if_answered()
+    }
+
+    /// The session with a switch is opened again.
+    pub(crate) fn reopen(&mut self, switch: SwitchId) -> Result<(), Memory>
+        requires { switch.0 < length self.old.peers.items }
+        ensures { OnOk result
+            (state_of self.new ≡ reopened_driver switch (state_of self.old)) }
+    {
+        let alloc = *self.peers.allocator();
+        self.peers[switch.0 as usize].reopen(alloc)?;
+        self.say(hello_to(alloc, switch)?)
+    }
+}
