@@ -48,7 +48,8 @@ fn end_reply(
     requires broken { ¬ BothEndsAreGood (meaning_of files.now) }
     requires first { IsFirstEndBreak (meaning_of files.now) new breaks }
     ensures { IfOk result
-        (λ r. SaysWhyNot (update_count (meaning_of files.now)) (BothEndsAreGood (meaning_of files.now))
+        (λ r. SaysWhyNot (update_count (meaning_of files.now))
+        (BothEndsAreGood (meaning_of files.now))
         (IsEndLine (meaning_of files.now)) (answer_of r)) }
 {
     let class = classes.class(breaks.class);
