@@ -1,11 +1,14 @@
 #!/usr/bin/env python3
-"""Compares two programs with the planner's words, as two builds of the planner: for each workload the user seconds of both, and their ratio.
+"""Compares two programs with the planner's words, as two builds of the planner: for each workload the seconds of both, those of the user and of the
+system together, and their ratio.
 
     bench/ratio.py [-n TIMES] [-t SECONDS] FIRST SECOND [NAME..]
 
 NAME is the name of a workload or the begin of one; without, all of bench/workloads.py are run. Both programs run TIMES times, 7 if nothing is said, in
-turns; the median of each counts. A program that takes longer than SECONDS, 300 if nothing is said, is ended. Plans that are checked are made by the second
-program. It builds nothing, and where the texts or the statuses of the two differ it says so and ends with status 1."""
+turns; the median of each counts. One whose median is below 20 ms runs on, since chance makes more of so short a time: until its runs took 0.2 s together,
+and 15 times at most. A program that takes longer than SECONDS, 300 if nothing is said, is ended. Plans that are read and aren't among
+the files of a workload are made by the second program. It builds nothing, and where the texts or the statuses of the two differ it says so and ends with
+status 1."""
 import argparse
 import os
 import pathlib
@@ -17,49 +20,73 @@ import tempfile
 
 from workloads import PLAN, WORKLOADS
 
+# A program whose median is below so many seconds is run more often, ...
+QUICK = 0.02
+# ... until its runs took so many seconds together, ...
+ENOUGH = 0.2
+# ... and so many times at most.
+MOST = 15
+
 
 class TooLong(Exception):
     """A program took longer than it may."""
 
 
+def spent(usage):
+    """The seconds of the user and of the system together."""
+    return usage.ru_utime + usage.ru_stime
+
+
 def timed(program, words, folder, limit):
-    """Runs a program, and returns its user seconds, its status and its text. Raises TooLong."""
-    before = resource.getrusage(resource.RUSAGE_CHILDREN).ru_utime
+    """Runs a program, and returns its seconds, its status and its text. Raises TooLong."""
+    before = spent(resource.getrusage(resource.RUSAGE_CHILDREN))
     try:
         done = subprocess.run([program, *words], cwd=folder, stdout=subprocess.PIPE, timeout=limit)
     except subprocess.TimeoutExpired:
         raise TooLong from None
-    return resource.getrusage(resource.RUSAGE_CHILDREN).ru_utime - before, done.returncode, done.stdout
+    return spent(resource.getrusage(resource.RUSAGE_CHILDREN)) - before, done.returncode, done.stdout
 
 
 def prepare(workload, folder, program):
-    """Writes the files of a workload, and the plan that the program makes where a plan is checked that isn't among them."""
+    """Writes the files of a workload, and the plan that the program makes where one is read that isn't among them."""
     workload.write(folder)
     if workload.needs_plan():
         plan = subprocess.run([program, *PLAN], cwd=folder, stdout=subprocess.PIPE, check=True).stdout
         (folder / "plan.json").write_bytes(plan)
 
 
+def is_told(taken, times):
+    """Whether a program has run often enough, if its runs took these seconds and so many are wanted at least."""
+    if len(taken) < max(times, 1):
+        return False
+    return statistics.median(taken) >= QUICK or sum(taken) > ENOUGH or len(taken) >= MOST
+
+
+def next_turn(turn, taken, times):
+    """Which programs run in a turn, in their order: those that haven't run often enough. They are first by turns. For one that took too long None stands."""
+    order = (0, 1) if turn % 2 == 0 else (1, 0)
+    return [which for which in order if taken[which] is not None and not is_told(taken[which], times)]
+
+
 def compare(programs, workload, folder, limit, times):
-    """Runs both programs in turns. Returns the median of the user seconds of each, None for one that took too long, and whether they answered the same."""
-    taken, answers = [[], []], [None, None]
-    for turn in range(times):
-        for which in (0, 1) if turn % 2 == 0 else (1, 0):
-            if taken[which] is None:
-                continue
+    """Runs both programs in turns. Returns the median of the seconds of each, None for one that took too long, and whether they answered the same."""
+    taken, answers, turn = [[], []], [None, None], 0
+    while due := next_turn(turn, taken, times):
+        for which in due:
             try:
                 seconds, *answers[which] = timed(programs[which], workload.words, folder, limit)
                 taken[which].append(seconds)
             except TooLong:
                 taken[which] = None
+        turn += 1
     medians = [statistics.median(it) if it else None for it in taken]
     return medians, None in medians or answers[0] == answers[1]
 
 
 def row(title, medians):
-    """The row of the table."""
+    """The row of the table. There is no ratio to a time that couldn't be measured."""
     cells = ["too long" if it is None else f"{it:.3f}" for it in medians]
-    ratio = "" if None in medians else f"{medians[0] / max(medians[1], 0.001):.1f}"
+    ratio = "" if None in medians or medians[1] == 0 else f"{medians[0] / medians[1]:.1f}"
     return f"| {title} | {cells[0]} | {cells[1]} | {ratio} |"
 
 

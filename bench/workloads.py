@@ -8,13 +8,19 @@ from rings import Ring
 CONFIG = ["config", "topology.json", "config.json"]
 PLAN = ["plan", "topology.json", "old.json", "new.json", "policy.json"]
 CHECK = ["check", "topology.json", "old.json", "new.json", "policy.json", "plan.json"]
+EXPLAIN = ["explain", *CHECK[1:]]
 # The greatest size of a topology and of a configuration, in bytes.
 GREATEST_FILE = 16 * 2**20
 
 
+def compact(value):
+    """The JSON text of a value, without white space."""
+    return json.dumps(value, separators=(",", ":"))
+
+
 class Workload:
-    """The words of a run and its files, by their names without `.json`: values, or texts as they are. The plan of a `check` is
-    made by the planner where it isn't among them."""
+    """The words of a run and its files, by their names without `.json`: values, or texts as they are. A plan that is read is made by
+    the planner where it isn't among them."""
 
     def __init__(self, words, **files):
         self.words, self.files = words, files
@@ -24,12 +30,25 @@ class Workload:
 
     def write(self, folder):
         for name, value in self.files.items():
-            text = value if isinstance(value, str) else json.dumps(value, separators=(",", ":"))
-            (folder / f"{name}.json").write_text(text)
+            (folder / f"{name}.json").write_text(value if isinstance(value, str) else compact(value))
 
 
 def updating(words, topology, old, new, policy):
     return Workload(words, topology=topology, old=old, new=new, policy=policy)
+
+
+# ---- plans that are written here
+
+def moves(word, numbers):
+    """The text of a round: one change of each of the plan's rules with these numbers."""
+    return compact([[word, i] for i in numbers])
+
+
+def plan_text(rules, rounds, classes, numbering):
+    """An ordered plan in format 2, with rounds that are texts already. The one numbering serves so many classes in all rounds."""
+    head = compact({"format": 2, "kind": "ordered", "rules": rules, "uses": [[0, []]], "picks": [[1, c, 0] for c in range(classes)],
+                    "numberings": [numbering], "befores": []})
+    return f'{head[:-1]},"rounds":[{",".join(rounds)}]}}'
 
 
 # ---- rings
@@ -106,18 +125,87 @@ def rekeyed_rules(count):
     return updating(PLAN, topology, {"rules": rules[0]}, {"rules": rules[1]}, {"demands": []})
 
 
-def toggled_rules(rounds, count, switches):
-    """A plan in which so many rules, spread over the switches, come in each odd round and go in each even one. No packet meets them."""
+def rules_for_all():
+    """1024 rules of one switch and one priority, one for each of 64 ports and 16 VLANs."""
+    return [{**rule, "dst": "0.0.0.0/0"} for rule in rules_by_port(1024, lambda i: 100)]
+
+
+def touching(rules, turns, rounds):
+    """The check of a plan that takes turns with two rounds, at a switch with the rules of `rules_for_all`. Each of 8192 classes is covered by one of
+    them: the demands tell eight ranges of addresses apart."""
+    config = {"rules": rules_for_all()}
+    plan = plan_text(rules, [turns[k % 2] for k in range(rounds)], 8192, [0])
+    policy = {"demands": [{"dst": f"0.0.0.{i}/32"} for i in range(7)]}
+    return Workload(CHECK, topology=one_switch(list(range(1, 17))), old=config, new=config, policy=policy, plan=plan)
+
+
+def replaced_together(rounds):
+    """Rounds that each replace all of the rules."""
+    old = rules_for_all()
+    count = len(old)
+    turns = [moves("replace", range(count, 2 * count)), moves("replace", range(count))]
+    return touching(old + [next_port(rule) for rule in old], turns, rounds)
+
+
+def two_below_all(rounds):
+    """Rounds of two changes, by which rules below the others come and go that cover all packets."""
+    rules = [{"switch": "s0", "priority": priority, "dst": "0.0.0.0/0", "out": "drop"} for priority in (1, 2)]
+    return touching(rules, [moves(word, [0, 1]) for word in ("insert", "delete")], rounds)
+
+
+# ---- rules that no packet meets
+
+def unmet(switches, rules, rounds):
+    """The check of a plan with these rounds, in a network where the first rule drops each packet. There are eight classes at most."""
     topology = {"switches": [{"name": f"r{i}", "capacity": 8192} for i in range(switches)], "links": [], "hosts": ["r0:1", "r0:2"],
                 "vlans": ["untagged"], "tags": []}
     config = {"rules": [{"switch": "r0", "priority": 16383, "dst": "0.0.0.0/0", "out": "drop"}]}
-    rules = [{"switch": f"r{i % switches}", "priority": 1 + i // switches, "dst": "10.0.0.0/24", "out": "drop"} for i in range(count)]
-    come, go = ([[word, i] for i in range(count)] for word in ("insert", "delete"))
-    texts = [json.dumps(changes, separators=(",", ":")) for changes in (come, go)]
-    head = json.dumps({"format": 2, "kind": "ordered", "rules": rules, "uses": [[0, []]], "picks": [[1, c, 0] for c in range(6)],
-                       "numberings": [[0] * switches], "befores": []}, separators=(",", ":"))
-    plan = f'{head[:-1]},"rounds":[{",".join(texts[k % 2] for k in range(rounds))}]}}'
+    plan = plan_text(rules, rounds, 8, [0] * switches)
     return Workload(CHECK, topology=topology, old=config, new=config, policy={"demands": []}, plan=plan)
+
+
+def ranked_rules(count, switches):
+    """So many rules, spread over the switches. Those of a switch have priorities of their own, and one prefix."""
+    return [{"switch": f"r{i % switches}", "priority": 1 + i // switches, "dst": "10.0.0.0/24", "out": "drop"} for i in range(count)]
+
+
+def two_kinds(count):
+    """So many rules of one switch and one priority, in turns for a VLAN and the lower half of the addresses, and for an ingress port and the upper
+    half. No two of them cover a common packet, but the addresses alone don't tell those of a kind apart."""
+    tests = [({"vlan": 1 + i // 2, "dst": "0.0.0.0/1"}, {"in_port": 1 + i // 2, "dst": "128.0.0.0/1"})[i % 2] for i in range(count)]
+    return [{"switch": "r0", "priority": 100, "out": "drop", **test} for test in tests]
+
+
+def toggled_rules(rounds, rules, switches=1):
+    """A plan in which the rules come in each odd round and go in each even one."""
+    texts = [moves(word, range(len(rules))) for word in ("insert", "delete")]
+    return unmet(switches, rules, [texts[k % 2] for k in range(rounds)])
+
+
+def grown_table(rounds, rules):
+    """A plan whose first round makes a table of more rules than a configuration may have, and whose last one takes it away. In the rounds between,
+    so many, the last two rules go and come in turns."""
+    count = len(rules)
+    turns = [moves(word, [count - 2, count - 1]) for word in ("delete", "insert")]
+    return unmet(1, rules, [moves("insert", range(count)), *(turns[k % 2] for k in range(rounds)), moves("delete", range(count))])
+
+
+def rules_apart(count):
+    """So many rules of one switch, one priority and one prefix, each for an ingress port and a VLAN of its own."""
+    return [{"switch": "r0", "priority": 100, "in_port": 1 + i // 4000, "vlan": 1 + i % 4000, "dst": "10.0.0.0/24", "out": "drop"} for i in range(count)]
+
+
+def clashing_round(count):
+    """A round of so many inserts at one switch. The last two rules have one priority and cover common packets, and no others do. That they are more
+    than the switch can hold is a later reason to refuse them."""
+    rules = rules_apart(count)
+    rules[-1] = {**rules[-2], "dst": "10.0.0.0/25"}
+    return unmet(1, rules, [moves("insert", range(count))])
+
+
+def repeating_round(count):
+    """A round of so many inserts at one switch. The last one is the one before once more, and all others name entries of their own."""
+    return unmet(1, rules_apart(count - 1), [moves("insert", [*range(count - 1), count - 2])])
 
 
 # ---- many classes
@@ -145,26 +233,50 @@ def chains(words, classes):
         found.add(tuple(sorted(dice.sample(range(128), 16))))
     topology = {"switches": [{"name": f"r{i}", "capacity": 8192} for i in range(128)], "links": [[f"r{i}:2", f"r{i + 1}:3"] for i in range(127)],
                 "hosts": [*(f"r0:{port}" for port in range(10, 42)), "r127:1"], "vlans": ["untagged"], "tags": [3000, 3000]}
-    # The rules for single prefixes are never reached; they tell the classes apart.
+    # The rules for single prefixes are never reached. They tell the classes apart: there are 33 hosts, and two ranges of addresses for each prefix.
     rules = [{"switch": f"r{i}", "priority": 100, "dst": "0.0.0.0/0", "out": 2 if i < 127 else 1} for i in range(128)]
-    rules += [{"switch": "r127", "priority": 1, "dst": f"10.{i // 128}.{2 * (i % 128)}.0/24", "out": "drop"} for i in range((classes // 33 - 1) // 2)]
+    rules += [{"switch": "r127", "priority": 1, "dst": f"0.{i // 128}.{2 * (i % 128)}.0/24", "out": "drop"} for i in range(classes // 66)]
     more = [{"switch": "r64", "priority": 200, "dst": "0.0.0.0/0", "out": 2}]
     demands = [{"dst": "0.0.0.0/0", "through": [f"r{s}" for s in chain]} for chain in sorted(found)]
     return updating(words, topology, {"rules": rules}, {"rules": rules + more}, {"demands": demands})
 
 
-def parallel_links(switches):
-    """A line of switches with 31 links each to the next, all of which a packet may take in the one round, and 31 hosts: about 8000 classes."""
+def parallel_links(switches, rules):
+    """A line of switches with 31 links each to the next, and so many rules at each that send over them; in the one round a packet may meet any. From
+    31 hosts come about 8000 classes."""
     names = [f"r{i}" for i in range(switches + 1)]
     links = [[f"{names[i]}:{1 + p}", f"{names[i + 1]}:{32 + p}"] for i in range(switches) for p in range(31)]
-    topology = {"switches": [{"name": name, "capacity": 64} for name in names], "links": links, "hosts": [f"r0:{32 + p}" for p in range(31)],
+    topology = {"switches": [{"name": name, "capacity": max(64, rules)} for name in names], "links": links, "hosts": [f"r0:{32 + p}" for p in range(31)],
                 "vlans": ["untagged"], "tags": [3000, 3000]}
-    rules = [{"switch": names[i], "priority": 1 + p, "dst": "10.0.0.0/24", "out": 1 + p} for i in range(switches) for p in range(31)]
-    plan = {"format": 2, "kind": "ordered", "rules": rules, "rounds": [[[word, i] for i in range(len(rules))] for word in ("insert", "delete")],
-            "numberings": [list(range(switches, -1, -1))], "befores": [], "uses": [[0, []]], "picks": [[1, c, 0] for c in range(31 * 258)]}
+    sending = [{"switch": names[i], "priority": 1 + p, "dst": "10.0.0.0/24", "out": 1 + p % 31} for i in range(switches) for p in range(rules)]
+    plan = plan_text(sending, [moves(word, range(len(sending))) for word in ("insert", "delete")], 31 * 258, list(range(switches, -1, -1)))
     nothing = {"rules": []}
     policy = {"demands": [{"dst": f"10.0.0.{p}/32"} for p in range(255)]}
     return Workload(CHECK, topology=topology, old=nothing, new=nothing, policy=policy, plan=plan)
+
+
+# ---- runs that break a policy
+
+def either_way(switches, rounds):
+    """A ring with many hosts at its first switch, from which packets go up the ring before a round and down after it, or the other way round. The
+    switches behind it send each packet on the way that it came, so none comes to a switch twice, though some go from each of these switches to the
+    next one and others from that one back. For other addresses the rules lead round the whole ring, but send on only packets that come from the
+    ring, and so none that enters. There are 1024 classes."""
+    ring, last = Ring(switches, 0), switches - 1
+    topology = {**ring.topology(), "hosts": [*(f"r0:{port}" for port in range(10, 72)), "r1:1", f"r{last}:1"]}
+
+    def rule(switch, dst, out, **test):
+        return {"switch": f"r{switch}", "priority": 100, "dst": dst, "out": out, **test}
+
+    up = [rule(i, "10.0.0.0/8", 2 if i < last else 1, in_port=3) for i in range(1, switches)]
+    down = [rule(i, "10.0.0.0/8", 3 if i > 1 else 1, in_port=2) for i in range(1, switches)]
+    whole = [rule(i, "192.168.0.0/16", 2, in_port=3) for i in range(switches)]
+    first = [rule(0, "10.0.0.0/8", out) for out in (2, 3)]
+    config = {"rules": [first[0], *up, *down, *whole]}
+    policy = {"demands": [{"dst": f"10.0.{j}.0/24"} for j in range(11)]}
+    # No evidence: `explain` looks at none.
+    plan = plan_text(first, [moves("replace", [1 - k % 2]) for k in range(rounds)], 0, [0] * switches)
+    return Workload(EXPLAIN, topology=topology, old=config, new=config, policy=policy, plan=plan)
 
 
 # ---- long files
@@ -203,10 +315,20 @@ WORKLOADS = {
     "plan-replaced": ("plan, 2048 rules of equal priority at one switch, all replaced", lambda: replaced_rules(PLAN, 2048)),
     "check-replaced": ("check of that plan", lambda: replaced_rules(CHECK, 2048)),
     "plan-rekeyed": ("plan, 2047 rules of one switch, each with another priority", lambda: rekeyed_rules(2047)),
-    "check-big-rounds": ("check, 268 rounds of 8190 changes at one switch", lambda: toggled_rules(268, 8190, 1)),
-    "check-spread": ("check, 4200 rounds of 523 changes at 128 switches", lambda: toggled_rules(4200, 523, 128)),
+    "check-touched": ("check, 1024 rules of one priority, 64 rounds that replace all and touch all of 8192 classes", lambda: replaced_together(64)),
+    "check-touched-few": ("check, 1024 rules of one priority, 64 rounds of 2 changes that touch all of 8192 classes", lambda: two_below_all(64)),
+    "check-big-rounds": ("check, 268 rounds of 8190 changes at one switch", lambda: toggled_rules(268, ranked_rules(8190, 1))),
+    "check-spread": ("check, 4200 rounds of 523 changes at 128 switches", lambda: toggled_rules(4200, ranked_rules(523, 128), 128)),
+    "check-long-table": ("check, 8000 rules of 8000 priorities at one switch, 4198 rounds of 2 changes", lambda: grown_table(4198, ranked_rules(8000, 1))),
+    "check-kinds": ("check, 8000 rules of one priority and two kinds of tests, 1000 rounds of 2 changes", lambda: grown_table(1000, two_kinds(8000))),
+    "check-kinds-big": ("check, 8000 rules of one priority and two kinds of tests, 268 rounds of 8000 changes", lambda: toggled_rules(268, two_kinds(8000))),
+    "check-clash": ("check, refused: 128,000 inserts in one round, of which the last two clash", lambda: clashing_round(128_000)),
+    "check-repeat": ("check, refused: 128,000 inserts in one round, of which the last two name one key", lambda: repeating_round(128_000)),
     "check-idle": ("check, 4200 rounds of one change over 7900 classes", lambda: idle_rounds(4200)),
     "check-chains": ("check, 8184 classes with 512 chains", lambda: chains(CHECK, 8184)),
+    "explain-chains": ("explain, 8184 classes with 512 chains", lambda: chains(EXPLAIN, 8184)),
     "plan-chains": ("plan, 1056 classes with 512 chains", lambda: chains(PLAN, 1056)),
-    "check-parallel": ("check, 31 parallel links between 16 switches, 8000 classes", lambda: parallel_links(16)),
+    "check-parallel": ("check, 31 parallel links between 16 switches, 8000 classes", lambda: parallel_links(16, 31)),
+    "check-parallel-wide": ("check, 500 rules a switch over 31 parallel links between 16 switches, 8000 classes", lambda: parallel_links(16, 500)),
+    "explain-cycles": ("explain, 4 rounds in a ring of 128 switches, cycles of switches and no repeat, 1024 classes", lambda: either_way(128, 4)),
 }

@@ -6,13 +6,15 @@ use Rattle.net_base.specs.Members.{IsIn}
 use Rattle.net_base.specs.Switches.{has}
 use Rattle.net_base.specs.declared.ids.SwitchId.{SwitchId}
 use Rattle.net_base.proofs.MemberLaws.{each_at, each_from_in}
-use Rattle.topology.specs.Networks.{IsNetwork}
+use Rattle.std.specs.Prelude.{Option, Some, None, IfNone, IfSome}
+use Rattle.demands.specs.Duties.{DemandView}
+use Rattle.topology.specs.Networks.{Network, IsNetwork}
 use Rattle.flow_rules.specs.declared.rules.Rule.{Rule}
 use Rattle.path_walk.specs.UserConfigs.{IsUserConfig}
 use Rattle.dest_classes.specs.Classes.{ClassList, class_count}
 use Rattle.dest_classes.proofs.MapLaws.{number_fits}
 use Rattle.update_model.specs.Changes.{round_after}
-use Rattle.update_model.specs.Mixtures.{tables_before}
+use Rattle.update_model.specs.Mixtures.{Rollout, tables_before}
 use Rattle.update_model.proofs.RoundLaws.{settled_start}
 use Rattle.certificates.specs.Updates.{Task, rollout}
 use Rattle.certificates.specs.Certified.{IsCertified, classes_for, is_two_phase}
@@ -31,15 +33,32 @@ use Rattle.evidence_store.specs.State.{StoreState}
 use Rattle.evidence_store.specs.Stored.{IsStored, no_evidence}
 use Rattle.plan_checker.specs.Checking.{EndsAreGood, EndsAtNew}
 use Rattle.plan_checker.proofs.Stages.{all_passed}
-use Rattle.round_judge.specs.Aims.{HasAtoms}
+use Rattle.round_judge.specs.Aims.{Aim, HasAtoms}
 use Rattle.round_judge.specs.Evidence.{HasEvidenceTo, IsSearchEvidence}
-use Rattle.round_judge.specs.Judged.{IsNextRound, AreSafeBelow, AreWithPicks}
-use Rattle.round_judge.specs.Visits.{marks_at, HoldTables}
+use Rattle.round_judge.specs.Judged.{IsReady, IsNextRound, AreFirstJudged, AreSafeBelow, AreWithPicks}
+use Rattle.round_judge.specs.declared.judging.Verdict.{Verdict}
+use Rattle.round_judge.specs.Visits.{marks_at, HoldTables, HoldAfter}
 use Rattle.round_judge.specs.declared.judging.Found.{Found}
 use Rattle.round_judge.proofs.VisitLaws.{all_come}
 use Rattle.round_judge.proofs.EvidenceLaws.{evidence_none, evidence_more, evidence_whole}
 use Rattle.round_certifier.specs.Standing.{aim_for, ChangesPassTo, IsCertifiedTo}
 use Rattle.round_certifier.proofs.RefusalLaws.{keeps_of}
+
+-- what the rounds of a task are for, part by part
+pub aim_is : (t : Task) (net : Network) (new : List (List Rule)) (demands : List DemandView) (classes : ClassList) → net ≡ t.update.net → new ≡ t.update.new → demands ≡ t.update.demands → classes ≡ classes_for t
+    → (let a : Aim = record { net = net; new = new; demands = demands; classes = classes } in a) ≡ aim_for t
+aim_is t net new demands classes net_is new_is demands_are classes_are =
+    ap (λ (n : Network). record { net = n; new = new; demands = demands; classes = classes }) net_is
+    ∙ ap (λ (ts : List (List Rule)). record { net = t.update.net; new = ts; demands = demands; classes = classes }) new_is
+    ∙ ap (λ (ds : List DemandView). record { net = t.update.net; new = t.update.new; demands = ds; classes = classes }) demands_are
+    ∙ ap (λ (cs : ClassList). record { net = t.update.net; new = t.update.new; demands = t.update.demands; classes = cs }) classes_are
+
+-- what follows where nothing is found, and where something is
+pub when_none : {A : Type 0} (o : Option A) (P : Type 0) → o ≡ None → IfNone o P → P
+when_none o P none h = subst (λ x. IfNone x P) none h
+
+pub when_some : {A : Type 0} (o : Option A) (x : A) (P : A → Type 0) → o ≡ Some x → IfSome o P → P x
+when_some o x P some h = subst (λ y. IfSome y P) some h
 
 -- before the first round
 pub certified_none : (c : CaseView) → IsNetwork c.task.update.net → IsUserConfig c.task.update.net c.task.update.old → (classes : ClassList) → classes ≡ classes_for c.task
@@ -49,9 +68,9 @@ certified_none c net user classes are store empty came count all looked atoms = 
   passed = λ j less. absurd (let f : j < 0 = less in omega arith);
   evidence = subst (λ (s : StoreState). HasEvidenceTo (aim_for c.task) (rollout c.task) 0 s.evidence) (sym empty) (evidence_none (aim_for c.task) (rollout c.task));
   classes = ap (λ (s : StoreState). s.classes) empty ∙ ap (λ (cs : ClassList). class_count cs) are;
-  came = subst (λ (ts : List (List Rule)). HoldTables (aim_for c.task) ts came) (sym (settled_start c.task.rounds c.task.update.old))
+  visits = subst (λ (ts : List (List Rule)). HoldTables (aim_for c.task) ts came) (sym (settled_start c.task.rounds c.task.update.old))
       (all_come (aim_for c.task) c.task.update.old net user refl (class_count classes) (ap (λ (cs : ClassList). class_count cs) are) came count all);
-  looked = subst (λ (cs : ClassList). HasAtoms cs looked) are atoms;
+  atoms = subst (λ (cs : ClassList). HasAtoms cs looked) are atoms;
 }
 
 -- ---- a round
@@ -81,6 +100,26 @@ module _ (c : CaseView) (ordered : is_two_phase c.evidence ≡ false) (k : ℕ) 
     certificates = so_far.certificates;
   }
 
+  -- what is known so far is enough to judge its classes
+  pub ready_for : IsUserConfig c.task.update.net c.task.update.old → (mixes : List MixedState) → AreLoaded (rollout c.task) k mixes → (store : StoreState) (came : List ℕ) (looked : List Bool)
+      → IsCertifiedTo c k store came looked → (aim : Aim) → aim ≡ aim_for c.task → IsReady aim mixes store
+  ready_for user mixes loaded store came looked so_far aim is = subst (λ (a : Aim). IsReady a mixes store) (sym is) (record {
+    round = (rollout c.task, k, round_of user mixes loaded);
+    numberings = so_far.evidence.numberings;
+    classes = so_far.classes;
+  })
+
+  -- what is found for them
+  pub judged_here : IsUserConfig c.task.update.net c.task.update.old → k < length c.task.rounds → (mixes : List MixedState) → AreLoaded (rollout c.task) k mixes
+      → (store : StoreState) (came : List ℕ) (looked : List Bool) → IsCertifiedTo c k store came looked → (aim : Aim) → aim ≡ aim_for c.task → (v : Verdict) (new : List ℕ)
+      → ((u : Rollout) (j : ℕ) → IsRoundOf aim.net mixes u j → IsNextRound aim u store.evidence j (round_after k c.task.rounds) → HoldTables aim (tables_before u j) came
+      → AreFirstJudged aim u store.evidence j v × HoldAfter aim u j v new)
+      → AreFirstJudged (aim_for c.task) (rollout c.task) store.evidence k v × HoldAfter (aim_for c.task) (rollout c.task) k v new
+  judged_here user within mixes loaded store came looked so_far aim is v new all =
+      subst (λ (a : Aim). (u : Rollout) (j : ℕ) → IsRoundOf a.net mixes u j → IsNextRound a u store.evidence j (round_after k c.task.rounds) → HoldTables a (tables_before u j) came
+      → AreFirstJudged a u store.evidence j v × HoldAfter a u j v new) is all
+      (rollout c.task) k (round_of user mixes loaded) (next_round within store.evidence so_far.evidence) so_far.visits
+
   -- after it
   pub certified_more : k < length c.task.rounds → (store new : StoreState) → HasEvidenceTo (aim_for c.task) (rollout c.task) k store.evidence → store.classes ≡ class_count (classes_for c.task)
       → (found : List Found) → AreSafeBelow (aim_for c.task) (rollout c.task) store.evidence k (class_count (classes_for c.task)) found → (round : ℕ) → round ≡ suc k
@@ -91,8 +130,8 @@ module _ (c : CaseView) (ordered : is_two_phase c.evidence ≡ false) (k : ℕ) 
     evidence = evidence_more (aim_for c.task) (rollout c.task) refl k within store.evidence new.evidence found so_far stored_old safe
         (subst (λ n. AreWithPicks store.evidence n found new.evidence) number added) stored;
     classes = same ∙ classes;
-    came = held;
-    looked = atoms;
+    visits = held;
+    atoms = atoms;
   }
 
 -- ---- after the last round

@@ -1,2 +1,3 @@
 pub mod RefusalLaws
 pub mod CertifiedLaws
+pub mod LookedLaws

@@ -25,5 +25,5 @@ pub record IsCertifiedTo (c : CaseView) (k : ℕ) (store : StoreState) (came : L
   pub passed : ChangesPassTo c.task c.evidence k
   pub evidence : HasEvidenceTo (aim_for c.task) (rollout c.task) k store.evidence
   pub classes : store.classes ≡ class_count (classes_for c.task)
-  pub came : HoldTables (aim_for c.task) (tables_before (rollout c.task) k) came
-  pub looked : HasAtoms (classes_for c.task) looked
+  pub visits : HoldTables (aim_for c.task) (tables_before (rollout c.task) k) came
+  pub atoms : HasAtoms (classes_for c.task) looked
