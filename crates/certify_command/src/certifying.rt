@@ -1,10 +1,10 @@
 //! What is said of the rounds of a plan: too many classes, the text with evidence that certifies them, or why none does.
-ghost use Rattle.std.specs.Prelude.{◌≡◌, ◌≤◌, IfOk, IfErr};
+ghost use Rattle.std.specs.Prelude.{◌≡◌, ◌≤◌, IfOk, IfErr, OnOk, false};
 ghost use Rattle.flow_rules.specs.Tables.{rules_of_all};
 ghost use Rattle.path_walk.specs.UserConfigs.{IsUserConfig};
 ghost use Rattle.dest_classes.specs.Classes.{class_count};
 ghost use Rattle.certificates.specs.Valid.{IsValidPlan};
-ghost use Rattle.certificates.specs.Certified.{IsCertified, classes_for};
+ghost use Rattle.certificates.specs.Certified.{IsCertified, classes_for, is_two_phase};
 ghost use Rattle.certificates.specs.Updates.{task_for, rollout};
 ghost use Rattle.certificates.specs.declared.Evidence.TheVariants.{Ordered};
 ghost use Rattle.plan_checker.specs.Fits.{Fits};
@@ -98,6 +98,7 @@ fn find_evidence(
         IsCertified (task_for (meaning_of files.now) plan.now) (Ordered e)) }
     ensures valid { IfOk result (λ e. IsValidPlan files.now.net
         (record { rounds = plan.now.rounds; evidence = Ordered e })) }
+    ensures ordered { OnOk result (is_two_phase plan.now.evidence ≡ false) }
     ensures refused { IfErr result (OfRefusal (IsFirstRefusal
         (case_in (record { update = meaning_of files.now; plan = plan.now })))) }
     ensures none { IfErr result (OfRefusal (λ _.
