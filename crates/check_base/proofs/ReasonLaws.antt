@@ -16,7 +16,7 @@ use Rattle.check_base.specs.ReasonLines.{class_named}
 abbrev NamedFits : Task → Reason → Type 0
 NamedFits t r = IfSome (class_named r) (λ n. n < class_count (classes_for t))
 
-common_fits : (t : Task) (i : ℕ) (r : Reason) → IsCommonReason t i r → NamedFits t r
+pub common_fits : (t : Task) (i : ℕ) (r : Reason) → IsCommonReason t i r → NamedFits t r
 common_fits t i r (old_breaks breaks first) = number_fits (classes_for t) breaks.class first.class first.is_class
 common_fits t i r (new_breaks breaks first) = number_fits (classes_for t) breaks.class first.class first.is_class
 common_fits t i r (bad_change k c s bad) = tt

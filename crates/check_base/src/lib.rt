@@ -7,4 +7,5 @@ mod reason_lines;
 mod refused;
 
 pub use crate::names::{CheckNames, check_names};
+pub use crate::reason_lines::{class_named, refused_line};
 pub use crate::refused::{class_of, refused_reply};

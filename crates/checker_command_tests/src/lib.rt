@@ -4,6 +4,8 @@
 #[cfg(test)]
 mod answers;
 #[cfg(test)]
+mod certify_command_tests;
+#[cfg(test)]
 mod check_command_tests;
 #[cfg(test)]
 mod damaged_plans;

@@ -167,6 +167,7 @@ pub fn certify(
     ensures valid { IfOk result (λ e. IsValidPlan case.now.task.update.net
         (record { rounds = case.now.task.rounds; evidence = Ordered e })) }
     ensures refused { IfErr result (OfRefusal (IsFirstRefusal case.now)) }
+    ensures ordered { OnOk result (is_two_phase case.now.evidence ≡ false) }
 
     // No evidence certifies the rounds that are refused.
     ensures none { IfErr result (OfRefusal (λ _. is_two_phase case.now.evidence ≡ false

@@ -1,0 +1,120 @@
+//! `certify` over files in memory.
+use crate::answers::{check_names, checked, held};
+use certify_command::certify;
+use command_base::Status;
+use example_files::{
+    Answer, UpdateTexts, answer_of, detour, detour_plans, leaves, none, single, square, triangle,
+    wide,
+};
+use std::alloc::Global;
+use std::process::Abort;
+
+/// What is answered, where the call of the given number fails.
+fn answered(
+    rt: &impl Abort,
+    alloc: Global,
+    texts: &UpdateTexts<'_>,
+    plan: &[u8],
+    failing: u64,
+) -> Answer {
+    let mut source = held(rt, alloc, texts, plan, failing);
+    answer_of(alloc, certify(alloc, &mut source, &check_names()))
+}
+
+/// Each of the plans is answered so, with its text.
+fn are_answered(
+    rt: &impl Abort,
+    alloc: Global,
+    rows: &[(UpdateTexts<'_>, &[u8], &[u8])],
+    want: Status,
+) {
+    for (i, (texts, plan, text)) in rows.iter().enumerate() {
+        let answer = answered(rt, alloc, texts, plan, 0);
+        assert!(rt; answer.is(want, text), "row {i}");
+    }
+}
+
+#[test]
+fn rounds_of_a_search_get_its_evidence(rt: HostRuntime) {
+    let rows: [(UpdateTexts<'_>, &[u8], &[u8]); 4] = [
+        (square::update(), square::plan(), square::plan()),
+        (square::update(), square::plan_in_format_1(), square::plan()),
+        (square::update(), square::a_pick_too_few(), square::plan()),
+        (leaves::update(), leaves::plan(), leaves::plan()),
+    ];
+    are_answered(&rt, rt.alloc(), &rows, Status::Done);
+}
+
+#[test]
+fn what_is_written_is_accepted(rt: HostRuntime) {
+    let alloc = rt.alloc();
+    let plan = detour_plans::chain_in_format_1();
+    let written = answered(&rt, alloc, &detour::chain_update(), plan, 0);
+    assert!(rt; matches!(&written.status, Status::Done));
+    let answer = checked(&rt, alloc, &detour::chain_update(), &written.text, 0);
+    let line = b"accepted: ordered, 1 rounds, 6 classes\n";
+    assert!(rt; answer.is(Status::Done, line));
+}
+
+#[test]
+fn rounds_without_evidence_are_refused(rt: HostRuntime) {
+    let rows: [(UpdateTexts<'_>, &[u8], &[u8]); 8] = [
+        (
+            square::update(),
+            square::both_at_once(),
+            b"no evidence: round 1 at s1:1 untagged 10.0.0.0\n",
+        ),
+        (
+            detour::update(),
+            detour_plans::past_the_waypoint(),
+            b"no evidence: round 1 at s:1 untagged 10.0.0.0\n",
+        ),
+        (
+            detour::update(),
+            detour_plans::two_phases(),
+            b"no evidence: two-phase plan\n",
+        ),
+        // A configuration that isn't good comes before the rounds.
+        (
+            triangle::loop_kept(),
+            none::no_rounds_in_format_1(),
+            b"refused: 1 EndBreaks old at h:1 untagged 10.0.0.0 Loop a\n",
+        ),
+        (
+            square::update(),
+            square::nothing_to_delete(),
+            b"refused: 2 BadChange round 1 switch s1 change 0\n",
+        ),
+        (
+            single::small_update(),
+            single::too_full(),
+            b"refused: 4 OverCapacity round 1 switch a need 2\n",
+        ),
+        (
+            square::update(),
+            square::rewrites(),
+            b"refused: 5 Rewrites round 1 switch s1\n",
+        ),
+        (
+            square::update(),
+            none::no_rounds_in_format_1(),
+            b"refused: 13 WrongEnd switch s1\n",
+        ),
+    ];
+    are_answered(&rt, rt.alloc(), &rows, Status::Refused);
+}
+
+#[test]
+fn an_update_has_at_most_8192_classes(rt: HostRuntime) {
+    let alloc = rt.alloc();
+    let topology = wide::topology(alloc).expect(&rt, "a topology");
+    let plan = none::no_rounds_in_format_1();
+    let answer = answered(&rt, alloc, &wide::update(&topology), plan, 0);
+    assert!(rt; answer.is(Status::BadFile, b"too many classes: 12288\n"));
+}
+
+#[test]
+fn a_fault_of_reading_ends_it(rt: HostRuntime) {
+    let answer = answered(&rt, rt.alloc(), &square::update(), square::plan(), 5);
+    assert!(rt; answer.is(Status::ReadFault, b""));
+}
