@@ -61,7 +61,8 @@ pub fn certify<S: Source>(
     source: &mut S,
     names: &CheckNames<'_>,
 ) -> Result<Reply, Exit>
-    ensures meets { Meets IsCertifyAnswer (S.held source.old) (check_dialogue (names_seen names.now))
+    ensures meets { Meets IsCertifyAnswer (S.held source.old)
+        (check_dialogue (names_seen names.now))
         (S.faults source.old) (S.faults source.new) result (S.selected source.new)
         (S.taken source.new) }
     ensures held { S.held source.new ≡ S.held source.old }
