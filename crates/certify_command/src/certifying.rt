@@ -142,7 +142,11 @@ fn judge_rounds(
             drop(plan);
             cause_reply(alloc, &files.net, class, cause)
         }
-        Err(CertifyFault::Memory) => Err(Memory),
+        Err(CertifyFault::Memory) => {
+            drop(room);
+            drop(plan);
+            Err(Memory)
+        }
     }
 }
 
@@ -169,6 +173,9 @@ pub(crate) fn rounds_reply(alloc: Global, files: &UpdateFiles, plan: Plan) -> Re
             drop(plan);
             too_many_reply(alloc, classes)
         }
-        Err(RoomFault::Memory) => Err(Memory),
+        Err(RoomFault::Memory) => {
+            drop(plan);
+            Err(Memory)
+        }
     }
 }
