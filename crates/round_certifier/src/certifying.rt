@@ -1,5 +1,5 @@
 //! Rounds, one after the other, and the evidence for them.
-ghost use Rattle.std.specs.Prelude.{◌≡◌, suc, ◌<◌, true, false, length, IfOk, IfErr, IfSome, IfNone};
+ghost use Rattle.std.specs.Prelude.{◌≡◌, suc, ◌<◌, true, false, length, IfOk, IfErr, IfSome, IfNone, OnOk};
 ghost use Rattle.certificates.specs.Updates.{rollout};
 ghost use Rattle.certificates.specs.Certified.{IsCertified, is_two_phase};
 ghost use Rattle.certificates.specs.Valid.{IsValidPlan};
