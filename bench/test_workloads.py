@@ -231,7 +231,7 @@ class AnswerTests(unittest.TestCase):
             (workloads.replaced_together(2), "accepted: ordered, 2 rounds, 8192 classes\n"),
             (workloads.two_below_all(2), "accepted: ordered, 2 rounds, 8192 classes\n"),
             (workloads.parallel_links(2, 62), "accepted: ordered, 2 rounds, 7998 classes\n"),
-            (workloads.either_way(5, 4), "no run: every mixed walk is good\n"),
+            (workloads.either_way(3, 2), "no run: every mixed walk is good\n"),
         ]
         for workload, said in rows:
             with self.subTest(said), tempfile.TemporaryDirectory() as folder:
