@@ -9,6 +9,11 @@ use example_files::{
 use std::alloc::Global;
 use std::process::Abort;
 
+/// All changes of the leaves at once, without evidence.
+fn leaves_at_once() -> &'static [u8] {
+    br#"{"format":1,"kind":"ordered","rounds":[[{"do":"replace","switch":"l1","priority":100,"dst":"10.1.2.0/24","out":4},{"do":"replace","switch":"l1","priority":100,"dst":"10.1.3.0/24","out":4},{"do":"replace","switch":"l1","priority":100,"dst":"10.1.4.0/24","out":4},{"do":"replace","switch":"l2","priority":100,"dst":"10.1.1.0/24","out":4},{"do":"replace","switch":"l2","priority":100,"dst":"10.1.3.0/24","out":4},{"do":"replace","switch":"l2","priority":100,"dst":"10.1.4.0/24","out":4},{"do":"replace","switch":"l3","priority":100,"dst":"10.1.1.0/24","out":4},{"do":"replace","switch":"l3","priority":100,"dst":"10.1.2.0/24","out":4},{"do":"replace","switch":"l3","priority":100,"dst":"10.1.4.0/24","out":4},{"do":"replace","switch":"l4","priority":100,"dst":"10.1.1.0/24","out":4},{"do":"replace","switch":"l4","priority":100,"dst":"10.1.2.0/24","out":4},{"do":"replace","switch":"l4","priority":100,"dst":"10.1.3.0/24","out":4}]],"numberings":[],"befores":[],"picks":[]}"#
+}
+
 /// What is answered, where the call of the given number fails.
 fn answered(
     rt: &impl Abort,
@@ -47,13 +52,24 @@ fn rounds_of_a_search_get_its_evidence(rt: HostRuntime) {
 
 #[test]
 fn what_is_written_is_accepted(rt: HostRuntime) {
+    let rows: [(UpdateTexts<'_>, &[u8], &[u8]); 2] = [
+        (
+            detour::chain_update(),
+            detour_plans::chain_in_format_1(),
+            b"accepted: ordered, 1 rounds, 6 classes\n",
+        ),
+        (
+            leaves::update(),
+            leaves_at_once(),
+            b"accepted: ordered, 1 rounds, 96 classes\n",
+        ),
+    ];
     let alloc = rt.alloc();
-    let plan = detour_plans::chain_in_format_1();
-    let written = answered(&rt, alloc, &detour::chain_update(), plan, 0);
-    assert!(rt; matches!(&written.status, Status::Done));
-    let answer = checked(&rt, alloc, &detour::chain_update(), &written.text, 0);
-    let line = b"accepted: ordered, 1 rounds, 6 classes\n";
-    assert!(rt; answer.is(Status::Done, line));
+    for (i, (texts, plan, line)) in rows.iter().enumerate() {
+        let written = answered(&rt, alloc, texts, plan, 0);
+        let answer = checked(&rt, alloc, texts, &written.text, 0);
+        assert!(rt; answer.is(Status::Done, line), "row {i}");
+    }
 }
 
 #[test]

@@ -1,4 +1,4 @@
-//! Tests of `plan` and `sample`, of `check` on what was planned, and of evidence for rounds of one's own.
+//! Tests of `plan` and `sample`, and of `check` on what was planned.
 #![tactic(auto)]
 
 #[cfg(test)]
@@ -7,7 +7,5 @@ mod neighbours;
 mod plan_command_tests;
 #[cfg(test)]
 mod retried;
-#[cfg(test)]
-mod round_certifier_tests;
 #[cfg(test)]
 mod sample_command_tests;
