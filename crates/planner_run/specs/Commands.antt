@@ -54,6 +54,19 @@ pub data Asked : Type 0 where
   Drive : drive.DriveNames → Asked
   Sample : ℕ → Asked
 
+-- what the words after the name of a command on runs or on switches, or of `sample`, ask for
+abbrev pub later_asked : List ℕ → List (List ℕ) → Option Asked
+later_asked name words =
+    if bytes_eq name (codes "replay") then option_map Replay (replay.names_in words)
+    else if bytes_eq name (codes "tables") then option_map Tables (replay.names_in words)
+    else if bytes_eq name (codes "trace") then option_map Trace (trace.names_in words)
+    else if bytes_eq name (codes "simulate") then option_map Simulate (simulate.names_in words)
+    else if bytes_eq name (codes "explain") then option_map Explain (check.names_in words)
+    else if bytes_eq name (codes "import") then option_map Import (imports.names_in words)
+    else if bytes_eq name (codes "drive") then option_map Drive (drive.names_in words)
+    else if bytes_eq name (codes "sample") then option_map Sample (sample.size_in words)
+    else None
+
 -- what the words after the program's name ask for; nothing where they are none of the listed forms
 abbrev pub asked : List (List ℕ) → Option Asked
 asked [] = None
@@ -65,15 +78,7 @@ asked (name ∷ words) =
     else if bytes_eq name (codes "plan") then option_map Plan (base.update_names_in words)
     else if bytes_eq name (codes "upgrade") then option_map Upgrade (base.plan_names_in words)
     else if bytes_eq name (codes "emit") then option_map Emit (base.plan_names_in words)
-    else if bytes_eq name (codes "replay") then option_map Replay (replay.names_in words)
-    else if bytes_eq name (codes "tables") then option_map Tables (replay.names_in words)
-    else if bytes_eq name (codes "trace") then option_map Trace (trace.names_in words)
-    else if bytes_eq name (codes "simulate") then option_map Simulate (simulate.names_in words)
-    else if bytes_eq name (codes "explain") then option_map Explain (check.names_in words)
-    else if bytes_eq name (codes "import") then option_map Import (imports.names_in words)
-    else if bytes_eq name (codes "drive") then option_map Drive (drive.names_in words)
-    else if bytes_eq name (codes "sample") then option_map Sample (sample.size_in words)
-    else None
+    else later_asked name words
 
 -- a command without where its names lie in memory
 abbrev pub seen : Command → Asked
