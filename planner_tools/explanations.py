@@ -16,6 +16,7 @@ LIMITS = {"plan": "512 MiB", "schedule": "64 MiB", "input": "64 MiB"}
 # Files longer than this aren't looked at for the place of a fault.
 LONGEST = 16 << 20
 BAD = re.compile(r"bad (\w+): (\d+) (\w+)(?: (\S+))? at (\d+)")
+NO_EVIDENCE = re.compile(r"no evidence: round (\d+) at (\S+) (\S+) ([\d.]+)")
 CLASS = re.compile(r"(\S+) (\S+) ([\d.]+)")
 
 
@@ -80,6 +81,8 @@ class Explainer:
         elif line.startswith("no run: two-phase"):
             self.voice.refuse("a two-phase plan has no mixed walks to look through: `explain` is for ordered plans",
                               [f"`{self.command('check', 'TOPO', 'OLD', 'NEW', 'POLICY', 'PLAN')}` says whether it is certified"])
+        elif line.startswith("no evidence: "):
+            self.explain_no_evidence()
         elif line.startswith("no entry: "):
             self.explain_no_entry()
         elif line.startswith("refused: 1 "):
@@ -122,6 +125,19 @@ class Explainer:
             if values.get("from", "any") in ("any", host) and str(values.get("vlan", "any")) in ("any", vlan) and nets.covers(values["dst"], address):
                 lines.append(f"{policy.where(demand.start)}, demands[{number}] wants of it: {demand_words(values)}")
         return lines or [f"no demand of {self.shown('POLICY')} covers it: wanted is only that it comes to no switch twice"]
+
+    def explain_no_evidence(self):
+        """No evidence certifies the rounds of a plan."""
+        if self.first == "no evidence: two-phase plan":
+            self.voice.refuse("a two-phase plan has labels as its evidence, and no other can be made: `certify` is for ordered plans",
+                              [f"`{self.command('check', 'TOPO', 'OLD', 'NEW', 'POLICY', 'PLAN')}` says whether it is certified"])
+            return
+        round_, host, vlan, address = NO_EVIDENCE.fullmatch(self.first).groups()
+        more = [line for word in ("OLD", "NEW") for line in self.path_lines(word, host, vlan, address)] + self.wanted_lines(host, vlan, address)
+        self.voice.refuse(f"No evidence keeps a packet that enters at {host} {nets.vlan_words(vlan)} for {address} safe in round {round_}, in whatever order its "
+                          "changes are made.",
+                          more + [f"Next: `{self.command('explain', 'TOPO', 'OLD', 'NEW', 'POLICY', 'PLAN')}` looks for a run in which a packet breaks the policy",
+                                  "Next: make some of the changes of that round in a later one"])
 
     def explain_no_entry(self):
         _, _, entry, vlan = self.first.split(" ", 3)

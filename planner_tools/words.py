@@ -59,6 +59,11 @@ PROVED = [
             "packet comes to a switch twice, each that leaves has met its waypoints, none that must arrive is dropped, and under a two-phase plan each packet "
             "takes the old or the new path. The answer is `accepted` with the kind of the plan and the numbers of rounds and classes, or `refused` with the "
             "first reason. A reason says what the plan's evidence lacks, and not that the plan is unsafe."),
+    Command("certify", "TOPO OLD NEW POLICY PLAN",
+            "the rounds of a plan with evidence that certifies them, whatever evidence the plan has; otherwise why none does",
+            "Writes the plan in format 2 with evidence made anew for its rounds. The plan's own evidence is passed over: empty lists serve, so rounds can come "
+            "from any planner, or from hand. Where no evidence certifies the rounds, the answer is `refused` with a reason of `check` that doesn't speak of "
+            "evidence, or `no evidence` with the first round and the first class of packets that none keeps safe in it. It refuses two-phase plans."),
     Command("explain", "TOPO OLD NEW POLICY PLAN",
             "of an ordered plan a run in which a packet breaks the policy, event by event, where there is one; otherwise that there is none",
             "Writes the schedule of a run in which a packet comes to a switch twice, leaves without having met its waypoints, or is dropped though it must "
@@ -155,6 +160,7 @@ WISHES = [
     ("where each class of packets goes, and by which rules one packet", ["paths", "trace"]),
     ("a plan from the old rules to the new ones", ["plan"]),
     ("whether a plan is safe, whoever made it", ["check"]),
+    ("evidence for rounds of my own", ["certify"]),
     ("what goes wrong under a plan that isn't", ["explain"]),
     ("a plan, rules or a run in words, or in the browser", ["show", "page"]),
     ("to try a plan: a run of it, where its packets went, and the tables then", ["simulate", "replay", "tables"]),
@@ -165,7 +171,7 @@ WISHES = [
 ]
 BY_NAME = {command.name: command for command in COMMANDS}
 # Commands of the program that are newer than some builds of it.
-NEW = ("paths", "trace", "tables")
+NEW = ("paths", "trace", "tables", "certify")
 
 DESCRIPTION = (
     "plans and checks updates of OpenFlow 1.0 flow tables while packets flow. From a network, the rules now, the rules wanted and what packets must do, it "

@@ -10,9 +10,10 @@ import unittest
 import rows
 
 sys.path.insert(0, rows.ROOT)
-from planner_tools import program, words  # noqa: E402
+from planner_tools import program  # noqa: E402
 
-# A program that answers as PLANNER does, but for the commands that are newer than the rows: it has none of them.
+# A program that answers as PLANNER does, but for the commands that show paths and tables: the rows of said.txt are without these lines.
+WITHOUT = ("paths", "trace", "tables")
 OLDER = """#!/bin/sh
 case "$1" in {names}) echo "unknown command or wrong words"; exit 2 ;; esac
 exec {program} "$@"
@@ -26,7 +27,7 @@ class Said(unittest.TestCase):
         cls.addClassCleanup(cls.room.cleanup)
         cls.older = os.path.join(cls.room.name, "older")
         with open(cls.older, "w", encoding="utf-8") as file:
-            file.write(OLDER.format(names=" | ".join(words.NEW), program=os.path.abspath(program.path())))
+            file.write(OLDER.format(names=" | ".join(WITHOUT), program=os.path.abspath(program.path())))
         os.chmod(cls.older, stat.S_IRWXU)
 
     def setUp(self):

@@ -15,6 +15,7 @@ use Rattle.paths_command.specs.Listed.{IsPathsAnswer}
 use Rattle.check_base.specs.Names as check
 use Rattle.check_base.specs.Checks.{CheckMeaning, check_dialogue}
 use Rattle.check_command.specs.Checks.{IsCheckAnswer}
+use Rattle.certify_command.specs.Answers.{IsCertifyAnswer}
 use Rattle.plan_command.specs.Planned.{IsPlanned}
 use Rattle.replay_command.specs.Names as replay
 use Rattle.replay_command.specs.Replayed.{ReplayMeaning, replay_dialogue, IsReplayAnswer}
@@ -40,6 +41,7 @@ pub data Asked : Type 0 where
   Config : config.ConfigNames → Asked
   Paths : config.ConfigNames → Asked
   Check : check.CheckNames → Asked
+  Certify : check.CheckNames → Asked
   Plan : UpdateNames → Asked
   Upgrade : PlanNames → Asked
   Emit : PlanNames → Asked
@@ -52,17 +54,10 @@ pub data Asked : Type 0 where
   Drive : drive.DriveNames → Asked
   Sample : ℕ → Asked
 
--- what the words after the program's name ask for; nothing where they are none of the listed forms
-abbrev pub asked : List (List ℕ) → Option Asked
-asked [] = None
-asked (name ∷ words) =
-    if bytes_eq name (codes "config") then option_map Config (config.names_in words)
-    else if bytes_eq name (codes "paths") then option_map Paths (config.names_in words)
-    else if bytes_eq name (codes "check") then option_map Check (check.names_in words)
-    else if bytes_eq name (codes "plan") then option_map Plan (base.update_names_in words)
-    else if bytes_eq name (codes "upgrade") then option_map Upgrade (base.plan_names_in words)
-    else if bytes_eq name (codes "emit") then option_map Emit (base.plan_names_in words)
-    else if bytes_eq name (codes "replay") then option_map Replay (replay.names_in words)
+-- what the words after the name of a command on runs or on switches, or of `sample`, ask for
+abbrev pub later_asked : List ℕ → List (List ℕ) → Option Asked
+later_asked name words =
+    if bytes_eq name (codes "replay") then option_map Replay (replay.names_in words)
     else if bytes_eq name (codes "tables") then option_map Tables (replay.names_in words)
     else if bytes_eq name (codes "trace") then option_map Trace (trace.names_in words)
     else if bytes_eq name (codes "simulate") then option_map Simulate (simulate.names_in words)
@@ -72,11 +67,25 @@ asked (name ∷ words) =
     else if bytes_eq name (codes "sample") then option_map Sample (sample.size_in words)
     else None
 
+-- what the words after the program's name ask for; nothing where they are none of the listed forms
+abbrev pub asked : List (List ℕ) → Option Asked
+asked [] = None
+asked (name ∷ words) =
+    if bytes_eq name (codes "config") then option_map Config (config.names_in words)
+    else if bytes_eq name (codes "paths") then option_map Paths (config.names_in words)
+    else if bytes_eq name (codes "check") then option_map Check (check.names_in words)
+    else if bytes_eq name (codes "certify") then option_map Certify (check.names_in words)
+    else if bytes_eq name (codes "plan") then option_map Plan (base.update_names_in words)
+    else if bytes_eq name (codes "upgrade") then option_map Upgrade (base.plan_names_in words)
+    else if bytes_eq name (codes "emit") then option_map Emit (base.plan_names_in words)
+    else later_asked name words
+
 -- a command without where its names lie in memory
 abbrev pub seen : Command → Asked
 seen (command.Config names) = Config (config.names_seen names)
 seen (command.Paths names) = Paths (config.names_seen names)
 seen (command.Check names) = Check (check.names_seen names)
+seen (command.Certify names) = Certify (check.names_seen names)
 seen (command.Plan names) = Plan (base.names_seen names)
 seen (command.Upgrade names) = Upgrade (base.plan_names_seen names)
 seen (command.Emit names) = Emit (base.plan_names_seen names)
@@ -94,6 +103,7 @@ pub data Ending : Type 0 where
   OfConfig : ConfigMeaning → Ending
   OfPaths : ConfigMeaning → Ending
   OfCheck : CheckMeaning → Ending
+  OfCertify : CheckMeaning → Ending
   OfPlan : Update → Ending
   OfUpgrade : PlanMeaning → Ending
   OfEmit : PlanMeaning → Ending
@@ -116,6 +126,7 @@ abbrev pub IsSaid : Ending → Answer → Type 0
 IsSaid (OfConfig m) answer = IsConfigAnswer m answer
 IsSaid (OfPaths m) answer = IsPathsAnswer m answer
 IsSaid (OfCheck m) answer = IsCheckAnswer m answer
+IsSaid (OfCertify m) answer = IsCertifyAnswer m answer
 IsSaid (OfPlan u) answer = IsPlanned u answer
 IsSaid (OfUpgrade m) answer = IsUpgradeAnswer m answer
 IsSaid (OfEmit m) answer = IsEmitAnswer m answer
@@ -134,6 +145,7 @@ abbrev pub dialogue_of : Asked → Dialogue Ending
 dialogue_of (Config names) = and_then (config_dialogue names) (λ m. Ends (OfConfig m))
 dialogue_of (Paths names) = and_then (config_dialogue names) (λ m. Ends (OfPaths m))
 dialogue_of (Check names) = and_then (check_dialogue names) (λ m. Ends (OfCheck m))
+dialogue_of (Certify names) = and_then (check_dialogue names) (λ m. Ends (OfCertify m))
 dialogue_of (Plan names) = and_then (reading_update names) (λ u. Ends (OfPlan u))
 dialogue_of (Upgrade names) = and_then (reading_plan_files names) (λ m. Ends (OfUpgrade m))
 dialogue_of (Emit names) = and_then (reading_plan_files names) (λ m. Ends (OfEmit m))

@@ -1,6 +1,6 @@
 //! The words of the command line.
 ghost use Rattle.std.specs.Prelude.{◌≡◌, map, string_bytes, option_map};
-ghost use Rattle.planner_run.specs.Commands.{asked, seen};
+ghost use Rattle.planner_run.specs.Commands.{asked, later_asked, seen};
 
 use check_base::{CheckNames, check_names};
 use command_base::{PlanNames, UpdateNames, plan_names, update_names};
@@ -18,6 +18,7 @@ pub enum Command<'a> {
     Config(ConfigNames<'a>),
     Paths(ConfigNames<'a>),
     Check(CheckNames<'a>),
+    Certify(CheckNames<'a>),
     Plan(UpdateNames<'a>),
     Upgrade(PlanNames<'a>),
     Emit(PlanNames<'a>),
@@ -31,20 +32,12 @@ pub enum Command<'a> {
     Sample(RingSize),
 }
 
-/// What the words after the program's name ask for; nothing where they are none of the listed forms.
-pub fn command_of(words: &[String]) -> Option<Command<'_>>
-    ensures { option_map seen result ≡ asked (map string_bytes words.now) }
+/// What the words after a name ask for, if it is that of one of the commands on runs and on switches, or `sample`; nothing
+/// where they are none of the listed forms.
+fn later_command_of<'a>(name: &str, rest: &'a [String]) -> Option<Command<'a>>
+    ensures { option_map seen result ≡ later_asked name.now (map string_bytes rest.now) }
 {
-    let [name, rest @ ..] = words else {
-        return None;
-    };
-    match name.as_str() {
-        "config" => config_names(rest).map(Command::Config),
-        "paths" => config_names(rest).map(Command::Paths),
-        "check" => check_names(rest).map(Command::Check),
-        "plan" => update_names(rest).map(Command::Plan),
-        "upgrade" => plan_names(rest).map(Command::Upgrade),
-        "emit" => plan_names(rest).map(Command::Emit),
+    match name {
         "replay" => replay_names(rest).map(Command::Replay),
         "tables" => replay_names(rest).map(Command::Tables),
         "trace" => trace_names(rest).map(Command::Trace),
@@ -57,5 +50,24 @@ pub fn command_of(words: &[String]) -> Option<Command<'_>>
             None => None,
         },
         _ => None,
+    }
+}
+
+/// What the words after the program's name ask for; nothing where they are none of the listed forms.
+pub fn command_of(words: &[String]) -> Option<Command<'_>>
+    ensures { option_map seen result ≡ asked (map string_bytes words.now) }
+{
+    let [name, rest @ ..] = words else {
+        return None;
+    };
+    match name.as_str() {
+        "config" => config_names(rest).map(Command::Config),
+        "paths" => config_names(rest).map(Command::Paths),
+        "check" => check_names(rest).map(Command::Check),
+        "certify" => check_names(rest).map(Command::Certify),
+        "plan" => update_names(rest).map(Command::Plan),
+        "upgrade" => plan_names(rest).map(Command::Upgrade),
+        "emit" => plan_names(rest).map(Command::Emit),
+        _ => later_command_of(name.as_str(), rest),
     }
 }

@@ -12,6 +12,7 @@ ghost use Rattle.config_command.specs.Promise.{ConfigPromise};
 ghost use Rattle.paths_command.specs.Promise.{PathsPromise};
 ghost use Rattle.check_base.specs.Names.{CheckNames};
 ghost use Rattle.check_command.specs.Promise.{CheckPromise};
+ghost use Rattle.certify_command.specs.Promise.{CertifyPromise};
 ghost use Rattle.plan_command.specs.Promise.{PlanPromise};
 ghost use Rattle.upgrade_command.specs.Promise.{UpgradePromise};
 ghost use Rattle.emit_command.specs.Promise.{EmitPromise};
@@ -29,9 +30,11 @@ ghost use Rattle.drive_command.specs.Names.{DriveNames};
 ghost use Rattle.drive_command.specs.Promise.{DrivePromise};
 ghost use Rattle.sample_command.specs.Summaries.{SaysSummary};
 ghost use Rattle.sample_command.specs.Promise.{SamplePromise};
-ghost use Rattle.planner_run.specs.Commands.{Config, Paths, Check, Plan, Upgrade, Emit, Replay, Tables, Trace, Simulate, Explain, Import, Drive, Sample, asked, seen, dialogue, dialogue_of, IsSaid, usage_line};
+ghost use Rattle.planner_run.specs.Commands.{Config, Paths, Check, Certify, Plan, Upgrade, Emit, Replay, Tables, Trace, Simulate, Explain, Import, Drive, Sample, asked, seen, dialogue, dialogue_of, IsSaid, usage_line};
 
 use crate::command::{Command, command_of};
+use certify_command::certify;
+use certify_command::laws::certify_promised;
 use check_command::check;
 use check_command::laws::check_promised;
 use command_base::{Exit, Reply, Status};
@@ -92,6 +95,7 @@ fn reply_to<S: Source>(alloc: Global, command: &Command<'_>, source: &mut S) -> 
         Command::Config(names) => config(alloc, source, names),
         Command::Paths(names) => paths(alloc, source, names),
         Command::Check(names) => check(alloc, source, names),
+        Command::Certify(names) => certify(alloc, source, names),
         Command::Plan(names) => plan(alloc, source, names),
         Command::Upgrade(names) => upgrade(alloc, source, names),
         Command::Emit(names) => emit(alloc, source, names),
@@ -218,6 +222,9 @@ pub fn run<S: Source, K: Sink>(
     ensures check { (files : Files) (names : CheckNames) → S.held source.old ≡ Some files
         → asked (map string_bytes words.now) ≡ Some (Check names)
         → CheckPromise files names (K.written sink.old) (K.written sink.new) result }
+    ensures certify { (files : Files) (names : CheckNames) → S.held source.old ≡ Some files
+        → asked (map string_bytes words.now) ≡ Some (Certify names)
+        → CertifyPromise files names (K.written sink.old) (K.written sink.new) result }
     ensures plan { (files : Files) (names : UpdateNames) → S.held source.old ≡ Some files
         → asked (map string_bytes words.now) ≡ Some (Plan names)
         → PlanPromise files names (K.written sink.old) (K.written sink.new) result }
@@ -258,6 +265,7 @@ pub fn run<S: Source, K: Sink>(
     config_promised();
     paths_promised();
     check_promised();
+    certify_promised();
     plan_promised();
     upgrade_promised();
     emit_promised();

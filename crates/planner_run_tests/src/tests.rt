@@ -104,12 +104,16 @@ fn ran_over(rt: &impl Abort, alloc: Global, texts: &[&str], source: &mut MemoryS
 
 #[test]
 fn each_command_runs(rt: HostRuntime) {
-    let rows: [(&[&str], &[u8]); 9] = [
+    let rows: [(&[&str], &[u8]); 10] = [
         (&["config", "topology", "old"], b"holds: 12 classes\n"),
         (&["paths", "topology", "old", "policy"], SQUARE_LISTING),
         (
             &["check", "topology", "old", "new", "policy", "plan"],
             b"accepted: ordered, 2 rounds, 12 classes\n",
+        ),
+        (
+            &["certify", "topology", "old", "new", "policy", "plan"],
+            square::plan(),
         ),
         (
             &["plan", "topology", "old", "new", "policy"],

@@ -1,5 +1,5 @@
 use Rattle.command_base.proofs.DialogueLaws.{meets_as}
-use Rattle.planner_run.specs.Commands.{IsSaid, OfConfig, OfPaths, OfCheck, OfPlan, OfUpgrade, OfEmit, OfReplay, OfTables, OfTrace, OfSimulate, OfExplain, OfImport, OfDrive}
+use Rattle.planner_run.specs.Commands.{IsSaid, OfConfig, OfPaths, OfCheck, OfCertify, OfPlan, OfUpgrade, OfEmit, OfReplay, OfTables, OfTrace, OfSimulate, OfExplain, OfImport, OfDrive}
 use Rattle.planner_run.proofs.Sampled.{sample_meets}
 use Rattle.planner_run.proofs.run.reply_to.Goals as goal
 
@@ -11,6 +11,9 @@ returns-in-Paths-clause-meets g c = rw c.in-Paths.is (meets_as IsSaid OfPaths (�
 
 pub returns-in-Check-clause-meets : goal.returns-in-Check-clause-meets
 returns-in-Check-clause-meets g c = rw c.in-Check.is (meets_as IsSaid OfCheck (λ m answer said. said) c.check.ensures.meets)
+
+pub returns-in-Certify-clause-meets : goal.returns-in-Certify-clause-meets
+returns-in-Certify-clause-meets g c = rw c.in-Certify.is (meets_as IsSaid OfCertify (λ m answer said. said) c.certify.ensures.meets)
 
 pub returns-in-Plan-clause-meets : goal.returns-in-Plan-clause-meets
 returns-in-Plan-clause-meets g c = rw c.in-Plan.is (meets_as IsSaid OfPlan (λ m answer said. said) c.plan.ensures.meets)

@@ -5,6 +5,7 @@ use Rattle.config_command.specs.Configs.{config_dialogue, IsConfigAnswer}
 use Rattle.paths_command.specs.Listed.{IsPathsAnswer}
 use Rattle.check_base.specs.Checks.{check_dialogue}
 use Rattle.check_command.specs.Checks.{IsCheckAnswer}
+use Rattle.certify_command.specs.Answers.{IsCertifyAnswer}
 use Rattle.plan_command.specs.Planned.{IsPlanned}
 use Rattle.replay_command.specs.Replayed.{replay_dialogue, IsReplayAnswer}
 use Rattle.tables_command.specs.Listed.{IsTablesAnswer}
@@ -15,7 +16,7 @@ use Rattle.upgrade_command.specs.Texts.{IsUpgradeAnswer}
 use Rattle.emit_command.specs.Answers.{IsEmitAnswer}
 use Rattle.import_command.specs.Imported.{import_dialogue, IsImportAnswer}
 use Rattle.drive_command.specs.Driven.{drive_dialogue, IsDriveAnswer}
-use Rattle.planner_run.specs.Commands.{Config, Paths, Check, Plan, Upgrade, Emit, Replay, Tables, Trace, Simulate, Explain, Import, Drive, OfConfig, OfPaths, OfCheck, OfPlan, OfUpgrade, OfEmit, OfReplay, OfTables, OfTrace, OfSimulate, OfExplain, OfImport, OfDrive, IsSaid}
+use Rattle.planner_run.specs.Commands.{Config, Paths, Check, Certify, Plan, Upgrade, Emit, Replay, Tables, Trace, Simulate, Explain, Import, Drive, OfConfig, OfPaths, OfCheck, OfCertify, OfPlan, OfUpgrade, OfEmit, OfReplay, OfTables, OfTrace, OfSimulate, OfExplain, OfImport, OfDrive, IsSaid}
 use Rattle.planner_run.proofs.Answered.{answered}
 use Rattle.planner_run.proofs.Sampled.{sample_ends}
 use Rattle.planner_run.proofs.run.run.Goals as goal
@@ -34,6 +35,11 @@ pub returns-clause-check : goal.returns-clause-check
 returns-clause-check g c = λ files names tells asks.
     c.check_promised.ensures files names _ _ _ (λ settled.
     answered_as IsCheckAnswer IsSaid OfCheck files (check_dialogue names) _ _ _ (λ m answer said. said) (answered _ _ _ _ _ files (Check names) (c.respond.ensures.all settled) tells asks))
+
+pub returns-clause-certify : goal.returns-clause-certify
+returns-clause-certify g c = λ files names tells asks.
+    c.certify_promised.ensures files names _ _ _ (λ settled.
+    answered_as IsCertifyAnswer IsSaid OfCertify files (check_dialogue names) _ _ _ (λ m answer said. said) (answered _ _ _ _ _ files (Certify names) (c.respond.ensures.all settled) tells asks))
 
 pub returns-clause-plan : goal.returns-clause-plan
 returns-clause-plan g c = λ files names tells asks.
