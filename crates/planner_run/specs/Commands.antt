@@ -35,6 +35,8 @@ use Rattle.drive_command.specs.Names as drive
 use Rattle.drive_command.specs.Driven.{DriveMeaning, drive_dialogue, IsDriveAnswer}
 use Rattle.planner_run.specs.declared.command.Command.{Command}
 use Rattle.planner_run.specs.declared.command.Command.TheVariants as command
+use Rattle.planner_run.specs.declared.command.CommandName.{CommandName}
+use Rattle.planner_run.specs.declared.command.CommandName.TheVariants as command_name
 
 -- a command, with the names of its files, or the number of switches of a sample
 pub data Asked : Type 0 where
@@ -54,31 +56,53 @@ pub data Asked : Type 0 where
   Drive : drive.DriveNames → Asked
   Sample : ℕ → Asked
 
--- what the words after the name of a command on runs or on switches, or of `sample`, ask for
-abbrev pub later_asked : List ℕ → List (List ℕ) → Option Asked
-later_asked name words =
-    if bytes_eq name (codes "replay") then option_map Replay (replay.names_in words)
-    else if bytes_eq name (codes "tables") then option_map Tables (replay.names_in words)
-    else if bytes_eq name (codes "trace") then option_map Trace (trace.names_in words)
-    else if bytes_eq name (codes "simulate") then option_map Simulate (simulate.names_in words)
-    else if bytes_eq name (codes "explain") then option_map Explain (check.names_in words)
-    else if bytes_eq name (codes "import") then option_map Import (imports.names_in words)
-    else if bytes_eq name (codes "drive") then option_map Drive (drive.names_in words)
-    else if bytes_eq name (codes "sample") then option_map Sample (sample.size_in words)
+-- the command of a name, if it is that of one
+abbrev pub name_in : List ℕ → Option CommandName
+name_in word =
+    if bytes_eq word (codes "config") then Some command_name.Config
+    else if bytes_eq word (codes "paths") then Some command_name.Paths
+    else if bytes_eq word (codes "check") then Some command_name.Check
+    else if bytes_eq word (codes "certify") then Some command_name.Certify
+    else if bytes_eq word (codes "plan") then Some command_name.Plan
+    else if bytes_eq word (codes "upgrade") then Some command_name.Upgrade
+    else if bytes_eq word (codes "emit") then Some command_name.Emit
+    else if bytes_eq word (codes "replay") then Some command_name.Replay
+    else if bytes_eq word (codes "tables") then Some command_name.Tables
+    else if bytes_eq word (codes "trace") then Some command_name.Trace
+    else if bytes_eq word (codes "simulate") then Some command_name.Simulate
+    else if bytes_eq word (codes "explain") then Some command_name.Explain
+    else if bytes_eq word (codes "import") then Some command_name.Import
+    else if bytes_eq word (codes "drive") then Some command_name.Drive
+    else if bytes_eq word (codes "sample") then Some command_name.Sample
     else None
+
+-- what the words after a command's name ask for; nothing where they are none of its forms
+abbrev pub asked_by : CommandName → List (List ℕ) → Option Asked
+asked_by command_name.Config words = option_map Config (config.names_in words)
+asked_by command_name.Paths words = option_map Paths (config.names_in words)
+asked_by command_name.Check words = option_map Check (check.names_in words)
+asked_by command_name.Certify words = option_map Certify (check.names_in words)
+asked_by command_name.Plan words = option_map Plan (base.update_names_in words)
+asked_by command_name.Upgrade words = option_map Upgrade (base.plan_names_in words)
+asked_by command_name.Emit words = option_map Emit (base.plan_names_in words)
+asked_by command_name.Replay words = option_map Replay (replay.names_in words)
+asked_by command_name.Tables words = option_map Tables (replay.names_in words)
+asked_by command_name.Trace words = option_map Trace (trace.names_in words)
+asked_by command_name.Simulate words = option_map Simulate (simulate.names_in words)
+asked_by command_name.Explain words = option_map Explain (check.names_in words)
+asked_by command_name.Import words = option_map Import (imports.names_in words)
+asked_by command_name.Drive words = option_map Drive (drive.names_in words)
+asked_by command_name.Sample words = option_map Sample (sample.size_in words)
+
+-- the same behind a name that is that of a command, or none
+abbrev pub asked_under : Option CommandName → List (List ℕ) → Option Asked
+asked_under None words = None
+asked_under (Some name) words = asked_by name words
 
 -- what the words after the program's name ask for; nothing where they are none of the listed forms
 abbrev pub asked : List (List ℕ) → Option Asked
 asked [] = None
-asked (name ∷ words) =
-    if bytes_eq name (codes "config") then option_map Config (config.names_in words)
-    else if bytes_eq name (codes "paths") then option_map Paths (config.names_in words)
-    else if bytes_eq name (codes "check") then option_map Check (check.names_in words)
-    else if bytes_eq name (codes "certify") then option_map Certify (check.names_in words)
-    else if bytes_eq name (codes "plan") then option_map Plan (base.update_names_in words)
-    else if bytes_eq name (codes "upgrade") then option_map Upgrade (base.plan_names_in words)
-    else if bytes_eq name (codes "emit") then option_map Emit (base.plan_names_in words)
-    else later_asked name words
+asked (word ∷ words) = asked_under (name_in word) words
 
 -- a command without where its names lie in memory
 abbrev pub seen : Command → Asked

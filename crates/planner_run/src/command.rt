@@ -1,6 +1,6 @@
 //! The words of the command line.
 ghost use Rattle.std.specs.Prelude.{◌≡◌, map, string_bytes, option_map};
-ghost use Rattle.planner_run.specs.Commands.{asked, later_asked, seen};
+ghost use Rattle.planner_run.specs.Commands.{asked, asked_by, name_in, seen};
 
 use check_base::{CheckNames, check_names};
 use command_base::{PlanNames, UpdateNames, plan_names, update_names};
@@ -32,24 +32,73 @@ pub enum Command<'a> {
     Sample(RingSize),
 }
 
-/// What the words after a name ask for, if it is that of one of the commands on runs and on switches, or `sample`; nothing
-/// where they are none of the listed forms.
-fn later_command_of<'a>(name: &str, rest: &'a [String]) -> Option<Command<'a>>
-    ensures { option_map seen result ≡ later_asked name.now (map string_bytes rest.now) }
+/// The name of a command.
+#[derive(Clone, Copy, Debug, PartialEq, Eq)]
+pub enum CommandName {
+    Config,
+    Paths,
+    Check,
+    Certify,
+    Plan,
+    Upgrade,
+    Emit,
+    Replay,
+    Tables,
+    Trace,
+    Simulate,
+    Explain,
+    Import,
+    Drive,
+    Sample,
+}
+
+/// The command of a name, if it is that of one.
+fn name_of(word: &str) -> Option<CommandName>
+    ensures { result ≡ name_in word.now }
+{
+    match word {
+        "config" => Some(CommandName::Config),
+        "paths" => Some(CommandName::Paths),
+        "check" => Some(CommandName::Check),
+        "certify" => Some(CommandName::Certify),
+        "plan" => Some(CommandName::Plan),
+        "upgrade" => Some(CommandName::Upgrade),
+        "emit" => Some(CommandName::Emit),
+        "replay" => Some(CommandName::Replay),
+        "tables" => Some(CommandName::Tables),
+        "trace" => Some(CommandName::Trace),
+        "simulate" => Some(CommandName::Simulate),
+        "explain" => Some(CommandName::Explain),
+        "import" => Some(CommandName::Import),
+        "drive" => Some(CommandName::Drive),
+        "sample" => Some(CommandName::Sample),
+        _ => None,
+    }
+}
+
+/// What the words after a command's name ask for; nothing where they are none of its forms.
+fn asked_by(name: CommandName, words: &[String]) -> Option<Command<'_>>
+    ensures { option_map seen result ≡ asked_by name (map string_bytes words.now) }
 {
     match name {
-        "replay" => replay_names(rest).map(Command::Replay),
-        "tables" => replay_names(rest).map(Command::Tables),
-        "trace" => trace_names(rest).map(Command::Trace),
-        "simulate" => simulate_names(rest).map(Command::Simulate),
-        "explain" => check_names(rest).map(Command::Explain),
-        "import" => import_names(rest).map(Command::Import),
-        "drive" => drive_names(rest).map(Command::Drive),
-        "sample" => match ring_size(rest) {
+        CommandName::Config => config_names(words).map(Command::Config),
+        CommandName::Paths => config_names(words).map(Command::Paths),
+        CommandName::Check => check_names(words).map(Command::Check),
+        CommandName::Certify => check_names(words).map(Command::Certify),
+        CommandName::Plan => update_names(words).map(Command::Plan),
+        CommandName::Upgrade => plan_names(words).map(Command::Upgrade),
+        CommandName::Emit => plan_names(words).map(Command::Emit),
+        CommandName::Replay => replay_names(words).map(Command::Replay),
+        CommandName::Tables => replay_names(words).map(Command::Tables),
+        CommandName::Trace => trace_names(words).map(Command::Trace),
+        CommandName::Simulate => simulate_names(words).map(Command::Simulate),
+        CommandName::Explain => check_names(words).map(Command::Explain),
+        CommandName::Import => import_names(words).map(Command::Import),
+        CommandName::Drive => drive_names(words).map(Command::Drive),
+        CommandName::Sample => match ring_size(words) {
             Some(size) => Some(Command::Sample(size)),
             None => None,
         },
-        _ => None,
     }
 }
 
@@ -60,14 +109,5 @@ pub fn command_of(words: &[String]) -> Option<Command<'_>>
     let [name, rest @ ..] = words else {
         return None;
     };
-    match name.as_str() {
-        "config" => config_names(rest).map(Command::Config),
-        "paths" => config_names(rest).map(Command::Paths),
-        "check" => check_names(rest).map(Command::Check),
-        "certify" => check_names(rest).map(Command::Certify),
-        "plan" => update_names(rest).map(Command::Plan),
-        "upgrade" => plan_names(rest).map(Command::Upgrade),
-        "emit" => plan_names(rest).map(Command::Emit),
-        _ => later_command_of(name.as_str(), rest),
-    }
+    asked_by(name_of(name.as_str())?, rest)
 }
