@@ -1,11 +1,12 @@
-//! The needs and the plan between configurations without rules, and why there is no plan.
+//! The needs and the plan between configurations without rules, why there is no plan, and the rounds of the plan by depth.
 use crate::empty_tables::no_rules;
 use certificates::{Evidence, Plan, TwoPhaseEvidence};
+use config_files::read_config;
 use net_base::SwitchId;
 use std::process::Abort;
 use topology::Net;
 use topology_files::read_net;
-use two_phase::{TwoFault, need, two_phase};
+use two_phase::{TwoFault, need, two_phase, two_phase_by_depth};
 use update_model::Rounds;
 
 const ROOMY: &str =
@@ -97,4 +98,50 @@ fn tells_why_there_is_no_plan(rt: HostRuntime) {
         capacity: 1,
     };
     has_no_plan(&rt, "[3000,3009]", small);
+}
+
+/// A switch with two host ports, and two declared VLANs.
+const SINGLE: &[u8] =
+    b"{\"switches\":[{\"name\":\"a\",\"capacity\":100}],\"links\":[],\"hosts\":[\"a:1\",\"a:2\"],\"vlans\":[\"untagged\",10],\"tags\":[3000,3009]}";
+
+/// Whether the rounds of the plan by depth from no rules to these have so many changes each.
+fn has_depth_rounds(rt: &(impl Abort + AllocGlobal), rules: &str, sizes: &[usize]) {
+    let net = read_net(rt.alloc(), SINGLE).expect(rt, "a network");
+    let old = no_rules(rt.alloc(), &net).expect(rt, "tables");
+    let text = format!(in rt.alloc(); "{{\"rules\":[{rules}]}}").expect(rt, "a text");
+    let new = read_config(rt.alloc(), &net, text.as_bytes()).expect(rt, "a configuration");
+    let tried = Rounds::make(rt.alloc()).expect(rt, "rounds");
+    let plan = two_phase_by_depth(rt.alloc(), &net, &old, &new, &tried).expect(rt, "a plan");
+    assert!(rt; plan.rounds.count() == sizes.len(), "{rules}");
+    for (k, size) in sizes.iter().enumerate() {
+        assert!(rt; plan.rounds.round(k).len() == *size, "{rules} {k}");
+    }
+}
+
+/// Rules, and how many changes the rounds have: three prefixes in one another and a default have depths of their own, rules of
+/// other prefixes, ports or VLANs share one, and the defaults of host ports lie below.
+#[test]
+fn rules_without_a_common_packet_share_a_round(rt: HostRuntime) {
+    let rows: [(&str, &[usize]); 5] = [
+        ("", &[2, 2, 0, 0, 2, 2]),
+        (
+            "{\"switch\":\"a\",\"priority\":30,\"dst\":\"10.0.0.0/24\",\"out\":1},{\"switch\":\"a\",\"priority\":20,\"dst\":\"10.0.0.0/16\",\"out\":2},{\"switch\":\"a\",\"priority\":10,\"dst\":\"10.0.0.0/8\",\"out\":1},{\"switch\":\"a\",\"priority\":1,\"dst\":\"0.0.0.0/0\",\"out\":2}",
+            &[10, 4, 4, 4, 4, 2, 0, 4, 2, 4, 4, 4, 4, 10],
+        ),
+        (
+            "{\"switch\":\"a\",\"priority\":20,\"in_port\":1,\"dst\":\"10.0.0.0/8\",\"out\":2},{\"switch\":\"a\",\"priority\":10,\"in_port\":2,\"dst\":\"10.0.0.0/8\",\"out\":1}",
+            &[2, 4, 2, 0, 2, 2, 4, 2],
+        ),
+        (
+            "{\"switch\":\"a\",\"priority\":30,\"dst\":\"10.0.0.0/24\",\"out\":1},{\"switch\":\"a\",\"priority\":20,\"dst\":\"10.0.1.0/24\",\"out\":1},{\"switch\":\"a\",\"priority\":10,\"dst\":\"10.0.2.0/24\",\"out\":1}",
+            &[8, 12, 2, 0, 3, 2, 12, 8],
+        ),
+        (
+            "{\"switch\":\"a\",\"priority\":20,\"vlan\":\"untagged\",\"dst\":\"10.0.0.0/8\",\"out\":1},{\"switch\":\"a\",\"priority\":10,\"vlan\":10,\"dst\":\"10.0.0.0/8\",\"out\":1}",
+            &[4, 4, 2, 0, 2, 2, 4, 4],
+        ),
+    ];
+    for (rules, sizes) in &rows {
+        has_depth_rounds(&rt, rules, sizes);
+    }
 }

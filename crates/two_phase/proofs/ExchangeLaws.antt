@@ -36,22 +36,22 @@ use Rattle.update_model.proofs.DifferenceLaws.{IsDifference, remaining_is, remai
 use Rattle.flow_rules.proofs.TableLaws.{action_eq-refl, action_eq-true}
 
 module _ (net : Network) (net_is : IsNetwork net) (tags : IsTagging net) (old new : List (List Rule)) (old_user : IsUserConfig net old) (new_user : IsUserConfig net new)
-    (room : (s : SwitchId) → s.0 < switch_count net → two_phase_need net old new s ≤ capacity_of net s)
-    (all : List ℕ) (ranked : (s : SwitchId) → s.0 < switch_count net → (r : Rule) → IsIn r (ingress net net_is tags old new old_user new_user s) → IsIn r.key.priority all) where
+    (mark : SwitchId → Rule → ℕ) (layers : ℕ) (room : (s : SwitchId) → s.0 < switch_count net → two_phase_need net old new s ≤ capacity_of net s)
+    (all : List ℕ) (marked : (s : SwitchId) → s.0 < switch_count net → (r : Rule) → IsIn r (ingress net net_is tags old new old_user new_user mark layers s) → IsIn (mark s r) all) where
   abbrev the_tagged : SwitchId → List Rule
-  the_tagged s = tagged net net_is tags old new old_user new_user s
+  the_tagged s = tagged net net_is tags old new old_user new_user mark layers s
 
   abbrev the_ingress : SwitchId → List Rule
-  the_ingress s = ingress net net_is tags old new old_user new_user s
+  the_ingress s = ingress net net_is tags old new old_user new_user mark layers s
 
   abbrev HoldsThis : (SwitchId → List Rule) → List (List Rule) → Type 0
-  HoldsThis raw tables = Holds net net_is tags old new old_user new_user raw true all tables
+  HoldsThis raw tables = Holds net net_is tags old new old_user new_user mark layers raw true all tables
 
   abbrev Sound : ℕ → List (List Rule) → List Change → Type 0
-  Sound k tables round = IsSound net net_is tags old new old_user new_user k tables round
+  Sound k tables round = IsSound net net_is tags old new old_user new_user mark layers k tables round
 
   abbrev HasContent : (SwitchId → List Rule) → SwitchId → Rule → Type 0
-  HasContent raw s r = Content net net_is tags old new old_user new_user raw true all s r
+  HasContent raw s r = Content net net_is tags old new old_user new_user mark layers raw true all s r
 
   -- whether the old table has a rule's key
   abbrev was : SwitchId → Rule → Bool
@@ -86,13 +86,13 @@ module _ (net : Network) (net_is : IsNetwork net) (tags : IsTagging net) (old ne
   band_high s r (inl t) = tagged_low net s (rules_at new s) (new_user.rules s) r t
   band_high s r (inr g) = let h = ingress_low net s (rules_at new s) (new_user.rules s) r g in omega arith
 
-  upward : IsUpward net net_is tags old new old_user new_user all all
-  upward s inside p g m i less = ranked s inside p g
+  upward : IsUpward net net_is tags old new old_user new_user mark layers all all
+  upward s inside p q gp gq h cp cq i less = marked s inside p gp
 
   find_old : (s : SwitchId) (k : Key) → IsIn k (keys_of (rules_at old s)) → (r : Rule) × IsIn r (rules_at old s) × (r.key ≡ k)
   find_old s k i = let (r, j, e) = in_from_map (λ x. x.key) k (rules_at old s) i in (r, j, sym e)
 
-  module _ (k : ℕ) (of : IsOfVersion net new k true) (tables : List (List Rule)) where
+  module _ (k : ℕ) (of : IsOfVersion layers k true) (tables : List (List Rule)) where
     module _ (holds : HoldsThis (λ s. rules_at old s) tables) where
       applies_first : (s : SwitchId) → s.0 < switch_count net → (c : Change) → IsDifference s (rules_at old s) (rules_at new s) c → is_insert c ≡ false → Applies tables c
       applies_first s inside (Insert t r) d e = absurd (both_ways true e refl)
@@ -157,7 +157,7 @@ module _ (net : Network) (net_is : IsNetwork net) (tags : IsTagging net) (old ne
           band_kept : (r : Rule) → IsIn r (the_tagged s) ⊎ IsIn r (the_ingress s) → IsIn r rules → IsIn r mixed
           band_kept r band i = (held.same r).1 (made_to tables first_round good_first s held.made held.some r (inl (i, band_stays held.made some_here r band)))
 
-          between_first : IsBetween net net_is tags old new old_user new_user (λ t. rules_at old t ++ rules_at new t) true true all all s mixed
+          between_first : IsBetween net net_is tags old new old_user new_user mark layers (λ t. rules_at old t ++ rules_at new t) true true all all s mixed
           between_first = record {
             has_tagged = λ _ q i. band_kept q (inl i) (holds.to s inside q (inr (inl (refl, i))));
             has_ingress = λ r i g. band_kept r (inr g) (holds.to s inside r (inr (inr (i, g))));
@@ -194,7 +194,7 @@ module _ (net : Network) (net_is : IsNetwork net) (tags : IsTagging net) (old ne
           low_either t r i = elim (in_append_cases r (rules_at old t) (rules_at new t) i) [ inl o ↦ old_low t r o | inr n ↦ new_low t r n ]
 
           banded_first : IsBanded net s (rules_at new s) mixed
-          banded_first = banded_from net net_is tags old new old_user new_user (λ t. rules_at old t ++ rules_at new t) low_either true true all all upward s inside mixed between_first raw_clear
+          banded_first = banded_from net net_is tags old new old_user new_user mark layers (λ t. rules_at old t ++ rules_at new t) low_either true true all all upward s inside mixed between_first raw_clear
 
         not_both : (c : Change) → is_insert c ≡ true → is_insert c ≡ false → ⊥
         not_both (Insert t r) e f = both_ways true f refl
@@ -298,12 +298,12 @@ module _ (net : Network) (net_is : IsNetwork net) (tags : IsTagging net) (old ne
           ];
           fits = λ s inside.
               let le = need_within tables first_round good_first s (holds.table s) (rules_at old s ++ (the_tagged s ++ the_ingress s)) (in_big s inside) in
-              let fits = room_for net net_is tags old new old_user new_user room false s inside in
+              let fits = room_for net net_is tags old new old_user new_user mark layers room false s inside in
               omega arith;
           version = true;
           of = of;
           banded = banded_first;
-          raws = inr (refl, λ s inside mixed held q g. (between_first s inside mixed held).has_ingress q (ranked s inside q g) g);
+          raws = inr (refl, λ s inside mixed held q g. (between_first s inside mixed held).has_ingress q (marked s inside q g) g);
           laid = inl (λ s inside mixed held. (between_first s inside mixed held).has_tagged refl);
         },
         record {
@@ -366,7 +366,7 @@ module _ (net : Network) (net_is : IsNetwork net) (tags : IsTagging net) (old ne
       within_second s inside r (inr j) = inl (fresh_is s r j).0
 
       between_second : (s : SwitchId) → s.0 < switch_count net → (mixed : List Rule) → IsMixture (rules_at tables s) (changes_at s second_round) mixed
-          → IsBetween net net_is tags old new old_user new_user (λ t. rules_at new t) true true all all s mixed
+          → IsBetween net net_is tags old new old_user new_user mark layers (λ t. rules_at new t) true true all all s mixed
       between_second s inside mixed held = record {
         has_tagged = λ _ q i. inserted_kept (switch_count net) fresh second_round tables holds.count sweep absent s inside mixed held q (holds.to s inside q (inr (inl (refl, i))));
         has_ingress = λ r i g. inserted_kept (switch_count net) fresh second_round tables holds.count sweep absent s inside mixed held r (holds.to s inside r (inr (inr (i, g))));
@@ -376,9 +376,9 @@ module _ (net : Network) (net_is : IsNetwork net) (tags : IsTagging net) (old ne
       banded_second : (s : SwitchId) → s.0 < switch_count net → (mixed : List Rule) → IsMixture (rules_at tables s) (changes_at s second_round) mixed → IsBanded net s (rules_at new s) mixed
       banded_second s inside mixed held =
           let b = between_second s inside mixed held in
-          banded_from net net_is tags old new old_user new_user (λ t. rules_at new t) new_low true true all all upward s inside mixed b (λ h x y i j lx ly cx cy e.
-          new_user.clear s h x y (raw_in net net_is tags old new old_user new_user (λ t. rules_at new t) new_low true true all all upward s inside mixed b x i lx)
-          (raw_in net net_is tags old new old_user new_user (λ t. rules_at new t) new_low true true all all upward s inside mixed b y j ly) cx cy e)
+          banded_from net net_is tags old new old_user new_user mark layers (λ t. rules_at new t) new_low true true all all upward s inside mixed b (λ h x y i j lx ly cx cy e.
+          new_user.clear s h x y (raw_in net net_is tags old new old_user new_user mark layers (λ t. rules_at new t) new_low true true all all upward s inside mixed b x i lx)
+          (raw_in net net_is tags old new old_user new_user mark layers (λ t. rules_at new t) new_low true true all all upward s inside mixed b y j ly) cx cy e)
 
       pub exchange_second : Sound k tables second_round × HoldsThis (λ s. rules_at new s) (tables_after second_round tables)
       exchange_second = (
@@ -393,13 +393,13 @@ module _ (net : Network) (net_is : IsNetwork net) (tags : IsTagging net) (old ne
               let mixed = rules_after made (rules_at tables s) in
               let held : IsMixture (rules_at tables s) (changes_at s second_round) mixed = record { made = made; some = some_filter is_insert (changes_at s second_round); same = λ r. (λ i. i, λ i. i) } in
               let le = need_within tables second_round good_second s (holds.table s) (rules_at new s ++ (the_tagged s ++ the_ingress s))
-              (in_all net net_is tags old new old_user new_user (λ t. rules_at new t) new_low true true all all upward s inside mixed (between_second s inside mixed held)) in
-              let fits = room_for net net_is tags old new old_user new_user room true s inside in
+              (in_all net net_is tags old new old_user new_user mark layers (λ t. rules_at new t) new_low true true all all upward s inside mixed (between_second s inside mixed held)) in
+              let fits = room_for net net_is tags old new old_user new_user mark layers room true s inside in
               omega arith;
           version = true;
           of = of;
           banded = banded_second;
-          raws = inr (refl, λ s inside mixed held q g. (between_second s inside mixed held).has_ingress q (ranked s inside q g) g);
+          raws = inr (refl, λ s inside mixed held q g. (between_second s inside mixed held).has_ingress q (marked s inside q g) g);
           laid = inl (λ s inside mixed held. (between_second s inside mixed held).has_tagged refl);
         },
         record {

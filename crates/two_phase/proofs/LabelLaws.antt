@@ -1,5 +1,5 @@
 -- What stands in a label table, and which pick is in force.
-use Rattle.std.proofs.Common.{◌≡◌, ◌⊎◌, ℕ, suc, ◌+◌, ◌≤◌, Bool, true, false, List, [], ◌∷◌, length, refl, sym, subst, ap, inl, inr, arith}
+use Rattle.std.proofs.Common.{◌≡◌, ◌⊎◌, ℕ, suc, ◌+◌, ◌≤◌, Bool, true, false, List, [], ◌∷◌, refl, sym, subst, ap, inl, inr, arith}
 use Rattle.std.specs.Prelude.{nat_lt, flat_map, slice_get, Some}
 use Rattle.std.specs.List.{AllByRecursion}
 use Rattle.std.proofs.lemmas.Bool.{cond_both}
@@ -7,12 +7,11 @@ use Rattle.net_base.specs.Members.{IsIn}
 use Rattle.net_base.proofs.MemberLaws.{each_from_in}
 use Rattle.net_base.specs.declared.ids.Vlan.TheVariants as vlan
 use Rattle.topology.specs.Networks.{Network}
-use Rattle.flow_rules.specs.declared.rules.Rule.{Rule}
 use Rattle.certificates.specs.declared.Label.{Label}
 use Rattle.certificates.specs.declared.LabelPick.{LabelPick}
 use Rattle.certificates.specs.TwoPhase.{IsLabelPickInForce}
 use Rattle.tag_allocator.specs.Tags.{Tagged, tags_of}
-use Rattle.two_phase.specs.TwoPhasePlan.{label, vlan_number, with_label, labels_in_order, label_table, label_tables, label_picks, ranks}
+use Rattle.two_phase.specs.TwoPhasePlan.{label, vlan_number, with_label, labels_in_order, label_table, label_tables}
 use Rattle.net_base.proofs.ListLaws.{in_flat_map, in_from_flat_map}
 use Rattle.two_phase.proofs.TagLaws.{IsTagging}
 
@@ -62,17 +61,21 @@ module _ (net : Network) (version : Bool) where
       let (v, j, k) = label_cases l i in
       elim k [ inl e ↦ subst (λ x. IsIn x.user net.vlans) (sym e) (tags.declared v j) | inr e ↦ subst (λ x. IsIn x.user net.vlans) (sym e) (tags.declared v j) ])
 
-abbrev pub pick_of : Network → List (List Rule) → Bool → LabelPick
-pick_of net new false = record { round = 1; labels = 0 }
-pick_of net new true = record { round = length (ranks net new) + 2; labels = 1 }
+-- the picks of a plan with so many layers of ingress rules
+abbrev pub picks_of : ℕ → List LabelPick
+picks_of layers = record { round = 1; labels = 0 } ∷ record { round = layers + 2; labels = 1 } ∷ []
+
+abbrev pub pick_of : ℕ → Bool → LabelPick
+pick_of layers false = record { round = 1; labels = 0 }
+pick_of layers true = record { round = layers + 2; labels = 1 }
 
 -- the number of a round goes with the version that its labels give the users' VLANs
-abbrev pub IsOfVersion : Network → List (List Rule) → ℕ → Bool → Type 0
-IsOfVersion net new k false = k ≤ length (ranks net new)
-IsOfVersion net new k true = suc (length (ranks net new)) ≤ k
+abbrev pub IsOfVersion : ℕ → ℕ → Bool → Type 0
+IsOfVersion layers k false = k ≤ layers
+IsOfVersion layers k true = suc layers ≤ k
 
-pub in_force : (net : Network) (new : List (List Rule)) (k : ℕ) (version : Bool) → IsOfVersion net new k version → IsLabelPickInForce (label_picks net new) (suc k) (pick_of net new version)
-in_force net new k false of = record {
+pub in_force : (layers k : ℕ) (version : Bool) → IsOfVersion layers k version → IsLabelPickInForce (picks_of layers) (suc k) (pick_of layers version)
+in_force layers k false of = record {
   stands = inl refl;
   begun = omega arith;
   latest = λ other i le. elim i [
@@ -80,7 +83,7 @@ in_force net new k false of = record {
     | inr j ↦ elim j [ inl e ↦ (let f = ap (λ p. p.round) e in absurd (omega arith)) | inr k ↦ absurd k ]
   ];
 }
-in_force net new k true of = record {
+in_force layers k true of = record {
   stands = inr (inl refl);
   begun = omega arith;
   latest = λ other i le. elim i [
@@ -89,6 +92,6 @@ in_force net new k true of = record {
   ];
 }
 
-pub picked : (net : Network) (new : List (List Rule)) (version : Bool) → slice_get (label_tables net) (pick_of net new version).labels ≡ Some (label_table net version)
-picked net new false = refl
-picked net new true = refl
+pub picked : (net : Network) (layers : ℕ) (version : Bool) → slice_get (label_tables net) (pick_of layers version).labels ≡ Some (label_table net version)
+picked net layers false = refl
+picked net layers true = refl

@@ -30,11 +30,12 @@ use Rattle.two_phase.proofs.BandLaws.{header, covers_parts, covers_as, covers_fr
 abbrev pub IsRaw : Rule → Type 0
 IsRaw r = r.key.priority ≤ 16383
 
--- a mixture of a two-phase plan at a switch: clear; raw rules and rules of the bands; and with an ingress rule all that are above it
+-- a mixture of a two-phase plan at a switch: clear; raw rules and rules of the bands; and with an ingress rule all that are above it and cover a packet of it
 pub record IsBanded (net : Network) (s : SwitchId) (new mixed : List Rule) : Type 0 where
   pub clear : IsClear mixed
   pub kinds : (q : Rule) → IsIn q mixed → IsRaw q ⊎ (IsIn q (tagged_rules net s new) ⊎ IsIn q (ingress_rules net s new))
-  pub up : (q p : Rule) → IsIn q mixed → IsIn q (ingress_rules net s new) → IsIn p (ingress_rules net s new) → q.key.priority < p.key.priority → IsIn p mixed
+  pub up : (q p : Rule) → IsIn q mixed → IsIn q (ingress_rules net s new) → IsIn p (ingress_rules net s new) → (h : Header) → covers q.key.pattern h ≡ true → covers p.key.pattern h ≡ true
+      → q.key.priority < p.key.priority → IsIn p mixed
 
 -- the raw rules are those of a table
 pub record HasRaw (table mixed : List Rule) : Type 0 where
@@ -198,7 +199,7 @@ module _ (net : Network) (tags : IsTagging net) (s : SwitchId) (new : List Rule)
                 let d_in = entering_in net s new d is_copy in
                 let d_covers : covers d.key.pattern plain ≡ true = covers_from d.key.pattern plain (eq-eqb port.0 port.0 refl) (names_it v.user) parts.2 in
                 let high : ¬ (q.key.priority < d.key.priority) = λ less.
-                let le = best.above d (banded.up q d best.here is_ingress d_in less) d_covers in absurd (omega arith) in
+                let le = best.above d (banded.up q d best.here is_ingress d_in plain best.covering_it d_covers less) d_covers in absurd (omega arith) in
                 elim (ingress_cases net s new q is_ingress) [
                   | inl copy ↦ (
                       let (same, covered) = entering_covers q copy best.covering_it in

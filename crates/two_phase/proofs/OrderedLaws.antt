@@ -109,7 +109,7 @@ filter_ordered p rs table =
     (λ r i. let (j, passes) = in_from_filter p r (in_key_order rs) i in in_ordered r (filter p rs) (in_filter p r rs (from_ordered r rs j) passes))
     (λ r i. let (j, passes) = in_from_filter p r rs (from_ordered r (filter p rs) i) in in_filter p r (in_key_order rs) (in_ordered r rs j) passes)
 
-first_part : (x y : ℕ) (parts : List Ordering) → is_lt (by_parts (nat_cmp x y ∷ parts)) ≡ true → x ≤ y
+pub first_part : (x y : ℕ) (parts : List Ordering) → is_lt (by_parts (nat_cmp x y ∷ parts)) ≡ true → x ≤ y
 first_part x y parts =
     elim (nat_lt x y) as (λ b. nat_lt x y ≡ b → is_lt (by_parts (cond b Less (cond (x == y) Equal Greater) ∷ parts)) ≡ true → x ≤ y) [
       | true ↦ λ e _. (let l = ltb-true x y e in omega arith)

@@ -1,6 +1,6 @@
 -- Where the changes of the plan come from: the two bands and both configurations.
 use Rattle.std.proofs.Common.{◌≡◌, ◌⊎◌, ℕ, ◌<◌, List, [], ◌∷◌, ◌++◌, map, length, refl, sym, ◌∙◌, subst, ap, inl, inr, arith}
-use Rattle.std.specs.Prelude.{◌==◌, filter, not, reverse}
+use Rattle.std.specs.Prelude.{◌==◌, filter, not}
 use Rattle.std.specs.List.{AllByRecursion}
 use Rattle.net_base.specs.Members.{IsIn}
 use Rattle.net_base.proofs.MemberLaws.{in_from_map, in_from_filter, each_from_in, each_append, each_map, each_filter}
@@ -15,7 +15,8 @@ use Rattle.update_model.specs.Remaining.{remaining}
 use Rattle.update_model.specs.declared.Change.{Change}
 use Rattle.update_model.specs.declared.Change.TheVariants.{Insert, Delete, Replace}
 use Rattle.update_model.proofs.DifferenceLaws.{IsDifference, remaining_is, difference_switch}
-use Rattle.two_phase.specs.TwoPhasePlan.{tagged_rules, ingress_rules, in_key_order, switches, by_switch, ranks, of_rank, two_phase_rounds}
+use Rattle.two_phase.specs.TwoPhasePlan.{tagged_rules, ingress_rules, in_key_order, switches, by_switch}
+use Rattle.two_phase.specs.Depths.{of_mark, layered_rounds}
 use Rattle.two_phase.proofs.DistinctLaws.{from_ordered}
 use Rattle.two_phase.proofs.ValidCounts.{switch_within}
 
@@ -49,8 +50,8 @@ module _ (net : Network) (old new : List (List Rule)) where
   tagged_among : (s : SwitchId) (r : Rule) → IsIn r (tagged_rules net s (rules_at new s)) → IsAmong s r
   tagged_among s r i = inl (inl i)
 
-  ranked_among : (rank : ℕ) (s : SwitchId) (r : Rule) → IsIn r (of_rank net new rank s) → IsAmong s r
-  ranked_among rank s r i = inl (inr (in_from_filter (λ (q : Rule). q.key.priority == rank) r (ingress_rules net s (rules_at new s)) i).0)
+  marked_among : (mark : SwitchId → Rule → ℕ) (k : ℕ) (s : SwitchId) (r : Rule) → IsIn r (of_mark net new mark k s) → IsAmong s r
+  marked_among mark k s r i = inl (inr (in_from_filter (λ (q : Rule). mark s q == k) r (ingress_rules net s (rules_at new s)) i).0)
 
   among_rules : (s : SwitchId) (c : Change) → IsDifference s (rules_at old s) (rules_at new s) c → IsAmong s (rule_of c)
   among_rules s (Insert t r) d = inr (inr d.1)
@@ -63,23 +64,23 @@ module _ (net : Network) (old new : List (List Rule)) where
       let (s, less, d) = remaining_is old new c i in
       record { at = s; inside = omega arith; switch = difference_switch s (rules_at old s) (rules_at new s) c d; among = among_rules s c d })
 
-  pub all_of_plan : length old ≡ switch_count net → AllByRecursion AreOfPlan (two_phase_rounds net old new)
-  all_of_plan count =
-      let lay : ℕ → List Change = λ rank. by_switch net Insert (of_rank net new rank) in
-      let take_out : ℕ → List Change = λ rank. by_switch net Delete (of_rank net new rank) in
+  pub all_of_plan : (mark : SwitchId → Rule → ℕ) (in_order back : List ℕ) → length old ≡ switch_count net → AllByRecursion AreOfPlan (layered_rounds net old new mark in_order back)
+  all_of_plan mark in_order back count =
+      let lay : ℕ → List Change = λ k. by_switch net Insert (of_mark net new mark k) in
+      let take_out : ℕ → List Change = λ k. by_switch net Delete (of_mark net new mark k) in
       let first = by_switch net Insert (λ s. tagged_rules net s (rules_at new s)) ∷ [] in
-      let laid = map lay (reverse (ranks net new)) in
+      let laid = map lay in_order in
       let exchange = filter (λ c. not (is_insert c)) (remaining old new) ∷ filter is_insert (remaining old new) ∷ [] in
-      let taken = map take_out (ranks net new) in
+      let taken = map take_out back in
       let last = by_switch net Delete (λ s. tagged_rules net s (rules_at new s)) ∷ [] in
       let a : AllByRecursion AreOfPlan first = (swept Insert (λ s r. refl) (λ s r. refl) (λ s. tagged_rules net s (rules_at new s)) tagged_among, tt) in
       let b : AllByRecursion AreOfPlan laid =
-      each_map lay AreOfPlan (reverse (ranks net new)) (each_from_in (λ rank. AreOfPlan (lay rank)) (reverse (ranks net new)) (λ rank _. swept Insert (λ s r. refl) (λ s r. refl) (of_rank net new rank) (ranked_among rank)))
+      each_map lay AreOfPlan in_order (each_from_in (λ k. AreOfPlan (lay k)) in_order (λ k _. swept Insert (λ s r. refl) (λ s r. refl) (of_mark net new mark k) (marked_among mark k)))
       in
       let rest = remaining_of count in
       let c : AllByRecursion AreOfPlan exchange = (each_filter IsOfPlan (λ c. not (is_insert c)) (remaining old new) rest, (each_filter IsOfPlan is_insert (remaining old new) rest, tt)) in
       let d : AllByRecursion AreOfPlan taken =
-      each_map take_out AreOfPlan (ranks net new) (each_from_in (λ rank. AreOfPlan (take_out rank)) (ranks net new) (λ rank _. swept Delete (λ s r. refl) (λ s r. refl) (of_rank net new rank) (ranked_among rank)))
+      each_map take_out AreOfPlan back (each_from_in (λ k. AreOfPlan (take_out k)) back (λ k _. swept Delete (λ s r. refl) (λ s r. refl) (of_mark net new mark k) (marked_among mark k)))
       in
       let e : AllByRecursion AreOfPlan last = (swept Delete (λ s r. refl) (λ s r. refl) (λ s. tagged_rules net s (rules_at new s)) tagged_among, tt) in
       each_append AreOfPlan (first ++ laid ++ exchange ++ taken) last

@@ -1,7 +1,7 @@
 -- The ranks ascend, each once, and every ingress rule has one of them.
-use Rattle.std.proofs.Common.{◌≡◌, ℕ, zero, suc, ◌<◌, ◌≤◌, cond, List, [], ◌∷◌, ◌++◌, map, refl, sym, subst, ap, inl, inr, arith}
+use Rattle.std.proofs.Common.{◌≡◌, ℕ, zero, suc, ◌<◌, ◌≤◌, cond, List, [], ◌∷◌, ◌++◌, map, length, refl, sym, subst, ap, inl, inr, arith}
 use Rattle.std.specs.Prelude.{◌==◌, nat_lt, flat_map, reverse}
-use Rattle.std.proofs.lemmas.List.{reverse-append}
+use Rattle.std.proofs.lemmas.List.{reverse-append, length-reverse}
 use Rattle.std.proofs.lemmas.Bool.{ltb-true, ltb-false, eqb-false, cond_both}
 use Rattle.net_base.specs.Members.{IsIn}
 use Rattle.net_base.proofs.MemberLaws.{in_append_left, in_append_right, in_append_cases, in_map}
@@ -16,15 +16,14 @@ use Rattle.two_phase.specs.TwoPhasePlan.{ingress_rules, switches, ranks}
 use Rattle.net_base.proofs.ListLaws.{in_flat_map}
 use Rattle.tag_allocator.proofs.TagLaws.{in_numbers}
 use Rattle.dest_classes.proofs.RisingLaws.{in_from_with}
+use Rattle.two_phase.proofs.LayerLaws.{IsChained, IsLayering}
 
 -- each number is less than those after it, or greater
 abbrev pub IsRising : List ℕ → Type 0
-IsRising [] = Unit {0}
-IsRising (x ∷ xs) = ((y : ℕ) → IsIn y xs → x < y) × IsRising xs
+IsRising xs = IsChained (λ x y. x < y) xs
 
 abbrev pub IsFalling : List ℕ → Type 0
-IsFalling [] = Unit {0}
-IsFalling (x ∷ xs) = ((y : ℕ) → IsIn y xs → y < x) × IsFalling xs
+IsFalling xs = IsChained (λ x y. y < x) xs
 
 rising_with : (x : ℕ) (ys : List ℕ) → IsRising ys → IsRising (with_number x ys)
 rising_with x [] rising = (λ y i. absurd i, tt)
@@ -89,3 +88,16 @@ has_rank net new s inside r i =
 
 pub ranks_rise : (net : Network) (new : List (List Rule)) → IsRising (ranks net new)
 ranks_rise net new = rising_ascent (32768 ∷ flat_map (λ s. map (λ r. r.key.priority) (ingress_rules net s (rules_at new s))) (switches net))
+
+-- the ranks are a layering: descending priorities are laid, and ascending ones taken away
+pub rank_layering : (net : Network) (new : List (List Rule)) → IsLayering net new (λ s r. r.key.priority) (λ a b. b < a) (length (ranks net new)) (reverse (ranks net new)) (ranks net new)
+rank_layering net new = record {
+  apart = λ a b less more. absurd (omega arith);
+  up = λ s inside p q i j h c d less. less;
+  laying = falling_reverse (ranks net new) (ranks_rise net new);
+  taking = ranks_rise net new;
+  laid_count = length-reverse (ranks net new);
+  taken_count = refl;
+  in_laid = λ s inside r i. in_reverse r.key.priority (ranks net new) (has_rank net new s inside r i);
+  in_taken = has_rank net new;
+}

@@ -40,16 +40,17 @@ outside_none tables round good s outside mixed held r i =
           outside (subst (λ n. n < length tables) (eqb-true (switch_of w.0).0 s.0 e) (each_at (Applies tables) round w.0 good.applies j).0))
     ]
 
-module _ (net : Network) (net_is : IsNetwork net) (tags : IsTagging net) (old new : List (List Rule)) (old_user : IsUserConfig net old) (new_user : IsUserConfig net new) where
+module _ (net : Network) (net_is : IsNetwork net) (tags : IsTagging net) (old new : List (List Rule)) (old_user : IsUserConfig net old) (new_user : IsUserConfig net new)
+    (mark : SwitchId → Rule → ℕ) (layers : ℕ) where
   abbrev pub tagged : SwitchId → List Rule
   tagged s = tagged_rules net s (rules_at new s)
 
   abbrev pub ingress : SwitchId → List Rule
   ingress s = ingress_rules net s (rules_at new s)
 
-  -- the rules of a switch: raw ones, the tagged ones if they are laid, and the ingress rules of some ranks
+  -- the rules of a switch: raw ones, the tagged ones if they are laid, and the ingress rules with some marks
   abbrev pub Content : (SwitchId → List Rule) → Bool → List ℕ → SwitchId → Rule → Type 0
-  Content raw laid present s r = IsIn r (raw s) ⊎ (((laid ≡ true) × IsIn r (tagged s)) ⊎ (IsIn r.key.priority present × IsIn r (ingress s)))
+  Content raw laid present s r = IsIn r (raw s) ⊎ (((laid ≡ true) × IsIn r (tagged s)) ⊎ (IsIn (mark s r) present × IsIn r (ingress s)))
 
   -- tables with this content
   pub record Holds (raw : SwitchId → List Rule) (laid : Bool) (present : List ℕ) (tables : List (List Rule)) : Type 0 where
@@ -71,7 +72,7 @@ module _ (net : Network) (net_is : IsNetwork net) (tags : IsTagging net) (old ne
     pub clear : (s : SwitchId) (mixed : List Rule) → IsMixture (rules_at tables s) (changes_at s round) mixed → IsClear mixed
     pub fits : (s : SwitchId) → s.0 < switch_count net → length (rules_at tables s) + length (filter is_insert (changes_at s round)) ≤ capacity_of net s
     pub version : Bool
-    pub of : IsOfVersion net new k version
+    pub of : IsOfVersion layers k version
     pub banded : OfEach tables round (λ s mixed. IsBanded net s (rules_at new s) mixed)
     pub raws : OfEach tables round (λ s mixed. HasRaw (rules_at (version_tables version) s) mixed) ⊎ ((version ≡ true) × OfEach tables round (λ s mixed. HasAll (ingress s) mixed))
     pub laid : OfEach tables round (λ s mixed. HasAll (tagged s) mixed) ⊎ OfEach tables round (λ s mixed. HasNone (ingress s) mixed)
@@ -96,20 +97,22 @@ module _ (net : Network) (net_is : IsNetwork net) (tags : IsTagging net) (old ne
   version_clear true s = new_user.clear s
   version_clear false s = old_user.clear s
 
-  -- with an ingress rank that may be present, each rank above it surely is
+  -- with an ingress rule that may be present, each one above it surely is
   abbrev pub IsUpward : List ℕ → List ℕ → Type 0
-  IsUpward sure possible = (s : SwitchId) → s.0 < switch_count net → (p : Rule) → IsIn p (ingress s) → (m : ℕ) → IsIn m possible → m < p.key.priority → IsIn p.key.priority sure
+  IsUpward sure possible =
+      (s : SwitchId) → s.0 < switch_count net → (p q : Rule) → IsIn p (ingress s) → IsIn q (ingress s) → (h : Header) → covers p.key.pattern h ≡ true → covers q.key.pattern h ≡ true
+      → IsIn (mark s q) possible → q.key.priority < p.key.priority → IsIn (mark s p) sure
 
   -- a mixture lies between two contents
   pub record IsBetween (raw : SwitchId → List Rule) (laid_surely laid_maybe : Bool) (sure possible : List ℕ) (s : SwitchId) (mixed : List Rule) : Type 0 where
     pub has_tagged : laid_surely ≡ true → HasAll (tagged s) mixed
-    pub has_ingress : (r : Rule) → IsIn r.key.priority sure → IsIn r (ingress s) → IsIn r mixed
+    pub has_ingress : (r : Rule) → IsIn (mark s r) sure → IsIn r (ingress s) → IsIn r mixed
     pub within : (r : Rule) → IsIn r mixed → Content raw laid_maybe possible s r
 
   module _ (raw : SwitchId → List Rule) (low : (s : SwitchId) (r : Rule) → IsIn r (raw s) → IsRaw r) (laid_surely laid_maybe : Bool) (sure possible : List ℕ) (upward : IsUpward sure possible)
       (s : SwitchId) (inside : s.0 < switch_count net) (mixed : List Rule) (between : IsBetween raw laid_surely laid_maybe sure possible s mixed) where
-    ranked : (q : Rule) → IsIn q mixed → IsIn q (ingress s) → IsIn q.key.priority possible
-    ranked q i g =
+    marked : (q : Rule) → IsIn q mixed → IsIn q (ingress s) → IsIn (mark s q) possible
+    marked q i g =
         elim (between.within q i) [
           | inl r ↦ absurd (raw_not_ingress s q (low s q r) g)
           | inr b ↦ elim b [ inl t ↦ absurd (tagged_not_ingress s q t.1 g) | inr h ↦ h.0 ]
@@ -152,11 +155,11 @@ module _ (net : Network) (net_is : IsNetwork net) (tags : IsTagging net) (old ne
         ]
       ];
       kinds = kinds_of;
-      up = λ q p i gq gp less. between.has_ingress p (upward s inside p gp q.key.priority (ranked q i gq) less) gp;
+      up = λ q p i gq gp h cq cp less. between.has_ingress p (upward s inside p q gp gq h cp cq (marked q i gq) less) gp;
     }
 
     pub none_ingress : ((n : ℕ) → ¬ IsIn n possible) → HasNone (ingress s) mixed
-    none_ingress none q g i = none q.key.priority (ranked q i g)
+    none_ingress none q g i = none (mark s q) (marked q i g)
 
     pub raw_in : (q : Rule) → IsIn q mixed → IsRaw q → IsIn q (raw s)
     raw_in q i lq = elim (between.within q i) [ inl r ↦ r | inr b ↦ elim b [ inl t ↦ absurd (raw_not_tagged s q lq t.1) | inr g ↦ absurd (raw_not_ingress s q lq g.1) ] ]
@@ -184,7 +187,7 @@ module _ (net : Network) (net_is : IsNetwork net) (tags : IsTagging net) (old ne
         smaller false s = omega arith
 
     -- a round that changes bands alone, under the raw rules of a version
-    module _ (k : ℕ) (version : Bool) (of : IsOfVersion net new k version) (tables : List (List Rule)) (round : List Change) (good : IsGoodRound tables round) (count : length tables ≡ switch_count net)
+    module _ (k : ℕ) (version : Bool) (of : IsOfVersion layers k version) (tables : List (List Rule)) (round : List Change) (good : IsGoodRound tables round) (count : length tables ≡ switch_count net)
         (table : (s : SwitchId) → IsTable (rules_at tables s)) (laid_surely laid_maybe : Bool) (sure possible : List ℕ) (upward : IsUpward sure possible)
         (laying : (laid_surely ≡ true) ⊎ ((n : ℕ) → ¬ IsIn n possible))
         (between : OfEach tables round (λ s mixed. IsBetween (λ t. rules_at (version_tables version) t) laid_surely laid_maybe sure possible s mixed))

@@ -42,7 +42,7 @@ pub flat_more : {B : Type 0} (f : SwitchId → List B) (n : ℕ) → flat_map f 
 flat_more f n =
     ap (flat_map f) (first_more n) ∙ flat_map-append f (first_switches n) (numbered n ∷ []) ∙ ap (λ ys. flat_map f (first_switches n) ++ ys) (append-nil (f (numbered n)))
 
-at_number : (f : SwitchId → List Rule) (m count k : ℕ) → k < count → get_or (map f (map numbered (numbers_from m count))) k [] ≡ f (numbered (m + k))
+pub at_number : {B : Type 0} (f : SwitchId → List B) (m count k : ℕ) → k < count → get_or (map f (map numbered (numbers_from m count))) k [] ≡ f (numbered (m + k))
 at_number f m zero k within = absurd (omega arith)
 at_number f m (suc count) zero within = let e : m ≡ m + 0 = omega arith in ap (λ i. f (numbered i)) e
 at_number f m (suc count) (suc k) within = let e : suc m + k ≡ m + suc k = omega arith in at_number f (suc m) count k (omega arith) ∙ ap (λ i. f (numbered i)) e

@@ -1,10 +1,10 @@
 -- How many ranks, rounds and changes the plan has.
-use Rattle.std.proofs.Common.{◌≡◌, ℕ, zero, suc, ◌+◌, ◌<◌, ◌≤◌, List, [], ◌∷◌, ◌++◌, map, length, get_or, sum_by, refl, sym, ◌∙◌, subst, ap, inl, inr, arith, length-append}
-use Rattle.std.specs.Prelude.{filter, flat_map, not, reverse}
+use Rattle.std.proofs.Common.{◌≡◌, ℕ, zero, suc, ◌+◌, ◌<◌, ◌≤◌, List, [], ◌∷◌, ◌++◌, map, length, get_or, sum_by, refl, ◌∙◌, subst, ap, inl, inr, arith, length-append}
+use Rattle.std.specs.Prelude.{filter, flat_map, not}
 use Rattle.std.specs.List.{AllByRecursion}
 use Rattle.std.specs.Ordering.{is_lt}
 use Rattle.std.proofs.lemmas.Bool.{cond_both}
-use Rattle.std.proofs.lemmas.List.{length-map, length-reverse}
+use Rattle.std.proofs.lemmas.List.{length-map}
 use Rattle.std.proofs.lemmas.List.Concat.{length-flat_map}
 use Rattle.std.proofs.lemmas.List.Sums.{sum_by-cons, sum_by-append}
 use Rattle.net_base.specs.Members.{IsIn, IsDistinct}
@@ -23,22 +23,20 @@ use Rattle.tag_allocator.specs.Tags.{numbers_from}
 use Rattle.tag_allocator.proofs.TagLaws.{numbers_length, numbers_below}
 use Rattle.table_difference.specs.Tried.{AreTried}
 use Rattle.two_phase.specs.Laws.{FitsTwoPhase}
-use Rattle.two_phase.specs.TwoPhasePlan.{tagged_rules, ingress_rules, with_rule, in_key_order, switches, by_switch, ranks, of_rank, two_phase_rounds}
+use Rattle.two_phase.specs.TwoPhasePlan.{tagged_rules, ingress_rules, with_rule, in_key_order, switches, by_switch, ranks}
+use Rattle.two_phase.specs.Depths.{of_mark, layered_rounds}
 use Rattle.two_phase.proofs.CountLaws.{tagged_counted, ingress_counted}
 use Rattle.two_phase.proofs.CountedLaws.{capacity_most}
 use Rattle.two_phase.proofs.BandLaws.{ingress_cases}
-use Rattle.two_phase.proofs.RankLaws.{IsRising, ranks_rise}
-use Rattle.two_phase.proofs.SumLaws.{sum_less, sum_most, sum_map, sum_reverse, sum_swap, sum_both, length_split, parts_most}
+use Rattle.two_phase.proofs.LayerLaws.{chained_distinct}
+use Rattle.two_phase.proofs.RankLaws.{ranks_rise}
+use Rattle.two_phase.proofs.SumLaws.{sum_less, sum_most, sum_map, sum_swap, sum_both, length_split, parts_most}
 use Rattle.dest_classes.proofs.RisingLaws.{in_from_ascending}
 use Rattle.table_difference.proofs.LengthLaws.{length_from}
 
 -- ---- ranks
 
-pub rising_distinct : (ns : List ℕ) → IsRising ns → IsDistinct ns
-rising_distinct [] rising = tt
-rising_distinct (n ∷ ns) rising = (λ i. let less = rising.0 n i in absurd (omega arith), rising_distinct ns rising.1)
-
-in_tables : (f : Rule → ℕ) (r : Rule) (tables : List (List Rule)) (n : ℕ) → IsIn r (get_or tables n []) → IsIn (f r) (flat_map (map f) tables)
+pub in_tables : (f : Rule → ℕ) (r : Rule) (tables : List (List Rule)) (n : ℕ) → IsIn r (get_or tables n []) → IsIn (f r) (flat_map (map f) tables)
 in_tables f r [] n i = absurd i
 in_tables f r (rules ∷ tables) zero i = in_append_left (f r) (map f rules) (flat_map (map f) tables) (in_map f r rules i)
 in_tables f r (rules ∷ tables) (suc n) i = in_append_right (f r) (map f rules) (flat_map (map f) tables) (in_tables f r tables n i)
@@ -50,7 +48,7 @@ rank_of r = 32768 + r.key.priority
 pub few_ranks : (net : Network) (new : List (List Rule)) → sum_by length new ≤ 2048 → length (ranks net new) ≤ 2049
 few_ranks net new few =
     let all = 32768 ∷ flat_map (map rank_of) new in
-    let fewer : length (ranks net new) ≤ length all = no_longer (ranks net new) all (rising_distinct (ranks net new) (ranks_rise net new)) within in
+    let fewer : length (ranks net new) ≤ length all = no_longer (ranks net new) all (chained_distinct (λ x y. x < y) (λ a h. absurd (omega arith)) (ranks net new) (ranks_rise net new)) within in
     let size : length (flat_map (map rank_of) new) ≡ sum_by length new = length-flat_map (map rank_of) new ∙ ap (λ (f : List Rule → ℕ). sum_by f new) (λ j rules. length-map rules rank_of j) in
     omega arith
   where
@@ -69,22 +67,21 @@ few_ranks net new few =
 
 -- ---- rounds
 
-pub rounds_count : (net : Network) (old new : List (List Rule)) → length (two_phase_rounds net old new) ≡ length (ranks net new) + length (ranks net new) + 4
-rounds_count net old new =
-    let lay : ℕ → List Change = λ rank. by_switch net Insert (of_rank net new rank) in
-    let take_out : ℕ → List Change = λ rank. by_switch net Delete (of_rank net new rank) in
+pub rounds_count : (net : Network) (old new : List (List Rule)) (mark : SwitchId → Rule → ℕ) (in_order back : List ℕ) → length (layered_rounds net old new mark in_order back) ≡ length in_order + length back + 4
+rounds_count net old new mark in_order back =
+    let lay : ℕ → List Change = λ k. by_switch net Insert (of_mark net new mark k) in
+    let take_out : ℕ → List Change = λ k. by_switch net Delete (of_mark net new mark k) in
     let first = by_switch net Insert (λ s. tagged_rules net s (rules_at new s)) ∷ [] in
-    let laid = map lay (reverse (ranks net new)) in
+    let laid = map lay in_order in
     let exchange = filter (λ c. not (is_insert c)) (remaining old new) ∷ filter is_insert (remaining old new) ∷ [] in
-    let taken = map take_out (ranks net new) in
+    let taken = map take_out back in
     let last = by_switch net Delete (λ s. tagged_rules net s (rules_at new s)) ∷ [] in
     let a = length-append (first ++ laid ++ exchange ++ taken) last in
     let b = length-append (first ++ laid ++ exchange) taken in
     let c = length-append (first ++ laid) exchange in
     let d = length-append first laid in
-    let e = length-map (reverse (ranks net new)) lay in
-    let f = length-map (ranks net new) take_out in
-    let g = length-reverse (ranks net new) in
+    let e = length-map in_order lay in
+    let f = length-map back take_out in
     omega arith
 
 -- ---- changes
@@ -114,17 +111,17 @@ round_length net change rules =
     length-flat_map (λ s. map (change s) (in_key_order (rules s))) (switches net)
     ∙ ap (λ (f : SwitchId → ℕ). sum_by f (switches net)) (λ j s. (length-map (in_key_order (rules s)) (change s) ∙ order_length (rules s)) j)
 
--- the rounds of distinct ranks have no more changes than there are ingress rules
-ranks_length : (net : Network) (new : List (List Rule)) (change : SwitchId → Rule → Change) (ks : List ℕ) → IsDistinct ks
-    → sum_by length (map (λ rank. by_switch net change (of_rank net new rank)) ks) ≤ sum_by (λ s. length (ingress_rules net s (rules_at new s))) (switches net)
-ranks_length net new change ks distinct =
-    let part : ℕ → SwitchId → ℕ = λ rank s. length (of_rank net new rank s) in
-    let a = sum_map length (λ rank. by_switch net change (of_rank net new rank)) ks in
-    let b : sum_by (λ rank. length (by_switch net change (of_rank net new rank))) ks ≡ sum_by (λ rank. sum_by (part rank) (switches net)) ks =
-    ap (λ (f : ℕ → ℕ). sum_by f ks) (λ j rank. round_length net change (of_rank net new rank) j)
+-- the rounds of distinct marks have no more changes than there are ingress rules
+layers_length : (net : Network) (new : List (List Rule)) (mark : SwitchId → Rule → ℕ) (change : SwitchId → Rule → Change) (ks : List ℕ) → IsDistinct ks
+    → sum_by length (map (λ k. by_switch net change (of_mark net new mark k)) ks) ≤ sum_by (λ s. length (ingress_rules net s (rules_at new s))) (switches net)
+layers_length net new mark change ks distinct =
+    let part : ℕ → SwitchId → ℕ = λ k s. length (of_mark net new mark k s) in
+    let a = sum_map length (λ k. by_switch net change (of_mark net new mark k)) ks in
+    let b : sum_by (λ k. length (by_switch net change (of_mark net new mark k))) ks ≡ sum_by (λ k. sum_by (part k) (switches net)) ks =
+    ap (λ (f : ℕ → ℕ). sum_by f ks) (λ j k. round_length net change (of_mark net new mark k) j)
     in
     let c = sum_swap part ks (switches net) in
-    let d = sum_less (λ s. sum_by (λ rank. part rank s) ks) (λ s. length (ingress_rules net s (rules_at new s))) (switches net) (λ s _. parts_most (λ (r : Rule). r.key.priority) ks distinct (ingress_rules net s (rules_at new s))) in
+    let d = sum_less (λ s. sum_by (λ k. part k s) ks) (λ s. length (ingress_rules net s (rules_at new s))) (switches net) (λ s _. parts_most (mark s) ks distinct (ingress_rules net s (rules_at new s))) in
     omega arith
 
 module _ (net : Network) (is : IsNetwork net) (old new : List (List Rule)) (fits : FitsTwoPhase net old new) where
@@ -151,18 +148,17 @@ module _ (net : Network) (is : IsNetwork net) (old new : List (List Rule)) (fits
       omega arith
 
   module _ (few_old : sum_by length old ≤ 2048) (few_new : sum_by length new ≤ 2048) where
-    pub changes_few : sum_by length (two_phase_rounds net old new) ≤ 2101248
-    changes_few =
-        let lay : ℕ → List Change = λ rank. by_switch net Insert (of_rank net new rank) in
-        let take_out : ℕ → List Change = λ rank. by_switch net Delete (of_rank net new rank) in
+    pub changes_few : (mark : SwitchId → Rule → ℕ) (in_order back : List ℕ) → IsDistinct in_order → IsDistinct back → sum_by length (layered_rounds net old new mark in_order back) ≤ 2101248
+    changes_few mark in_order back distinct also_distinct =
+        let lay : ℕ → List Change = λ k. by_switch net Insert (of_mark net new mark k) in
+        let take_out : ℕ → List Change = λ k. by_switch net Delete (of_mark net new mark k) in
         let tags_in = by_switch net Insert (λ s. tagged_rules net s (rules_at new s)) in
         let tags_out = by_switch net Delete (λ s. tagged_rules net s (rules_at new s)) in
         let gone = filter (λ c. not (is_insert c)) (remaining old new) in
         let come = filter is_insert (remaining old new) in
-        let laid = map lay (reverse (ranks net new)) in
-        let taken = map take_out (ranks net new) in
+        let laid = map lay in_order in
+        let taken = map take_out back in
         let exchange = gone ∷ come ∷ [] in
-        let rising = rising_distinct (ranks net new) (ranks_rise net new) in
         let a = sum_by-append length ((tags_in ∷ []) ++ laid ++ exchange ++ taken) (tags_out ∷ []) in
         let b = sum_by-append length ((tags_in ∷ []) ++ laid ++ exchange) taken in
         let c = sum_by-append length ((tags_in ∷ []) ++ laid) exchange in
@@ -173,9 +169,8 @@ module _ (net : Network) (is : IsNetwork net) (old new : List (List Rule)) (fits
         let h = sum_by-cons length come [] in
         let i = round_length net Insert (λ s. tagged_rules net s (rules_at new s)) in
         let j = round_length net Delete (λ s. tagged_rules net s (rules_at new s)) in
-        let k : sum_by length laid ≡ sum_by length (map lay (ranks net new)) = sum_map length lay (reverse (ranks net new)) ∙ sum_reverse (λ rank. length (lay rank)) (ranks net new) ∙ sym (sum_map length lay (ranks net new)) in
-        let l = ranks_length net new Insert (ranks net new) rising in
-        let m = ranks_length net new Delete (ranks net new) rising in
+        let l = layers_length net new mark Insert in_order distinct in
+        let m = layers_length net new mark Delete back also_distinct in
         let n = length_split is_insert (remaining old new) in
         let o = length_from 0 old new in
         let p = bands_most in

@@ -27,7 +27,8 @@ use Rattle.update_model.specs.declared.Change.{Change}
 use Rattle.tag_allocator.specs.Tags.{Tagged, tags_of, available_tags}
 use Rattle.tag_allocator.proofs.TagLaws.{tag_available}
 use Rattle.table_difference.specs.SameClasses.{every_address}
-use Rattle.two_phase.specs.TwoPhasePlan.{is_host, is_link, restore, test_of, tagged_action, ingress_action, tagged_rules, ingress_rules, hosts_of, two_phase_rounds}
+use Rattle.two_phase.specs.TwoPhasePlan.{is_host, is_link, restore, test_of, tagged_action, ingress_action, tagged_rules, ingress_rules, hosts_of}
+use Rattle.two_phase.specs.Depths.{layered_rounds}
 use Rattle.two_phase.proofs.TagLaws.{paired_user, paired_tag}
 use Rattle.two_phase.proofs.BandLaws.{tagged_cases, ingress_cases}
 use Rattle.two_phase.proofs.OwnChanges.{IsOfPlan, IsAmong, all_of_plan}
@@ -166,7 +167,7 @@ module _ (net : Network) (is : IsNetwork net) where
           action = rule.action;
         }
 
-    pub changes_plan : AllByRecursion (AllByRecursion (IsPlanChange net)) (two_phase_rounds net old new)
-    changes_plan =
+    pub changes_plan : (mark : SwitchId → Rule → ℕ) (laid taken : List ℕ) → AllByRecursion (AllByRecursion (IsPlanChange net)) (layered_rounds net old new mark laid taken)
+    changes_plan mark laid taken =
         each_weaker (AllByRecursion (IsOfPlan net old new)) (AllByRecursion (IsPlanChange net)) (λ round h. each_weaker (IsOfPlan net old new) (IsPlanChange net) change_plan round h)
-        (two_phase_rounds net old new) (all_of_plan net old new old_user.count)
+        (layered_rounds net old new mark laid taken) (all_of_plan net old new mark laid taken old_user.count)

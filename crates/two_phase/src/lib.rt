@@ -3,7 +3,10 @@
 
 mod bands;
 mod blocks;
+mod by_depth;
 mod copies;
+mod deep_rules;
+mod depth_rounds;
 mod labels;
 pub mod laws;
 mod needs;
@@ -13,5 +16,6 @@ mod rounds;
 mod switch_rules;
 mod vlan_tags;
 
+pub use by_depth::two_phase_by_depth;
 pub use needs::need;
 pub use planning::{TwoFault, two_phase};

@@ -59,7 +59,7 @@ impl From<Memory> for TwoFault {
 }
 
 /// The tags of the declared VLANs.
-fn allot_tags(alloc: Global, net: &Net) -> Result<TagMap, TwoFault>
+pub(crate) fn allot_tags(alloc: Global, net: &Net) -> Result<TagMap, TwoFault>
     ensures tags { IfOk result (λ tags. tags ≡ map (λ t. t.tag) (tags_of net.now)) }
     ensures enough { IfOk result (λ _. length net.now.vlans ≤ length (available_tags net.now)) }
     ensures cause { IfErr result
@@ -73,7 +73,7 @@ fn allot_tags(alloc: Global, net: &Net) -> Result<TagMap, TwoFault>
 }
 
 /// Whether each switch has room for what the plan needs there.
-fn check_room(net: &Net, old: &Config, new: &Config) -> Result<(), TwoFault>
+pub(crate) fn check_room(net: &Net, old: &Config, new: &Config) -> Result<(), TwoFault>
     requires old { IsUserConfig net.now (rules_of_all old.now) }
     requires new { IsUserConfig net.now (rules_of_all new.now) }
     requires tags { length net.now.vlans ≤ length (available_tags net.now) }
@@ -109,7 +109,7 @@ fn copy_rounds(alloc: Global, rounds: &Rounds) -> Result<Rounds, Memory>
 }
 
 /// The evidence of the plan.
-fn make_evidence(
+pub(crate) fn make_evidence(
     alloc: Global,
     net: &Net,
     tags: &TagMap,

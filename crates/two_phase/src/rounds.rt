@@ -83,7 +83,7 @@ fn add_halves(alloc: Global, rounds: &mut Rounds, changes: &[Change]) -> Result<
 }
 
 /// Adds the two rounds of the exchange: first what deletes and replaces old rules, and then what inserts new ones.
-fn add_exchange(
+pub(crate) fn add_exchange(
     alloc: Global,
     rounds: &mut Rounds,
     old: &Config,
@@ -102,7 +102,7 @@ fn add_exchange(
 }
 
 /// Adds the round of all rules.
-fn add_round(
+pub(crate) fn add_round(
     alloc: Global,
     rounds: &mut Rounds,
     net: &Net,

@@ -56,7 +56,7 @@ impl SwitchRules {
     }
 
     /// The rules of a switch.
-    fn rules(&self, s: SwitchId) -> &[Rule]
+    pub(crate) fn rules(&self, s: SwitchId) -> &[Rule]
         requires { s.0 < length self.now }
         ensures { result.now ≡ rules_at self.now s }
     {
@@ -89,7 +89,7 @@ fn add_priorities(priorities: &mut Vec<u16>, rules: &[Rule]) -> Result<(), Memor
 }
 
 /// What lays a rule at a switch, or takes it away.
-fn change(step: Step, s: SwitchId, rule: Rule) -> Change
+pub(crate) fn change(step: Step, s: SwitchId, rule: Rule) -> Change
     ensures { result ≡ change_by step s rule }
 {
     match step {

@@ -22,6 +22,6 @@ returns c =
     let exchange : List (List Change) = filter (λ c. not (is_insert c)) (remaining old new) ∷ filter is_insert (remaining old new) ∷ [] in
     subst (λ ranks. c.add_taking.new.rounds ≡ (by_switch net Insert tagged ∷ []) ++ map (by_rank net Insert ingress) (reverse ranks) ++ exchange ++ map (by_rank net Delete ingress) ranks ++ (by_switch net Delete tagged ∷ []))
     c.requires.ranks
-    (rounds_joined (by_switch net Insert tagged) (by_switch net Delete tagged) exchange (by_rank net Insert ingress) (by_rank net Delete ingress) c.args.rising.now
+    (rounds_joined (by_switch net Insert tagged) (by_switch net Delete tagged) exchange (by_rank net Insert ingress) (by_rank net Delete ingress) (reverse c.args.rising.now) c.args.rising.now
     c.in_ok-rounds.rounds c.add_laying.new.rounds c.add_exchange.new.rounds c.add_taking.new.rounds c.in_ok-rounds.ensures
     (c.in_ok-add_laying.ensures tagged ingress c.requires.tagged c.requires.ingress) c.in_ok-add_exchange.ensures (c.in_ok-add_taking.ensures tagged ingress c.requires.tagged c.requires.ingress))

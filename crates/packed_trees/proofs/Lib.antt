@@ -1,0 +1,9 @@
+pub mod ManyReplaces
+pub mod Sunk
+pub mod TreeProgress
+pub mod MoreSafe
+pub mod Picks
+pub mod TreePlaces
+pub mod Taken
+pub mod NeverStuck
+pub mod FewRounds

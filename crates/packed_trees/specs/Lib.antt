@@ -1,0 +1,2 @@
+pub mod TreeUpdates
+pub mod Bounds

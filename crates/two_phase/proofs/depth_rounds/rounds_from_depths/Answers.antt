@@ -1,0 +1,27 @@
+use Rattle.std.proofs.Common.{◌≡◌, List, [], ◌∷◌, ◌++◌, map, subst}
+use Rattle.std.specs.Prelude.{filter, not, reverse}
+use Rattle.net_base.specs.declared.ids.SwitchId.{SwitchId}
+use Rattle.flow_rules.specs.declared.rules.Rule.{Rule}
+use Rattle.flow_rules.specs.Tables.{rules_of_all, rules_at}
+use Rattle.update_model.specs.Mixtures.{is_insert}
+use Rattle.update_model.specs.Remaining.{remaining}
+use Rattle.update_model.specs.declared.Change.{Change}
+use Rattle.update_model.specs.declared.Change.TheVariants.{Insert, Delete}
+use Rattle.two_phase.specs.TwoPhasePlan.{tagged_rules, ingress_rules, by_switch}
+use Rattle.two_phase.specs.DeepRules.{by_depth}
+use Rattle.two_phase.proofs.RoundsLaws.{rounds_joined}
+use Rattle.two_phase.proofs.depth_rounds.rounds_from_depths.Goals as goal
+
+pub returns : goal.returns
+returns c =
+    let net = c.args.net.now in
+    let old = rules_of_all c.args.old.now in
+    let new = rules_of_all c.args.new.now in
+    let tagged : SwitchId → List Rule = λ s. tagged_rules net s (rules_at new s) in
+    let ingress : SwitchId → List Rule = λ s. ingress_rules net s (rules_at new s) in
+    let exchange : List (List Change) = filter (λ c. not (is_insert c)) (remaining old new) ∷ filter is_insert (remaining old new) ∷ [] in
+    subst (λ depths. c.add_taking.new.rounds ≡ (by_switch net Insert tagged ∷ []) ++ map (by_depth net Insert ingress) depths ++ exchange ++ map (by_depth net Delete ingress) (reverse depths) ++ (by_switch net Delete tagged ∷ []))
+    c.requires.depths
+    (rounds_joined (by_switch net Insert tagged) (by_switch net Delete tagged) exchange (by_depth net Insert ingress) (by_depth net Delete ingress) c.args.rising.now (reverse c.args.rising.now)
+    c.in_ok-rounds.rounds c.add_laying.new.rounds c.add_exchange.new.rounds c.add_taking.new.rounds c.in_ok-rounds.ensures
+    (c.in_ok-add_laying.ensures tagged ingress c.requires.tagged c.requires.ingress) c.in_ok-add_exchange.ensures (c.in_ok-add_taking.ensures tagged ingress c.requires.tagged c.requires.ingress))
