@@ -33,6 +33,7 @@ CLASSES = {
     "check-chains": 8184,
     "explain-chains": 8184,
     "plan-chains": 1056,
+    "pack-chains": 1056,
     "check-touched": 8192,
     "check-touched-few": 8192,
     "check-parallel-wide": 7998,

@@ -7,6 +7,7 @@ from rings import Ring
 
 CONFIG = ["config", "topology.json", "config.json"]
 PLAN = ["plan", "topology.json", "old.json", "new.json", "policy.json"]
+PACK = ["pack", *PLAN[1:]]
 CHECK = ["check", "topology.json", "old.json", "new.json", "policy.json", "plan.json"]
 EXPLAIN = ["explain", *CHECK[1:]]
 # The greatest size of a topology and of a configuration, in bytes.
@@ -315,6 +316,10 @@ WORKLOADS = {
     "plan-replaced": ("plan, 2048 rules of equal priority at one switch, all replaced", lambda: replaced_rules(PLAN, 2048)),
     "check-replaced": ("check of that plan", lambda: replaced_rules(CHECK, 2048)),
     "plan-rekeyed": ("plan, 2047 rules of one switch, each with another priority", lambda: rekeyed_rules(2047)),
+    "pack-ring": ("pack, ring of 128 switches", lambda: turned_ring(PACK, 128, 4)),
+    "pack-rules": ("pack, ring of 128 switches with 2048 rules", lambda: turned_ring(PACK, 128, 16)),
+    "pack-replaced": ("pack, 2048 rules of equal priority at one switch, all replaced", lambda: replaced_rules(PACK, 2048)),
+    "pack-chains": ("pack, 1056 classes with 512 chains", lambda: chains(PACK, 1056)),
     "check-touched": ("check, 1024 rules of one priority, 64 rounds that replace all and touch all of 8192 classes", lambda: replaced_together(64)),
     "check-touched-few": ("check, 1024 rules of one priority, 64 rounds of 2 changes that touch all of 8192 classes", lambda: two_below_all(64)),
     "check-big-rounds": ("check, 268 rounds of 8190 changes at one switch", lambda: toggled_rules(268, ranked_rules(8190, 1))),

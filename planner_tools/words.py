@@ -53,6 +53,11 @@ PROVED = [
             "entries are wanting",
             "Writes a certified plan in format 2: one change a round where a search for safe changes finds them, otherwise a two-phase plan, which marks "
             "packets with tags. Where neither can be had it says which tags or table entries are wanting, and which rounds were tried."),
+    Command("pack", "TOPO OLD NEW POLICY",
+            "a certified plan of few rounds: each takes every change that can still stand in it; or a two-phase plan, where that has fewer rounds",
+            "Writes a certified plan in format 2 as `plan` does, but of few rounds: each round takes every change that can still be made beside those that it "
+            "took before, in whatever order. Where that ends at no plan it is the one of `plan`'s search. A two-phase plan is written where it has fewer rounds "
+            "than that, or there is none; with `\"tags\": []` in the topology it never is. The refusals are those of `plan`."),
     Command("check", "TOPO OLD NEW POLICY PLAN",
             "whether a plan, from any source, is certified; otherwise the first reason why it isn't",
             "Says whether the plan is certified. Then in every run of it, in any order of the changes of a round and any interleaving with the packets, no "
@@ -158,7 +163,7 @@ COMMANDS = PROVED + FRONT
 WISHES = [
     ("whether each packet has a good path under my rules", ["config"]),
     ("where each class of packets goes, and by which rules one packet", ["paths", "trace"]),
-    ("a plan from the old rules to the new ones", ["plan"]),
+    ("a plan from the old rules to the new ones", ["pack", "plan"]),
     ("whether a plan is safe, whoever made it", ["check"]),
     ("evidence for rounds of my own", ["certify"]),
     ("what goes wrong under a plan that isn't", ["explain"]),
@@ -171,7 +176,7 @@ WISHES = [
 ]
 BY_NAME = {command.name: command for command in COMMANDS}
 # Commands of the program that are newer than some builds of it.
-NEW = ("paths", "trace", "tables", "certify")
+NEW = ("paths", "trace", "tables", "certify", "pack")
 
 DESCRIPTION = (
     "plans and checks updates of OpenFlow 1.0 flow tables while packets flow. From a network, the rules now, the rules wanted and what packets must do, it "

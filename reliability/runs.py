@@ -62,6 +62,8 @@ def example_commands():
     commands += [
         ["config", "detour/topology.json", "detour/new.json", "detour/policy-two-waypoints.json"],
         ["check", *update("square", "plan-at-once.json")],
+        ["pack", *update("square")],
+        ["pack", *update("detour")],
         ["certify", *update("square", "plan.json")],
         ["certify", *update("square", "plan-at-once.json")],
         ["explain", *update("square", "plan.json")],

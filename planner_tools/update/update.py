@@ -26,7 +26,7 @@ from planner_tools.update.summary import summary
 WANTED = ("topology", "new", "policy")
 STEPS = ("collect", "import", "plan", "check", "apply")
 # The commands of the program that make a plan, the preferred one first. A command that makes plans of fewer rounds has its place before `plan`.
-PLANNERS = ("plan",)
+PLANNERS = ("pack", "plan")
 REFUSED, BAD_FILE, UNREADABLE, UNWRITABLE = 1, 3, 6, 7
 # What to do next where a step of the program doesn't end with 0, by the step and the status.
 NEXT = {

@@ -1,0 +1,112 @@
+#!/usr/bin/env python3
+"""Times `pack` beside `plan` over the same files: rings that turn round, trees and new link weights in a plane graph, a ring whose
+traffic may mostly be dropped, and thousands of changes at one switch. Prints rounds, seconds and memory of both; tests nothing."""
+import heapq
+import json
+import pathlib
+import random
+import tempfile
+
+import measure
+from rings import Ring, prefix
+from workloads import PACK, PLAN, WORKLOADS
+
+
+def rounds_of(text):
+    """The kind and the number of rounds of a plan, or what else was said."""
+    try:
+        plan = json.loads(text)
+        return f"{plan['kind']}, {len(plan['rounds'])} rounds"
+    except ValueError:
+        return text.decode().split("\n")[0]
+
+
+def both(title, files):
+    """Runs both commands over the same files."""
+    with tempfile.TemporaryDirectory() as name:
+        folder = pathlib.Path(name)
+        for file, value in zip(("topology", "old", "new", "policy"), files):
+            (folder / f"{file}.json").write_text(json.dumps(value))
+        for words in (PLAN, PACK):
+            text = measure.run(f"{title}, {words[0]}", words, folder, shown=0)
+            print(f"    {rounds_of(text)}")
+
+
+def without_tags(topology):
+    return {**topology, "tags": []}
+
+
+def turned(switches, destinations):
+    ring = Ring(switches, destinations)
+    return without_tags(ring.topology()), ring.config(2), ring.config(3), ring.policy()
+
+
+def free(switches, destinations):
+    """The ring, where nothing must arrive."""
+    topology, old, new, _ = turned(switches, destinations)
+    return topology, old, new, {"demands": []}
+
+
+class Grid:
+    """Switches in rows and columns, each linked to those beside it, each with a host at port 1."""
+
+    def __init__(self, rows, columns):
+        self.size = rows * columns
+        self.links, self.port = [], {}
+        used = [1] * self.size
+        for one in range(self.size):
+            beside = [one + 1] if (one + 1) % columns else []
+            for other in beside + ([one + columns] if one + columns < self.size else []):
+                used[one] += 1
+                used[other] += 1
+                self.port[one, other], self.port[other, one] = used[one], used[other]
+                self.links.append([f"g{one}:{used[one]}", f"g{other}:{used[other]}"])
+
+    def topology(self):
+        return {"switches": [{"name": f"g{i}", "capacity": 64} for i in range(self.size)], "links": self.links,
+                "hosts": [f"g{i}:1" for i in range(self.size)], "vlans": ["untagged"], "tags": []}
+
+    def config(self, homes, draw):
+        """For each destination the shortest paths to its switch, under weights that are drawn."""
+        weights = {pair: draw.randint(1, 20) for pair in sorted(self.port)}
+        rules = []
+        for j, home in enumerate(homes):
+            found, queue = {}, [(0, home, None)]
+            while queue:
+                length, one, after = heapq.heappop(queue)
+                if one in found:
+                    continue
+                found[one] = self.port[one, after] if after is not None else 1
+                for other in range(self.size):
+                    if (other, one) in self.port and other not in found:
+                        heapq.heappush(queue, (length + weights[other, one], other, one))
+            rules += [{"switch": f"g{one}", "priority": 100, "dst": prefix(j), "out": out} for one, out in sorted(found.items())]
+        return {"rules": rules}
+
+
+def new_weights(rows, columns, destinations):
+    grid, draw = Grid(rows, columns), random.Random(1)
+    homes = draw.sample(range(grid.size), destinations)
+    policy = {"demands": [{"from": "any", "dst": prefix(j), "deliver": True} for j in range(destinations)]}
+    return grid.topology(), grid.config(homes, draw), grid.config(homes, draw), policy
+
+
+def of_workload(name):
+    files = WORKLOADS[name][1]().files
+    return without_tags(files["topology"]), files["old"], files["new"], files["policy"]
+
+
+def main():
+    both("ring of 128, 4 destinations", turned(128, 4))
+    both("ring of 128, 15 destinations", turned(128, 15))
+    both("grid of 8 by 8, new weights, 15 destinations", new_weights(8, 8, 15))
+    both("grid of 8 by 16, new weights, 15 destinations", new_weights(8, 16, 15))
+    both("reversed ring of 64", of_workload("plan-reversed-64"))
+    both("ring of 128, nothing must arrive", free(128, 4))
+    both("ring of 128 with 2048 rules, most traffic may be dropped", of_workload("plan-rules"))
+    both("2048 rules of one priority at one switch, all replaced", of_workload("plan-replaced"))
+    both("2047 rules of one switch, each with another priority", of_workload("plan-rekeyed"))
+
+
+if __name__ == "__main__":
+    main()
