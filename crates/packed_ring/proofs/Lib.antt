@@ -1,0 +1,4 @@
+pub mod RingClasses
+pub mod RingBounds
+pub mod RingRounds
+pub mod RingRead
