@@ -45,7 +45,7 @@ use Rattle.command_base.proofs.RunLaws.{settled_done, settled_refused, settled_b
 use Rattle.plan_command.specs.Promise.{PlanPromise}
 
 -- both ends of an update of destination trees are good
-tree_ends : (u : Update) → IsTreeUpdate (bare_task u) → BothEndsAreGood u
+pub tree_ends : (u : Update) → IsTreeUpdate (bare_task u) → BothEndsAreGood u
 tree_ends u tree = record { old_good = tree.old_good; new_good = tree.new_good }
 
 -- what is said of an update, in each of its statuses
@@ -123,7 +123,7 @@ one_small net old new s t need capacity other room small second =
     let not_more = below_not_over net old new t s other room need capacity second small in
     switch_same s t (omega (arith, not_less, not_more))
 
-small_lines_same : (net : Network) (old new : List (List Rule)) (s t : SwitchId) (need capacity other room : ℕ) (tried : List (List Change)) → IsFirstTooSmall net old new s need capacity → IsFirstTooSmall net old new t other room
+pub small_lines_same : (net : Network) (old new : List (List Rule)) (s t : SwitchId) (need capacity other room : ℕ) (tried : List (List Change)) → IsFirstTooSmall net old new s need capacity → IsFirstTooSmall net old new t other room
     → too_small_lines net s need capacity tried ≡ too_small_lines net t other room tried
 small_lines_same net old new s t need capacity other room tried small second =
     let switch_is = one_small net old new s t need capacity other room small second in
@@ -134,7 +134,7 @@ small_lines_same net old new s t need capacity other room tried small second =
     ∙ ap (λ x. too_small_lines net t other x tried) capacity_is
 
 -- the same classes are as many
-count_same : (a b : ClassList) → HasSameClasses a b → class_count a ≡ class_count b
+pub count_same : (a b : ClassList) → HasSameClasses a b → class_count a ≡ class_count b
 count_same a b same =
     ap (λ hosts. length hosts * length a.vlans * length (boundaries a.prefixes)) same.hosts
     ∙ ap (λ vlans. length b.hosts * length vlans * length (boundaries a.prefixes)) same.vlans
@@ -143,7 +143,7 @@ count_same a b same =
 read_beside : {A E : Type 0} (files others : Files) (kind : FileKind) (meaning : List ℕ → Result A E) (name : List ℕ) (value : A) → others name ≡ files name → IsReadAs files kind meaning name value → IsReadAs others kind meaning name value
 read_beside files others kind meaning name value same read = record { bytes = read.bytes; held = same ∙ read.held; within = read.within; means = read.means }
 
-update_beside : (files others : Files) (names : UpdateNames) (plan text : List ℕ) (u : Update) → HoldBeside files others names plan text → FilesMeanUpdate files names u → FilesMeanUpdate others names u
+pub update_beside : (files others : Files) (names : UpdateNames) (plan text : List ℕ) (u : Update) → HoldBeside files others names plan text → FilesMeanUpdate files names u → FilesMeanUpdate others names u
 update_beside files others names plan text u beside mean = record {
   topology_is = read_beside files others kind.Topology _ names.topology u.net beside.topology mean.topology_is;
   old_is = read_beside files others kind.Old _ names.old u.old beside.old mean.old_is;

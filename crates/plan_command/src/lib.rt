@@ -7,3 +7,4 @@ mod no_plan_lines;
 mod planning;
 
 pub use crate::command::plan;
+pub use crate::planning::{end_reply, too_few_reply, too_small_reply};

@@ -36,7 +36,7 @@ use update_model::Rounds;
 use upgrade_command::plan_reply;
 
 /// The reply on an end that isn't good.
-fn end_reply(
+pub fn end_reply(
     alloc: Global,
     files: &UpdateFiles,
     classes: &ClassMap,
@@ -78,7 +78,7 @@ fn new_plan_reply(alloc: Global, files: &UpdateFiles, plan: &Plan) -> Result<Rep
 }
 
 /// The reply on too few tags, after a search that was stuck.
-fn too_few_reply(
+pub fn too_few_reply(
     alloc: Global,
     files: &UpdateFiles,
     tried: &Rounds,
@@ -97,7 +97,7 @@ fn too_few_reply(
 }
 
 /// The reply on a switch that is too small, after a search that was stuck.
-fn too_small_reply(
+pub fn too_small_reply(
     alloc: Global,
     files: &UpdateFiles,
     tried: &Rounds,

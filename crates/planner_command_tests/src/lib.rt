@@ -1,11 +1,15 @@
-//! Tests of `plan` and `sample`, and of `check` on what was planned.
+//! Tests of `plan`, `pack` and `sample`, and of `check` on what was planned.
 #![tactic(auto)]
 
 #[cfg(test)]
 mod neighbours;
 #[cfg(test)]
+mod pack_command_tests;
+#[cfg(test)]
 mod plan_command_tests;
 #[cfg(test)]
 mod retried;
+#[cfg(test)]
+mod ring;
 #[cfg(test)]
 mod sample_command_tests;

@@ -1,0 +1,13 @@
+use Rattle.std.proofs.Common.{subst}
+use Rattle.certificates.specs.Updates.{task_for}
+use Rattle.check_reasons.specs.Cases.{CaseView}
+use Rattle.command_base.specs.Updates.{meaning_of}
+use Rattle.round_certifier.specs.Refusals.{IsFirstRefusal, OfRefusal}
+use Rattle.pack_command.proofs.PlanLaws.{not_refused}
+use Rattle.pack_command.proofs.packing.certify_packed.Goals as goal
+
+pub unreachable-requires : goal.unreachable-requires
+unreachable-requires c =
+    let v : CaseView = record { task = task_for (meaning_of c.args.files.now) c.args.plan.now; evidence = c.args.plan.now.evidence } in
+    not_refused (meaning_of c.args.files.now) c.requires.old c.requires.new c.args.plan.now c.requires.packed c.requires.classes c.requires.good c.args.plan.now.evidence c.requires.bare c.in-Err-Refused.field-0-0
+    (subst (OfRefusal (IsFirstRefusal v)) c.in-Err-Refused.field-0-is c.in-Err-Refused.ensures.refused)

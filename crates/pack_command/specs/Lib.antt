@@ -1,0 +1,4 @@
+pub mod Chosen
+pub mod Packed
+pub mod PackFiles
+pub mod Promise

@@ -1,0 +1,73 @@
+-- What a run of `pack` promises over the files of a source that tells.
+use Rattle.std.specs.Prelude.{◌≡◌, ◌↔◌, ◌≤◌, ℕ, ◌+◌, ◌*◌, false, List, length, Option, Some}
+use Rattle.std.specs.Io.KnownBytes.{Appends}
+use Rattle.file_access.specs.Outside.{Files}
+use Rattle.update_model.specs.Remaining.{remaining}
+use Rattle.certificates.specs.Certified.{is_two_phase}
+use Rattle.certificates.specs.Updates.{Update}
+use Rattle.certificates.specs.declared.Plan.{Plan}
+use Rattle.packed_rounds.specs.Packing.{CanStand, PacksOrdered}
+use Rattle.round_planner.specs.Search.{single_rounds}
+use Rattle.round_planner.specs.Updates.{update_count, KeepsConsistent}
+use Rattle.tag_allocator.specs.Tags.{available_tags}
+use Rattle.two_phase.specs.Depths.{depth_count}
+use Rattle.two_phase.specs.Laws.{FitsTwoPhase}
+use Rattle.command_base.specs.declared.status.Status.{Status}
+use Rattle.command_base.specs.declared.status.Status.TheVariants as status
+use Rattle.command_base.specs.declared.kinds.FileKind.TheVariants as kind
+use Rattle.command_base.specs.Kinds.{limit_of}
+use Rattle.command_base.specs.Lines.{classes_line}
+use Rattle.command_base.specs.Names.{UpdateNames}
+use Rattle.command_base.specs.Updates.{FilesMeanUpdate, WritesPlan}
+use Rattle.command_base.specs.Runs.{IsSettled}
+use Rattle.check_base.specs.Checks.{FilesAreCertified}
+use Rattle.plan_command.specs.NoPlanLines as lines
+use Rattle.plan_command.specs.NewPlans.{FilesHavePlan, FilesBreakAnEnd, UpdateMakesTooMany, FilesMeanTrees, NamesFirstEndBreak, HoldBeside}
+use Rattle.pack_command.specs.Chosen.{update_target}
+use Rattle.pack_command.specs.PackFiles.{IsPackingOrdered, EndsInOrder, FilesHavePackPlan, FilesPackNoTags, FilesPackNoRoom, WritesPackPlan, AreFull}
+
+-- the files and their names, what was written before and after the run, and how it ended
+pub record PackPromise (files : Files) (names : UpdateNames) (old new : Option (List ℕ)) (result : Status) : Type 0 where
+  -- Done comes exactly where the four files mean an update with at most 8192 classes whose ends are good, and packing or the search
+  -- ends ordered, or there are tags and room for two phases.
+  pub done : IsSettled result → ((result ≡ status.Done) ↔ FilesHavePackPlan files names)
+  -- So it comes wherever there is a plan for `plan`.
+  pub wherever : IsSettled result → FilesHavePlan files names → result ≡ status.Done
+  -- Then the text of the chosen plan was written: the packed one, or where packing ends stuck that of the search, or that of two phases
+  -- where it has fewer rounds or is the only one. Reading it gives this plan.
+  pub writes : (u : Update) → FilesMeanUpdate files names u → result ≡ status.Done → WritesPackPlan u old new
+  -- The plan that was written is certified, and so it keeps each packet's trace good in every state of every run.
+  pub keeps : (before : List ℕ) (u : Update) (p : Plan) → old ≡ Some before → result ≡ status.Done → FilesMeanUpdate files names u → WritesPlan u.net p old new → KeepsConsistent u p
+  -- Where what was written has no more bytes than a plan may have, `check` over the same files and this text says Done.
+  pub checked : (others : Files) (before plan text : List ℕ) → old ≡ Some before → result ≡ status.Done → Appends old new text
+      → length text ≤ limit_of kind.Plan → HoldBeside files others names plan text → FilesAreCertified others (record { update = names; plan = plan })
+  -- Where packing or the search ends ordered it has at most as many rounds as changes lead from the old to the new tables: as many
+  -- as an ordered plan of `plan` has.
+  pub never_more : (before : List ℕ) (u : Update) (p : Plan) → old ≡ Some before → result ≡ status.Done → FilesMeanUpdate files names u → WritesPlan u.net p old new
+      → EndsInOrder u → length p.rounds ≤ length (remaining u.old u.new)
+  -- Where there are tags and room for two phases it has at most two rounds for each depth of ingress rules, and four.
+  pub few_rounds : (before : List ℕ) (u : Update) (p : Plan) → old ≡ Some before → result ≡ status.Done → FilesMeanUpdate files names u → WritesPlan u.net p old new
+      → FitsTwoPhase u.net u.old u.new → length p.rounds ≤ 2 * depth_count u.net u.new + 4
+  -- Where packing ends ordered and the plan is an ordered one, its rounds are the packed ones, and each is full: no change that it
+  -- leaves could have stood in it besides.
+  pub full : (before : List ℕ) (u : Update) (p : Plan) → old ≡ Some before → result ≡ status.Done → FilesMeanUpdate files names u → WritesPlan u.net p old new
+      → IsPackingOrdered u → is_two_phase p.evidence ≡ false → PacksOrdered (update_target u) u.old p.rounds × AreFull (update_target u) u.old p.rounds
+  -- Where all changes from the old to the new tables can be one round, it has no more than one.
+  pub one_round : (before : List ℕ) (u : Update) (p : Plan) → old ≡ Some before → result ≡ status.Done → FilesMeanUpdate files names u → WritesPlan u.net p old new
+      → CanStand (update_target u) u.old (remaining u.old u.new) → length p.rounds ≤ 1
+  -- On an update of destination trees it says Done: packing or the search ends ordered.
+  pub tree : IsSettled result → (u : Update) → FilesMeanTrees files names u → (result ≡ status.Done) × EndsInOrder u
+  -- Refused comes exactly where an end isn't good; the line names the first break.
+  pub refused : IsSettled result → ((result ≡ status.Refused) ↔ FilesBreakAnEnd files names)
+  pub first : (u : Update) → FilesMeanUpdate files names u → result ≡ status.Refused → NamesFirstEndBreak u old new
+  -- Too few tags, and a switch that is too small, come exactly where packing and the search end stuck; the lines have the numbers and
+  -- the rounds of the search.
+  pub too_few : IsSettled result → ((result ≡ status.TooFewTags) ↔ FilesPackNoTags files names)
+  pub too_few_lines : IsSettled result → (none : FilesPackNoTags files names)
+      → Appends old new (lines.too_few_lines none.lack.update.net (length none.lack.update.net.vlans) (length (available_tags none.lack.update.net)) (single_rounds none.lack.stuck.changes))
+  pub too_small : IsSettled result → ((result ≡ status.TooSmall) ↔ FilesPackNoRoom files names)
+  pub too_small_lines : IsSettled result → (none : FilesPackNoRoom files names)
+      → Appends old new (lines.too_small_lines none.lack.update.net none.lack.switch none.lack.need none.lack.capacity (single_rounds none.lack.stuck.changes))
+  -- Too many classes are a bad file, and their line is written for no other cause.
+  pub classes : IsSettled result → (many : UpdateMakesTooMany files names) → (result ≡ status.BadFile) × Appends old new (classes_line (update_count many.update))
+  pub classes_only : (before : List ℕ) (classes : ℕ) → old ≡ Some before → result ≡ status.BadFile → Appends old new (classes_line classes) → UpdateMakesTooMany files names
