@@ -17,6 +17,7 @@ use Rattle.check_base.specs.Checks.{CheckMeaning, check_dialogue}
 use Rattle.check_command.specs.Checks.{IsCheckAnswer}
 use Rattle.certify_command.specs.Answers.{IsCertifyAnswer}
 use Rattle.plan_command.specs.Planned.{IsPlanned}
+use Rattle.pack_command.specs.Packed.{IsPacked}
 use Rattle.replay_command.specs.Names as replay
 use Rattle.replay_command.specs.Replayed.{ReplayMeaning, replay_dialogue, IsReplayAnswer}
 use Rattle.tables_command.specs.Listed.{IsTablesAnswer}
@@ -45,6 +46,7 @@ pub data Asked : Type 0 where
   Check : check.CheckNames → Asked
   Certify : check.CheckNames → Asked
   Plan : UpdateNames → Asked
+  Pack : UpdateNames → Asked
   Upgrade : PlanNames → Asked
   Emit : PlanNames → Asked
   Replay : replay.ReplayNames → Asked
@@ -64,6 +66,7 @@ name_in word =
     else if bytes_eq word (codes "check") then Some command_name.Check
     else if bytes_eq word (codes "certify") then Some command_name.Certify
     else if bytes_eq word (codes "plan") then Some command_name.Plan
+    else if bytes_eq word (codes "pack") then Some command_name.Pack
     else if bytes_eq word (codes "upgrade") then Some command_name.Upgrade
     else if bytes_eq word (codes "emit") then Some command_name.Emit
     else if bytes_eq word (codes "replay") then Some command_name.Replay
@@ -83,6 +86,7 @@ asked_by command_name.Paths words = option_map Paths (config.names_in words)
 asked_by command_name.Check words = option_map Check (check.names_in words)
 asked_by command_name.Certify words = option_map Certify (check.names_in words)
 asked_by command_name.Plan words = option_map Plan (base.update_names_in words)
+asked_by command_name.Pack words = option_map Pack (base.update_names_in words)
 asked_by command_name.Upgrade words = option_map Upgrade (base.plan_names_in words)
 asked_by command_name.Emit words = option_map Emit (base.plan_names_in words)
 asked_by command_name.Replay words = option_map Replay (replay.names_in words)
@@ -111,6 +115,7 @@ seen (command.Paths names) = Paths (config.names_seen names)
 seen (command.Check names) = Check (check.names_seen names)
 seen (command.Certify names) = Certify (check.names_seen names)
 seen (command.Plan names) = Plan (base.names_seen names)
+seen (command.Pack names) = Pack (base.names_seen names)
 seen (command.Upgrade names) = Upgrade (base.plan_names_seen names)
 seen (command.Emit names) = Emit (base.plan_names_seen names)
 seen (command.Replay names) = Replay (replay.names_seen names)
@@ -129,6 +134,7 @@ pub data Ending : Type 0 where
   OfCheck : CheckMeaning → Ending
   OfCertify : CheckMeaning → Ending
   OfPlan : Update → Ending
+  OfPack : Update → Ending
   OfUpgrade : PlanMeaning → Ending
   OfEmit : PlanMeaning → Ending
   OfReplay : ReplayMeaning → Ending
@@ -152,6 +158,7 @@ IsSaid (OfPaths m) answer = IsPathsAnswer m answer
 IsSaid (OfCheck m) answer = IsCheckAnswer m answer
 IsSaid (OfCertify m) answer = IsCertifyAnswer m answer
 IsSaid (OfPlan u) answer = IsPlanned u answer
+IsSaid (OfPack u) answer = IsPacked u answer
 IsSaid (OfUpgrade m) answer = IsUpgradeAnswer m answer
 IsSaid (OfEmit m) answer = IsEmitAnswer m answer
 IsSaid (OfReplay m) answer = IsReplayAnswer m answer
@@ -171,6 +178,7 @@ dialogue_of (Paths names) = and_then (config_dialogue names) (λ m. Ends (OfPath
 dialogue_of (Check names) = and_then (check_dialogue names) (λ m. Ends (OfCheck m))
 dialogue_of (Certify names) = and_then (check_dialogue names) (λ m. Ends (OfCertify m))
 dialogue_of (Plan names) = and_then (reading_update names) (λ u. Ends (OfPlan u))
+dialogue_of (Pack names) = and_then (reading_update names) (λ u. Ends (OfPack u))
 dialogue_of (Upgrade names) = and_then (reading_plan_files names) (λ m. Ends (OfUpgrade m))
 dialogue_of (Emit names) = and_then (reading_plan_files names) (λ m. Ends (OfEmit m))
 dialogue_of (Replay names) = and_then (replay_dialogue names) (λ m. Ends (OfReplay m))

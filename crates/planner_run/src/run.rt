@@ -14,6 +14,7 @@ ghost use Rattle.check_base.specs.Names.{CheckNames};
 ghost use Rattle.check_command.specs.Promise.{CheckPromise};
 ghost use Rattle.certify_command.specs.Promise.{CertifyPromise};
 ghost use Rattle.plan_command.specs.Promise.{PlanPromise};
+ghost use Rattle.pack_command.specs.Promise.{PackPromise};
 ghost use Rattle.upgrade_command.specs.Promise.{UpgradePromise};
 ghost use Rattle.emit_command.specs.Promise.{EmitPromise};
 ghost use Rattle.replay_command.specs.Names.{ReplayNames};
@@ -30,7 +31,7 @@ ghost use Rattle.drive_command.specs.Names.{DriveNames};
 ghost use Rattle.drive_command.specs.Promise.{DrivePromise};
 ghost use Rattle.sample_command.specs.Summaries.{SaysSummary};
 ghost use Rattle.sample_command.specs.Promise.{SamplePromise};
-ghost use Rattle.planner_run.specs.Commands.{Config, Paths, Check, Certify, Plan, Upgrade, Emit, Replay, Tables, Trace, Simulate, Explain, Import, Drive, Sample, asked, seen, dialogue, dialogue_of, IsSaid, usage_line};
+ghost use Rattle.planner_run.specs.Commands.{Config, Paths, Check, Certify, Plan, Pack, Upgrade, Emit, Replay, Tables, Trace, Simulate, Explain, Import, Drive, Sample, asked, seen, dialogue, dialogue_of, IsSaid, usage_line};
 
 use crate::command::{Command, command_of};
 use certify_command::certify;
@@ -52,6 +53,8 @@ use import_command::laws::import_promised;
 use net_base::Memory;
 use paths_command::laws::paths_promised;
 use paths_command::paths;
+use pack_command::laws::pack_promised;
+use pack_command::pack;
 use plan_command::laws::plan_promised;
 use plan_command::plan;
 use replay_command::laws::replay_promised;
@@ -97,6 +100,7 @@ fn reply_to<S: Source>(alloc: Global, command: &Command<'_>, source: &mut S) -> 
         Command::Check(names) => check(alloc, source, names),
         Command::Certify(names) => certify(alloc, source, names),
         Command::Plan(names) => plan(alloc, source, names),
+        Command::Pack(names) => pack(alloc, source, names),
         Command::Upgrade(names) => upgrade(alloc, source, names),
         Command::Emit(names) => emit(alloc, source, names),
         Command::Replay(names) => replay(alloc, source, names),
@@ -228,6 +232,9 @@ pub fn run<S: Source, K: Sink>(
     ensures plan { (files : Files) (names : UpdateNames) → S.held source.old ≡ Some files
         → asked (map string_bytes words.now) ≡ Some (Plan names)
         → PlanPromise files names (K.written sink.old) (K.written sink.new) result }
+    ensures pack { (files : Files) (names : UpdateNames) → S.held source.old ≡ Some files
+        → asked (map string_bytes words.now) ≡ Some (Pack names)
+        → PackPromise files names (K.written sink.old) (K.written sink.new) result }
     ensures upgrade { (files : Files) (names : PlanNames) → S.held source.old ≡ Some files
         → asked (map string_bytes words.now) ≡ Some (Upgrade names)
         → UpgradePromise files names (K.written sink.old) (K.written sink.new) result }
@@ -267,6 +274,7 @@ pub fn run<S: Source, K: Sink>(
     check_promised();
     certify_promised();
     plan_promised();
+    pack_promised();
     upgrade_promised();
     emit_promised();
     replay_promised();

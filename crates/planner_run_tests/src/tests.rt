@@ -104,7 +104,7 @@ fn ran_over(rt: &impl Abort, alloc: Global, texts: &[&str], source: &mut MemoryS
 
 #[test]
 fn each_command_runs(rt: HostRuntime) {
-    let rows: [(&[&str], &[u8]); 10] = [
+    let rows: [(&[&str], &[u8]); 11] = [
         (&["config", "topology", "old"], b"holds: 12 classes\n"),
         (&["paths", "topology", "old", "policy"], SQUARE_LISTING),
         (
@@ -117,6 +117,10 @@ fn each_command_runs(rt: HostRuntime) {
         ),
         (
             &["plan", "topology", "old", "new", "policy"],
+            square::plan(),
+        ),
+        (
+            &["pack", "topology", "old", "new", "policy"],
             square::plan(),
         ),
         (&["upgrade", "topology", "plan"], square::plan()),

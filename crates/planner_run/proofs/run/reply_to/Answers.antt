@@ -1,5 +1,5 @@
 use Rattle.command_base.proofs.DialogueLaws.{meets_as}
-use Rattle.planner_run.specs.Commands.{IsSaid, OfConfig, OfPaths, OfCheck, OfCertify, OfPlan, OfUpgrade, OfEmit, OfReplay, OfTables, OfTrace, OfSimulate, OfExplain, OfImport, OfDrive}
+use Rattle.planner_run.specs.Commands.{IsSaid, OfConfig, OfPaths, OfCheck, OfCertify, OfPlan, OfPack, OfUpgrade, OfEmit, OfReplay, OfTables, OfTrace, OfSimulate, OfExplain, OfImport, OfDrive}
 use Rattle.planner_run.proofs.Sampled.{sample_meets}
 use Rattle.planner_run.proofs.run.reply_to.Goals as goal
 
@@ -17,6 +17,9 @@ returns-in-Certify-clause-meets g c = rw c.in-Certify.is (meets_as IsSaid OfCert
 
 pub returns-in-Plan-clause-meets : goal.returns-in-Plan-clause-meets
 returns-in-Plan-clause-meets g c = rw c.in-Plan.is (meets_as IsSaid OfPlan (λ m answer said. said) c.plan.ensures.meets)
+
+pub returns-in-Pack-clause-meets : goal.returns-in-Pack-clause-meets
+returns-in-Pack-clause-meets g c = rw c.in-Pack.is (meets_as IsSaid OfPack (λ m answer said. said) c.pack.ensures.meets)
 
 pub returns-in-Upgrade-clause-meets : goal.returns-in-Upgrade-clause-meets
 returns-in-Upgrade-clause-meets g c = rw c.in-Upgrade.is (meets_as IsSaid OfUpgrade (λ m answer said. said) c.upgrade.ensures.meets)

@@ -7,6 +7,7 @@ use Rattle.check_base.specs.Checks.{check_dialogue}
 use Rattle.check_command.specs.Checks.{IsCheckAnswer}
 use Rattle.certify_command.specs.Answers.{IsCertifyAnswer}
 use Rattle.plan_command.specs.Planned.{IsPlanned}
+use Rattle.pack_command.specs.Packed.{IsPacked}
 use Rattle.replay_command.specs.Replayed.{replay_dialogue, IsReplayAnswer}
 use Rattle.tables_command.specs.Listed.{IsTablesAnswer}
 use Rattle.trace_command.specs.Traced.{trace_dialogue, IsTraceAnswer}
@@ -16,7 +17,7 @@ use Rattle.upgrade_command.specs.Texts.{IsUpgradeAnswer}
 use Rattle.emit_command.specs.Answers.{IsEmitAnswer}
 use Rattle.import_command.specs.Imported.{import_dialogue, IsImportAnswer}
 use Rattle.drive_command.specs.Driven.{drive_dialogue, IsDriveAnswer}
-use Rattle.planner_run.specs.Commands.{Config, Paths, Check, Certify, Plan, Upgrade, Emit, Replay, Tables, Trace, Simulate, Explain, Import, Drive, OfConfig, OfPaths, OfCheck, OfCertify, OfPlan, OfUpgrade, OfEmit, OfReplay, OfTables, OfTrace, OfSimulate, OfExplain, OfImport, OfDrive, IsSaid}
+use Rattle.planner_run.specs.Commands.{Config, Paths, Check, Certify, Plan, Pack, Upgrade, Emit, Replay, Tables, Trace, Simulate, Explain, Import, Drive, OfConfig, OfPaths, OfCheck, OfCertify, OfPlan, OfPack, OfUpgrade, OfEmit, OfReplay, OfTables, OfTrace, OfSimulate, OfExplain, OfImport, OfDrive, IsSaid}
 use Rattle.planner_run.proofs.Answered.{answered}
 use Rattle.planner_run.proofs.Sampled.{sample_ends}
 use Rattle.planner_run.proofs.run.run.Goals as goal
@@ -45,6 +46,11 @@ pub returns-clause-plan : goal.returns-clause-plan
 returns-clause-plan g c = λ files names tells asks.
     c.plan_promised.ensures files names _ _ _ (λ settled.
     answered_as IsPlanned IsSaid OfPlan files (reading_update names) _ _ _ (λ m answer said. said) (answered _ _ _ _ _ files (Plan names) (c.respond.ensures.all settled) tells asks))
+
+pub returns-clause-pack : goal.returns-clause-pack
+returns-clause-pack g c = λ files names tells asks.
+    c.pack_promised.ensures files names _ _ _ (λ settled.
+    answered_as IsPacked IsSaid OfPack files (reading_update names) _ _ _ (λ m answer said. said) (answered _ _ _ _ _ files (Pack names) (c.respond.ensures.all settled) tells asks))
 
 pub returns-clause-upgrade : goal.returns-clause-upgrade
 returns-clause-upgrade g c = λ files names tells asks.
