@@ -79,14 +79,14 @@ fn depth_plan_in_room(
 }
 
 /// The two-phase plan by depth, with the rounds that were tried before copied into its evidence: that of `two_phase` with
-/// depths in place of ranks. A rule that enters packets is above another of its switch where some packet is covered by both and
-/// it has the higher priority; its depth is 0 where none is above it, otherwise one more than the greatest depth of those
-/// above it. The ingress rules come by ascending depth and go by descending depth, so that those without a common packet
-/// share a round. There are never more depths than ranks. Tags, entries and label tables are those of `two_phase`, and it is
-/// refused for the same causes.
+/// depths in place of ranks. Of two ingress rules of a switch one is above the other where some packet is covered by both and
+/// it has the higher priority. The depth of a rule is 0 where none is above it, otherwise one more than the greatest depth of
+/// those above it. The ingress rules come by ascending depth and go by descending depth, so that rules without a common packet
+/// can share a round. There are never more depths than ranks. Tags, entries and label tables are those of `two_phase`, and it
+/// is refused for the same causes.
 ///
-/// Takes time as `two_phase` does, where the switches times the ranks have become the ingress rules times the depths, and
-/// besides by the square of the ingress rules of each switch.
+/// Takes time as `two_phase` does, with the ingress rules times the depths in place of the switches times the ranks, and
+/// besides by the square of the ingress rules of each switch, which has at most 8192.
 pub fn two_phase_by_depth(
     alloc: Global,
     net: &Net,
