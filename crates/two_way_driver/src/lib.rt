@@ -7,7 +7,9 @@ mod faults;
 pub mod laws;
 mod legs;
 mod peers;
+pub mod sending;
 mod talks;
+pub mod words;
 
 pub use drivers::Driver;
 use net_base::SwitchId;

@@ -1,0 +1,889 @@
+-- What is sent to a switch: by each call, and in all.
+use Rattle.std.proofs.Common.{◌≡◌, ◌≢◌, ℕ, zero, suc, ◌+◌, ◌<◌, ◌≤◌, Bool, true, false, cond, eqb, ltb, ◌&&◌, List, [], ◌∷◌, ◌++◌, length, map, take, drop, replicate, set, get_or, get_or-set_same, refl, sym, ap, ◌∙◌, subst, inl, inr, append_assoc, append-nil, length-set, arith}
+use Rattle.std.specs.Prelude.{Option, Some, None, is_some, is_none, filter, flat_map}
+use Rattle.std.specs.List.{AllByRecursion, concat, cons_option}
+use Rattle.std.specs.Option.{option_map_or}
+use Rattle.std.proofs.lemmas.Bool.{cases_Bool, cases_eq, cond_both, eqb-true, eq-eqb, ne_eqb, le-ltb}
+use Rattle.std.proofs.lemmas.List.{length-replicate, map-append, drop_at, take_at}
+use Rattle.std.proofs.lemmas.List.Elements.{filter-append, filter_map-append}
+use Rattle.std.proofs.lemmas.List.Folds.{concat-append}
+use Rattle.net_base.specs.declared.ids.SwitchId.{SwitchId}
+use Rattle.net_base.proofs.MemberLaws.{each_append}
+use Rattle.topology.specs.Networks.{Network, switch_count}
+use Rattle.update_model.specs.Changes.{switch_of, round_after}
+use Rattle.update_model.specs.declared.Change.{Change}
+use Rattle.round_messages.specs.Requests.{is_changed, switch_numbered}
+use Rattle.switch_session.specs.Fronts.{front_of, type_in}
+use Rattle.switch_session.specs.Channels.{ChannelState, hello, is_open, is_failed, echo_reply, after_byte, asked}
+use Rattle.switch_session.specs.Laws.{IsWhole, IsEchoRequest, is_echo, AreRequests, ReadsAll}
+use Rattle.switch_session.specs.declared.Session.{Session}
+use Rattle.switch_session.specs.declared.Session.TheVariants.{Waiting, Open, Failed}
+use Rattle.switch_session.specs.declared.fronts.Front.{Front}
+use Rattle.switch_session.specs.declared.fronts.Front.TheVariants.{Short, Fault, Message}
+use Rattle.switch_session.proofs.FrontLaws.{fault_grows, message_grows}
+use Rattle.switch_session.proofs.RequestLaws.{requests_as, reads_bytes}
+use Rattle.switch_session.proofs.TalkLaws.{front_nil}
+use Rattle.turned_rounds.specs.Batches.{xid_behind, batch_of}
+use Rattle.turned_rounds.specs.declared.outgoing.Outgoing.{Outgoing}
+use Rattle.two_way_driver.specs.PeerStates.{PeerState}
+use Rattle.two_way_driver.specs.Peers.{first_peer, opened_anew, heard_by, kept_of, peer_after, queued, asks, asks_again, answers, reopened}
+use Rattle.two_way_driver.specs.Drivers.{DriverState, peer_at, with_peer, saying, send_if, sends, is_to_open, is_to, next_if, asked_from, sent_out, settled_in, all_answered, settled_if_answered, log_if, change_notes, undo_notes, made, undone, carried_out, answered, sent_again, opened, running_round, asked_round, heard, fed_byte, fed, first_words, first_driver, flagged, started_in, turned_in, reopened_driver}
+use Rattle.two_way_driver.specs.Calls.{DriverView, with_state, silent, start_fault, back_fault, started, turned}
+use Rattle.two_way_driver.specs.Laws.{Call, Start, Back, Reopen, Feed, IsCall, after_call, after_calls, driver_after}
+use Rattle.two_way_driver.specs.Words.{after_call_anew, said_by_each, joined}
+use Rattle.two_way_driver.specs.Sending.{text_to, texts_to, texts_for, session_at, start_asks, back_asks, asked_by, asking, unanswered, HasHello, Answers, Sends, GoesOn}
+use Rattle.two_way_driver.specs.declared.Stage.{Stage}
+use Rattle.two_way_driver.specs.declared.Stage.TheVariants.{Settled, Onward, Undone}
+use Rattle.two_way_driver.specs.declared.Logged.{Logged}
+use Rattle.two_way_driver.specs.declared.Logged.TheVariants as logged
+use Rattle.two_way_driver.specs.declared.Said.{Said}
+use Rattle.two_way_driver.specs.declared.Said.TheVariants.{Send, Log}
+use Rattle.two_way_driver.specs.declared.Said.TheVariants as said
+use Rattle.two_way_driver.specs.declared.peers.Heard.{Heard}
+use Rattle.two_way_driver.specs.declared.peers.Heard.TheVariants.{Nothing, Opened, Answered, Replied, Broke}
+use Rattle.two_way_driver.proofs.ReplyLaws.{only_reply}
+use Rattle.two_way_driver.proofs.ServingLaws.{length-asked}
+use Rattle.two_way_driver.proofs.WordLaws.{calls_said}
+use Rattle.two_way_driver.proofs.AnswerLaws.{HeardAs, IsPastHello, no_requests, heard_open, still_waits, nothing_heard, Breaks, breaks_at_fault, breaks_at_other, opens, opened_heard, ended, none_left, failed_byte_is, failed_hears_nothing}
+
+-- ---- words that send nothing to a switch
+
+module _ (s : SwitchId) where
+  pub texts-append : (a b : List Said) → texts_to s (a ++ b) ≡ texts_to s a ++ texts_to s b
+  texts-append a b = filter_map-append (text_to s) a b
+
+  pub quiet : (a b : List Said) → texts_to s b ≡ [] → texts_to s (a ++ b) ≡ texts_to s a
+  quiet a b none = texts-append a b ∙ ap (λ (l : List (List ℕ)). texts_to s a ++ l) none ∙ append-nil (texts_to s a)
+
+  log_quiet : (on : Bool) (e : Logged) → texts_to s (log_if on e) ≡ []
+  log_quiet true e = refl
+  log_quiet false e = refl
+
+  pub changes_quiet : (t : SwitchId) (i : ℕ) (changes : List Change) → texts_to s (change_notes t i changes) ≡ []
+  changes_quiet t i [] = refl
+  changes_quiet t i (c ∷ changes) =
+      let one = log_if (eqb (switch_of c).0 t.0) (logged.Change i) in
+      texts-append one (change_notes t (suc i) changes) ∙ ap (λ (l : List (List ℕ)). l ++ texts_to s (change_notes t (suc i) changes)) (log_quiet (eqb (switch_of c).0 t.0) (logged.Change i))
+      ∙ changes_quiet t (suc i) changes
+
+  undos_quiet : (t : SwitchId) (i : ℕ) (changes : List Change) → texts_to s (undo_notes t i changes) ≡ []
+  undos_quiet t i [] = refl
+  undos_quiet t i (c ∷ changes) =
+      let one = log_if (eqb (switch_of c).0 t.0) (logged.Undo i) in
+      quiet (undo_notes t (suc i) changes) one (log_quiet (eqb (switch_of c).0 t.0) (logged.Undo i)) ∙ undos_quiet t (suc i) changes
+
+  -- a step sends nothing to the switch
+  abbrev Quiet : DriverState → DriverState → Type 0
+  Quiet d e = texts_to s e.said ≡ texts_to s d.said
+
+  pub settled_quiet : (stage : Stage) (d : DriverState) → Quiet d (settled_in stage d)
+  unfolding settled_in
+  settled_quiet (Settled k) d = refl
+  settled_quiet (Onward k) d = quiet d.said (Log logged.Settle ∷ []) refl
+  settled_quiet (Undone k) d = quiet d.said (Log logged.SettleBack ∷ []) refl
+
+  if_answered_quiet : (d : DriverState) → Quiet d (settled_if_answered d)
+  unfolding settled_if_answered
+  if_answered_quiet d = cond_both (all_answered d.peers) (settled_in d.stage d) d (Quiet d) (λ _. settled_quiet d.stage d) (λ _. refl)
+
+  made_quiet : (round : List Change) (t : SwitchId) (d : DriverState) → Quiet d (made round t d)
+  unfolding made
+  made_quiet round t d = quiet d.said (change_notes t 0 round) (changes_quiet t 0 round)
+
+  undone_quiet : (round : List Change) (t : SwitchId) (d : DriverState) → Quiet d (undone round t d)
+  unfolding undone
+  undone_quiet round t d =
+      cond_both (get_or d.in_force t.0 false) (record d { in_force = set d.in_force t.0 false; said = d.said ++ undo_notes t 0 round }) d (Quiet d)
+      (λ _. quiet d.said (undo_notes t 0 round) (undos_quiet t 0 round)) (λ _. refl)
+
+  carried_quiet : (round : List Change) (t : SwitchId) (stage : Stage) (d : DriverState) → Quiet d (carried_out round t stage d)
+  carried_quiet round t (Settled k) d = refl
+  carried_quiet round t (Onward k) d = made_quiet round t d
+  carried_quiet round t (Undone k) d = undone_quiet round t d
+
+  answered_quiet : (round : List Change) (t : SwitchId) (d : DriverState) → Quiet d (answered round t d)
+  unfolding answered
+  answered_quiet round t d =
+      let e = with_peer t (answers (peer_at d t)) d in
+      cond_both (is_some (peer_at d t).behind) (made round t e) (settled_if_answered (carried_out round t e.stage e)) (Quiet d) (λ _. made_quiet round t e)
+      (λ _. if_answered_quiet (carried_out round t e.stage e) ∙ carried_quiet round t e.stage e)
+
+  -- ---- messages to a switch
+
+  -- one message, which is sent or not, and is to the switch or not
+  one_sent : (wanted here : Bool) (m : Outgoing) (rest : List Said) → is_to s m ≡ here → texts_to s (send_if wanted m ++ rest) ≡ cond (wanted && here) (m.text ∷ texts_to s rest) (texts_to s rest)
+  one_sent true here m rest e = ap (λ b. cons_option (cond b (Some m.text) None) (texts_to s rest)) e ∙ chosen here
+    where
+      chosen : (b : Bool) → cons_option (cond b (Some m.text) None) (texts_to s rest) ≡ cond b (m.text ∷ texts_to s rest) (texts_to s rest)
+      chosen true = refl
+      chosen false = refl
+  one_sent false here m rest e = refl
+
+  here_one : (b : Bool) (m : Outgoing) (ms : List Outgoing) (later : List (List ℕ)) → later ≡ map (λ (o : Outgoing). o.text) ms → cond (b && b) (m.text ∷ later) later ≡ map (λ (o : Outgoing). o.text) (cond b (m ∷ ms) ms)
+  here_one true m ms later e = ap (λ (l : List (List ℕ)). m.text ∷ l) e
+  here_one false m ms later e = e
+
+  texts_here : (ms : List Outgoing) → texts_to s (sends (is_to s) ms) ≡ texts_for s ms
+  texts_here [] = refl
+  texts_here (m ∷ ms) =
+      one_sent (is_to s m) (is_to s m) m (sends (is_to s) ms) refl ∙ here_one (is_to s m) m (filter (is_to s) ms) (texts_to s (sends (is_to s) ms)) (texts_here ms)
+
+  texts_away : (t : SwitchId) (ms : List Outgoing) → t.0 ≢ s.0 → texts_to s (sends (is_to t) ms) ≡ []
+  texts_away t [] ne = refl
+  texts_away t (m ∷ ms) ne =
+      let rest = texts_to s (sends (is_to t) ms) in
+      one_sent (is_to t m) (is_to s m) m (sends (is_to t) ms) refl
+      ∙ elim (cases_Bool (is_to t m)) [
+        | inl there ↦ ap (λ b. cond (is_to t m && b) (m.text ∷ rest) rest) (ne_eqb m.switch.0 s.0 (λ e. ne (sym (eqb-true m.switch.0 t.0 there) ∙ e))) ∙ none (is_to t m) rest
+        | inr off ↦ ap (λ b. cond (b && is_to s m) (m.text ∷ rest) rest) off
+      ]
+      ∙ texts_away t ms ne
+    where
+      none : (b : Bool) (rest : List (List ℕ)) → cond (b && false) (m.text ∷ rest) rest ≡ rest
+      none true rest = refl
+      none false rest = refl
+
+  open_one : (text : List ℕ) (later others : List (List ℕ)) (wanted here open_now : Bool) → (here ≡ true → wanted ≡ open_now) → later ≡ cond open_now others []
+      → cond (wanted && here) (text ∷ later) later ≡ cond open_now (cond here (text ∷ others) others) []
+  open_one text later others true true true same rest = ap (λ (l : List (List ℕ)). text ∷ l) rest
+  open_one text later others false true false same rest = rest
+  open_one text later others true true false same rest = absurd (let e : true ≡ false = same refl in cc)
+  open_one text later others false true true same rest = absurd (let e : false ≡ true = same refl in cc)
+  open_one text later others true false open_now same rest = rest
+  open_one text later others false false open_now same rest = rest
+
+  first_text : (here : Bool) (m : Outgoing) (ms : List Outgoing) → map (λ (o : Outgoing). o.text) (cond here (m ∷ ms) ms) ≡ cond here (m.text ∷ map (λ (o : Outgoing). o.text) ms) (map (λ (o : Outgoing). o.text) ms)
+  first_text true m ms = refl
+  first_text false m ms = refl
+
+  -- those to switches with open sessions: to this one all, or none
+  pub texts_open : (peers : List PeerState) (ms : List Outgoing) → texts_to s (sends (is_to_open peers) ms) ≡ cond (is_open (get_or peers s.0 first_peer).channel.session) (texts_for s ms) []
+  texts_open peers [] = none (is_open (get_or peers s.0 first_peer).channel.session)
+    where
+      none : (b : Bool) → [] ≡ cond b (map (λ (o : Outgoing). o.text) []) []
+      none true = refl
+      none false = refl
+  texts_open peers (m ∷ ms) =
+      one_sent (is_to_open peers m) (is_to s m) m (sends (is_to_open peers) ms) refl
+      ∙ open_one m.text (texts_to s (sends (is_to_open peers) ms)) (texts_for s ms) (is_to_open peers m) (is_to s m) (is_open (get_or peers s.0 first_peer).channel.session)
+      (λ e. ap (λ (n : ℕ). is_open (get_or peers n first_peer).channel.session) (eqb-true m.switch.0 s.0 e)) (texts_open peers ms)
+      ∙ ap (λ (l : List (List ℕ)). cond (is_open (get_or peers s.0 first_peer).channel.session) l []) (sym (first_text (is_to s m) m (filter (is_to s) ms)))
+
+-- ---- what stays of the peers
+
+settled_peers : (stage : Stage) (d : DriverState) → (settled_in stage d).peers ≡ d.peers
+unfolding settled_in
+settled_peers (Settled k) d = refl
+settled_peers (Onward k) d = refl
+settled_peers (Undone k) d = refl
+
+if_answered_peers : (d : DriverState) → (settled_if_answered d).peers ≡ d.peers
+unfolding settled_if_answered
+if_answered_peers d = cond_both (all_answered d.peers) (settled_in d.stage d) d (λ (e : DriverState). e.peers ≡ d.peers) (λ _. settled_peers d.stage d) (λ _. refl)
+
+carried_peers : (round : List Change) (t : SwitchId) (stage : Stage) (d : DriverState) → (carried_out round t stage d).peers ≡ d.peers
+unfolding made undone
+carried_peers round t (Settled k) d = refl
+carried_peers round t (Onward k) d = refl
+carried_peers round t (Undone k) d =
+    cond_both (get_or d.in_force t.0 false) (record d { in_force = set d.in_force t.0 false; said = d.said ++ undo_notes t 0 round }) d (λ (e : DriverState). e.peers ≡ d.peers) (λ _. refl) (λ _. refl)
+
+answered_peers : (round : List Change) (t : SwitchId) (d : DriverState) → (answered round t d).peers ≡ set d.peers t.0 (answers (peer_at d t))
+unfolding answered made
+answered_peers round t d =
+    let e = with_peer t (answers (peer_at d t)) d in
+    cond_both (is_some (peer_at d t).behind) (made round t e) (settled_if_answered (carried_out round t e.stage e)) (λ (x : DriverState). x.peers ≡ e.peers) (λ _. refl)
+    (λ _. if_answered_peers (carried_out round t e.stage e) ∙ carried_peers round t e.stage e)
+
+-- a channel with the same session and the same unread bytes
+record ReadsAs (a b : ChannelState) : Type 0 where
+  session : b.session ≡ a.session
+  unread : b.unread ≡ a.unread
+
+-- a switch whose channel is as that of another, but for what was asked
+abbrev Alike : PeerState → PeerState → Type 0
+Alike p q = ReadsAs p.channel q.channel
+
+alike_answers : (p : PeerState) → Alike p (answers p)
+unfolding answers
+alike_answers p =
+    elim p.behind as (λ (o : Option ℕ). Alike p (option_map_or (λ x. record p { channel = asked [] x p.channel; behind = None }) o (record p { asked = None }))) [
+      | None ↦ record { session = refl; unread = refl }
+      | Some x ↦ record { session = refl; unread = refl }
+    ]
+
+alike_asks : (x : ℕ) (p : PeerState) → Alike p (asks x p)
+unfolding asks
+alike_asks x p =
+    let q : PeerState = record p { asked = Some x } in
+    cond_both (is_open p.channel.session) (queued x q) q (Alike p)
+    (λ _. cond_both (is_some p.channel.outstanding) (record q { behind = Some x }) (record q { channel = asked [] x p.channel }) (Alike p)
+    (λ _. record { session = refl; unread = refl }) (λ _. record { session = refl; unread = refl })) (λ _. record { session = refl; unread = refl })
+
+-- what came of a byte leaves the peers, or puts one in place of that of the switch
+data Touched (s : SwitchId) (e d : DriverState) : Type 0 where
+  AsBefore : d.peers ≡ e.peers → Touched s e d
+  PutBack : (q : PeerState) → d.peers ≡ set e.peers s.0 q → Alike (peer_at e s) q → Touched s e d
+
+module _ (net : Network) (rounds inverses : List (List Change)) (s : SwitchId) where
+  opened_touches : (changes : List Change) (e : DriverState) → Touched s e (opened net changes s e)
+  unfolding opened
+  opened_touches changes e =
+      elim (peer_at e s).asked as (λ (o : Option ℕ). Touched s e (option_map_or (λ x. sent_again net changes s x e) o e)) [
+        | None ↦ AsBefore refl
+        | Some x ↦ PutBack (asks_again x (peer_at e s)) refl (record { session = refl; unread = refl })
+      ]
+
+  heard_touches : (came : Heard) (e : DriverState) → Touched s e (heard net rounds inverses s came e)
+  heard_touches Nothing e = AsBefore refl
+  heard_touches Opened e = opened_touches (asked_round rounds inverses e.stage) e
+  heard_touches Answered e = PutBack (answers (peer_at e s)) (answered_peers (running_round rounds e.stage) s e) (alike_answers (peer_at e s))
+  heard_touches (Replied text) e = AsBefore refl
+  heard_touches (Broke cause) e = AsBefore refl
+
+touched_length : (s : SwitchId) (e d : DriverState) → Touched s e d → length d.peers ≡ length e.peers
+touched_length s e d (AsBefore same) = ap length same
+touched_length s e d (PutBack q is alike) = ap length is ∙ length-set e.peers s.0 q
+
+touched_reads : (s : SwitchId) (e d : DriverState) → s.0 < length e.peers → Touched s e d → Alike (peer_at e s) (peer_at d s)
+touched_reads s e d less (AsBefore same) = subst (λ (l : List PeerState). Alike (peer_at e s) (get_or l s.0 first_peer)) (sym same) (record { session = refl; unread = refl })
+touched_reads s e d less (PutBack q is alike) =
+    subst (λ (l : List PeerState). Alike (peer_at e s) (get_or l s.0 first_peer)) (sym is) (subst (Alike (peer_at e s)) (sym (get_or-set_same e.peers s.0 q first_peer less)) alike)
+
+-- ---- bytes that come from a switch, and what is sent to others
+
+module _ (net : Network) (rounds inverses : List (List Change)) (t s : SwitchId) (ne : t.0 ≢ s.0) where
+  opened_away : (changes : List Change) (d : DriverState) → Quiet s d (opened net changes t d)
+  unfolding opened
+  opened_away changes d =
+      elim (peer_at d t).asked as (λ (o : Option ℕ). Quiet s d (option_map_or (λ x. sent_again net changes t x d) o d)) [
+        | None ↦ refl
+        | Some x ↦ quiet s d.said (sends (is_to t) (batch_of net d.first changes)) (texts_away s t (batch_of net d.first changes) ne)
+      ]
+
+  pub heard_away : (came : Heard) (d : DriverState) → Quiet s d (heard net rounds inverses t came d)
+  heard_away Nothing d = refl
+  heard_away Opened d = opened_away (asked_round rounds inverses d.stage) d
+  heard_away Answered d = answered_quiet s (running_round rounds d.stage) t d
+  heard_away (Replied text) d = quiet s d.said (Send t text ∷ []) (ap (λ b. cons_option (cond b (Some text) None) []) (ne_eqb t.0 s.0 ne))
+  heard_away (Broke cause) d = quiet s d.said (said.Failed t cause ∷ []) refl
+
+  byte_away : (b : ℕ) (d : DriverState) → Quiet s d (fed_byte net rounds inverses t b d)
+  unfolding fed_byte
+  byte_away b d =
+      let p = peer_at d t in
+      heard_away (heard_by p.channel (after_byte b p.channel)) (with_peer t (peer_after b p) d)
+
+  fed_away : (bytes : List ℕ) (d : DriverState) → Quiet s d (fed net rounds inverses t bytes d)
+  fed_away [] d = refl
+  fed_away (b ∷ bytes) d = fed_away bytes (fed_byte net rounds inverses t b d) ∙ byte_away b d
+
+-- ---- one byte from the switch
+
+module _ (net : Network) (rounds inverses : List (List Change)) (s : SwitchId) where
+  abbrev channel_of : DriverState → ChannelState
+  channel_of d = (peer_at d s).channel
+
+  abbrev next : ℕ → DriverState → DriverState
+  next b d = fed_byte net rounds inverses s b d
+
+  -- what wasn't answered
+  abbrev again : DriverState → List (List ℕ)
+  again d = cond (is_some (peer_at d s).asked) (texts_for s (batch_of net d.first (asked_round rounds inverses d.stage))) []
+
+  heard_texts : (came : Heard) (texts : List (List ℕ)) (e : DriverState) → HeardAs came texts → texts_to s (heard net rounds inverses s came e).said ≡ texts_to s e.said ++ texts
+  heard_texts Nothing texts e seen = sym (append-nil (texts_to s e.said)) ∙ ap (λ (l : List (List ℕ)). texts_to s e.said ++ l) (sym seen)
+  heard_texts Opened texts e seen = absurd seen
+  heard_texts Answered texts e seen = answered_quiet s (running_round rounds e.stage) s e ∙ sym (append-nil (texts_to s e.said)) ∙ ap (λ (l : List (List ℕ)). texts_to s e.said ++ l) (sym seen)
+  heard_texts (Replied text) texts e seen =
+      texts-append s e.said (Send s text ∷ []) ∙ ap (λ b. texts_to s e.said ++ cons_option (cond b (Some text) None) []) (eq-eqb s.0 s.0 refl) ∙ ap (λ (l : List (List ℕ)). texts_to s e.said ++ l) (sym seen)
+  heard_texts (Broke cause) texts e seen = quiet s e.said (said.Failed s cause ∷ []) refl ∙ sym (append-nil (texts_to s e.said)) ∙ ap (λ (l : List (List ℕ)). texts_to s e.said ++ l) (sym seen)
+
+  opened_texts : (changes : List Change) (e : DriverState)
+      → texts_to s (opened net changes s e).said ≡ texts_to s e.said ++ cond (is_some (peer_at e s).asked) (texts_for s (batch_of net e.first changes)) []
+  unfolding opened
+  opened_texts changes e =
+      let ms = batch_of net e.first changes in
+      elim (peer_at e s).asked as (λ (o : Option ℕ). texts_to s (option_map_or (λ x. sent_again net changes s x e) o e).said ≡ texts_to s e.said ++ cond (is_some o) (texts_for s ms) []) [
+        | None ↦ sym (append-nil (texts_to s e.said))
+        | Some x ↦ texts-append s e.said (sends (is_to s) ms) ∙ ap (λ (l : List (List ℕ)). texts_to s e.said ++ l) (texts_here s ms)
+      ]
+
+  module _ (b : ℕ) (d : DriverState) (less : s.0 < length d.peers) (reads : ReadsAll (channel_of d)) where
+    abbrev after : ChannelState
+    after = after_byte b (channel_of d)
+
+    abbrev put : DriverState
+    put = with_peer s (peer_after b (peer_at d s)) d
+
+    put_is : peer_at put s ≡ peer_after b (peer_at d s)
+    put_is = get_or-set_same d.peers s.0 (peer_after b (peer_at d s)) first_peer less
+
+    put_count : length put.peers ≡ length d.peers
+    put_count = length-set d.peers s.0 (peer_after b (peer_at d s))
+
+    kept_reads : ReadsAs after (kept_of (channel_of d) after)
+    kept_reads =
+        elim (cases_Bool (is_failed (channel_of d).session)) [
+          | inl failed ↦ subst (λ (x : ChannelState). ReadsAs x (kept_of (channel_of d) x)) (sym (failed_byte_is b (channel_of d) failed)) (failed_kept (channel_of d))
+          | inr going ↦ (let keeps = only_reply b (channel_of d) (record { going = going; short = reads going }) in record { session = keeps.session; unread = keeps.unread })
+        ]
+      where
+        failed_kept : (ch : ChannelState) → ReadsAs ch (kept_of ch ch)
+        failed_kept ch =
+            let same : ltb (length ch.sent) (length ch.sent) ≡ false = le-ltb (length ch.sent) (length ch.sent) (omega arith) in
+            subst (λ b. ReadsAs ch (cond b (opened_anew ch.outstanding) ch)) (sym same) (record { session = refl; unread = refl })
+
+    put_reads : ReadsAs after (channel_of put)
+    unfolding peer_after
+    put_reads = subst (λ (p : PeerState). ReadsAs after p.channel) (sym put_is) kept_reads
+
+    put_asked : (peer_at put s).asked ≡ (peer_at d s).asked
+    unfolding peer_after
+    put_asked = ap (λ (p : PeerState). p.asked) put_is
+
+    touches : Touched s put (next b d)
+    unfolding fed_byte
+    touches = heard_touches net rounds inverses s (heard_by (channel_of d) after) put
+
+    next_count : length (next b d).peers ≡ length d.peers
+    next_count = touched_length s put (next b d) touches ∙ put_count
+
+    next_reads : ReadsAs after (channel_of (next b d))
+    next_reads =
+        let from = touched_reads s put (next b d) (let count = put_count in omega arith) touches in
+        let first = put_reads in
+        record { session = from.session ∙ first.session; unread = from.unread ∙ first.unread }
+
+    next_reading : ReadsAll (channel_of (next b d))
+    next_reading going =
+        let seen = next_reads in
+        ap front_of seen.unread ∙ reads_bytes (b ∷ []) (channel_of d) reads (ap is_failed (sym seen.session) ∙ going)
+
+    next_texts : (texts : List (List ℕ)) → HeardAs (heard_by (channel_of d) after) texts → texts_to s (next b d).said ≡ texts_to s d.said ++ texts
+    unfolding fed_byte
+    next_texts texts seen = heard_texts (heard_by (channel_of d) after) texts put seen
+
+    next_nothing : heard_by (channel_of d) after ≡ Nothing → next b d ≡ put
+    unfolding fed_byte
+    next_nothing is = ap (λ (h : Heard). heard net rounds inverses s h put) is
+
+    next_opened : heard_by (channel_of d) after ≡ Opened → texts_to s (next b d).said ≡ texts_to s d.said ++ again d
+    unfolding fed_byte
+    next_opened is =
+        ap (λ (h : Heard). texts_to s (heard net rounds inverses s h put).said) is ∙ opened_texts (asked_round rounds inverses d.stage) put
+        ∙ ap (λ (o : Option ℕ). texts_to s d.said ++ cond (is_some o) (texts_for s (batch_of net d.first (asked_round rounds inverses d.stage))) []) put_asked
+
+  -- ---- bytes from the switch
+
+  -- a failed session says nothing, and stays
+  record Dead (bytes : List ℕ) (d : DriverState) : Type 0 where
+    texts : texts_to s (fed net rounds inverses s bytes d).said ≡ texts_to s d.said
+    failed : is_failed (channel_of (fed net rounds inverses s bytes d)).session ≡ true
+
+  fed_failed : (bytes : List ℕ) (d : DriverState) → s.0 < length d.peers → is_failed (channel_of d).session ≡ true → Dead bytes d
+  fed_failed [] d less e = record { texts = refl; failed = e }
+  fed_failed (b ∷ bytes) d less e =
+      let reads : ReadsAll (channel_of d) = λ going. absurd (let f : true ≡ false = sym e ∙ going in cc) in
+      let seen = next_reads b d less reads in
+      let count = next_count b d less reads in
+      let still : is_failed (channel_of (next b d)).session ≡ true = ap is_failed seen.session ∙ ap (λ (x : ChannelState). is_failed x.session) (failed_byte_is b (channel_of d) e) ∙ e in
+      let rest = fed_failed bytes (next b d) (omega arith) still in
+      record { texts = rest.texts ∙ next_texts b d less reads [] (failed_hears_nothing b (channel_of d) e) ∙ append-nil (texts_to s d.said); failed = rest.failed }
+
+  -- an open session is replied on
+  record Served (came : List ℕ) (bytes : List ℕ) (d : DriverState) : Type 0 where
+    more : List (List ℕ)
+    texts : texts_to s (fed net rounds inverses s bytes d).said ≡ texts_to s d.said ++ map echo_reply more
+    are : AreRequests came (channel_of (fed net rounds inverses s bytes d)) more
+
+  -- what a failed session did stays all that it did
+  dead_requests : (came bytes : List ℕ) (a b : ChannelState) (rs : List (List ℕ)) → is_failed b.session ≡ true → AreRequests came a rs → AreRequests (came ++ bytes) b rs
+  dead_requests came bytes a b rs failed h = record {
+    messages = h.messages;
+    rest = h.rest ++ bytes;
+    cut = record {
+      whole = h.cut.whole;
+      bytes_are = ap (λ (l : List ℕ). l ++ bytes) h.cut.bytes_are ∙ append_assoc (concat h.messages) h.rest bytes;
+    };
+    left = λ going. absurd (let f : true ≡ false = sym failed ∙ going in cc);
+    requests_are = h.requests_are;
+    each = h.each;
+  }
+
+  -- what was asked for first, and what then
+  requests_both : (came bytes : List ℕ) (a b : ChannelState) (rs more : List (List ℕ)) → is_failed a.session ≡ false → AreRequests came a rs → AreRequests (a.unread ++ bytes) b more → AreRequests (came ++ bytes) b (rs ++ more)
+  requests_both came bytes a b rs more going h k = record {
+    messages = h.messages ++ k.messages;
+    rest = k.rest;
+    cut = record {
+      whole = each_append IsWhole h.messages k.messages h.cut.whole k.cut.whole;
+      bytes_are =
+          ap (λ (l : List ℕ). l ++ bytes) (h.cut.bytes_are ∙ ap (λ (l : List ℕ). concat h.messages ++ l) (h.left going))
+          ∙ append_assoc (concat h.messages) a.unread bytes ∙ ap (λ (l : List ℕ). concat h.messages ++ l) k.cut.bytes_are
+          ∙ sym (append_assoc (concat h.messages) (concat k.messages) k.rest) ∙ ap (λ (l : List ℕ). l ++ k.rest) (sym (concat-append h.messages k.messages));
+    };
+    left = k.left;
+    requests_are =
+        ap (λ (l : List (List ℕ)). l ++ more) h.requests_are ∙ ap (λ (l : List (List ℕ)). filter is_echo h.messages ++ l) k.requests_are
+        ∙ sym (filter-append is_echo h.messages k.messages);
+    each = each_append IsEchoRequest rs more h.each k.each;
+  }
+
+  fed_open : (bytes : List ℕ) (d : DriverState) → s.0 < length d.peers → (channel_of d).session ≡ Open → ReadsAll (channel_of d) → Served ((channel_of d).unread ++ bytes) bytes d
+  fed_open [] d less is reads = record {
+    more = [];
+    texts = sym (append-nil (texts_to s d.said));
+    are = no_requests ((channel_of d).unread ++ []) (channel_of d) (λ _. append-nil (channel_of d).unread);
+  }
+  fed_open (b ∷ bytes) d less is reads =
+      let ch = channel_of d in
+      let e = next b d in
+      let first = heard_open b ch is (reads (ap is_failed is)) in
+      let seen = next_reads b d less reads in
+      let count = next_count b d less reads in
+      let texts = next_texts b d less reads (map echo_reply first.requests) first.heard in
+      let come = ch.unread ++ b ∷ [] in
+      let row : come ++ bytes ≡ ch.unread ++ b ∷ bytes = append_assoc ch.unread (b ∷ []) bytes in
+      let are : AreRequests come (channel_of e) first.requests = requests_as come (after_byte b ch) (channel_of e) first.requests seen.session seen.unread first.are in
+      elim (channel_of e).session as (λ (x : Session). (channel_of e).session ≡ x → IsPastHello x → Served (ch.unread ++ b ∷ bytes) (b ∷ bytes) d) [
+        | Waiting ↦ λ at past. absurd past
+        | Open ↦ λ at past. (
+            let rest = fed_open bytes e (omega arith) at (next_reading b d less reads) in
+            record {
+              more = first.requests ++ rest.more;
+              texts =
+                  rest.texts ∙ ap (λ (l : List (List ℕ)). l ++ map echo_reply rest.more) texts ∙ append_assoc (texts_to s d.said) (map echo_reply first.requests) (map echo_reply rest.more)
+                  ∙ ap (λ (l : List (List ℕ)). texts_to s d.said ++ l) (sym (map-append echo_reply first.requests rest.more));
+              are = subst (λ (l : List ℕ). AreRequests l (channel_of (fed net rounds inverses s bytes e)) (first.requests ++ rest.more)) row
+                  (requests_both come bytes (channel_of e) (channel_of (fed net rounds inverses s bytes e)) first.requests rest.more (ap is_failed at) are rest.are);
+            })
+        | Failed c ↦ λ at past. (
+            let rest = fed_failed bytes e (omega arith) (ap is_failed at) in
+            record {
+              more = first.requests;
+              texts = rest.texts ∙ texts;
+              are = subst (λ (l : List ℕ). AreRequests l (channel_of (fed net rounds inverses s bytes e)) first.requests) row
+                  (dead_requests come bytes (channel_of e) (channel_of (fed net rounds inverses s bytes e)) first.requests rest.failed are);
+            })
+      ] refl (subst IsPastHello (sym seen.session) first.session)
+
+  -- a waiting session opens, or stays closed
+  record Opens (came : List ℕ) (before : List (List ℕ)) (bytes : List ℕ) (d : DriverState) : Type 0 where
+    more : List (List ℕ)
+    texts : texts_to s (fed net rounds inverses s bytes d).said ≡ texts_to s d.said ++ more
+    answers : Answers Waiting before came (channel_of (fed net rounds inverses s bytes d)) more
+
+  closed : (came : List ℕ) (before : List (List ℕ)) (bytes : List ℕ) (d : DriverState) → texts_to s (fed net rounds inverses s bytes d).said ≡ texts_to s d.said → ((n : ℕ) → ¬ HasHello came n) → Opens came before bytes d
+  closed came before bytes d same none = record { more = []; texts = same ∙ sym (append-nil (texts_to s d.said)); answers = inl (record { none = none; texts_are = refl }) }
+
+  fed_waiting : (bytes : List ℕ) (d : DriverState) → s.0 < length d.peers → (channel_of d).session ≡ Waiting → ReadsAll (channel_of d) → Opens ((channel_of d).unread ++ bytes) (again d) bytes d
+  fed_waiting [] d less is reads =
+      let ch = channel_of d in
+      closed (ch.unread ++ []) (again d) [] d refl
+      (λ n has. let f : Short ≡ Message n = sym (reads (ap is_failed is)) ∙ ap front_of (sym (append-nil ch.unread)) ∙ has.front in absurd (cc))
+  fed_waiting (b ∷ bytes) d less is reads =
+      let ch = channel_of d in
+      let e = next b d in
+      let short = reads (ap is_failed is) in
+      let seen = next_reads b d less reads in
+      let count = next_count b d less reads in
+      let come = ch.unread ++ b ∷ [] in
+      let row : come ++ bytes ≡ ch.unread ++ b ∷ bytes = append_assoc ch.unread (b ∷ []) bytes in
+      let broken : Breaks b ch is short → ((n : ℕ) → ¬ HasHello (come ++ bytes) n) → Opens (ch.unread ++ b ∷ bytes) (again d) (b ∷ bytes) d = λ breaks none. (
+      let rest = fed_failed bytes e (omega arith) (ap is_failed seen.session ∙ breaks.failed) in
+      closed (ch.unread ++ b ∷ bytes) (again d) (b ∷ bytes) d (rest.texts ∙ next_texts b d less reads [] breaks.heard ∙ append-nil (texts_to s d.said)) (subst (λ (l : List ℕ). (n : ℕ) → ¬ HasHello l n) row none)) in
+      elim (front_of come) as (λ (f : Front). front_of come ≡ f → Opens (ch.unread ++ b ∷ bytes) (again d) (b ∷ bytes) d) [
+        | Short ↦ λ at. (
+            let same : e ≡ put b d less reads = next_nothing b d less reads (nothing_heard b ch is short at) in
+            let kept : ReadsAs (record ch { unread = come }) (channel_of e) = subst (λ (x : ChannelState). ReadsAs x (channel_of e)) (still_waits b ch is short at) seen in
+            let rest = fed_waiting bytes e (omega arith) (kept.session ∙ is) (next_reading b d less reads) in
+            let still : again e ≡ again d =
+            ap again same ∙ ap (λ (o : Option ℕ). cond (is_some o) (texts_for s (batch_of net d.first (asked_round rounds inverses d.stage))) []) (put_asked b d less reads) in
+            let these : (channel_of e).unread ++ bytes ≡ ch.unread ++ b ∷ bytes = ap (λ (l : List ℕ). l ++ bytes) kept.unread ∙ row in
+            let quiet_here : texts_to s e.said ≡ texts_to s d.said = ap (λ (x : DriverState). texts_to s x.said) same in
+            record {
+              more = rest.more;
+              texts = rest.texts ∙ ap (λ (l : List (List ℕ)). l ++ rest.more) quiet_here;
+              answers = subst (λ (l : List ℕ). Answers Waiting (again d) l (channel_of (fed net rounds inverses s bytes e)) rest.more) these
+                  (subst (λ (l : List (List ℕ)). Answers Waiting l ((channel_of e).unread ++ bytes) (channel_of (fed net rounds inverses s bytes e)) rest.more) still rest.answers);
+            })
+        | Fault c ↦ λ at. broken (breaks_at_fault b ch is short c at) (λ n has. let f : Fault c ≡ Message n = sym (fault_grows come bytes c at) ∙ has.front in absurd (cc))
+        | Message n ↦ λ at. (
+            let grown : front_of (come ++ bytes) ≡ Message n = message_grows come bytes n at in
+            let whole : length come ≡ n = ended b ch is short n at in
+            let first : take n (come ++ bytes) ≡ take n come = take_at come bytes n whole ∙ sym (ap (take n) (sym (append-nil come)) ∙ take_at come [] n whole) in
+            let rest_is : drop n (come ++ bytes) ≡ bytes = drop_at come bytes n whole in
+            elim (cases_Bool (eqb (type_in (take n come)) 0)) [
+              | inl greets ↦ (
+                  let now : ReadsAs (record ch { session = Open; unread = drop n come }) (channel_of e) = subst (λ (x : ChannelState). ReadsAs x (channel_of e)) (opens b ch is short n at greets) seen in
+                  let rest = fed_open bytes e (omega arith) now.session (next_reading b d less reads) in
+                  let none : (channel_of e).unread ≡ [] = now.unread ∙ none_left b ch is short n at in
+                  let these : (channel_of e).unread ++ bytes ≡ drop n (ch.unread ++ b ∷ bytes) = ap (λ (l : List ℕ). l ++ bytes) none ∙ sym rest_is ∙ ap (drop n) row in
+                  record {
+                    more = again d ++ map echo_reply rest.more;
+                    texts =
+                        rest.texts ∙ ap (λ (l : List (List ℕ)). l ++ map echo_reply rest.more) (next_opened b d less reads (opened_heard b ch is short n at greets))
+                        ∙ append_assoc (texts_to s d.said) (again d) (map echo_reply rest.more);
+                    answers = inr (record {
+                      n = n;
+                      has = record {
+                        front = ap front_of (sym row) ∙ grown;
+                        hello = ap (λ (l : List ℕ). type_in (take n l)) (sym row) ∙ ap type_in first ∙ eqb-true (type_in (take n come)) 0 greets;
+                      };
+                      replies = map echo_reply rest.more;
+                      replied = record {
+                        requests = rest.more;
+                        are = subst (λ (l : List ℕ). AreRequests l (channel_of (fed net rounds inverses s bytes e)) rest.more) these rest.are;
+                        texts_are = refl;
+                      };
+                      texts_are = refl;
+                    });
+                  })
+              | inr other ↦ broken (breaks_at_other b ch is short n at other) (λ m has.
+                  let f : Message m ≡ Message n = sym has.front ∙ grown in
+                  let same : m ≡ n = cc in
+                  let zero_type : type_in (take n come) ≡ 0 = sym (ap type_in first) ∙ ap (λ (k : ℕ). type_in (take k (come ++ bytes))) (sym same) ∙ has.hello in
+                  let g : true ≡ false = sym (eq-eqb (type_in (take n come)) 0 zero_type) ∙ other in
+                  absurd (cc))
+            ])
+      ] refl
+
+-- ---- what every driver keeps: so many peers, on whose channels no whole message is unread
+
+abbrev AllRead : List PeerState → Type 0
+AllRead peers = AllByRecursion (λ (p : PeerState). ReadsAll p.channel) peers
+
+read_first : ReadsAll first_peer.channel
+read_first going = front_nil
+
+read_at : (peers : List PeerState) (i : ℕ) → AllRead peers → ReadsAll (get_or peers i first_peer).channel
+read_at [] i h = read_first
+read_at (p ∷ peers) zero h = h.0
+read_at (p ∷ peers) (suc i) h = read_at peers i h.1
+
+read_set : (peers : List PeerState) (i : ℕ) (q : PeerState) → AllRead peers → ReadsAll q.channel → AllRead (set peers i q)
+read_set [] i q h r = tt
+read_set (p ∷ peers) zero q h r = (r, h.1)
+read_set (p ∷ peers) (suc i) q h r = (h.0, read_set peers i q h.1 r)
+
+read_alike : (p q : PeerState) → Alike p q → ReadsAll p.channel → ReadsAll q.channel
+read_alike p q alike h going = ap front_of alike.unread ∙ h (ap is_failed (sym alike.session) ∙ going)
+
+read_asked : (x : ℕ) (round : List Change) (n : ℕ) (peers : List PeerState) → AllRead peers → AllRead (asked_from x round n peers)
+read_asked x round n [] h = tt
+read_asked x round n (p ∷ peers) h =
+    let changed = is_changed round (switch_numbered n) in
+    (cond_both changed (asks x p) p (λ (q : PeerState). ReadsAll q.channel) (λ _. read_alike p (asks x p) (alike_asks x p) h.0) (λ _. h.0), read_asked (next_if changed x) round (suc n) peers h.1)
+
+record IsReading (count : ℕ) (d : DriverState) : Type 0 where
+  peers : length d.peers ≡ count
+  read : AllRead d.peers
+
+module _ (net : Network) (rounds inverses : List (List Change)) (count : ℕ) where
+  reading_same : (d e : DriverState) → e.peers ≡ d.peers → IsReading count d → IsReading count e
+  reading_same d e same h = record { peers = ap length same ∙ h.peers; read = subst AllRead (sym same) h.read }
+
+  reading_touched : (s : SwitchId) (e d : DriverState) → Touched s e d → IsReading count e → IsReading count d
+  reading_touched s e d (AsBefore same) h = reading_same e d same h
+  reading_touched s e d (PutBack q is alike) h = record {
+    peers = ap length is ∙ length-set e.peers s.0 q ∙ h.peers;
+    read = subst AllRead (sym is) (read_set e.peers s.0 q h.read (read_alike (peer_at e s) q alike (read_at e.peers s.0 h.read)));
+  }
+
+  reading_byte_fed : (s : SwitchId) (b : ℕ) (d : DriverState) → s.0 < count → IsReading count d → IsReading count (fed_byte net rounds inverses s b d)
+  reading_byte_fed s b d less h =
+      let all = h.peers in
+      let within : s.0 < length d.peers = omega arith in
+      let reads = read_at d.peers s.0 h.read in
+      let p = peer_after b (peer_at d s) in
+      let put_reading : ReadsAll p.channel =
+      (let seen = put_reads net rounds inverses s b d within reads in let at = put_is net rounds inverses s b d within reads in
+      subst (λ (q : PeerState). ReadsAll q.channel) at
+      (λ going. ap front_of seen.unread ∙ reads_bytes (b ∷ []) (peer_at d s).channel reads (ap is_failed (sym seen.session) ∙ going))) in
+      reading_touched s (with_peer s p d) (fed_byte net rounds inverses s b d) (touches net rounds inverses s b d within reads)
+      (record { peers = length-set d.peers s.0 p ∙ h.peers; read = read_set d.peers s.0 p h.read put_reading })
+
+  reading_fed : (s : SwitchId) (bytes : List ℕ) (d : DriverState) → s.0 < count → IsReading count d → IsReading count (fed net rounds inverses s bytes d)
+  reading_fed s [] d less h = h
+  reading_fed s (b ∷ bytes) d less h = reading_fed s bytes (fed_byte net rounds inverses s b d) less (reading_byte_fed s b d less h)
+
+  reading_sent : (changes : List Change) (stage : Stage) (d : DriverState) → IsReading count d → IsReading count (settled_if_answered (sent_out net changes stage d))
+  unfolding sent_out
+  reading_sent changes stage d h =
+      let e = sent_out net changes stage d in
+      let x = xid_behind d.next (length changes) in
+      let sent : IsReading count e = record { peers = length-asked x changes 0 d.peers ∙ h.peers; read = read_asked x changes 0 d.peers h.read } in
+      reading_same e (settled_if_answered e) (if_answered_peers e) sent
+
+  reading_start : (stage : Stage) (d : DriverState) → IsReading count d → IsReading count (started_in net rounds stage d)
+  reading_start (Settled k) d h =
+      let e = flagged false (saying (Log logged.Start ∷ []) d) in
+      reading_sent (round_after k rounds) (Onward k) e (reading_same d e refl h)
+  reading_start (Onward k) d h = h
+  reading_start (Undone k) d h = h
+
+  reading_turn : (stage : Stage) (d : DriverState) → IsReading count d → IsReading count (turned_in net inverses stage d)
+  reading_turn (Settled zero) d h = h
+  reading_turn (Settled (suc k)) d h =
+      let e = flagged true (saying (Log logged.Back ∷ []) d) in
+      reading_sent (round_after k inverses) (Undone k) e (reading_same d e refl h)
+  reading_turn (Onward k) d h = reading_sent (round_after k inverses) (Undone k) d h
+  reading_turn (Undone k) d h = h
+
+-- ---- what each call sends
+
+module _ (net : Network) (s : SwitchId) where
+  sent_texts : (changes : List Change) (stage : Stage) (d : DriverState)
+      → texts_to s (settled_if_answered (sent_out net changes stage d)).said ≡ texts_to s d.said ++ cond (is_open (get_or d.peers s.0 first_peer).channel.session) (texts_for s (batch_of net d.next changes)) []
+  unfolding sent_out
+  sent_texts changes stage d =
+      let ms = batch_of net d.next changes in
+      if_answered_quiet s (sent_out net changes stage d) ∙ texts-append s d.said (sends (is_to_open d.peers) ms) ∙ ap (λ (l : List (List ℕ)). texts_to s d.said ++ l) (texts_open s d.peers ms)
+
+module _ (v : DriverView) (s : SwitchId) where
+  abbrev quiet_state : DriverState
+  quiet_state = record v.state { said = [] }
+
+  start_sends : (stage : Stage) → texts_to s (started_in v.net v.rounds stage quiet_state).said ≡ option_map_or (asking v s) (start_asks v stage) []
+  start_sends (Settled k) = sent_texts v.net s (round_after k v.rounds) (Onward k) (flagged false (saying (Log logged.Start ∷ []) quiet_state))
+  start_sends (Onward k) = refl
+  start_sends (Undone k) = refl
+
+  back_sends : (stage : Stage) → texts_to s (turned_in v.net v.inverses stage quiet_state).said ≡ option_map_or (asking v s) (back_asks v stage) []
+  back_sends (Settled zero) = refl
+  back_sends (Settled (suc k)) = sent_texts v.net s (round_after k v.inverses) (Undone k) (flagged true (saying (Log logged.Back ∷ []) quiet_state))
+  back_sends (Onward k) = sent_texts v.net s (round_after k v.inverses) (Undone k) quiet_state
+  back_sends (Undone k) = refl
+
+  abbrev SendsSo : Call → Type 0
+  SendsSo c = Sends v (after_call_anew v c) s c (texts_to s (after_call_anew v c).state.said)
+
+  sends_start : SendsSo Start
+  sends_start =
+      elim (is_none (start_fault v)) as (λ b. texts_to s (cond b (started (silent v)) (silent v)).state.said ≡ option_map_or (asking v s) (cond b (start_asks v v.state.stage) None) []) [
+        | true ↦ start_sends v.state.stage
+        | false ↦ refl
+      ]
+
+  sends_back : SendsSo Back
+  sends_back =
+      elim (is_none (back_fault v)) as (λ b. texts_to s (cond b (turned (silent v)) (silent v)).state.said ≡ option_map_or (asking v s) (cond b (back_asks v v.state.stage) None) []) [
+        | true ↦ back_sends v.state.stage
+        | false ↦ refl
+      ]
+
+  sends_reopen : (t : SwitchId) → SendsSo (Reopen t)
+  sends_reopen t = chosen (eqb t.0 s.0)
+    where
+      chosen : (b : Bool) → cons_option (cond b (Some hello) None) [] ≡ cond b (hello ∷ []) []
+      chosen true = refl
+      chosen false = refl
+
+  module _ (within : s.0 < length v.state.peers) (read : AllRead v.state.peers) (bytes : List ℕ) where
+    abbrev fed_state : DriverState
+    fed_state = fed v.net v.rounds v.inverses s bytes quiet_state
+
+    abbrev AnswersSo : Session → Type 0
+    AnswersSo x = Answers x (unanswered v s) ((peer_at v.state s).channel.unread ++ bytes) (peer_at fed_state s).channel (texts_to s fed_state.said)
+
+    answers_by : (x : Session) → session_at v s ≡ x → AnswersSo x
+    answers_by Waiting is =
+        let h = fed_waiting v.net v.rounds v.inverses s bytes quiet_state within is (read_at v.state.peers s.0 read) in
+        subst (Answers Waiting (unanswered v s) ((peer_at v.state s).channel.unread ++ bytes) (peer_at fed_state s).channel) (sym h.texts) h.answers
+    answers_by Open is =
+        let h = fed_open v.net v.rounds v.inverses s bytes quiet_state within is (read_at v.state.peers s.0 read) in
+        record { requests = h.more; are = h.are; texts_are = h.texts }
+    answers_by (Failed c) is = (fed_failed v.net v.rounds v.inverses s bytes quiet_state within (ap is_failed is)).texts
+
+    sends_here : AnswersSo (session_at v s)
+    sends_here = answers_by (session_at v s) refl
+
+  sends_fed : (t : SwitchId) (bytes : List ℕ) → s.0 < length v.state.peers → AllRead v.state.peers → SendsSo (Feed t bytes)
+  sends_fed t bytes within read =
+      let Here : SwitchId → Type 0 = λ r. Answers (session_at v s) (unanswered v s) ((peer_at v.state s).channel.unread ++ bytes) (peer_at (after_call_anew v (Feed r bytes)).state s).channel (texts_to s (after_call_anew v (Feed r bytes)).state.said) in
+      record {
+        here = λ e. (let same : t ≡ s = ap switch_numbered e in subst Here (sym same) (sends_here within read bytes));
+        others = λ ne. fed_away v.net v.rounds v.inverses t s ne bytes quiet_state;
+      }
+
+  sends_call : (c : Call) → s.0 < length v.state.peers → AllRead v.state.peers → SendsSo c
+  sends_call Start within read = sends_start
+  sends_call Back within read = sends_back
+  sends_call (Reopen t) within read = sends_reopen t
+  sends_call (Feed t bytes) within read = sends_fed t bytes within read
+
+-- ---- the xids
+
+record SameNumbers (d e : DriverState) : Type 0 where
+  first : e.first ≡ d.first
+  next : e.next ≡ d.next
+
+numbers_refl : (d : DriverState) → SameNumbers d d
+numbers_refl d = record { first = refl; next = refl }
+
+numbers_settled : (stage : Stage) (d : DriverState) → SameNumbers d (settled_in stage d)
+unfolding settled_in
+numbers_settled (Settled k) d = numbers_refl d
+numbers_settled (Onward k) d = record { first = refl; next = refl }
+numbers_settled (Undone k) d = record { first = refl; next = refl }
+
+numbers_if_answered : (d : DriverState) → SameNumbers d (settled_if_answered d)
+unfolding settled_if_answered
+numbers_if_answered d = cond_both (all_answered d.peers) (settled_in d.stage d) d (SameNumbers d) (λ _. numbers_settled d.stage d) (λ _. numbers_refl d)
+
+numbers_carried : (round : List Change) (t : SwitchId) (stage : Stage) (d : DriverState) → SameNumbers d (carried_out round t stage d)
+unfolding made undone
+numbers_carried round t (Settled k) d = numbers_refl d
+numbers_carried round t (Onward k) d = record { first = refl; next = refl }
+numbers_carried round t (Undone k) d =
+    cond_both (get_or d.in_force t.0 false) (record d { in_force = set d.in_force t.0 false; said = d.said ++ undo_notes t 0 round }) d (SameNumbers d)
+    (λ _. record { first = refl; next = refl }) (λ _. numbers_refl d)
+
+numbers_answered : (round : List Change) (t : SwitchId) (d : DriverState) → SameNumbers d (answered round t d)
+unfolding answered made
+numbers_answered round t d =
+    let e = with_peer t (answers (peer_at d t)) d in
+    let last = carried_out round t e.stage e in
+    cond_both (is_some (peer_at d t).behind) (made round t e) (settled_if_answered last) (SameNumbers d) (λ _. record { first = refl; next = refl })
+    (λ _. let a = numbers_carried round t e.stage e in let b = numbers_if_answered last in record { first = b.first ∙ a.first; next = b.next ∙ a.next })
+
+numbers_opened : (net : Network) (changes : List Change) (t : SwitchId) (d : DriverState) → SameNumbers d (opened net changes t d)
+unfolding opened
+numbers_opened net changes t d =
+    elim (peer_at d t).asked as (λ (o : Option ℕ). SameNumbers d (option_map_or (λ x. sent_again net changes t x d) o d)) [
+      | None ↦ numbers_refl d
+      | Some x ↦ record { first = refl; next = refl }
+    ]
+
+module _ (net : Network) (rounds inverses : List (List Change)) where
+  numbers_heard : (t : SwitchId) (came : Heard) (d : DriverState) → SameNumbers d (heard net rounds inverses t came d)
+  numbers_heard t Nothing d = numbers_refl d
+  numbers_heard t Opened d = numbers_opened net (asked_round rounds inverses d.stage) t d
+  numbers_heard t Answered d = numbers_answered (running_round rounds d.stage) t d
+  numbers_heard t (Replied text) d = record { first = refl; next = refl }
+  numbers_heard t (Broke cause) d = record { first = refl; next = refl }
+
+  numbers_byte : (t : SwitchId) (b : ℕ) (d : DriverState) → SameNumbers d (fed_byte net rounds inverses t b d)
+  unfolding fed_byte
+  numbers_byte t b d =
+      let p = peer_at d t in
+      let h = numbers_heard t (heard_by p.channel (after_byte b p.channel)) (with_peer t (peer_after b p) d) in
+      record { first = h.first; next = h.next }
+
+  numbers_fed : (t : SwitchId) (bytes : List ℕ) (d : DriverState) → SameNumbers d (fed net rounds inverses t bytes d)
+  numbers_fed t [] d = numbers_refl d
+  numbers_fed t (b ∷ bytes) d =
+      let a = numbers_byte t b d in
+      let h = numbers_fed t bytes (fed_byte net rounds inverses t b d) in
+      record { first = h.first ∙ a.first; next = h.next ∙ a.next }
+
+-- the messages of a round took the next xids
+record TakesNumbers (net : Network) (changes : Option (List Change)) (d e : DriverState) : Type 0 where
+  first : e.first ≡ option_map_or (λ _. d.next) changes d.first
+  next : e.next ≡ option_map_or (λ cs. xid_behind d.next (length (batch_of net d.next cs))) changes d.next
+
+module _ (v : DriverView) where
+  takes_sent : (changes : List Change) (stage : Stage) (d : DriverState) → TakesNumbers v.net (Some changes) d (settled_if_answered (sent_out v.net changes stage d))
+  unfolding sent_out
+  takes_sent changes stage d = let h = numbers_if_answered (sent_out v.net changes stage d) in record { first = h.first; next = h.next }
+
+  takes_start : (stage : Stage) (d : DriverState) → TakesNumbers v.net (start_asks v stage) d (started_in v.net v.rounds stage d)
+  takes_start (Settled k) d = let h = takes_sent (round_after k v.rounds) (Onward k) (flagged false (saying (Log logged.Start ∷ []) d)) in record { first = h.first; next = h.next }
+  takes_start (Onward k) d = record { first = refl; next = refl }
+  takes_start (Undone k) d = record { first = refl; next = refl }
+
+  takes_back : (stage : Stage) (d : DriverState) → TakesNumbers v.net (back_asks v stage) d (turned_in v.net v.inverses stage d)
+  takes_back (Settled zero) d = record { first = refl; next = refl }
+  takes_back (Settled (suc k)) d = let h = takes_sent (round_after k v.inverses) (Undone k) (flagged true (saying (Log logged.Back ∷ []) d)) in record { first = h.first; next = h.next }
+  takes_back (Onward k) d = takes_sent (round_after k v.inverses) (Undone k) d
+  takes_back (Undone k) d = record { first = refl; next = refl }
+
+  abbrev Takes : Option (List Change) → DriverView → Type 0
+  Takes changes w = TakesNumbers v.net changes v.state w.state
+
+  takes_call : (c : Call) → Takes (asked_by v c) (after_call v c)
+  takes_call Start =
+      elim (is_none (start_fault v)) as (λ b. Takes (cond b (start_asks v v.state.stage) None) (cond b (started v) v)) [
+        | true ↦ takes_start v.state.stage v.state
+        | false ↦ record { first = refl; next = refl }
+      ]
+  takes_call Back =
+      elim (is_none (back_fault v)) as (λ b. Takes (cond b (back_asks v v.state.stage) None) (cond b (turned v) v)) [
+        | true ↦ takes_back v.state.stage v.state
+        | false ↦ record { first = refl; next = refl }
+      ]
+  takes_call (Reopen t) = record { first = refl; next = refl }
+  takes_call (Feed t bytes) = let h = numbers_fed v.net v.rounds v.inverses t bytes v.state in record { first = h.first; next = h.next }
+
+  pub goes_on : (c : Call) → GoesOn v (after_call v c) c
+  goes_on c = let h = takes_call c in record { first = h.first; next = h.next }
+
+-- ---- all calls
+
+read_replicate : (n : ℕ) → AllRead (replicate n first_peer)
+read_replicate zero = tt
+read_replicate (suc n) = (read_first, read_replicate n)
+
+module _ (net : Network) (rounds inverses : List (List Change)) where
+  abbrev view : DriverState → DriverView
+  view d = record { net = net; rounds = rounds; inverses = inverses; state = d }
+
+  abbrev OnReading : DriverView → Type 0
+  OnReading w = (d : DriverState) × (w ≡ view d) × IsReading (switch_count net) d
+
+  reading_call : (d : DriverState) (c : Call) → IsCall net c → IsReading (switch_count net) d → OnReading (after_call (view d) c)
+  reading_call d Start ok h =
+      cond_both (is_none (start_fault (view d))) (with_state (started_in net rounds d.stage d) (view d)) (view d) OnReading
+      (λ _. (started_in net rounds d.stage d, refl, reading_start net rounds inverses (switch_count net) d.stage d h)) (λ _. (d, refl, h))
+  reading_call d Back ok h =
+      cond_both (is_none (back_fault (view d))) (with_state (turned_in net inverses d.stage d) (view d)) (view d) OnReading
+      (λ _. (turned_in net inverses d.stage d, refl, reading_turn net rounds inverses (switch_count net) d.stage d h)) (λ _. (d, refl, h))
+  reading_call d (Reopen t) ok h =
+      (reopened_driver t d, refl, record { peers = length-set d.peers t.0 (reopened (peer_at d t)) ∙ h.peers; read = read_set d.peers t.0 (reopened (peer_at d t)) h.read read_first })
+  reading_call d (Feed t bytes) ok h = (fed net rounds inverses t bytes d, refl, reading_fed net rounds inverses (switch_count net) t bytes d ok h)
+
+  reading_calls : (w : DriverView) (calls : List Call) → AllByRecursion (IsCall net) calls → OnReading w → OnReading (after_calls w calls)
+  reading_calls w [] ok on = on
+  reading_calls w (c ∷ calls) ok (d, is, h) = reading_calls (after_call w c) calls ok.1 (subst (λ (x : DriverView). OnReading (after_call x c)) (sym is) (reading_call d c ok.0 h))
+
+  all_reading : (calls : List Call) → AllByRecursion (IsCall net) calls → OnReading (driver_after net rounds inverses calls)
+  all_reading calls ok =
+      reading_calls (view (first_driver net)) calls ok
+      (first_driver net, refl, record { peers = length-replicate (switch_count net) first_peer; read = read_replicate (switch_count net) })
+
+  pub each_call : (calls : List Call) (c : Call) (s : SwitchId) → AllByRecursion (IsCall net) calls → s.0 < switch_count net
+      → let v = driver_after net rounds inverses calls in Sends v (after_call_anew v c) s c (texts_to s (after_call_anew v c).state.said)
+  each_call calls c s ok less =
+      let (d, is, h) = all_reading calls ok in
+      let all = h.peers in
+      subst (λ (v : DriverView). Sends v (after_call_anew v c) s c (texts_to s (after_call_anew v c).state.said)) (sym is) (sends_call (view d) s c (omega arith) h.read)
+
+-- HELLO is the first that is sent to each switch
+module _ (s : SwitchId) where
+  none_before : (n count : ℕ) → s.0 < n → texts_to s (first_words n count) ≡ []
+  none_before n zero less = refl
+  none_before n (suc count) less =
+      ap (λ b. cons_option (cond b (Some hello) None) (texts_to s (first_words (suc n) count))) (ne_eqb n s.0 (λ e. omega arith)) ∙ none_before (suc n) count (omega arith)
+
+  pub hello_first : (n count : ℕ) → n ≤ s.0 → s.0 < n + count → texts_to s (first_words n count) ≡ hello ∷ []
+  hello_first n zero le less = absurd (omega arith)
+  hello_first n (suc count) le less =
+      let rest = texts_to s (first_words (suc n) count) in
+      elim (cases_eq n s.0) [
+        | inl same ↦ ap (λ b. cons_option (cond b (Some hello) None) rest) (eq-eqb n s.0 same) ∙ ap (λ (l : List (List ℕ)). hello ∷ l) (none_before (suc n) count (omega arith))
+        | inr differs ↦ ap (λ b. cons_option (cond b (Some hello) None) rest) (ne_eqb n s.0 differs) ∙ hello_first (suc n) count (omega (arith, differs)) (omega arith)
+      ]
+
+  texts_of_each : (pieces : List (List Said)) → texts_to s (joined pieces) ≡ flat_map (texts_to s) pieces
+  texts_of_each [] = refl
+  texts_of_each (words ∷ pieces) = texts-append s words (joined pieces) ∙ ap (λ (l : List (List ℕ)). texts_to s words ++ l) (texts_of_each pieces)
+
+  pub all_calls : (net : Network) (rounds inverses : List (List Change)) (calls : List Call) → s.0 < switch_count net
+      → texts_to s (driver_after net rounds inverses calls).state.said ≡ hello ∷ flat_map (texts_to s) (said_by_each (driver_after net rounds inverses []) calls)
+  all_calls net rounds inverses calls less =
+      let v = driver_after net rounds inverses [] in
+      let first = first_words 0 (switch_count net) in
+      ap (texts_to s) (calls_said v calls) ∙ texts-append s first (joined (said_by_each v calls))
+      ∙ ap (λ (l : List (List ℕ)). l ++ texts_to s (joined (said_by_each v calls))) (hello_first 0 (switch_count net) (omega arith) (omega arith))
+      ∙ ap (λ (l : List (List ℕ)). hello ∷ l) (texts_of_each (said_by_each v calls))

@@ -1,0 +1,170 @@
+-- What was said before makes no difference: each step says the same behind it, and leaves the same else.
+use Rattle.std.proofs.Common.{◌≡◌, ℕ, zero, suc, Bool, true, false, cond, List, [], ◌∷◌, ◌++◌, set, refl, sym, ap, ◌∙◌, append_assoc, append-nil}
+use Rattle.std.specs.Prelude.{Option, Some, None, is_some, is_none, slice_index_or}
+use Rattle.std.specs.Option.{option_map_or}
+use Rattle.net_base.specs.declared.ids.SwitchId.{SwitchId}
+use Rattle.topology.specs.Networks.{Network}
+use Rattle.update_model.specs.Changes.{round_after}
+use Rattle.update_model.specs.declared.Change.{Change}
+use Rattle.switch_session.specs.Channels.{after_byte}
+use Rattle.two_way_driver.specs.Peers.{heard_by, peer_after, answers}
+use Rattle.two_way_driver.specs.Drivers.{DriverState, peer_at, with_peer, saying, sent_out, settled_in, all_answered, settled_if_answered, change_notes, undo_notes, made, undone, carried_out, answered, sent_again, opened, running_round, asked_round, heard, fed_byte, fed, flagged, started_with, undone_with, turned_with, started_in, turned_in}
+use Rattle.two_way_driver.specs.Calls.{DriverView, silent, start_fault, back_fault, started, turned}
+use Rattle.two_way_driver.specs.Laws.{Call, Start, Back, Reopen, Feed, after_call, after_calls}
+use Rattle.two_way_driver.specs.Words.{said_first, with_words, after_call_anew, after_calls_anew, said_by_each, joined}
+use Rattle.two_way_driver.specs.declared.Said.{Said}
+use Rattle.two_way_driver.specs.declared.Logged.TheVariants as logged
+use Rattle.two_way_driver.specs.declared.Said.TheVariants.{Log}
+use Rattle.two_way_driver.specs.declared.Stage.{Stage}
+use Rattle.two_way_driver.specs.declared.Stage.TheVariants.{Settled, Onward, Undone}
+use Rattle.two_way_driver.specs.declared.peers.Heard.{Heard}
+use Rattle.two_way_driver.specs.declared.peers.Heard.TheVariants.{Nothing, Opened, Answered, Replied, Broke}
+
+module _ (w : List Said) where
+  -- words behind others
+  more : (d : DriverState) (base : DriverState) (words : List Said) → record base { said = (w ++ d.said) ++ words } ≡ said_first w (record base { said = d.said ++ words })
+  more d base words = ap (λ (l : List Said). record base { said = l }) (append_assoc w d.said words)
+
+  first_settled : (stage : Stage) (d : DriverState) → settled_in stage (said_first w d) ≡ said_first w (settled_in stage d)
+  unfolding settled_in
+  first_settled (Settled k) d = refl
+  first_settled (Onward k) d = more d (record d { stage = Settled (suc k) }) (Log logged.Settle ∷ [])
+  first_settled (Undone k) d = more d (record d { stage = Settled k }) (Log logged.SettleBack ∷ [])
+
+  first_if_answered : (d : DriverState) → settled_if_answered (said_first w d) ≡ said_first w (settled_if_answered d)
+  unfolding settled_if_answered
+  first_if_answered d =
+      elim (all_answered d.peers) as (λ b. cond b (settled_in d.stage (said_first w d)) (said_first w d) ≡ said_first w (cond b (settled_in d.stage d) d)) [
+        | true ↦ first_settled d.stage d
+        | false ↦ refl
+      ]
+
+  first_made : (round : List Change) (s : SwitchId) (d : DriverState) → made round s (said_first w d) ≡ said_first w (made round s d)
+  unfolding made
+  first_made round s d = more d (record d { in_force = set d.in_force s.0 true }) (change_notes s 0 round)
+
+  first_undone : (round : List Change) (s : SwitchId) (d : DriverState) → undone round s (said_first w d) ≡ said_first w (undone round s d)
+  unfolding undone
+  first_undone round s d =
+      let next : List Said → DriverState = λ said. record d { in_force = set d.in_force s.0 false; said = said } in
+      elim (slice_index_or d.in_force s.0 false) as (λ b. cond b (next ((w ++ d.said) ++ undo_notes s 0 round)) (said_first w d) ≡ said_first w (cond b (next (d.said ++ undo_notes s 0 round)) d)) [
+        | true ↦ more d (record d { in_force = set d.in_force s.0 false }) (undo_notes s 0 round)
+        | false ↦ refl
+      ]
+
+  first_carried : (round : List Change) (s : SwitchId) (stage : Stage) (d : DriverState) → carried_out round s stage (said_first w d) ≡ said_first w (carried_out round s stage d)
+  first_carried round s (Settled k) d = refl
+  first_carried round s (Onward k) d = first_made round s d
+  first_carried round s (Undone k) d = first_undone round s d
+
+  first_answered : (round : List Change) (s : SwitchId) (d : DriverState) → answered round s (said_first w d) ≡ said_first w (answered round s d)
+  unfolding answered
+  first_answered round s d =
+      let e = with_peer s (answers (peer_at d s)) d in
+      elim (is_some (peer_at d s).behind) as (λ b. cond b (made round s (said_first w e)) (settled_if_answered (carried_out round s e.stage (said_first w e))) ≡ said_first w (cond b (made round s e) (settled_if_answered (carried_out round s e.stage e)))) [
+        | true ↦ first_made round s e
+        | false ↦ ap settled_if_answered (first_carried round s e.stage e) ∙ first_if_answered (carried_out round s e.stage e)
+      ]
+
+  first_opened : (net : Network) (changes : List Change) (s : SwitchId) (d : DriverState) → opened net changes s (said_first w d) ≡ said_first w (opened net changes s d)
+  unfolding opened
+  first_opened net changes s d =
+      elim (peer_at d s).asked as (λ (o : Option ℕ). option_map_or (λ x. sent_again net changes s x (said_first w d)) o (said_first w d) ≡ said_first w (option_map_or (λ x. sent_again net changes s x d) o d)) [
+        | None ↦ refl
+        | Some x ↦ more d (with_peer s _ d) _
+      ]
+
+  module _ (net : Network) (rounds inverses : List (List Change)) where
+    first_heard : (s : SwitchId) (came : Heard) (d : DriverState) → heard net rounds inverses s came (said_first w d) ≡ said_first w (heard net rounds inverses s came d)
+    first_heard s Nothing d = refl
+    first_heard s Opened d = first_opened net (asked_round rounds inverses d.stage) s d
+    first_heard s Answered d = first_answered (running_round rounds d.stage) s d
+    first_heard s (Replied text) d = more d d _
+    first_heard s (Broke cause) d = more d d _
+
+    pub first_byte : (s : SwitchId) (b : ℕ) (d : DriverState) → fed_byte net rounds inverses s b (said_first w d) ≡ said_first w (fed_byte net rounds inverses s b d)
+    unfolding fed_byte
+    first_byte s b d =
+        let before = peer_at d s in
+        first_heard s (heard_by before.channel (after_byte b before.channel)) (with_peer s (peer_after b before) d)
+
+    pub first_fed : (s : SwitchId) (bytes : List ℕ) (d : DriverState) → fed net rounds inverses s bytes (said_first w d) ≡ said_first w (fed net rounds inverses s bytes d)
+    first_fed s [] d = refl
+    first_fed s (b ∷ bytes) d = ap (fed net rounds inverses s bytes) (first_byte s b d) ∙ first_fed s bytes (fed_byte net rounds inverses s b d)
+
+  first_sent : (net : Network) (changes : List Change) (stage : Stage) (d : DriverState) → sent_out net changes stage (said_first w d) ≡ said_first w (sent_out net changes stage d)
+  unfolding sent_out
+  first_sent net changes stage d = more d (record d { stage = stage; first = _; next = _; peers = _ }) _
+
+  first_turned_with : (net : Network) (changes : List Change) (k : ℕ) (d : DriverState) → turned_with net changes k (said_first w d) ≡ said_first w (turned_with net changes k d)
+  first_turned_with net changes k d = ap settled_if_answered (first_sent net changes (Undone k) d) ∙ first_if_answered (sent_out net changes (Undone k) d)
+
+  first_flagged : (on : Bool) (words : List Said) (d : DriverState) → flagged on (saying words (said_first w d)) ≡ said_first w (flagged on (saying words d))
+  first_flagged on words d = ap (flagged on) (more d d words)
+
+  first_undone_with : (net : Network) (changes : List Change) (k : ℕ) (d : DriverState) → undone_with net changes k (said_first w d) ≡ said_first w (undone_with net changes k d)
+  first_undone_with net changes k d = ap (turned_with net changes k) (first_flagged true (Log logged.Back ∷ []) d) ∙ first_turned_with net changes k (flagged true (saying (Log logged.Back ∷ []) d))
+
+  first_started_with : (net : Network) (changes : List Change) (k : ℕ) (d : DriverState) → started_with net changes k (said_first w d) ≡ said_first w (started_with net changes k d)
+  first_started_with net changes k d =
+      let e = flagged false (saying (Log logged.Start ∷ []) d) in
+      ap (λ (x : DriverState). settled_if_answered (sent_out net changes (Onward k) x)) (first_flagged false (Log logged.Start ∷ []) d)
+      ∙ ap settled_if_answered (first_sent net changes (Onward k) e) ∙ first_if_answered (sent_out net changes (Onward k) e)
+
+  first_started : (net : Network) (rounds : List (List Change)) (stage : Stage) (d : DriverState) → started_in net rounds stage (said_first w d) ≡ said_first w (started_in net rounds stage d)
+  first_started net rounds (Settled k) d = first_started_with net (round_after k rounds) k d
+  first_started net rounds (Onward k) d = refl
+  first_started net rounds (Undone k) d = refl
+
+  first_turned : (net : Network) (inverses : List (List Change)) (stage : Stage) (d : DriverState) → turned_in net inverses stage (said_first w d) ≡ said_first w (turned_in net inverses stage d)
+  first_turned net inverses (Settled zero) d = refl
+  first_turned net inverses (Settled (suc k)) d = first_undone_with net (round_after k inverses) k d
+  first_turned net inverses (Onward k) d = first_turned_with net (round_after k inverses) k d
+  first_turned net inverses (Undone k) d = refl
+
+  abbrev as_view : DriverView → DriverState → DriverView
+  as_view v d = record v { state = d }
+
+  pub first_call : (v : DriverView) (c : Call) → after_call (with_words w v) c ≡ with_words w (after_call v c)
+  first_call v Start =
+      elim (is_none (start_fault v)) as (λ b. cond b (started (with_words w v)) (with_words w v) ≡ with_words w (cond b (started v) v)) [
+        | true ↦ ap (as_view v) (first_started v.net v.rounds v.state.stage v.state)
+        | false ↦ refl
+      ]
+  first_call v Back =
+      elim (is_none (back_fault v)) as (λ b. cond b (turned (with_words w v)) (with_words w v) ≡ with_words w (cond b (turned v) v)) [
+        | true ↦ ap (as_view v) (first_turned v.net v.inverses v.state.stage v.state)
+        | false ↦ refl
+      ]
+  first_call v (Reopen s) = ap (as_view v) (more v.state (with_peer s _ v.state) _)
+  first_call v (Feed s bytes) = ap (as_view v) (first_fed v.net v.rounds v.inverses s bytes v.state)
+
+-- a driver is itself without its words, with them in front
+with_own_words : (v : DriverView) → with_words v.state.said (silent v) ≡ v
+with_own_words v = ap (λ (l : List Said). record v { state = record v.state { said = l } }) (append-nil v.state.said)
+
+pub call_is : (v : DriverView) (c : Call) → after_call v c ≡ with_words v.state.said (after_call_anew v c)
+call_is v c = ap (λ (x : DriverView). after_call x c) (sym (with_own_words v)) ∙ first_call v.state.said (silent v) c
+
+-- what each call says doesn't depend on what was said before, nor does what is left else
+same_said : (w : List Said) (v : DriverView) (calls : List Call) → said_by_each (with_words w v) calls ≡ said_by_each v calls
+same_said w v [] = refl
+same_said w v (c ∷ calls) = refl
+
+same_kept : (w : List Said) (v : DriverView) (calls : List Call) → silent (after_calls_anew (with_words w v) calls) ≡ silent (after_calls_anew v calls)
+same_kept w v [] = refl
+same_kept w v (c ∷ calls) = refl
+
+pub calls_said : (v : DriverView) (calls : List Call) → (after_calls v calls).state.said ≡ v.state.said ++ joined (said_by_each v calls)
+calls_said v [] = sym (append-nil v.state.said)
+calls_said v (c ∷ calls) =
+    let u = after_call_anew v c in
+    let w = v.state.said in
+    calls_said (after_call v c) calls ∙ ap (λ (x : DriverView). x.state.said ++ joined (said_by_each x calls)) (call_is v c)
+    ∙ ap (λ (l : List (List Said)). (w ++ u.state.said) ++ joined l) (same_said w u calls) ∙ append_assoc w u.state.said (joined (said_by_each u calls))
+
+pub calls_kept : (v : DriverView) (calls : List Call) → silent (after_calls v calls) ≡ silent (after_calls_anew v calls)
+calls_kept v [] = refl
+calls_kept v (c ∷ calls) =
+    let u = after_call_anew v c in
+    calls_kept (after_call v c) calls ∙ ap (λ (x : DriverView). silent (after_calls_anew x calls)) (call_is v c) ∙ same_kept v.state.said u calls
