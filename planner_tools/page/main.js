@@ -2,6 +2,8 @@
 
 const WALK_OF_REASON = { 6: "loop", 7: "loop", 8: "drop", 9: "missed", 10: "missed", 12: "mixed" };
 const MOST_LINES = 200;
+// A longer table of rules is scrolled.
+const MOST_ROWS = 40;
 // How many other classes and rounds are named, and how long it is looked for another class when the page opens, in milliseconds.
 const MOST_NAMED = 12, SOON = 300;
 
@@ -12,6 +14,13 @@ const make = (name, content, attributes = {}) => {
   return made;
 };
 const element = (name) => document.getElementById(name);
+
+// How often each number stands in a list.
+function countedBy(numbers) {
+  const counts = new Map();
+  for (const number of numbers) counts.set(number, (counts.get(number) || 0) + 1);
+  return counts;
+}
 
 class View {
   constructor(data) {
@@ -25,6 +34,8 @@ class View {
     document.body.classList.toggle("alone", this.update.alone);
     this.showVerdict();
     this.fillClasses();
+    this.touched = new Touched(this.update, this.order, () => this.drawWhich());
+    this.list = new ChangeList(this);
     element("switch").append(...this.update.names.map((name, at) => make("option", name, { value: at })));
     this.fillRounds();
     element("legend").innerHTML = legendText(this.update);
@@ -41,7 +52,7 @@ class View {
     const { reason, accepted } = this.data.verdict, update = this.update;
     const position = reason.number === 1 ? (reason.end === "old" ? 0 : update.last) : reason.number === 13 ? update.last : reason.round || Math.min(1, update.last);
     let number = reason.host ? this.refusedClass() : -1;
-    if (number < 0) number = accepted || reason.round ? this.touchedClass(position, -1) : -1;
+    if (number < 0) number = accepted || reason.round ? this.touched.next(position, -1) : -1;
     if (number < 0) number = this.order.length ? this.order[0] : -1;
     if (!accepted) number = this.wrongClass(position, number);
     return { position, class: number, chosen: 0, pinned: false, event: 0 };
@@ -81,17 +92,6 @@ class View {
     }
   }
 
-  // The next class, behind one in the order of the list, with a step that a round changes; -1 where there is none.
-  touchedClass(position, behind) {
-    const update = this.update, from = this.order.indexOf(behind) + 1, rules = update.changesIn(position).map((change) => change.rule);
-    for (let turn = 0; turn < this.order.length; turn++) {
-      const number = this.order[(from + turn) % this.order.length], it = update.classOf(number);
-      if (!rules.some((rule) => rule.first <= it.address && it.address <= rule.last)) continue;
-      if (walksOf(update, position, it).some((place) => place.outcomes.some((one) => one.when !== "always"))) return number;
-    }
-    return -1;
-  }
-
   listen() {
     const on = (name, what, act) => element(name).addEventListener(what, act);
     on("slider", "input", () => this.go(Number(element("slider").value)));
@@ -101,6 +101,7 @@ class View {
     on("touched", "click", () => this.nextTouched());
     on("switch", "change", () => this.choose({ chosen: Number(element("switch").value), pinned: true }));
     addEventListener("resize", () => this.picture.drawLabels());
+    addEventListener("beforeprint", () => this.list.unfold());
     on("larger", "click", () => this.picture.scale(0.7));
     on("smaller", "click", () => this.picture.scale(1 / 0.7));
     on("whole", "click", () => { this.near = false; this.lookAgain(); });
@@ -148,8 +149,9 @@ class View {
     this.choose({ position: inside, playing: false });
   }
 
-  nextTouched() {
-    const number = this.touchedClass(this.position, this.class);
+  // The next packets with a step that the round changes, or that one of its changes does.
+  nextTouched(change = null) {
+    const number = this.touched.next(this.position, this.class, change);
     if (number >= 0) this.choose({ class: number });
   }
 
@@ -171,7 +173,8 @@ class View {
     const places = it ? walksOf(update, this.position, it) : [];
     const bad = it ? badWalk(update, this.position, it, places, WALK_OF_REASON[this.data.verdict.reason.number]) : null;
     const none = { places: [], end: { what: "drop", from: 0 } };
-    this.shown = { steps: stepsOf(places), bad, oldPath: it ? pathOf(update, update.old, it) : none, newPath: it ? pathOf(update, update.new, it) : none,
+    this.shown = { steps: stepsOf(places), bad, turning: new Set(changingPlaces(places).map((place) => place.at)),
+      mine: it ? changesOfWalks(update, this.position, places, it.address) : new Set(), oldPath: it ? pathOf(update, update.old, it) : none, newPath: it ? pathOf(update, update.new, it) : none,
       evidence: it ? update.numbersIn(this.position, this.class) : null, duties: it ? update.duties(it) : { some: false, chains: [], deliver: false } };
     if (!this.pinned) this.chosen = this.firstToShow(bad);
     element("switch").value = this.chosen;
@@ -179,6 +182,8 @@ class View {
     if (this.search) this.search.first(this.position);
     this.drawElsewhere();
     this.drawChanges();
+    this.touched.count(this.position);
+    this.drawWhich();
     this.markRound();
     if (it) this.drawClass(it);
     this.drawTable();
@@ -192,13 +197,14 @@ class View {
     const changes = this.update.changesIn(this.position), { reason } = this.data.verdict;
     if (this.update.number.has(reason.switch) && (reason.round === this.position || reason.number === 13)) return this.update.number.get(reason.switch);
     if (bad) return bad.steps[0].place.at;
-    return changes.length ? changes[0].rule.at : 0;
+    const [turning] = this.shown.turning;
+    return turning !== undefined ? turning : changes.length ? changes[0].rule.at : 0;
   }
 
   drawPicture(places) {
     const { steps, bad, oldPath, newPath, evidence, duties } = this.shown, changes = this.update.changesIn(this.position);
-    const pending = this.playing ? new Set([...this.pendingNow()].map((at) => changes[at].rule.at)) : null;
-    this.picture.draw({ steps, bad, oldPath: this.update.alone ? { places: [], end: { what: "drop", from: 0 } } : oldPath, newPath, numbers: evidence && evidence.numbers, changing: new Set(changes.map((change) => change.rule.at)), pending,
+    const pending = this.playing ? countedBy([...this.pendingNow()].map((at) => changes[at].rule.at)) : null;
+    this.picture.draw({ steps, bad, oldPath: this.update.alone ? { places: [], end: { what: "drop", from: 0 } } : oldPath, newPath, numbers: evidence && evidence.numbers, changing: countedBy(changes.map((change) => change.rule.at)), turning: this.shown.turning, pending,
       visited: new Set(places.map((place) => place.at)), waypoints: this.waypoints, own: new Set(duties.chains.flat()), chosen: this.chosen,
       tagged: this.update.kind === "two-phase", entry: this.class >= 0 ? this.update.classOf(this.class).host : null,
       drops: new Set(steps.filter(({ one }) => one.what === "drop").map(({ place }) => place.at)), packets: this.playing ? this.player.state.packets.filter((packet) => packet.end === null) : [] });
@@ -213,11 +219,11 @@ class View {
     this.lookedAt = name;
   }
 
-  // The switches around which the picture is enlarged: those of a bad walk, those with packets, or those that change.
+  // The switches around which the picture is enlarged: those of a bad walk, those with packets, those where the chosen packets' steps change, or all that change.
   around() {
     if (this.playing && this.player.state.packet !== null) return [this.player.state.packets[this.player.state.packet].at];
     if (this.shown.bad) return this.shown.bad.steps.slice(-3).map(({ place }) => place.at);
-    return [...new Set(this.update.changesIn(this.position).map((change) => change.rule.at))];
+    return this.shown.turning.size ? [...this.shown.turning] : this.update.changedSwitches(this.position);
   }
 
   drawBad(it, bad) {
@@ -229,19 +235,26 @@ class View {
   }
 
   drawChanges() {
-    const update = this.update, changes = update.changesIn(this.position), box = element("changes"), parts = [];
+    const update = this.update, { position } = this;
     if (update.alone) return;
-    if (this.position === 0) parts.push(make("h2", "Before the update"), make("p", "All switches have their old rules."));
-    else if (!update.isRound(this.position)) parts.push(make("h2", "After the update"), make("p", "All rounds are settled."));
-    else parts.push(make("h2", `Changes of round ${this.position}, in any order`));
-    if (update.isRound(this.position) && !changes.length) parts.push(make("p", "None: this round only waits until the packets that entered before are gone."));
-    const done = (change) => !this.playing ? "" : this.pendingNow().has(change.at) ? "pending: " : "done: ";
-    const lines = changes.slice(0, MOST_LINES).map((change) => make("li", [make("span", done(change), { class: "grey" }), this.switchButton(change.rule.at), " ",
-      make("span", changeText(update, change), { class: "code" }), make("span", ` (priority ${change.rule.priority})`, { class: "grey" })]));
-    if (lines.length) parts.push(make("ul", lines, { class: lines.length > 8 ? "scroll" : "" }));
-    if (changes.length > MOST_LINES) parts.push(make("p", `And ${changes.length - MOST_LINES} more: choose a switch to see its own.`));
-    box.replaceChildren(...parts);
+    const [title, ...parts] = position === 0 ? ["Before the update", make("p", "All switches have their old rules.")]
+      : !update.isRound(position) ? ["After the update", make("p", "All rounds are settled.")]
+        : [`Changes of round ${position}, in any order`, ...this.list.parts(position, this.shown.mine)];
+    const top = this.list.top();
+    element("changes").replaceChildren(make("h2", title), ...parts);
+    this.list.scrollTo(top, this.update.names[this.chosen]);
   }
+
+  // Of a run that is played: which of some changes are made.
+  doneText(changes) {
+    if (!this.playing) return "";
+    const pending = changes.filter((change) => this.pendingNow().has(change.at)).length;
+    if (changes.length === 1) return pending ? "pending: " : "done: ";
+    return `; ${changes.length - pending} done`;
+  }
+
+  // How many classes of packets have a step that the round changes, and which of them the chosen one is.
+  drawWhich() { element("which").textContent = this.update.isRound(this.position) ? this.touched.text(this.class) : ""; }
 
   switchButton(at) {
     const made = make("button", this.update.names[at], { class: "name", title: "shows its rules" });
@@ -255,16 +268,59 @@ class View {
     parts.push(make("p", [make("span", update.alone ? "path " : "old path ", { class: update.alone ? "new" : "old" }), make("span", pathText(update, oldPath), { id: "oldpath" })]));
     if (!update.alone) parts.push(make("p", [make("span", "new path ", { class: "new" }), make("span", pathText(update, newPath), { id: "newpath" })]));
     parts.push(...this.evidenceLines(evidence, duties));
-    const differ = steps.filter(({ one }) => one.when !== "always");
+    const differ = steps.filter(({ one }) => one.when !== "always"), groups = this.alikePlaces([...new Set(differ.map(({ place }) => place))], steps);
     const title = update.isRound(this.position) ? (differ.length ? "Steps that they may take in this round" : "Steps that they take in this round, which doesn't change them") : "Steps that they take";
     parts.push(make("h2", title));
-    if (differ.length && steps.length > 12) {
-      const which = differ.length > 4 ? `${differ.length} of them hang on changes of this round.` : `This round changes: ${differ.map((step) => this.stepText(step, evidence)).join("; ")}.`;
-      parts.push(make("p", `${steps.length} in all. ${which}`));
+    if (groups.length > MOST_TOLD) parts.push(...this.stepsBySwitch(steps, groups, evidence));
+    else {
+      if (differ.length && steps.length > 12) parts.push(make("p", `${steps.length} in all. This round changes: ${differ.map((step) => this.stepText(step, evidence)).join("; ")}.`));
+      parts.push(make("div", this.stepLines(steps, evidence), { id: "steps", class: steps.length > 10 ? "scroll" : "" }));
     }
-    const lines = new Map(steps.map((step) => this.stepLine(step, evidence)).map((line) => [line.textContent + line.dataset.to, line]));
-    parts.push(make("ul", [...lines.values()], { id: "steps", class: steps.length > 10 ? "scroll" : "" }));
     element("packetclass").replaceChildren(...parts);
+  }
+
+  // Some steps, each once.
+  stepLines(steps, evidence) {
+    const lines = new Map(steps.map((step) => this.stepLine(step, evidence)).map((line) => [line.textContent + line.dataset.to, line]));
+    return make("ul", [...lines.values()]);
+  }
+
+  // The places at which a round changes the step, in groups: those of one switch where the same steps may be taken.
+  alikePlaces(places, steps) {
+    const groups = new Map();
+    for (const place of places) {
+      const name = [place.at, ...steps.filter((step) => step.place === place).map((step) => `${outcomeName(step.one)} ${step.one.when}`)].join("|");
+      groups.set(name, [...(groups.get(name) || []), place]);
+    }
+    return [...groups.values()];
+  }
+
+  // The steps where many of them change: a table of the switches where they do, and the others behind it.
+  stepsBySwitch(steps, groups, evidence) {
+    const places = groups.flat(), others = steps.filter(({ place }) => !places.includes(place)), isMixed = steps.some(({ one }) => one.when === "between");
+    const rows = groups.map((group) => {
+      const own = steps.filter((step) => step.place === group[0]), isIn = (step, when) => step.one.when === when || (when !== "between" && step.one.when === "always");
+      const cell = (when) => make("td", own.filter((step) => isIn(step, when)).map((step) => this.stepCell(step, evidence, when)));
+      return make("tr", [make("td", [this.switchButton(group[0].at), this.placeText(group, groups, evidence)]), cell("before"), ...isMixed ? [cell("between")] : [], cell("after")]);
+    });
+    const head = make("tr", ["at", "before its change", ...isMixed ? ["with a part of them"] : [], "after it"].map((text) => make("th", text)));
+    const rest = others.length ? [make("details", [make("summary", "and steps that this round doesn't change"), this.stepLines(others, evidence)])] : [];
+    if (rest.length && others.length <= MOST_SAME) rest[0].open = true;
+    const visited = new Set(steps.map(({ place }) => place.at)).size, changed = new Set(places.map((place) => place.at)).size;
+    return [make("p", `They may come to ${countText(visited, "switch")}. At ${changed} of these the round changes their step:`),
+      make("div", [make("table", [head, ...rows]), ...rest], { id: "steps", class: "scroll high" })];
+  }
+
+  // What is said of a row behind the name of its switch: its number, and by which ports and with which tag packets come, where that tells it from others.
+  placeText(group, groups, evidence) {
+    const isAlone = !groups.some((it) => it !== group && it[0].at === group[0].at), number = evidence ? ` (${evidence.numbers[group[0].at]})` : "";
+    const ports = [...new Set(group.map((place) => place.port))].join(" "), tags = [...new Set(group.map((place) => vlanText(place.vlan)))].join(", ");
+    return `${number}${isAlone ? "" : `, from port ${ports}`}${this.update.kind === "two-phase" ? `, ${tags}` : ""}`;
+  }
+
+  stepCell(step, evidence, when) {
+    const { place, one, to } = step, parts = [make("span", this.goalText(step, evidence), { class: when === "before" ? "old" : when === "after" ? "new" : "" }), ...this.stepFaults(step, evidence)];
+    return make("div", parts, { ...this.stepData(place, one, to) });
   }
 
   // What the plan's evidence says of the class in this round.
@@ -281,23 +337,40 @@ class View {
       `at ${set.map(name).join(" ") || "no switch"}`], { class: "before" }));
   }
 
-  stepText({ place, one, to }, evidence) {
-    const name = (at) => this.update.names[at] + (evidence ? ` (${evidence.numbers[at]})` : "");
-    const when = one.when === "always" ? "" : ` ${whenText(one.when)}`;
+  numberedName(at, evidence) { return this.update.names[at] + (evidence ? ` (${evidence.numbers[at]})` : ""); }
+
+  // Where a step leads.
+  goalText({ place, one, to }, evidence) {
     const tag = this.update.kind !== "two-phase" ? "" : one.what === "go" ? ` [${tagText(this.update, this.position, one.vlan)}]` : `, ${vlanText(one.vlan)}`;
-    if (one.what === "go") return `${name(place.at)} → ${name(to.at)}${tag}${when}`;
-    if (one.what === "leave") return `${name(place.at)} leaves at port ${one.port}${tag}${when}`;
-    return `${name(place.at)} drops${place.from === null ? "" : ` what comes in at port ${place.port}`}${when}`;
+    if (one.what === "go") return `→ ${this.numberedName(to.at, evidence)}${tag}`;
+    if (one.what === "leave") return `leaves at port ${one.port}${tag}`;
+    return `drops${place.from === null ? "" : ` what comes in at port ${place.port}`}`;
+  }
+
+  stepText(step, evidence) {
+    const when = step.one.when === "always" ? "" : ` ${whenText(step.one.when)}`;
+    return `${this.numberedName(step.place.at, evidence)} ${this.goalText(step, evidence)}${when}`;
+  }
+
+  // A step as it is written for machines.
+  stepData(place, one, to) {
+    const attributes = { "data-from": this.update.names[place.at], "data-what": one.what };
+    if (to) attributes["data-to"] = `${this.update.names[to.at]}:${to.port}`;
+    if (one.what === "leave") attributes["data-to"] = `${this.update.names[one.at]}:${one.port}`;
+    return attributes;
+  }
+
+  // What is wrong with a step.
+  stepFaults({ place, one, to }, evidence) {
+    const faults = [];
+    if (to && evidence && evidence.numbers[to.at] >= evidence.numbers[place.at]) faults.push(make("span", " not lower", { class: "wrong" }));
+    if (one.what === "drop" && this.shown.duties.deliver) faults.push(make("span", " must arrive", { class: "wrong" }));
+    return faults;
   }
 
   stepLine(step, evidence) {
-    const { place, one, to } = step, attributes = { "data-from": this.update.names[place.at], "data-what": one.what };
-    if (to) attributes["data-to"] = `${this.update.names[to.at]}:${to.port}`;
-    if (one.what === "leave") attributes["data-to"] = `${this.update.names[one.at]}:${one.port}`;
-    const kind = one.when === "before" ? "old" : one.when === "after" ? "new" : "", parts = [make("span", this.stepText(step, evidence), { class: kind })];
-    if (to && evidence && evidence.numbers[to.at] >= evidence.numbers[place.at]) parts.push(make("span", " not lower", { class: "wrong" }));
-    if (one.what === "drop" && this.shown.duties.deliver) parts.push(make("span", " must arrive", { class: "wrong" }));
-    return make("li", parts, attributes);
+    const { place, one, to } = step, kind = one.when === "before" ? "old" : one.when === "after" ? "new" : "";
+    return make("li", [make("span", this.stepText(step, evidence), { class: kind }), ...this.stepFaults(step, evidence)], this.stepData(place, one, to));
   }
 
   // The rules of the chosen switch, one beside the other.
@@ -316,7 +389,7 @@ class View {
     });
     const head = make("tr", ["priority", "packets", left, right].filter((text) => text).map((text) => make("th", text)));
     box.replaceChildren(make("h2", `Rules of ${update.names[at]} (room for ${update.capacities[at]})`),
-      lines.length ? make("table", [head, ...lines]) : make("p", "It has none."), make("p", this.portsOf(at), { id: "portlist" }));
+      lines.length ? make("div", make("table", [head, ...lines]), { class: lines.length > MOST_ROWS ? "scroll high" : "" }) : make("p", "It has none."), make("p", this.portsOf(at), { id: "portlist" }));
   }
 
   // The ports of a switch, each with what is there: a neighbour is chosen by a click.
@@ -337,7 +410,7 @@ class View {
       made.addEventListener("click", () => this.go(at + 1));
       return made;
     });
-    element("rounds").append(make("h2", `All ${update.rounds.length} rounds`), make("ol", this.roundLines, { class: this.roundLines.length > 8 ? "scroll" : "" }));
+    element("rounds").append(make("h2", update.rounds.length === 1 ? "The only round" : `All ${update.rounds.length} rounds`), make("ol", this.roundLines, { class: this.roundLines.length > 8 ? "scroll" : "" }));
   }
 
   markRound() {

@@ -64,6 +64,8 @@ class Update {
   isRound(position) { return position >= 1 && position < this.last; }
   changesIn(position) { return this.isRound(position) ? this.rounds[position - 1] : []; }
   changesAt(position, at) { return (this.isRound(position) && this.changesBySwitch[position - 1].get(at)) || []; }
+  // The switches that change in a position, in the order of the topology.
+  changedSwitches(position) { return this.isRound(position) ? [...this.changesBySwitch[position - 1].keys()].sort((a, b) => a - b) : []; }
   tableBefore(position, at) { return this.tableAfter(Math.max(position - 1, 0), at); }
   tableBehind(position, at) { return this.tableAfter(Math.min(position, this.rounds.length), at); }
 

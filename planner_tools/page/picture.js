@@ -2,7 +2,7 @@
 
 // The colours are those of page.css, which has a light and a dark set.
 const COLOURS = Object.fromEntries(["old", "new", "ink", "bad", "mark", "paper", "node", "link", "dim", "grey", "rider", "sheer", "onmark"].map((name) => [name, `var(--${name})`]));
-Object.assign(COLOURS, { paleOld: "var(--pale-old)", paleNew: "var(--pale-new)" });
+Object.assign(COLOURS, { paleOld: "var(--pale-old)", paleNew: "var(--pale-new)", paleMark: "var(--pale-mark)" });
 // How high names beside the switches are on the screen, and how high those in the boxes must be to be read, in pixels.
 const LABEL = 11.5, READABLE = 8.5;
 // The radius of the dot for a switch whose box is too small to be seen, in pixels.
@@ -154,13 +154,13 @@ class Picture {
 
   // Draws what is shown: the paths, the steps, the bad walk, the switches and the packets.
   draw(shown) {
+    Object.assign(this, { changing: shown.changing, turning: shown.turning });
     this.fill("bands", this.band(shown.oldPath, COLOURS.paleOld, -6, "old-path") + this.band(shown.newPath, COLOURS.paleNew, 6, "new-path"));
     this.fill("steps", this.entry(shown) + shown.steps.map((step) => this.step(step, shown)).join(""));
     this.fill("walk", shown.bad ? this.bad(shown.bad) : "");
     this.update.names.forEach((name, at) => this.fill(`node${at}`, this.node(name, at, shown)));
     this.fill("riders", this.riders(shown.packets || []));
-    this.changing = shown.changing;
-    this.first = [shown.chosen, ...shown.changing, ...(shown.bad ? shown.bad.steps.map(({ place }) => place.at) : []), ...shown.newPath.places.map((place) => place.at),
+    this.first = [shown.chosen, ...shown.turning, ...shown.changing.keys(), ...(shown.bad ? shown.bad.steps.map(({ place }) => place.at) : []), ...shown.newPath.places.map((place) => place.at),
       ...shown.waypoints];
     this.drawLabels();
   }
@@ -265,19 +265,29 @@ class Picture {
     }).join("");
   }
 
+  // A switch has a strong colour where a change there is one of the chosen packets' steps, and a pale one where it changes for others alone.
+  colourOf(at) { return this.turning.has(at) ? COLOURS.mark : this.changing.has(at) ? COLOURS.paleMark : COLOURS.node; }
+
+  // How many changes there are at a switch; of a run that is played, how many of them are made.
+  changeWords(at, { changing, pending }) {
+    const count = changing.get(at), left = pending && pending.get(at) || 0;
+    if (!pending) return count > 1 && count < 100 ? `${count} changes` : "changes";
+    return left === count ? "pending" : left ? `${count - left} of ${count}` : "changed";
+  }
+
   emptyNodes() { return this.update.names.map((name) => `<g class="switch" data-switch="${name}"></g>`).join(""); }
 
   node(name, at, shown) {
-    const [x, y] = this.places[at], unit = this.unit, half = this.half(Object.assign([x, y], { at })), changing = shown.changing.has(at);
+    const [x, y] = this.places[at], unit = this.unit, half = this.half(Object.assign([x, y], { at })), changing = shown.changing.has(at), ink = shown.turning.has(at) ? COLOURS.onmark : COLOURS.ink;
     const box = (more, style) => `<rect x="${(x - half - more * unit).toFixed(1)}" y="${(y - (15 + more) * unit).toFixed(1)}" width="${(2 * half + 2 * more * unit).toFixed(1)}"`
       + ` height="${this.width(30 + 2 * more)}" rx="${this.width(6)}" ${style}/>`;
     const marks = [];
     if (shown.waypoints.has(at)) marks.push(box(4, `class="waypoint" fill="${COLOURS.paper}" stroke="${COLOURS.ink}" stroke-width="${this.width(shown.own.has(at) ? 2.2 : 1)}"`));
-    marks.push(box(0, `fill="${changing ? COLOURS.mark : COLOURS.node}" stroke="${COLOURS.ink}" stroke-width="${this.width(at === shown.chosen ? 3.5 : 1.5)}"`
-      + (changing && shown.pending && shown.pending.has(at) ? ` stroke-dasharray="${this.width(5)} ${this.width(3)}"` : "")));
+    marks.push(box(0, `fill="${this.colourOf(at)}" stroke="${COLOURS.ink}" stroke-width="${this.width(at === shown.chosen ? 3.5 : 1.5)}"`
+      + (shown.pending && shown.pending.has(at) ? ` stroke-dasharray="${this.width(5)} ${this.width(3)}"` : "")));
     const size = Math.min(15, 1.75 * half / unit / name.length);
-    marks.push(this.text(x, y + (changing ? 1.5 : 5) * unit, name, size, `class="inside" fill="${changing ? COLOURS.onmark : COLOURS.ink}" font-weight="bold"`));
-    if (changing) marks.push(this.text(x, y + 11.5 * unit, !shown.pending ? "changes" : shown.pending.has(at) ? "pending" : "changed", 9, `class="words inside" fill="${COLOURS.onmark}" font-style="italic"`));
+    marks.push(this.text(x, y + (changing ? 1.5 : 5) * unit, name, size, `class="inside" fill="${ink}" font-weight="bold"`));
+    if (changing) marks.push(this.text(x, y + 11.5 * unit, this.changeWords(at, shown), 8.5, `class="words inside" fill="${ink}" font-style="italic"`));
     const below = [...shown.drops.has(at) ? ["&#10005; drops"] : [], ...shown.waypoints.has(at) ? ["waypoint"] : []];
     const halo = `fill="${COLOURS.ink}" stroke="${COLOURS.paper}" stroke-width="${this.width(3)}" paint-order="stroke"`;
     if (below.length) marks.push(this.text(x, y + (shown.waypoints.has(at) ? 30 : 26) * unit, below.join(", "), 10.5, `class="words" font-style="italic" ${halo}`));
@@ -342,8 +352,9 @@ function legendText(update) {
     [line(`stroke="${COLOURS.old}" stroke-width="3" stroke-dasharray="7 4"`), "step before a change of this round"],
     [line(`stroke="${COLOURS.new}" stroke-width="3"`), "step after it"],
     [line(`stroke="${COLOURS.paleOld}" stroke-width="7"`), "old path"], [line(`stroke="${COLOURS.paleNew}" stroke-width="7"`), "new path"],
-    [`<svg width="16" height="12"><rect x="1" y="1" width="14" height="10" fill="${COLOURS.mark}" stroke="${COLOURS.ink}"/></svg>`, "switch that changes"]];
-  if (update.kind === "ordered") parts.push([`<svg width="16" height="16"><circle cx="8" cy="8" r="7" fill="${COLOURS.ink}"/></svg>`, "number in the plan: each step must go to a lower one"]);
+    [`<svg width="16" height="12"><rect x="1" y="1" width="14" height="10" fill="${COLOURS.mark}" stroke="${COLOURS.ink}"/></svg>`, "switch that changes for these packets"],
+    [`<svg width="16" height="12"><rect x="1" y="1" width="14" height="10" fill="${COLOURS.paleMark}" stroke="${COLOURS.ink}"/></svg>`, "for others alone"]];
+  if (update.kind === "ordered") parts.push([`<svg width="16" height="16"><circle cx="8" cy="8" r="7" fill="${COLOURS.ink}"/></svg>`, "number in the plan: steps go to lower ones"]);
   parts.push([`<svg width="12" height="12"><circle cx="6" cy="6" r="5" fill="${COLOURS.paper}" stroke="${COLOURS.ink}"/></svg>`, "host port"]);
   return parts.map(([mark, words]) => `<span>${mark} ${words}</span>`).join("");
 }

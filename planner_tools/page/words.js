@@ -1,5 +1,8 @@
 // Texts: addresses, rules, changes, classes, paths.
 
+// So many switches of a round are named in the list of all rounds.
+const MOST_IN_ROUND = 4;
+
 function addressText(it) { return [24, 16, 8, 0].map((shift) => Math.floor(it / 2 ** shift) % 256).join("."); }
 
 function vlanText(vlan) { return vlan === ANY_VLAN ? "any VLAN" : vlan === 0 ? "untagged" : `VLAN ${vlan}`; }
@@ -25,13 +28,22 @@ function actionText(update, rule) {
 
 function changeText(update, change) { return `${change.what} ${matchText(change.rule)} -> ${actionText(update, change.rule)}`; }
 
-// The changes of a round in few words: what is done where.
+// The changes of a round in few words: one change, or how many and where, and of which kinds.
 function roundText(update, changes) {
   if (!changes.length) return "waits";
-  const where = new Map();
-  for (const { what, rule } of changes) where.set(what, [...(where.get(what) || []), update.names[rule.at]]);
-  return [...where].map(([what, names]) => `${what} ${names.length > 1 ? `${names.length} entries ` : ""}at ${shortened([...new Set(names)], 6)}`).join("; ");
+  const names = [...new Set(changes.map(({ rule }) => rule.at))].sort((a, b) => a - b).map((at) => update.names[at]);
+  if (changes.length === 1) return `${changes[0].what} at ${names[0]}`;
+  return `${countText(changes.length, "change")} at ${names.length > MOST_IN_ROUND ? countText(names.length, "switch") : names.join(" ")}: ${kindsText(changes)}`;
 }
+
+// How many changes of each kind there are: "insert 3, replace 9", or the kind alone where it is one.
+function kindsText(changes) {
+  const kinds = new Map();
+  for (const { what } of changes) kinds.set(what, (kinds.get(what) || 0) + 1);
+  return kinds.size === 1 ? changes[0].what : [...kinds].map(([what, count]) => `${what} ${count}`).join(", ");
+}
+
+function countText(count, one) { return `${count} ${one}${count === 1 ? "" : /(ch|s)$/.test(one) ? "es" : "s"}`; }
 
 // The addresses of an atom: as a prefix where they are one.
 function atomText({ first, last }) {

@@ -136,3 +136,45 @@ def path(toward, start):
 
 def rules_of(toward, ports, count, priority, packets):
     return [{"switch": f"n{at}", "priority": priority, **packets, "out": 1 if toward[at] is None else ports[at, toward[at]]} for at in range(count)]
+
+
+def leaves(count):
+    """Returns the update of a network of leaves and two spines: all traffic between leaves goes by the first spine before, and by the second one after."""
+    names = [f"l{i}" for i in range(count)]
+    links = [[f"{name}:{2 + at}", f"{spine}:{i + 1}"] for i, name in enumerate(names) for at, spine in enumerate(("p1", "p2"))]
+
+    def rules(up):
+        own = [{"switch": name, "priority": 100, "dst": f"10.1.{j}.0/24", "out": 1 if i == j else up} for i, name in enumerate(names) for j in range(count)]
+        return {"rules": own + [{"switch": spine, "priority": 100, "dst": f"10.1.{j}.0/24", "out": j + 1} for spine in ("p1", "p2") for j in range(count)]}
+
+    topology = {"switches": [{"name": name, "capacity": 100} for name in ("p1", "p2", *names)], "links": links, "hosts": [f"{name}:1" for name in names],
+                "vlans": ["untagged"], "tags": []}
+    demands = [{"from": f"{names[i]}:1", "dst": f"10.1.{j}.0/24", "deliver": True} for i in range(count) for j in range(count) if i != j]
+    return Update(topology, rules(2), rules(3), {"demands": demands})
+
+
+def ladder(count):
+    """Returns the update of two rows of switches: before packets stay in their row, and after each step leads to the other row. Each step leads on, so all
+    may change at once, and packets may come to each switch of both rows."""
+    names = [["in"]] + [[f"a{i}", f"b{i}"] for i in range(1, count + 1)] + [["out"]]
+    links = [[f"{one}:{2 + to}", f"{other}:{10 + at}"] for before, behind in zip(names, names[1:]) for at, one in enumerate(before) for to, other in enumerate(behind)]
+
+    def rules(turn):
+        return {"rules": [{"switch": one, "priority": 100, "dst": "10.0.0.0/24", "out": 2 + ((at + turn) % 2 if len(behind) > 1 else 0)}
+                          for before, behind in zip(names, names[1:]) for at, one in enumerate(before)] + [{"switch": "out", "priority": 100, "dst": "10.0.0.0/24", "out": 1}]}
+
+    topology = {"switches": [{"name": name, "capacity": 10} for row in names for name in row], "links": links, "hosts": ["in:1", "out:1"], "vlans": ["untagged"], "tags": []}
+    return Update(topology, rules(0), rules(1), {"demands": [{"from": "in:1", "dst": "10.0.0.0/24", "deliver": True}]})
+
+
+def at_once(update):
+    """Returns a plan without evidence: all rules that differ are changed in one round, in the order of the new configuration."""
+    def key(rule):
+        return rule["switch"], rule["priority"], rule["dst"], rule.get("in_port"), rule.get("vlan")
+
+    old = {key(rule): rule for rule in update.old["rules"]}
+    kept = {key(rule) for rule in update.new["rules"]}
+    changes = [("replace" if key(rule) in old else "insert", rule) for rule in update.new["rules"] if old.get(key(rule)) != rule]
+    changes += [("delete", rule) for rule in update.old["rules"] if key(rule) not in kept]
+    return {"format": 2, "kind": "ordered", "numberings": [], "befores": [], "uses": [], "picks": [], "rules": [rule for _, rule in changes],
+            "rounds": [[[what, number] for number, (what, _) in enumerate(changes)]]}

@@ -31,6 +31,18 @@ def change_words(what, rule, topology):
 
 
 class Examples(PagesInBrowser):
+    def check_changes(self, changes, topology):
+        """Up to eight changes stand one by one, and more of them by switches."""
+        if len(changes) > 8:
+            self.tab.value("view.list.unfold()")
+            names = [one["name"] for one in topology["switches"]]
+            changes = sorted(changes, key=lambda change: names.index(change[1]["switch"]))
+            self.assertEqual(len({rule["switch"] for _, rule in changes}), len(self.text("#changes details")))
+            shown = self.tab.value("[...document.querySelectorAll('#changes li')].map((it) => `${it.closest('details').dataset.switch} ${it.textContent}`)")
+        else:
+            shown = self.text("#changes li")
+        self.assertEqual([change_words(what, rule, topology) for what, rule in changes], shown)
+
     def check_rounds(self, files):
         """In each round the page shows its changes, finds no walk that the policy forbids for any class, and shows numbers that fall along each step."""
         self.open(*files)
@@ -39,12 +51,12 @@ class Examples(PagesInBrowser):
         for number, changes in enumerate(plan["rounds"], 1):
             self.go(number)
             self.assertEqual(f"round {number} of {len(plan['rounds'])}", self.seen("#position"))
-            self.assertEqual([change_words(what, plan["rules"][rule], topology) for what, rule in changes], self.text("#changes li"))
+            self.check_changes([(what, plan["rules"][rule]) for what, rule in changes], topology)
             changing = {plan["rules"][rule]["switch"] for _, rule in changes}
             marked = self.tab.value("[...document.querySelectorAll('#nodes .switch')].filter((it) => it.textContent.includes('changes')).map((it) => it.dataset.switch)")
             self.assertEqual(changing, set(marked))
             wrong = self.tab.value("""view.order.filter((number) => { view.choose({ class: number });
-                return view.shown.bad || document.querySelector('#steps .wrong') || !document.querySelector('#steps li'); })""")
+                return view.shown.bad || document.querySelector('#steps .wrong') || !document.querySelector('#steps [data-what]'); })""")
             self.assertEqual([], wrong)
         self.go(len(plan["rounds"]) + 1)
         self.assertEqual("after the update", self.seen("#position"))
@@ -71,7 +83,7 @@ class Examples(PagesInBrowser):
         topology, rules = networks.read(files[0]), networks.read(plan)["rules"]
         for number in range(1, 125, 11):
             self.go(number)
-            self.assertEqual([change_words(what, rules[rule], topology) for what, rule in rounds[number - 1]], self.text("#changes li"))
+            self.check_changes([(what, rules[rule]) for what, rule in rounds[number - 1]], topology)
             self.tab.value("document.getElementById('touched').click()")
             self.assertEqual(1, len(self.text("#steps .old")))
             self.assertEqual(1, len(self.text("#steps .new")))

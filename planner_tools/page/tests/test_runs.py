@@ -20,7 +20,7 @@ WATCH = """(() => {
     const shown = (position, number) => {
         if (!known.has(`${position} ${number}`)) {
             view.choose({ position, class: number });
-            known.set(`${position} ${number}`, [...document.querySelectorAll('#steps li')].map((it) => [it.dataset.what, it.dataset.from, it.dataset.to || ''].join(' ')));
+            known.set(`${position} ${number}`, [...document.querySelectorAll('#steps [data-what]')].map((it) => [it.dataset.what, it.dataset.from, it.dataset.to || ''].join(' ')));
         }
         return known.get(`${position} ${number}`);
     };
