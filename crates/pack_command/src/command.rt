@@ -27,8 +27,8 @@ fn say_pack(alloc: Global, files: &UpdateFiles) -> Result<Reply, Exit>
 /// of the one-by-one search, or that of two phases where it has fewer rounds or is the only one; Refused and the first break of
 /// an end, too few tags or too small a table with the rounds that were tried, or a bad file's line.
 ///
-/// It packs once, makes evidence for the packed rounds, and makes the plan of two phases. The one-by-one search runs only where
-/// packing ends stuck.
+/// It packs once, makes evidence for the packed rounds, and makes the plan of two phases where there is no ordered one of at most
+/// six rounds. The one-by-one search runs only where packing ends stuck.
 ///
 /// # Errors
 ///

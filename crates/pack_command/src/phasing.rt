@@ -28,6 +28,9 @@ use two_phase::{TwoFault, two_phase_by_depth};
 use update_model::Rounds;
 use upgrade_command::plan_reply;
 
+/// A plan of two phases has no fewer rounds.
+const FEWEST_PHASED: usize = 6;
+
 /// The plan of two phases with the rounds that were tried, or why there is none.
 fn phase_plan(alloc: Global, files: &UpdateFiles, tried: &Rounds) -> Result<Plan, TwoFault>
     requires old { IsUserConfig files.now.net (rules_of_all files.now.old) }
@@ -116,6 +119,9 @@ pub(crate) fn ordered_reply(
         (update_classes (meaning_of files.now)) }
     ensures { IfOk result (λ r. SaysPackPlan (meaning_of files.now) (answer_of r)) }
 {
+    if plan.rounds.count() <= FEWEST_PHASED {
+        return chosen_reply(alloc, files, plan);
+    }
     let none = Rounds::make(alloc)?;
     let phased = phase_plan(alloc, files, &none);
     drop(none);
