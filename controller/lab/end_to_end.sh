@@ -3,9 +3,11 @@
 #
 #   controller/lab/end_to_end.sh FOLDER [WAIT [MILLISECONDS]]
 #   controller/lab/end_to_end.sh ring N [WAIT [MILLISECONDS]]
+#   controller/lab/end_to_end.sh ring-without-tags N [WAIT [MILLISECONDS]]
 #
-# FOLDER has topology.json, old.json, new.json and policy.json, as examples/square has; `ring N` makes the files of a ring of N switches. WAIT is that
-# of `planner apply` (1 s). With MILLISECONDS each link takes so long. The changes are made at once SHOTS times (5), each time within SPREAD seconds (0.2) in
+# FOLDER has topology.json, old.json, new.json and policy.json, as examples/square has; `ring N` makes the files of a ring of N switches, `ring-without-tags N`
+# those of one in which the planner may use no tags. The plan is that of `pack`, or of `plan` where the program has no `pack`; BY names another command, and
+# PLAN the file of a plan that is there already. WAIT is that of `planner apply` (1 s). With MILLISECONDS each link takes so long. The changes are made at once SHOTS times (5), each time within SPREAD seconds (0.2) in
 # another order. PLANNER names another program than the built one; PAUSE is the time between two packets (0.002 s), FIRST_PORT
 # the port of the first bridge (17100). Everything is on this machine: bridges of a userspace datapath that listen on the
 # loopback, with ports that no interface of the machine has. What is started here is ended here.
@@ -26,9 +28,9 @@ trap end EXIT
 trap 'exit 1' INT TERM
 fail() { echo "FAILED: $*"; exit 1; }
 
-if [ "${1:-}" = ring ]; then
-    name="ring of $2"; files=$dir
-    python3 -B "$here/ring.py" "$2" "$dir" || fail "the files of the ring"
+if [ "${1:-}" = ring ] || [ "${1:-}" = ring-without-tags ]; then
+    name="$1 $2"; files=$dir
+    python3 -B "$here/ring.py" "$2" "$dir" "${1#ring}" || fail "the files of the ring"
     shift 2
 else
     name=$(basename "${1:?FOLDER, or ring N}"); files=$1
@@ -47,6 +49,17 @@ drain() { # ends the traffic when the new tables have seen some of it, and waits
     kill "$traffic"; wait "$traffic"; traffic=
     while now=$(cat "$dir"/*.rx | wc -c); [ "$now" != "$before" ]; do before=$now; sleep 2; done
 }
+make_plan() { # writes the plan, by the first of the commands that the program has
+    local command status
+    if [ -n "${PLAN:-}" ]; then cp "$PLAN" "$dir/made.json"; return; fi
+    for command in ${BY:-pack plan}; do
+        "$planner" "$command" "$@" >"$dir/made.json" 2>"$dir/said"
+        status=$?
+        [ "$status" = 2 ] || break
+    done
+    cat "$dir/said"
+    return "$status"
+}
 judge() { python3 -B "$here/traffic.py" judge "$dir" "${files_of_update[@]}" "$1" "$2"; } # what became of the packets of the file $1; the sums go to the file $2
 sums() { awk '{ sent += $1; broken += $2 } END { print sent " packets sent, " broken " broken" }' "$1"; }
 
@@ -56,7 +69,7 @@ echo "== $name: the tables are read, and a plan is made from them"
 "$planner" collect "$files/topology.json" --switches "$dir/switches" >"$dir/replies" || fail collect
 "$planner" import "$files/topology.json" "$dir/replies" >"$dir/read.json" || fail import
 by_plan=("$files/topology.json" "$dir/read.json" "$files/new.json" "$files/policy.json" "$dir/made.json")
-"$planner" plan "${by_plan[@]:0:4}" >"$dir/made.json" || fail plan
+make_plan "${by_plan[@]:0:4}" || fail "no plan"
 "$planner" check "${by_plan[@]}"
 echo "== $name: by the plan"
 pour "$dir/planned"

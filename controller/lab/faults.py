@@ -1,9 +1,10 @@
 #!/usr/bin/env python3
 """Updates of Open vSwitch bridges under traffic, among faults: what is told, what was broken, and whether the next step that is told works.
 
-    controller/lab/faults.py FOLDER [--only FAULT] [--wait SECONDS] [--seed N]
+    controller/lab/faults.py FOLDER [--only FAULT] [--wait SECONDS] [--seed N] [--by COMMAND] [--plan FILE]
 
-FOLDER has topology.json, old.json, new.json and policy.json, as examples/square has. Each fault has bridges of its own, made by bridges.sh in a userspace
+FOLDER has topology.json, old.json, new.json and policy.json, as examples/square has. The plan is that of `pack`, or of `plan` where the program has no
+`pack`; --by names another command, and --plan a plan that is there already. Each fault has bridges of its own, made by bridges.sh in a userspace
 datapath without any interface of the machine; what is started here is ended here. Packets enter at every host port all the time, and the records of the
 ports show what became of each. A packet is broken BY THE FAULT where it was lost at the switch at which the fault is, and BESIDE IT in any other way:
 that is what `planner apply` answers for. PLANNER names another program than the built one, FIRST_PORT the port of the first bridge (17100).
@@ -50,7 +51,7 @@ LONGEST = 300
 class Lab:
     """The bridges of a network with their old tables, under traffic, and one update of them."""
 
-    def __init__(self, folder, stack, wait, chance):
+    def __init__(self, folder, stack, wait, chance, make):
         self.dir = pathlib.Path(stack.enter_context(tempfile.TemporaryDirectory(prefix="controller-lab-")))
         self.folder, self.wait, self.chance = folder, wait, chance
         self.topology = json.loads((folder / "topology.json").read_text())
@@ -60,7 +61,7 @@ class Lab:
         traffic.load(self.dir, self.topology, json.loads((folder / "old.json").read_text()))
         self.files = [str(folder / f"{word}.json") for word in ("topology", "old", "new", "policy")]
         plan = self.dir / "plan.json"
-        plan.write_text(subprocess.run([PROGRAM, "plan", *self.files], capture_output=True, text=True, check=True).stdout)
+        plan.write_text(make(self.files))
         self.rounds = len(json.loads(plan.read_text())["rounds"])
         self.files.append(str(plan))
         lines = [line.split() for line in (self.dir / "switches").read_text().splitlines()]
@@ -141,6 +142,19 @@ class Lab:
             elif what:
                 beside.append(f"{', '.join(what)}: {' '.join(way)}")
         return len(packets), by_fault, beside
+
+
+def made_by(commands):
+    """Returns what makes a plan of an update: the first of these commands that the program has."""
+    def make(files):
+        for command in commands:
+            done = subprocess.run([PROGRAM, command, *files], capture_output=True, text=True, check=False)
+            if done.returncode != 2:
+                break
+        if done.returncode != 0:
+            sys.exit(f"no plan: {done.stdout}{done.stderr}")
+        return done.stdout
+    return make
 
 
 # ---- the faults: each returns what was told first, what was done next, and the end of that
@@ -255,14 +269,17 @@ def main(words):
     parser.add_argument("--only", metavar="FAULT", choices=FAULTS)
     parser.add_argument("--wait", metavar="SECONDS", default="0.5")
     parser.add_argument("--seed", metavar="N", type=int, default=1)
+    parser.add_argument("--by", metavar="COMMAND")
+    parser.add_argument("--plan", metavar="FILE", type=pathlib.Path)
     asked = parser.parse_args(words)
+    make = made_by([asked.by] if asked.by else ["pack", "plan"]) if asked.plan is None else lambda _: asked.plan.read_text()
     is_good = True
     print("| Fault | What is told | Next step | Packets sent | Broken by the fault | Broken beside it |\n|---|---|---|---|---|---|", flush=True)
     for name, fault in FAULTS.items():
         if asked.only not in (None, name):
             continue
         with contextlib.ExitStack() as stack:
-            lab = Lab(asked.folder, stack, asked.wait, random.Random(asked.seed))
+            lab = Lab(asked.folder, stack, asked.wait, random.Random(asked.seed), make)
             told, done, status, end = fault(lab)
             lab.end_traffic()
             sent, by_fault, beside = lab.judge()

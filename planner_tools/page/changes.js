@@ -21,13 +21,13 @@ function changesOfWalks(update, position, places, address) {
 class ChangeList {
   constructor(view) { Object.assign(this, { view, update: view.update, position: null, opened: new Map() }); }
 
-  // The list for a round; `mine` has the numbers of those that change a step of the chosen packets.
-  parts(position, mine) {
-    const { update } = this, changes = update.changesIn(position);
+  // The list for a round; `touching` has the numbers of the changes of a step of the chosen packets. They are marked, unless all are such.
+  parts(position, touching) {
+    const { update } = this, changes = update.changesIn(position), mine = touching.size < changes.length ? touching : new Set();
     if (this.position !== position) Object.assign(this, { position, opened: new Map() });
     if (!changes.length) return [make("p", "None: this round only waits until the packets that entered before are gone.")];
     if (changes.length <= MOST_SINGLE) return [make("ul", changes.map((change) => this.line(change, mine, true)))];
-    const groups = update.changedSwitches(position), some = mine.size ? ` ${mine.size} of them ${mine.size === 1 ? "changes" : "change"} steps of the chosen packets.` : "";
+    const groups = update.changedSwitches(position), some = touching.size ? ` ${touching.size} of them ${touching.size === 1 ? "changes" : "change"} steps of the chosen packets.` : "";
     return [make("p", `${countText(changes.length, "change")} at ${countText(groups.length, "switch")}: ${kindsText(changes)}.${some}`, { id: "howmany" }),
       make("div", groups.map((at) => this.group(at, update.changesAt(position, at), mine, changes.length <= MOST_OPEN)), { id: "groups", class: "scroll high" })];
   }
