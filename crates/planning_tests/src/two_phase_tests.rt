@@ -1,7 +1,11 @@
 //! The needs and the plan between configurations without rules, why there is no plan, and the rounds of the plan by depth.
+ghost use Rattle.flow_rules.specs.Tables.{rules_of_all};
+ghost use Rattle.path_walk.specs.UserConfigs.{IsUserConfig};
+
 use crate::empty_tables::no_rules;
 use certificates::{Evidence, Plan, TwoPhaseEvidence};
 use config_files::read_config;
+use flow_rules::Config;
 use net_base::SwitchId;
 use std::process::Abort;
 use topology::Net;
@@ -104,17 +108,27 @@ fn tells_why_there_is_no_plan(rt: HostRuntime) {
 const SINGLE: &[u8] =
     b"{\"switches\":[{\"name\":\"a\",\"capacity\":100}],\"links\":[],\"hosts\":[\"a:1\",\"a:2\"],\"vlans\":[\"untagged\",10],\"tags\":[3000,3009]}";
 
-/// Whether the rounds of the plan by depth from no rules to these have so many changes each.
-fn has_depth_rounds(rt: &(impl Abort + AllocGlobal), rules: &str, sizes: &[usize]) {
-    let net = read_net(rt.alloc(), SINGLE).expect(rt, "a network");
-    let old = no_rules(rt.alloc(), &net).expect(rt, "tables");
+/// The tables that the rules of a file describe.
+fn tables_of(rt: &(impl Abort + AllocGlobal), net: &Net, rules: &str) -> Config
+    ensures { IsUserConfig net.now (rules_of_all result) }
+{
     let text = format!(in rt.alloc(); "{{\"rules\":[{rules}]}}").expect(rt, "a text");
-    let new = read_config(rt.alloc(), &net, text.as_bytes()).expect(rt, "a configuration");
+    read_config(rt.alloc(), net, text.as_bytes()).expect(rt, "a configuration")
+}
+
+/// The plan by depth from no rules to these.
+fn plan_by_depth(rt: &(impl Abort + AllocGlobal), net: &Net, rules: &str) -> Plan {
+    let old = no_rules(rt.alloc(), net).expect(rt, "tables");
+    let new = tables_of(rt, net, rules);
     let tried = Rounds::make(rt.alloc()).expect(rt, "rounds");
-    let plan = two_phase_by_depth(rt.alloc(), &net, &old, &new, &tried).expect(rt, "a plan");
-    assert!(rt; plan.rounds.count() == sizes.len(), "{rules}");
+    two_phase_by_depth(rt.alloc(), net, &old, &new, &tried).expect(rt, "a plan")
+}
+
+/// The rounds have so many changes each.
+fn has_sizes(rt: &impl Abort, rounds: &Rounds, rules: &str, sizes: &[usize]) {
+    assert!(rt; rounds.count() == sizes.len(), "{rules}");
     for (k, size) in sizes.iter().enumerate() {
-        assert!(rt; plan.rounds.round(k).len() == *size, "{rules} {k}");
+        assert!(rt; rounds.round(k).len() == *size, "{rules} {k}");
     }
 }
 
@@ -141,7 +155,9 @@ fn rules_without_a_common_packet_share_a_round(rt: HostRuntime) {
             &[4, 4, 2, 0, 2, 2, 4, 4],
         ),
     ];
+    let net = read_net(rt.alloc(), SINGLE).expect(&rt, "a network");
     for (rules, sizes) in &rows {
-        has_depth_rounds(&rt, rules, sizes);
+        let plan = plan_by_depth(&rt, &net, rules);
+        has_sizes(&rt, &plan.rounds, rules, sizes);
     }
 }
