@@ -1,3 +1,4 @@
 pub mod StandLaws
 pub mod PlanLaws
+pub mod TreeLaws
 pub mod PackedLaws

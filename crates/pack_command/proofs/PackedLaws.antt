@@ -19,10 +19,11 @@ use Rattle.certificates.specs.declared.Plan.{Plan}
 use Rattle.plan_format.specs.Plans.{plan_in}
 use Rattle.plan_text.specs.PlanText.{plan_text}
 use Rattle.packed_rounds.specs.Packing.{Target, CanStand, IsPackedRound, ArePacked, PacksOrdered, PacksStuck}
+use Rattle.packed_trees.specs.Bounds.{AreBounds}
 use Rattle.round_planner.specs.Search.{single_rounds}
 use Rattle.round_planner.proofs.StandingLaws.{length_rounds}
 use Rattle.round_planner.proofs.UserTables.{user_start, remaining_count}
-use Rattle.round_planner.specs.Updates.{update_classes, update_count, update_aim, KeepsConsistent}
+use Rattle.round_planner.specs.Updates.{update_classes, update_count, update_aim, bare_task, KeepsConsistent}
 use Rattle.tag_allocator.specs.Tags.{available_tags}
 use Rattle.topology.specs.Networks.{Network}
 use Rattle.two_phase.specs.Depths.{depth_rounds, depth_count}
@@ -48,7 +49,7 @@ use Rattle.plan_command.specs.NewPlans.{FilesMeanTrees, FilesMeanGoodEnds, IsStu
 use Rattle.plan_command.specs.Planned.{BothEndsAreGood, IsEndLine, SaysTooFew, SaysTooSmall}
 use Rattle.plan_command.proofs.PlannedLaws.{AreApart, IsOneStuck, count_same, small_lines_same, update_beside, tree_ends}
 use Rattle.pack_command.specs.Chosen.{update_target, IsPackedPlan, IsPackingStuck, IsOrderedPlan, HasNoOrderedPlan, phased_plan, phased_count, IsPackPlan}
-use Rattle.pack_command.specs.Packed.{SaysPackPlan, SaysNoPlan, SaysPacked, IsPacked}
+use Rattle.pack_command.specs.Packed.{SaysPackPlan, SaysNoPlan, PacksInFewRounds, SaysPacked, IsPacked}
 use Rattle.pack_command.specs.PackFiles.{IsPackingOrdered, EndsInOrder, HasPackPlan, FilesHavePackPlan, FilesPackNoTags, FilesPackNoRoom, WritesPackPlan, AreFull}
 use Rattle.pack_command.specs.Promise.{PackPromise}
 use Rattle.pack_command.proofs.StandLaws.{tables_of_user}
@@ -128,6 +129,30 @@ module _ (apart : AreApart) (packing_apart : PackingIsApart) (u : Update) where
   full_of full p packing ordered (inr (inl phased)) = absurd (not_phased u p [] phased.plan_is ordered)
   full_of full p packing ordered (inr (inr only)) = absurd (not_phased u p only.tried only.plan_is ordered)
 
+  -- where packing ends ordered, the plan has no more rounds than the packed one
+  module _ (one : PackingIsOne) (rounds : List (List Change)) (ends : PacksOrdered (update_target u) u.old rounds) where
+    packing : IsPackingOrdered u
+    packing = record { rounds = rounds; ends = ends }
+
+    ordered_as_packed : (p : Plan) → IsOrderedPlan u p → length p.rounds ≡ length rounds
+    ordered_as_packed p ordered = ap length (one (update_target u) u.old p.rounds rounds (packed_of packing p ordered).packed ends)
+
+    pub within_packed : PhasedIsCounted → (p : Plan) → IsPackPlan u p → length p.rounds ≤ length rounds
+    within_packed counted p (inl short) = let same = ordered_as_packed p short.ordered in omega (arith, same)
+    within_packed counted p (inr (inl phased)) =
+        let longer = ordered_as_packed phased.longer phased.ordered in
+        let same = phased_same counted u p [] phased.plan_is in
+        let fewer = phased.fewer in
+        omega (arith, longer, same, fewer)
+    within_packed counted p (inr (inr only)) = absurd (order_apart (inl packing) only.tried only.none)
+
+  pub tree_rounds_of : PhasedIsCounted → PackingIsOne → PacksInFewRounds u → (p : Plan) → IsPackPlan u p
+      → (most dropped unmet : ℕ) → AreBounds (bare_task u) u.old most dropped unmet → length p.rounds ≤ most + dropped + unmet
+  tree_rounds_of counted one packs p is most dropped unmet bounds =
+      let within = within_packed one packs.rounds packs.ends counted p is in
+      let few = packs.few most dropped unmet bounds in
+      omega (arith, within, few)
+
   module _ (old_user : IsUserConfig u.net u.old) (new_user : IsUserConfig u.net u.new) where
     ordered_few : PackedAreFew → (p : Plan) → IsOrderedPlan u p → length p.rounds ≤ length (remaining u.old u.new)
     ordered_few few p (inl packed) = few (update_target u) u.old p.rounds (tables_of_user u u.old old_user) (tables_of_user u u.new new_user) packed.packed
@@ -160,24 +185,12 @@ module _ (apart : AreApart) (packing_apart : PackingIsApart) (u : Update) where
       few = omega arith;
     }
 
-    once_few : PackingIsOne → PacksOnce → (p : Plan) → IsOrderedPlan u p → length p.rounds ≤ 1
-    once_few one once p ordered =
-        let packed = packed_of (record { rounds = once.rounds; ends = once.ends }) p ordered in
-        let same : length p.rounds ≡ length once.rounds = ap length (one (update_target u) u.old p.rounds once.rounds packed.packed once.ends) in
-        let few = once.few in
-        omega (arith, same, few)
-
-    one_round_by : PhasedIsCounted → PackingIsOne → PacksOnce → (p : Plan) → IsPackPlan u p → length p.rounds ≤ 1
-    one_round_by counted one once p (inl short) = once_few one once p short.ordered
-    one_round_by counted one once p (inr (inl phased)) =
-        let most = once_few one once phased.longer phased.ordered in
-        let same = phased_same counted u p [] phased.plan_is in
-        let fewer = phased.fewer in
-        omega (arith, most, same, fewer)
-    one_round_by counted one once p (inr (inr only)) = absurd (order_apart (inl (record { rounds = once.rounds; ends = once.ends })) only.tried only.none)
-
     pub one_round_of_all : PhasedIsCounted → PackingIsOne → OneIsEnough → CanStand (update_target u) u.old (remaining u.old u.new) → (p : Plan) → IsPackPlan u p → length p.rounds ≤ 1
-    one_round_of_all counted one enough can p = one_round_by counted one (packs_once enough can (remaining u.old u.new) refl) p
+    one_round_of_all counted one enough can p is =
+        let once = packs_once enough can (remaining u.old u.new) refl in
+        let within = within_packed one once.rounds once.ends counted p is in
+        let few = once.few in
+        omega (arith, within, few)
 
 -- ---- the answer
 
@@ -366,6 +379,13 @@ module _ (files : Files) (names : UpdateNames) (old new : Option (List ℕ)) (re
   good_ends : (u : Update) → FilesMeanUpdate files names u → SaysPacked u a.answer → FilesMeanGoodEnds files names u
   good_ends u mean says = record { mean = mean; few = says.few; good = says.good }
 
+  -- what is said of destination trees: packing ends ordered, and takes few rounds
+  of_trees : (u : Update) → FilesMeanTrees files names u → SaysPacked u a.answer
+  of_trees u trees = good_says u a.answer (said u trees.mean) trees.few (tree_ends u trees.tree)
+
+  pub in_few : (u : Update) → FilesMeanTrees files names u → PacksInFewRounds u
+  in_few u trees = (of_trees u trees).tree trees.tree
+
   module _ (apart : AreApart) (packing_apart : PackingIsApart) where
     -- there is a plan, or why there is none
     none_refuted : (u : Update) → HasPackPlan u → ¬ SaysNoPlan u a.answer
@@ -398,12 +418,11 @@ module _ (files : Files) (names : UpdateNames) (old new : Option (List ℕ)) (re
         let plan : HasPackPlan h.update = elim h.planned [ inl ordered ↦ inl (inr ordered) | inr (stuck, fits) ↦ inr fits ] in
         sym a.status_is ∙ done_at h.update plan (of_good h.update h.mean)
 
-    pub tree : (u : Update) → FilesMeanTrees files names u → (result ≡ status.Done) × EndsInOrder u
+    pub tree : (u : Update) → FilesMeanTrees files names u → (result ≡ status.Done) × IsPackingOrdered u
     tree u trees =
-        let says = good_says u a.answer (said u trees.mean) trees.few (tree_ends u trees.tree) in
-        let has = says.tree trees.tree in
-        let ends = ordered_ends u has.plan has.ordered in
-        (sym a.status_is ∙ done_at u (inl ends) says, ends)
+        let packs = in_few u trees in
+        let packing : IsPackingOrdered u = record { rounds = packs.rounds; ends = packs.ends } in
+        (sym a.status_is ∙ done_at u (inl (inl packing)) (of_trees u trees), packing)
 
     -- where packing and the search end stuck the chosen plan is that of two phases, which fits
     stuck_fits : (u : Update) (p : Plan) → IsPackingStuck u → IsStuck u → IsPackPlan u p → FitsTwoPhase u.net u.old u.new
@@ -524,6 +543,9 @@ promised files names old new result apart one packing_apart packing_one full eno
   one_round = λ before u p told is mean text can.
       one_round_of_all apart packing_apart u (old_user_of files names u mean) (new_user_of files names u mean) counted packing_one enough can p (chosen files names old new result (answered (settled_done _ is)) before told is u p mean text);
   tree = λ settled u trees. tree files names old new result (answered settled) apart packing_apart u trees;
+  tree_rounds = λ before u p told is trees text most dropped unmet bounds.
+      tree_rounds_of apart packing_apart u counted packing_one (in_few files names old new result (answered (settled_done _ is)) u trees) p
+      (chosen files names old new result (answered (settled_done _ is)) before told is u p trees.mean text) most dropped unmet bounds;
   refused = λ settled. refused files names old new result (answered settled);
   first = λ u mean is. first_break files names old new result (answered (settled_refused _ is)) is u mean;
   too_few = λ settled. too_few files names old new result (answered settled) apart packing_apart;

@@ -34,12 +34,7 @@ pub record IsPackingStuck (u : Update) : Type 0 where
 abbrev pub IsOrderedPlan : Update → Plan → Type 0
 IsOrderedPlan u p = IsPackedPlan u p ⊎ (IsPackingStuck u × IsPlanOf (update_aim u) u.old p)
 
--- there is an ordered plan
-pub record HasOrderedPlan (u : Update) : Type 0 where
-  pub plan : Plan
-  pub ordered : IsOrderedPlan u plan
-
--- there is none: packing ends stuck, and so does the search, after these rounds
+-- there is no ordered plan: packing ends stuck, and so does the search, after these rounds
 pub record HasNoOrderedPlan (u : Update) (tried : List (List Change)) : Type 0 where
   pub packing : IsPackingStuck u
   pub search : AreStuck (update_aim u) u.old tried

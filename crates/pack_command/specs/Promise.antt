@@ -7,8 +7,9 @@ use Rattle.certificates.specs.Certified.{is_two_phase}
 use Rattle.certificates.specs.Updates.{Update}
 use Rattle.certificates.specs.declared.Plan.{Plan}
 use Rattle.packed_rounds.specs.Packing.{CanStand, PacksOrdered}
+use Rattle.packed_trees.specs.Bounds.{AreBounds}
 use Rattle.round_planner.specs.Search.{single_rounds}
-use Rattle.round_planner.specs.Updates.{update_count, KeepsConsistent}
+use Rattle.round_planner.specs.Updates.{update_count, bare_task, KeepsConsistent}
 use Rattle.tag_allocator.specs.Tags.{available_tags}
 use Rattle.two_phase.specs.Depths.{depth_count}
 use Rattle.two_phase.specs.Laws.{FitsTwoPhase}
@@ -55,8 +56,13 @@ pub record PackPromise (files : Files) (names : UpdateNames) (old new : Option (
   -- Where all changes from the old to the new tables can be one round, it has no more than one.
   pub one_round : (before : List ℕ) (u : Update) (p : Plan) → old ≡ Some before → result ≡ status.Done → FilesMeanUpdate files names u → WritesPlan u.net p old new
       → CanStand (update_target u) u.old (remaining u.old u.new) → length p.rounds ≤ 1
-  -- On an update of destination trees it says Done: packing or the search ends ordered.
-  pub tree : IsSettled result → (u : Update) → FilesMeanTrees files names u → (result ≡ status.Done) × EndsInOrder u
+  -- On an update of destination trees it says Done, and packing ends ordered.
+  pub tree : IsSettled result → (u : Update) → FilesMeanTrees files names u → (result ≡ status.Done) × IsPackingOrdered u
+  -- There it has at most as many rounds as a class's new path that leaves has places at which the lookup differs between the old and the
+  -- new tables; one more where some class's new path is dropped and the lookup differs at its entry; and one more where some rule with
+  -- another action in the new tables is picked by the lookup at no place of a class's new path.
+  pub tree_rounds : (before : List ℕ) (u : Update) (p : Plan) → old ≡ Some before → result ≡ status.Done → FilesMeanTrees files names u → WritesPlan u.net p old new
+      → (most dropped unmet : ℕ) → AreBounds (bare_task u) u.old most dropped unmet → length p.rounds ≤ most + dropped + unmet
   -- Refused comes exactly where an end isn't good; the line names the first break.
   pub refused : IsSettled result → ((result ≡ status.Refused) ↔ FilesBreakAnEnd files names)
   pub first : (u : Update) → FilesMeanUpdate files names u → result ≡ status.Refused → NamesFirstEndBreak u old new

@@ -3,13 +3,12 @@ ghost use Rattle.std.specs.Prelude.{◌≡◌, ◌≤◌, IfOk};
 ghost use Rattle.flow_rules.specs.Tables.{rules_of_all};
 ghost use Rattle.path_walk.specs.UserConfigs.{IsUserConfig};
 ghost use Rattle.certificates.specs.Certified.{IsCertified, classes_for};
-ghost use Rattle.certificates.specs.Trees.{IsTreeUpdate};
 ghost use Rattle.certificates.specs.Updates.{task_for};
 ghost use Rattle.certificates.specs.Valid.{IsValidPlan};
 ghost use Rattle.table_difference.specs.SameClasses.{HasSameClasses};
 ghost use Rattle.table_difference.specs.Tried.{AreTried};
-ghost use Rattle.round_planner.specs.Ends.{OfPlan, OfStuck, IsNotStuck};
-ghost use Rattle.round_planner.specs.Updates.{update_classes, update_count, bare_task};
+ghost use Rattle.round_planner.specs.Ends.{OfPlan, OfStuck};
+ghost use Rattle.round_planner.specs.Updates.{update_classes, update_count};
 ghost use Rattle.command_base.specs.Updates.{meaning_of};
 ghost use Rattle.command_base.specs.Judgements.{most_classes};
 ghost use Rattle.plan_command.specs.Planned.{BothEndsAreGood};
@@ -45,7 +44,6 @@ fn search_in_order(
         HasSameClasses (classes_for (task_for (meaning_of files.now) p))
         (update_classes (meaning_of files.now)))) }
     ensures tried { IfOk result (OfStuck (AreTried files.now.net)) }
-    ensures tree { IsTreeUpdate (bare_task (meaning_of files.now)) → IfOk result IsNotStuck }
 {
     order(alloc, &files.net, &files.old, &files.new, duties, classes)
 }
@@ -71,7 +69,6 @@ pub(crate) fn find_in_order(
         HasSameClasses (classes_for (task_for (meaning_of files.now) p))
         (update_classes (meaning_of files.now)))) }
     ensures tried { IfOk result (OfStuck (AreTried files.now.net)) }
-    ensures tree { IsTreeUpdate (bare_task (meaning_of files.now)) → IfOk result IsNotStuck }
 {
     match pack(alloc, &files.net, &files.old, &files.new, duties, classes)? {
         Packing::Ordered(rounds) => {

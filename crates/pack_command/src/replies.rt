@@ -3,13 +3,11 @@ ghost use Rattle.std.specs.Prelude.{◌≡◌, ◌≤◌, ◌⊎◌, IfOk};
 ghost use Rattle.topology.specs.Networks.{switch_count};
 ghost use Rattle.flow_rules.specs.Tables.{rules_of_all};
 ghost use Rattle.path_walk.specs.UserConfigs.{IsUserConfig};
-ghost use Rattle.certificates.specs.Trees.{IsTreeUpdate};
-ghost use Rattle.round_planner.specs.Updates.{update_classes, update_count, bare_task};
+ghost use Rattle.round_planner.specs.Updates.{update_classes, update_count};
 ghost use Rattle.command_base.specs.Judgements.{most_classes};
 ghost use Rattle.command_base.specs.Updates.{meaning_of};
 ghost use Rattle.command_base.specs.Replies.{answer_of};
 ghost use Rattle.plan_command.specs.Planned.{BothEndsAreGood};
-ghost use Rattle.pack_command.specs.Chosen.{HasOrderedPlan};
 ghost use Rattle.pack_command.specs.Packed.{SaysPackPlan, SaysNoPlan, IsPacked};
 
 use crate::ordering::find_in_order;
@@ -19,6 +17,7 @@ use config_check::check_config;
 use demands::Duties;
 use dest_classes::{ClassFault, ClassMap, class_map};
 use net_base::Memory;
+use packed_trees::laws::{trees_are_never_stuck, trees_take_few_rounds};
 use path_walk::PathRoom;
 use plan_command::end_reply;
 use round_planner::{Ordered, update_prefixes};
@@ -37,10 +36,8 @@ fn found_reply(
     requires duties { duties.now ≡ record { demands = files.now.demands; classes = classes.now } }
     requires good { BothEndsAreGood (meaning_of files.now) }
     requires few { update_count (meaning_of files.now) ≤ most_classes }
-    ensures chosen { IfOk result (λ r. SaysPackPlan (meaning_of files.now) (answer_of r)
+    ensures { IfOk result (λ r. SaysPackPlan (meaning_of files.now) (answer_of r)
         ⊎ SaysNoPlan (meaning_of files.now) (answer_of r)) }
-    ensures tree { IsTreeUpdate (bare_task (meaning_of files.now))
-        → IfOk result (λ _. HasOrderedPlan (meaning_of files.now)) }
 {
     match find_in_order(alloc, files, duties, classes)? {
         Ordered::Rounds(plan) => ordered_reply(alloc, files, &plan),
@@ -70,6 +67,9 @@ fn judged_reply(
     if let Err(breaks) = check_config(&files.net, &files.new, duties, classes, room) {
         return end_reply(alloc, files, classes, true, breaks);
     }
+    files.net.keeps_rules();
+    trees_are_never_stuck();
+    trees_take_few_rounds();
     found_reply(alloc, files, duties, classes)
 }
 

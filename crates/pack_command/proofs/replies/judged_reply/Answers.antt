@@ -1,6 +1,10 @@
 use Rattle.std.proofs.Common.{refl, inr}
+use Rattle.std.proofs.lemmas.Result.{IfOk-weaker}
+use Rattle.certificates.specs.Updates.{Update}
+use Rattle.command_base.specs.Replies.{answer_of}
 use Rattle.command_base.specs.Updates.{meaning_of}
-use Rattle.plan_command.proofs.NewPlanLaws.{old_not_good, new_not_good, new_break, both_good, both_ok}
+use Rattle.plan_command.proofs.NewPlanLaws.{old_not_good, new_not_good, new_break, both_good}
+use Rattle.pack_command.proofs.TreeLaws.{packs_in_few}
 use Rattle.pack_command.proofs.replies.judged_reply.Goals as goal
 
 pub end_reply-requires-clause-broken : goal.end_reply-requires-clause-broken
@@ -25,6 +29,13 @@ found_reply-requires-clause-good c =
 
 pub returns : goal.returns
 returns c =
-    let good = both_good (meaning_of c.args.files.now) c.args.classes.now c.requires.classes c.args.duties.now c.requires.duties
+    let u : Update = meaning_of c.args.files.now in
+    let good = both_good u c.args.classes.now c.requires.classes c.args.duties.now c.requires.duties
     (c.in_default.ensures.ok.0 refl) (c.in_default-check_config.ensures.ok.0 refl) in
-    both_ok c.found_reply.result _ _ _ _ (λ r said tree. inr (inr (record { few = c.requires.few; good = good; chosen = said; tree = tree }))) c.found_reply.ensures.chosen c.found_reply.ensures.tree
+    IfOk-weaker c.found_reply.result _ _
+    (λ r said. inr (inr (record {
+      few = c.requires.few;
+      good = good;
+      chosen = said;
+      tree = λ tree. packs_in_few c.trees_are_never_stuck.ensures c.trees_take_few_rounds.ensures u c.keeps_rules.ensures c.requires.old c.requires.new tree (answer_of r) said;
+    }))) c.found_reply.ensures
