@@ -12,6 +12,7 @@ mod talks;
 pub mod words;
 
 pub use drivers::Driver;
+pub use faults::CallFault;
 use net_base::SwitchId;
 pub use switch_session::{Cause, Session};
 use turned_rounds::Text;
