@@ -10,6 +10,7 @@ mod peers;
 mod talks;
 
 pub use drivers::Driver;
+pub use faults::CallFault;
 use net_base::SwitchId;
 pub use switch_session::{Cause, Session};
 use turned_rounds::Text;
