@@ -1,0 +1,200 @@
+//! The block of text that answers a line.
+ghost use Rattle.std.specs.Prelude.{◌≡◌, ◌++◌, ◌∷◌, [], IfOk, OnOk, map, codes};
+ghost use Rattle.net_base.specs.Lines.{text_of};
+ghost use Rattle.schedule_replay.specs.Traces.{phase_line};
+ghost use Rattle.two_way_driver.specs.Laws.{phase_of};
+ghost use Rattle.serve_lines.specs.Blocks as blocks;
+
+use hex::encode;
+use net_base::{Memory, SwitchId};
+use schedule_replay::{add_line, switch_text};
+use std::alloc::Global;
+use topology::Net;
+use two_way_driver::{Cause, Logged, Said, Stage};
+
+/// How a line ended.
+#[derive(Clone, Copy, Debug, PartialEq, Eq)]
+pub enum Outcome {
+    /// It was carried out, or was a comment, and the update is so far.
+    Went(Stage),
+    /// Refused: a round runs, or is already being taken back.
+    Running,
+    /// Refused: all rounds are settled.
+    Finished,
+    /// Refused: no round is settled, and none runs.
+    NotBegun,
+    /// Refused: this switch has a change in the round and no open session.
+    NotOpen(SwitchId),
+    /// The line has none of the forms of a line.
+    BadLine,
+}
+
+/// Why a session failed.
+fn cause_text(alloc: Global, cause: Cause) -> Result<Vec<u8>, Memory>
+    ensures { IfOk result (λ t. t.items ≡ blocks.cause_text cause) }
+{
+    match cause {
+        Cause::Length => Ok(b"Length".to_vec(alloc)?),
+        Cause::Version => Ok(b"Version".to_vec(alloc)?),
+        Cause::NoHello => Ok(b"NoHello".to_vec(alloc)?),
+        Cause::Error(kind, code) => Ok(format!(in alloc; "Error {kind} {code}")?.into_bytes()),
+        Cause::Xid(xid) => Ok(format!(in alloc; "Xid {xid}")?.into_bytes()),
+    }
+}
+
+/// The line on a message to a switch of this name.
+fn send_line(alloc: Global, name: &str, bytes: &[u8]) -> Result<Vec<u8>, Memory>
+    ensures { IfOk result (λ t. t.items ≡ blocks.send_line name.now bytes.now) }
+{
+    let digits = encode(alloc, bytes)?;
+    let mut text = format!(in alloc; "send {name} ")?.into_bytes();
+    text.extend_from_slice(digits.as_bytes())?;
+    Ok(text)
+}
+
+/// The line on a session that failed, with a switch of this name.
+fn failed_line(alloc: Global, name: &str, cause: Cause) -> Result<Vec<u8>, Memory>
+    ensures { IfOk result (λ t. t.items ≡ blocks.failed_line name.now cause) }
+{
+    let mut text = format!(in alloc; "failed {name} ")?.into_bytes();
+    text.extend_from_slice(&cause_text(alloc, cause)?)?;
+    Ok(text)
+}
+
+/// The line on an event.
+fn event_line(alloc: Global, event: Logged) -> Result<Vec<u8>, Memory>
+    ensures { IfOk result (λ t. t.items ≡ blocks.event_text event) }
+{
+    match event {
+        Logged::Start => Ok(b"start".to_vec(alloc)?),
+        Logged::Change(i) => Ok(format!(in alloc; "change {i}")?.into_bytes()),
+        Logged::Settle => Ok(b"settle".to_vec(alloc)?),
+        Logged::Back => Ok(b"back".to_vec(alloc)?),
+        Logged::Undo(i) => Ok(format!(in alloc; "undo {i}")?.into_bytes()),
+        Logged::SettleBack => Ok(b"settle".to_vec(alloc)?),
+    }
+}
+
+/// The line on what a driver says.
+fn said_line(alloc: Global, net: &Net, said: &Said) -> Result<Vec<u8>, Memory>
+    ensures { IfOk result (λ t. t.items ≡ blocks.said_line net.now said.now) }
+{
+    match said {
+        Said::Send(switch, text) => send_line(alloc, switch_text(net, *switch), text.bytes()),
+        Said::Failed(switch, cause) => failed_line(alloc, switch_text(net, *switch), *cause),
+        Said::Log(event) => event_line(alloc, *event),
+    }
+}
+
+/// Adds the line on what a driver says.
+fn add_said_line(text: &mut Vec<u8>, alloc: Global, net: &Net, said: &Said) -> Result<(), Memory>
+    ensures { OnOk result
+        (text.new.items ≡ text.old.items ++ blocks.said_line net.now said.now ++ 10 ∷ []) }
+{
+    let line = said_line(alloc, net, said)?;
+    let added = add_line(text, &line);
+    drop(line);
+    added
+}
+
+/// Adds the lines on what a driver says.
+fn add_said(text: &mut Vec<u8>, alloc: Global, net: &Net, said: &[Said]) -> Result<(), Memory>
+    ensures { OnOk result
+        (text.new.items ≡ text.old.items ++ text_of (map (blocks.said_line net.now) said.now)) }
+{
+    for one in said {
+        add_said_line(text, alloc, net, one)?;
+    }
+    Ok(())
+}
+
+/// The line on an update of which so many rounds are settled.
+fn settled_line(alloc: Global, rounds: usize, k: u32) -> Result<Vec<u8>, Memory>
+    ensures { IfOk result
+        (λ t. t.items ≡ codes "ok " ++ phase_line (phase_of (Stage.Settled k)) rounds) }
+{
+    Ok(format!(in alloc; "ok settled {k} of {rounds}")?.into_bytes())
+}
+
+/// The line on an update whose round behind so many others runs.
+fn running_line(alloc: Global, rounds: usize, k: u32) -> Result<Vec<u8>, Memory>
+    ensures { IfOk result
+        (λ t. t.items ≡ codes "ok " ++ phase_line (phase_of (Stage.Onward k)) rounds) }
+{
+    let number = k as u64 + 1;
+    Ok(format!(in alloc; "ok running {number} of {rounds}")?.into_bytes())
+}
+
+/// The line on how far an update of so many rounds is.
+fn stage_line(alloc: Global, rounds: usize, stage: Stage) -> Result<Vec<u8>, Memory>
+    ensures { IfOk result
+        (λ t. t.items ≡ codes "ok " ++ phase_line (phase_of stage) rounds) }
+{
+    match stage {
+        Stage::Settled(k) => settled_line(alloc, rounds, k),
+        Stage::Onward(k) => running_line(alloc, rounds, k),
+        Stage::Undone(k) => running_line(alloc, rounds, k),
+    }
+}
+
+/// The line on a session that isn't open, with a switch of this name.
+fn not_open_line(alloc: Global, name: &str) -> Result<Vec<u8>, Memory>
+    ensures { IfOk result (λ t. t.items ≡ codes "no open " ++ name.now) }
+{
+    Ok(format!(in alloc; "no open {name}")?.into_bytes())
+}
+
+/// The last line of a block.
+fn outcome_line(
+    alloc: Global,
+    net: &Net,
+    rounds: usize,
+    outcome: Outcome,
+) -> Result<Vec<u8>, Memory>
+    ensures { IfOk result (λ t. t.items ≡ blocks.outcome_line net.now rounds outcome) }
+{
+    match outcome {
+        Outcome::Went(stage) => stage_line(alloc, rounds, stage),
+        Outcome::Running => Ok(b"no running".to_vec(alloc)?),
+        Outcome::Finished => Ok(b"no finished".to_vec(alloc)?),
+        Outcome::NotBegun => Ok(b"no begun".to_vec(alloc)?),
+        Outcome::NotOpen(switch) => not_open_line(alloc, switch_text(net, switch)),
+        Outcome::BadLine => Ok(b"bad line".to_vec(alloc)?),
+    }
+}
+
+/// Adds the last line of a block.
+fn add_outcome(
+    text: &mut Vec<u8>,
+    alloc: Global,
+    net: &Net,
+    rounds: usize,
+    outcome: Outcome,
+) -> Result<(), Memory>
+    ensures { OnOk result
+        (text.new.items
+        ≡ text.old.items ++ blocks.outcome_line net.now rounds outcome ++ 10 ∷ []) }
+{
+    let line = outcome_line(alloc, net, rounds, outcome)?;
+    let added = add_line(text, &line);
+    drop(line);
+    added
+}
+
+/// The block of a line over an update of so many rounds: what the driver says, a line each in order, and last how the line
+/// ended. A switch that the network doesn't have would be named by nothing. The cost is that of the text.
+pub fn block_text(
+    alloc: Global,
+    net: &Net,
+    rounds: usize,
+    said: &[Said],
+    outcome: Outcome,
+) -> Result<Vec<u8>, Memory>
+    ensures { IfOk result
+        (λ t. t.items ≡ blocks.block_text net.now rounds said.now outcome) }
+{
+    let mut text = Vec::new(alloc);
+    add_said(&mut text, alloc, net, said)?;
+    add_outcome(&mut text, alloc, net, rounds, outcome)?;
+    Ok(text)
+}
