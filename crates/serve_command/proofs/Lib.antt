@@ -1,0 +1,4 @@
+mod ServeLaws
+mod AnswerLaws
+mod EndLaws
+mod PlanTables

@@ -1,0 +1,306 @@
+-- Lines that are served one after the other, and where that stops.
+use Rattle.std.proofs.Common.{◌≡◌, ◌≢◌, ℕ, ◌+◌, ◌-◌, ◌<◌, ◌≤◌, ◌^◌, List, [], ◌∷◌, ◌++◌, length, take, min, None, Some, refl, sym, ap, ◌∙◌, subst, append_assoc, append-nil, length-append, take_all, inl, inr, lit<, arith}
+use Rattle.std.specs.Prelude.{Option, ◌⊎◌}
+use Rattle.std.specs.Io.KnownBytes.{Appends, Keeps, Consumes, IsAtEnd}
+use Rattle.std.proofs.KnownBytes.{Appends-trans, Appends-kept, Appends-nil, Consumes-nil, Consumes-trans}
+use Rattle.std.proofs.Math.Seq.{take-append_seam, take-append-add}
+use Rattle.std.proofs.lemmas.List.{take-append-le, take_min, length-take}
+use Rattle.std.proofs.lemmas.Bool.{cases_lt}
+use Rattle.file_access.specs.Causes.{raised}
+use Rattle.file_access.specs.Outside.{Files, Opens, AppendsFront}
+use Rattle.command_base.specs.declared.status.Status.{Status}
+use Rattle.command_base.specs.declared.status.Status.TheVariants as status
+use Rattle.topology.specs.Networks.{Network}
+use Rattle.two_way_driver.specs.Calls.{DriverView}
+use Rattle.serve_lines.specs.Lines.{kept, line_in, ended_lines, open_line, last_line, lines_in}
+use Rattle.serve_lines.proofs.KeptLaws.{line_kept, kept_next}
+use Rattle.serve_lines.proofs.LineLaws.{end_ends, end_begins, byte_ends, byte_opens}
+use Rattle.serve_command.specs.Served.{after_line, line_block, after_lines, blocks, after_read, outcome_read}
+use Rattle.serve_command.specs.Stops.{StopsLine, StopsAt, HasServed, IsFrontOf, AreAll, EndsAfter, EndsInput, EndsServing, status_of, input_name, input_of}
+use Rattle.serve_command.specs.declared.stop.Stop.{Stop}
+use Rattle.serve_command.specs.declared.stop.Stop.TheVariants as stop
+
+-- ---- lines in a row
+
+pub blocks-append : (v : DriverView) (lines more : List (List ℕ)) → blocks v (lines ++ more) ≡ blocks v lines ++ blocks (after_lines v lines) more
+blocks-append v [] more = refl
+blocks-append v (line ∷ lines) more =
+    ap (λ (t : List ℕ). line_block v line ++ t) (blocks-append (after_line v line) lines more)
+    ∙ sym (append_assoc (line_block v line) (blocks (after_line v line) lines) (blocks (after_lines (after_line v line) lines) more))
+
+pub after_lines-append : (v : DriverView) (lines more : List (List ℕ)) → after_lines v (lines ++ more) ≡ after_lines (after_lines v lines) more
+after_lines-append v [] more = refl
+after_lines-append v (line ∷ lines) more = after_lines-append (after_line v line) lines more
+
+blocks-push : (v : DriverView) (lines : List (List ℕ)) (line : List ℕ) → blocks v (lines ++ line ∷ []) ≡ blocks v lines ++ line_block (after_lines v lines) line
+blocks-push v lines line = blocks-append v lines (line ∷ []) ∙ ap (λ (t : List ℕ). blocks v lines ++ t) (append-nil (line_block (after_lines v lines) line))
+
+-- ---- of a line it is enough to know what is kept
+
+module _ (d : DriverView) (line : List ℕ) where
+  pub block_kept : line_block d (kept line) ≡ line_block d line
+  unfolding line_block
+  block_kept = rw (line_kept d.net line) refl
+
+  pub after_kept : after_line d (kept line) ≡ after_line d line
+  unfolding after_line
+  after_kept = rw (line_kept d.net line) refl
+
+-- ---- writing goes on
+
+front_behind : (old now new : Option (List ℕ)) (xs ys : List ℕ) → Appends old now xs → AppendsFront now new ys → AppendsFront old new (xs ++ ys)
+front_behind None now new xs ys p q = tt
+front_behind (Some a) None new xs ys p q = absurd p
+front_behind (Some a) (Some b) None xs ys p q = absurd q
+front_behind (Some a) (Some b) (Some c) xs ys p (n, le, is) =
+    (length xs + n, omega (arith, length-append xs ys), is ∙ ap (λ (t : List ℕ). t ++ take n ys) p ∙ append_assoc a xs (take n ys) ∙ ap (λ (t : List ℕ). a ++ t) (sym (take-append-add xs ys n)))
+
+front_more : (old new : Option (List ℕ)) (xs ys : List ℕ) → AppendsFront old new xs → AppendsFront old new (xs ++ ys)
+front_more None new xs ys p = tt
+front_more (Some a) None xs ys p = absurd p
+front_more (Some a) (Some b) xs ys (n, le, is) = (n, omega (arith, length-append xs ys), is ∙ ap (λ (t : List ℕ). a ++ t) (sym (take-append-le n xs ys le)))
+
+-- ---- a line that is ended
+
+module _ (v : DriverView) (old now new : Option (List ℕ)) (bytes : List ℕ) (d : DriverView) (line : List ℕ) (h : HasServed v old now bytes d line) where
+  -- the block of the open line
+  block_is : line_block d line ≡ line_block (after_lines v (ended_lines bytes)) (open_line bytes)
+  block_is = ap (λ (x : DriverView). line_block x line) h.driver_is ∙ ap (line_block (after_lines v (ended_lines bytes))) h.line_is ∙ block_kept (after_lines v (ended_lines bytes)) (open_line bytes)
+
+  all_blocks : blocks v (ended_lines bytes) ++ line_block d line ≡ blocks v (ended_lines bytes ++ open_line bytes ∷ [])
+  all_blocks = ap (λ (t : List ℕ). blocks v (ended_lines bytes) ++ t) block_is ∙ sym (blocks-push v (ended_lines bytes) (open_line bytes))
+
+  -- it is served
+  pub line_written : Appends now new (line_block d line) → Appends old new (blocks v (ended_lines bytes ++ open_line bytes ∷ []))
+  line_written p = subst (λ (t : List ℕ). Appends old new t) all_blocks (Appends-trans old now new (blocks v (ended_lines bytes)) (line_block d line) h.written p)
+
+  pub line_behind : (e : DriverView) → e ≡ after_line d line → e ≡ after_lines v (ended_lines bytes ++ open_line bytes ∷ [])
+  line_behind e is =
+      is ∙ ap (λ (x : DriverView). after_line x line) h.driver_is ∙ ap (after_line (after_lines v (ended_lines bytes))) h.line_is ∙ after_kept (after_lines v (ended_lines bytes)) (open_line bytes)
+      ∙ sym (after_lines-append v (ended_lines bytes) (open_line bytes ∷ []))
+
+  -- or it stops
+  pub line_stops : (s : Stop) → StopsLine now new (line_block d line) s → StopsAt (blocks v) old new (ended_lines bytes ++ open_line bytes ∷ []) s
+  line_stops stop.WriteFault p = subst (λ (t : List ℕ). AppendsFront old new t) all_blocks (front_behind old now new (blocks v (ended_lines bytes)) (line_block d line) h.written p)
+  line_stops stop.Memory p = (
+    length (ended_lines bytes),
+    subst (λ (t : List (List ℕ)). Appends old new (blocks v t)) (sym (take-append_seam (ended_lines bytes) (open_line bytes ∷ []))) (Appends-kept old now new (blocks v (ended_lines bytes)) h.written p),
+  )
+
+-- what stops among lines stops among these and more
+pub stops_more : (v : DriverView) (old new : Option (List ℕ)) (lines more : List (List ℕ)) (s : Stop) → StopsAt (blocks v) old new lines s → StopsAt (blocks v) old new (lines ++ more) s
+stops_more v old new lines more stop.WriteFault p = subst (λ (t : List ℕ). AppendsFront old new t) (sym (blocks-append v lines more)) (front_more old new (blocks v lines) (blocks (after_lines v lines) more) p)
+stops_more v old new lines more stop.Memory (n, p) =
+    let within : min n (length lines) ≤ length lines = omega arith in
+    (min n (length lines), subst (λ (t : List (List ℕ)). Appends old new (blocks v t)) (sym (take-append-le (min n (length lines)) lines more within ∙ take_min n lines)) p)
+
+-- ---- bytes come
+
+-- a line end came, and the line was served
+pub served_ended : (v : DriverView) (old now new : Option (List ℕ)) (bytes : List ℕ) (d e : DriverView) (line empty : List ℕ)
+    → HasServed v old now bytes d line → Appends now new (line_block d line) → e ≡ after_line d line → empty ≡ [] → HasServed v old new (bytes ++ 10 ∷ []) e empty
+served_ended v old now new bytes d e line empty h written behind cleared = record {
+  driver_is = line_behind v old now now bytes d line h e behind ∙ sym (ap (after_lines v) (end_ends bytes));
+  line_is = cleared ∙ sym (ap kept (end_begins bytes));
+  written = subst (λ (t : List (List ℕ)). Appends old new (blocks v t)) (sym (end_ends bytes)) (line_written v old now new bytes d line h written);
+}
+
+pub stops_ended : (v : DriverView) (old now new : Option (List ℕ)) (bytes : List ℕ) (d : DriverView) (line : List ℕ) (s : Stop)
+    → HasServed v old now bytes d line → StopsLine now new (line_block d line) s → StopsAt (blocks v) old new (ended_lines (bytes ++ 10 ∷ [])) s
+stops_ended v old now new bytes d line s h stops = subst (λ (t : List (List ℕ)). StopsAt (blocks v) old new t s) (sym (end_ends bytes)) (line_stops v old now new bytes d line h s stops)
+
+-- any other byte came
+pub served_kept : (v : DriverView) (old now : Option (List ℕ)) (bytes : List ℕ) (b : ℕ) (d e : DriverView) (line more : List ℕ)
+    → b ≢ 10 → HasServed v old now bytes d line → e ≡ d → more ≡ kept (line ++ b ∷ []) → HasServed v old now (bytes ++ b ∷ []) e more
+served_kept v old now bytes b d e line more differs h same longer = record {
+  driver_is = same ∙ h.driver_is ∙ sym (ap (after_lines v) (byte_ends bytes b differs));
+  line_is = longer ∙ ap (λ (t : List ℕ). kept (t ++ b ∷ [])) h.line_is ∙ kept_next 262145 (open_line bytes) b ∙ sym (ap kept (byte_opens bytes b differs));
+  written = subst (λ (t : List (List ℕ)). Appends old now (blocks v t)) (sym (byte_ends bytes b differs)) h.written;
+}
+
+pub stops_kept : (v : DriverView) (old now : Option (List ℕ)) (bytes : List ℕ) (b : ℕ) (d : DriverView) (line : List ℕ)
+    → b ≢ 10 → HasServed v old now bytes d line → StopsAt (blocks v) old now (ended_lines (bytes ++ b ∷ [])) stop.Memory
+stops_kept v old now bytes b d line differs h =
+    (length (ended_lines bytes), subst (λ (t : List (List ℕ)). Appends old now (blocks v t)) (sym (ap (take (length (ended_lines bytes))) (byte_ends bytes b differs) ∙ take_all (length (ended_lines bytes)) (ended_lines bytes) (omega arith))) h.written)
+
+-- more bytes end more lines
+record EndMore (bytes piece : List ℕ) : Type 0 where
+  more : List (List ℕ)
+  are : ended_lines (bytes ++ piece) ≡ ended_lines bytes ++ more
+
+end_more_by : (bytes piece : List ℕ) (b : ℕ) → (b ≡ 10) ⊎ (b ≢ 10) → EndMore (bytes ++ b ∷ []) piece → EndMore bytes (b ∷ piece)
+end_more_by bytes piece b (inl is) h = record {
+  more = open_line bytes ∷ h.more;
+  are = ap ended_lines (sym (append_assoc bytes (b ∷ []) piece)) ∙ h.are
+      ∙ ap (λ (t : List (List ℕ)). t ++ h.more) (ap (λ (c : ℕ). ended_lines (bytes ++ c ∷ [])) is ∙ end_ends bytes) ∙ append_assoc (ended_lines bytes) (open_line bytes ∷ []) h.more;
+}
+end_more_by bytes piece b (inr differs) h = record {
+  more = h.more;
+  are = ap ended_lines (sym (append_assoc bytes (b ∷ []) piece)) ∙ h.are ∙ ap (λ (t : List (List ℕ)). t ++ h.more) (byte_ends bytes b differs);
+}
+
+is_or_differs : (b c : ℕ) → (b ≡ c) ⊎ (b ≢ c)
+is_or_differs b c = elim (cases_lt b c) [ inl lt ↦ inr (λ e. absurd (omega arith)) | inr le ↦ elim (cases_lt c b) [ inl lt ↦ inr (λ e. absurd (omega arith)) | inr other ↦ inl (omega arith) ] ]
+
+end_more : (bytes piece : List ℕ) → EndMore bytes piece
+end_more bytes [] = record { more = []; are = ap ended_lines (append-nil bytes) ∙ sym (append-nil (ended_lines bytes)) }
+end_more bytes (b ∷ piece) = end_more_by bytes piece b (is_or_differs b 10) (end_more (bytes ++ b ∷ []) piece)
+
+-- what stops at the lines that these bytes end stops at those that more bytes end
+pub stops_on : (v : DriverView) (old new : Option (List ℕ)) (bytes more : List ℕ) (s : Stop) → StopsAt (blocks v) old new (ended_lines bytes) s → StopsAt (blocks v) old new (ended_lines (bytes ++ more)) s
+stops_on v old new bytes more s p =
+    let h = end_more bytes more in
+    subst (λ (t : List (List ℕ)). StopsAt (blocks v) old new t s) (sym h.are) (stops_more v old new (ended_lines bytes) h.more s p)
+
+-- ---- the last line
+
+pub empty_of : (line : List ℕ) → length line ≡ 0 → line ≡ []
+empty_of [] e = refl
+empty_of (b ∷ bs) e = absurd (omega arith)
+
+none_taken : (n : ℕ) (line : List ℕ) → 0 < n → take n line ≡ [] → line ≡ []
+none_taken n [] some e = refl
+none_taken n (b ∷ bs) some e = let none : length (take n (b ∷ bs)) ≡ 0 = ap length e in absurd (omega (arith, none, length-take n (b ∷ bs)))
+
+last_some : (line : List ℕ) → 0 < length line → last_line line ≡ line ∷ []
+last_some [] some = absurd (omega arith)
+last_some (b ∷ bs) some = refl
+
+-- nothing stands behind the last line end
+pub served_none : (v : DriverView) (old now : Option (List ℕ)) (bytes : List ℕ) (d : DriverView) (line : List ℕ) → HasServed v old now bytes d line → line ≡ [] → Appends old now (blocks v (lines_in bytes))
+served_none v old now bytes d line h empty =
+    subst (λ (t : List (List ℕ)). Appends old now (blocks v t)) (sym (ap (λ (t : List ℕ). ended_lines bytes ++ last_line t) (none_taken 262145 (open_line bytes) (lit< tt) (sym h.line_is ∙ empty)) ∙ append-nil (ended_lines bytes))) h.written
+
+-- something stands there
+some_last : (bytes line : List ℕ) → 0 < length line → line ≡ kept (open_line bytes) → lines_in bytes ≡ ended_lines bytes ++ open_line bytes ∷ []
+some_last bytes line some is = ap (λ (t : List (List ℕ)). ended_lines bytes ++ t) (last_some (open_line bytes) (omega (arith, ap length is, length-take 262145 (open_line bytes))))
+
+pub served_last : (v : DriverView) (old now new : Option (List ℕ)) (bytes : List ℕ) (d : DriverView) (line : List ℕ)
+    → HasServed v old now bytes d line → 0 < length line → Appends now new (line_block d line) → Appends old new (blocks v (lines_in bytes))
+served_last v old now new bytes d line h some written =
+    subst (λ (t : List (List ℕ)). Appends old new (blocks v t)) (sym (some_last bytes line some h.line_is)) (line_written v old now new bytes d line h written)
+
+pub stops_last : (v : DriverView) (old now new : Option (List ℕ)) (bytes : List ℕ) (d : DriverView) (line : List ℕ) (s : Stop)
+    → HasServed v old now bytes d line → 0 < length line → StopsLine now new (line_block d line) s → StopsAt (blocks v) old new (lines_in bytes) s
+stops_last v old now new bytes d line s h some stops =
+    subst (λ (t : List (List ℕ)). StopsAt (blocks v) old new t s) (sym (some_last bytes line some h.line_is)) (line_stops v old now new bytes d line h s stops)
+
+-- ---- the input
+
+pub front_of : (input left : Option (List ℕ)) (taken : List ℕ) → Consumes input left taken → IsFrontOf input taken
+front_of None left taken p = tt
+front_of (Some all) None taken p = absurd p
+front_of (Some all) (Some rest) taken p = (rest, p)
+
+pub all_of : (input left : Option (List ℕ)) (taken : List ℕ) → Consumes input left taken → IsAtEnd left → AreAll input taken
+all_of None left taken p e = tt
+all_of (Some all) None taken p e = absurd p
+all_of (Some all) (Some rest) taken p e = p ∙ ap (λ (t : List ℕ). taken ++ t) e ∙ append-nil taken
+
+all_front : (input : Option (List ℕ)) (taken : List ℕ) → AreAll input taken → IsFrontOf input taken
+all_front None taken p = tt
+all_front (Some all) taken p = ([], p ∙ sym (append-nil taken))
+
+-- some bytes of the input were taken, and the lines that they end were served
+pub record Taking (v : DriverView) (input left old new : Option (List ℕ)) (counted : ℕ) (d : DriverView) (line : List ℕ) : Type 0 where
+  pub taken : List ℕ
+  pub consumed : Consumes input left taken
+  pub count : counted ≡ raised 0 (length taken)
+  pub served : HasServed v old new taken d line
+
+pub taking_none : (v : DriverView) (input old : Option (List ℕ)) (counted : ℕ) (line : List ℕ) → counted ≡ 0 → line ≡ [] → Taking v input input old old counted v line
+taking_none v input old counted line none empty = record {
+  taken = [];
+  consumed = Consumes-nil input;
+  count = none;
+  served = record { driver_is = refl; line_is = empty; written = Appends-nil old };
+}
+
+counted_more : (n m top : ℕ) → min (min (0 + n) top + m) top ≡ min (0 + (n + m)) top
+counted_more n m top = omega arith
+
+pub taking_more : (v : DriverView) (input left behind old now new : Option (List ℕ)) (counted next : ℕ) (d e : DriverView) (line more piece : List ℕ)
+    → (t : Taking v input left old now counted d line) → Consumes left behind piece → next ≡ raised counted (length piece) → HasServed v old new (t.taken ++ piece) e more → Taking v input behind old new next e more
+taking_more v input left behind old now new counted next d e line more piece t consumes count served = record {
+  taken = t.taken ++ piece;
+  consumed = Consumes-trans input left behind t.taken piece t.consumed consumes;
+  count = count ∙ ap (λ (k : ℕ). raised k (length piece)) t.count ∙ counted_more (length t.taken) (length piece) (2 ^ 64 - 1) ∙ sym (ap (raised 0) (length-append t.taken piece));
+  served = served;
+}
+
+-- reading failed
+pub ends_unread : (v : DriverView) (input left old new : Option (List ℕ)) (counted next : ℕ) (d : DriverView) (line : List ℕ) → Taking v input left old new counted d line → next ≡ counted → EndsInput (blocks v) input old new next status.ReadFault
+ends_unread v input left old new counted next d line t same = record { taken = t.taken; count = same ∙ t.count; ends = (front_of input left t.taken t.consumed, t.served.written) }
+
+-- memory is wanting behind lines
+pub ends_wanting : (v : DriverView) (input left old new : Option (List ℕ)) (counted : ℕ) (d : DriverView) (line : List ℕ) → Taking v input left old new counted d line → EndsInput (blocks v) input old new counted status.Memory
+ends_wanting v input left old new counted d line t = record {
+  taken = t.taken;
+  count = t.count;
+  ends = (front_of input left t.taken t.consumed, (length (ended_lines t.taken), subst (λ (l : List (List ℕ)). Appends old new (blocks v l)) (sym (take-append_seam (ended_lines t.taken) (last_line (open_line t.taken)))) t.served.written));
+}
+
+-- a line of a piece stopped it
+pub ends_stopped : (v : DriverView) (input old new : Option (List ℕ)) (taken : List ℕ) (s : Stop) → IsFrontOf input taken → StopsAt (blocks v) old new (ended_lines taken) s → EndsAfter (blocks v) input old new taken (status_of s)
+ends_stopped v input old new taken stop.WriteFault front p = (front, stops_more v old new (ended_lines taken) (last_line (open_line taken)) stop.WriteFault p)
+ends_stopped v input old new taken stop.Memory front p = (front, stops_more v old new (ended_lines taken) (last_line (open_line taken)) stop.Memory p)
+
+-- the last line stopped it
+pub ends_last : (v : DriverView) (input old new : Option (List ℕ)) (taken : List ℕ) (s : Stop) → AreAll input taken → StopsAt (blocks v) old new (lines_in taken) s → EndsAfter (blocks v) input old new taken (status_of s)
+ends_last v input old new taken stop.WriteFault all p = (all_front input taken all, p)
+ends_last v input old new taken stop.Memory all p = (all_front input taken all, p)
+
+-- the input is what the source holds under the name, where it tells
+ends_as : (v : DriverView) (input left old new : Option (List ℕ)) (taken : List ℕ) (result : Status) → ((taken : List ℕ) → IsFrontOf left taken → IsFrontOf input taken) → ((taken : List ℕ) → AreAll left taken → AreAll input taken)
+    → EndsAfter (blocks v) left old new taken result → EndsAfter (blocks v) input old new taken result
+ends_as v input left old new taken status.Done front all p = (all taken p.0, p.1)
+ends_as v input left old new taken status.ReadFault front all p = (front taken p.0, p.1)
+ends_as v input left old new taken status.WriteFault front all p = (front taken p.0, p.1)
+ends_as v input left old new taken status.Memory front all p = (front taken p.0, p.1)
+ends_as v input left old new taken _ front all p = absurd p
+
+pub ends_told : (v : DriverView) (held : Option Files) (left old new : Option (List ℕ)) (counted : ℕ) (result : Status) → Opens held input_name left → EndsInput (blocks v) left old new counted result → EndsInput (blocks v) (input_of held) old new counted result
+ends_told v None left old new counted result opens e = record { taken = e.taken; count = e.count; ends = ends_as v None left old new e.taken result (λ taken p. tt) (λ taken p. tt) e.ends }
+ends_told v (Some files) left old new counted result opens e = subst (λ (x : Option (List ℕ)). EndsInput (blocks v) x old new counted result) opens e
+
+none_front : (input : Option (List ℕ)) → IsFrontOf input []
+none_front None = tt
+none_front (Some all) = (all, refl)
+
+-- the input can't be selected
+pub ends_unselected : (v : DriverView) (input old : Option (List ℕ)) (counted : ℕ) → counted ≡ 0 → EndsInput (blocks v) input old old counted status.ReadFault
+ends_unselected v input old counted none = record { taken = []; count = none; ends = (none_front input, Appends-nil old) }
+
+-- ---- the block of line 0
+
+module _ (first : List ℕ) (v : DriverView) (old mid new : Option (List ℕ)) (written : Appends old mid first) where
+  abbrev greeted : List (List ℕ) → List ℕ
+  greeted lines = first ++ blocks v lines
+
+  greeted_stops : (lines : List (List ℕ)) (s : Stop) → StopsAt (blocks v) mid new lines s → StopsAt greeted old new lines s
+  greeted_stops lines stop.WriteFault p = front_behind old mid new first (blocks v lines) written p
+  greeted_stops lines stop.Memory (n, p) = (n, Appends-trans old mid new first (blocks v (take n lines)) written p)
+
+  greeted_after : (input : Option (List ℕ)) (taken : List ℕ) (result : Status) → EndsAfter (blocks v) input mid new taken result → EndsAfter greeted input old new taken result
+  greeted_after input taken status.Done p = (p.0, Appends-trans old mid new first (blocks v (lines_in taken)) written p.1)
+  greeted_after input taken status.ReadFault p = (p.0, Appends-trans old mid new first (blocks v (ended_lines taken)) written p.1)
+  greeted_after input taken status.WriteFault p = (p.0, greeted_stops (lines_in taken) stop.WriteFault p.1)
+  greeted_after input taken status.Memory p = (p.0, greeted_stops (lines_in taken) stop.Memory p.1)
+  greeted_after input taken _ p = absurd p
+
+  pub ends_greeted : (input : Option (List ℕ)) (counted : ℕ) (result : Status) → EndsInput (blocks v) input mid new counted result → EndsServing (λ lines. first ++ blocks v lines) input old new counted result
+  ends_greeted input counted result e = inr (record { taken = e.taken; count = e.count; ends = greeted_after input e.taken result e.ends })
+
+-- it stops at the block of line 0
+pub ends_greeting : (first : List ℕ) (v : DriverView) (input old new : Option (List ℕ)) (counted : ℕ) (s : Stop) → StopsLine old new first s → EndsServing (λ lines. first ++ blocks v lines) input old new counted (status_of s)
+ends_greeting first v input old new counted stop.WriteFault p = inl (front_more old new first [] p)
+ends_greeting first v input old new counted stop.Memory p = inl p
+
+-- a line of a piece that was taken stopped it
+pub ends_piece : (v : DriverView) (input left behind old now new : Option (List ℕ)) (counted next : ℕ) (d : DriverView) (line piece : List ℕ) (s : Stop) (t : Taking v input left old now counted d line)
+    → Consumes left behind piece → next ≡ raised counted (length piece) → StopsAt (blocks v) old new (ended_lines (t.taken ++ piece)) s → EndsInput (blocks v) input old new next (status_of s)
+ends_piece v input left behind old now new counted next d line piece s t consumes count stops = record {
+  taken = t.taken ++ piece;
+  count = count ∙ ap (λ (k : ℕ). raised k (length piece)) t.count ∙ counted_more (length t.taken) (length piece) (2 ^ 64 - 1) ∙ sym (ap (raised 0) (length-append t.taken piece));
+  ends = ends_stopped v input old new (t.taken ++ piece) s (front_of input behind (t.taken ++ piece) (Consumes-trans input left behind t.taken piece t.consumed consumes)) stops;
+}

@@ -1,0 +1,81 @@
+-- What a driver makes of lines, and the blocks that answer them.
+use Rattle.std.specs.Prelude.{ℕ, List, [], ◌∷◌, ◌++◌, length, Option, None, Some, Result, Ok, Err}
+use Rattle.topology.specs.Networks.{Network}
+use Rattle.update_model.specs.declared.Change.{Change}
+use Rattle.two_way_driver.specs.Calls.{DriverView, start_fault, back_fault, silent}
+use Rattle.two_way_driver.specs.Laws.{after_call, driver_after}
+use Rattle.two_way_driver.specs.Laws as call
+use Rattle.two_way_driver.specs.declared.faults.CallFault.{CallFault}
+use Rattle.two_way_driver.specs.declared.faults.CallFault.TheVariants as fault
+use Rattle.serve_lines.specs.Lines.{line_in}
+use Rattle.serve_lines.specs.Blocks.{block_text}
+use Rattle.serve_lines.specs.declared.fault.LineFault.{LineFault}
+use Rattle.serve_lines.specs.declared.line.ServeLine.{ServeLine}
+use Rattle.serve_lines.specs.declared.line.ServeLine.TheVariants.{Comment, Start, Back, Reopen, Feed}
+use Rattle.serve_lines.specs.declared.blocks.Outcome.{Outcome}
+use Rattle.serve_lines.specs.declared.blocks.Outcome.TheVariants as outcome
+
+-- a driver after the call that a line asks for
+abbrev pub after_asked : DriverView → ServeLine → DriverView
+after_asked v Comment = v
+after_asked v Start = after_call v call.Start
+after_asked v Back = after_call v call.Back
+after_asked v (Reopen s) = after_call v (call.Reopen s)
+after_asked v (Feed s bytes) = after_call v (call.Feed s bytes)
+
+-- how a call ended that has this fault; want of memory is none
+abbrev pub refusal_of : CallFault → Outcome
+refusal_of fault.Running = outcome.Running
+refusal_of fault.Finished = outcome.Finished
+refusal_of fault.NotBegun = outcome.NotBegun
+refusal_of (fault.NotOpen s) = outcome.NotOpen s
+refusal_of fault.Memory = outcome.BadLine
+
+-- how a call ended, which has a fault or leads to this driver
+abbrev pub ended : Option CallFault → DriverView → Outcome
+ended None v = outcome.Went v.state.stage
+ended (Some fault) v = refusal_of fault
+
+-- how the line that asks for this ended
+abbrev pub outcome_asked : DriverView → ServeLine → Outcome
+outcome_asked v Comment = ended None v
+outcome_asked v Start = ended (start_fault v) (after_asked v Start)
+outcome_asked v Back = ended (back_fault v) (after_asked v Back)
+outcome_asked v (Reopen s) = ended None (after_asked v (Reopen s))
+outcome_asked v (Feed s bytes) = ended None (after_asked v (Feed s bytes))
+
+-- a bad line leaves the driver as it is
+abbrev pub after_read : DriverView → Result ServeLine LineFault → DriverView
+after_read v (Ok line) = after_asked v line
+after_read v (Err bad) = v
+
+abbrev pub outcome_read : DriverView → Result ServeLine LineFault → Outcome
+outcome_read v (Ok line) = outcome_asked v line
+outcome_read v (Err bad) = outcome.BadLine
+
+-- a driver behind a line, whose block is written: what was said is forgotten
+unfoldable pub after_line : DriverView → List ℕ → DriverView
+after_line v line = silent (after_read v (line_in v.net line))
+
+-- the block of a line
+unfoldable pub line_block : DriverView → List ℕ → List ℕ
+line_block v line = block_text v.net (length v.rounds) (after_read v (line_in v.net line)).state.said (outcome_read v (line_in v.net line))
+
+-- a driver behind lines
+abbrev pub after_lines : DriverView → List (List ℕ) → DriverView
+after_lines v [] = v
+after_lines v (line ∷ lines) = after_lines (after_line v line) lines
+
+-- the blocks of lines, one after the other
+abbrev pub blocks : DriverView → List (List ℕ) → List ℕ
+blocks v [] = []
+blocks v (line ∷ lines) = line_block v line ++ blocks (after_line v line) lines
+
+-- the block of line 0: what a driver says that was just made
+abbrev pub first_block : DriverView → List ℕ
+first_block v = block_text v.net (length v.rounds) v.state.said (ended None v)
+
+-- the text that answers lines: the driver that was made says its first block, and then one for each line
+unfoldable pub served_text : Network → List (List Change) → List (List Change) → List (List ℕ) → List ℕ
+served_text net rounds inverses lines =
+    first_block (driver_after net rounds inverses []) ++ blocks (silent (driver_after net rounds inverses [])) lines

@@ -1,0 +1,78 @@
+//! The input is taken piece by piece, and its lines are served.
+ghost use Rattle.std.specs.Prelude.{◌≡◌, ◌≢◌, ◌≤◌, [], ℕ, List, Option, IsTrue};
+ghost use Rattle.file_access.specs.Causes.{Rose};
+ghost use Rattle.two_way_driver.specs.Calls.{DriverView};
+ghost use Rattle.serve_command.specs.Served.{blocks};
+ghost use Rattle.serve_command.specs.Stops.{Suits, HasServed, AreAll, EndsAfter, EndsInput, status_of};
+
+use crate::lines::{Desk, serve_last, serve_piece};
+use crate::place::Place;
+use crate::stop::Stop;
+use command_base::Status;
+use file_access::{Failed, Sink, Source};
+
+const PIECE: usize = 4096;
+
+/// The status of a run that a line stops.
+pub fn status_of(stop: Stop) -> Status
+    ensures { result ≡ status_of stop }
+{
+    match stop {
+        Stop::WriteFault => Status::WriteFault,
+        Stop::Memory => Status::Memory,
+    }
+}
+
+/// Serves what stands behind the last line end, at the end of the input.
+fn serve_end<K: Sink>(place: &Place<'_>, desk: &mut Desk<'_>, sink: &mut K) -> Status
+    requires { Suits place.now desk.old.driver }
+    ensures ends { (v : DriverView) (input old : Option (List ℕ)) (bytes : List ℕ)
+        → AreAll input bytes
+        → HasServed v old (K.written sink.old) bytes desk.old.driver desk.old.line
+        → EndsAfter (blocks v) input old (K.written sink.new) bytes result }
+    ensures no_read_fault { result ≢ Status.ReadFault }
+    ensures write_fault { result ≡ Status.WriteFault
+        → Rose (K.faults sink.old) (K.faults sink.new) }
+    ensures later { K.faults sink.old ≤ K.faults sink.new }
+{
+    match serve_last(place, desk, sink) {
+        Ok(()) => Status::Done,
+        Err(stop) => status_of(stop),
+    }
+}
+
+/// Serves the lines of the current file of the source, up to its end. Behind 2^64 - 1 takes it ends as for want of memory.
+pub fn serve_input<S: Source, K: Sink>(
+    place: &Place<'_>,
+    desk: &mut Desk<'_>,
+    source: &mut S,
+    sink: &mut K,
+) -> Status
+    requires suits { Suits place.now desk.old.driver }
+    requires fresh { desk.old.line ≡ [] }
+    requires current { IsTrue (S.is_current source.old) }
+    requires untaken { S.taken source.old ≡ 0 }
+    ensures ends { EndsInput (blocks desk.old.driver) (S.left source.old) (K.written sink.old)
+        (K.written sink.new) (S.taken source.new) result }
+    ensures selected { S.selected source.new ≡ S.selected source.old }
+    ensures held { S.held source.new ≡ S.held source.old }
+    ensures read_fault { result ≡ Status.ReadFault
+        → Rose (S.faults source.old) (S.faults source.new) }
+    ensures write_fault { result ≡ Status.WriteFault
+        → Rose (K.faults sink.old) (K.faults sink.new) }
+    ensures later_source { S.faults source.old ≤ S.faults source.new }
+    ensures later_sink { K.faults sink.old ≤ K.faults sink.new }
+{
+    let mut piece = [0u8; PIECE];
+    'takes: for _ in 0..u64::MAX {
+        match source.take(&mut piece) {
+            Err(Failed) => return Status::ReadFault,
+            Ok(0) => return serve_end(place, desk, sink),
+            Ok(count) => match serve_piece(place, desk, sink, &piece[..count]) {
+                Ok(()) => {}
+                Err(stop) => return status_of(stop),
+            },
+        }
+    }
+    Status::Memory
+}

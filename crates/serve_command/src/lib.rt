@@ -1,0 +1,14 @@
+//! The command `serve`: the core of a controller that takes the lines of its input one after the other, and answers each with a
+//! block, with its promise.
+#![tactic(auto)]
+
+mod answers;
+mod command;
+mod greeting;
+mod input;
+mod lines;
+mod place;
+mod readings;
+mod stop;
+
+pub use crate::command::serve;
