@@ -108,6 +108,12 @@ PROVED = [
             "Works out what a controller that carries the plan out sends to each switch, when it is given the calls and bytes of INPUT. It writes, as comments, "
             "the bytes sent to each switch and the sessions that failed, then the events as a schedule, and last how many rounds are settled. Where a round is "
             "started when it can't be, it names the line. Where the plan isn't certified it answers as `check` does."),
+    Command("serve", "TOPO OLD NEW POLICY PLAN",
+            "the core of a controller, line by line: it takes starts of rounds, turns back and what came from the switches from the standard input, and answers "
+            "each line at once with what is to be sent",
+            "Is the core of a controller that carries the plan out, and can turn back. It takes lines from the standard input, `start`, `back`, `reopen SWITCH` and "
+            "`feed SWITCH HEX`, and answers each with a block of lines before it takes the next: the messages to send, the sessions that failed, the events, and how "
+            "far the update is. Its memory doesn't grow with the lines. Where the plan isn't certified it answers as `check` does."),
     Command("sample", "N",
             "one line on an update of its own making, a ring of N switches, 4 to 128, that it plans and checks: rounds, classes, numberings and picks",
             "Makes the update of a ring of N switches, from 4 to 128, plans it, checks the plan, and writes one line: the kind of the plan, and the numbers of "
@@ -170,13 +176,13 @@ WISHES = [
     ("a plan, rules or a run in words, or in the browser", ["show", "page"]),
     ("to try a plan: a run of it, where its packets went, and the tables then", ["simulate", "replay", "tables"]),
     ("to change the switches", ["update", "collect", "apply"]),
-    ("the bytes, and what a controller sends", ["import", "emit", "drive"]),
+    ("the bytes, and what a controller sends", ["import", "emit", "drive", "serve"]),
     ("my files from what I have, and back", ["from-ofctl", "from-mininet", "from-graphml", "to-ofctl"]),
     ("the rest", ["upgrade", "sample", "install"]),
 ]
 BY_NAME = {command.name: command for command in COMMANDS}
 # Commands of the program that are newer than some builds of it.
-NEW = ("paths", "trace", "tables", "certify", "pack")
+NEW = ("paths", "trace", "tables", "certify", "pack", "serve")
 
 DESCRIPTION = (
     "plans and checks updates of OpenFlow 1.0 flow tables while packets flow. From a network, the rules now, the rules wanted and what packets must do, it "

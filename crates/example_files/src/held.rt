@@ -125,3 +125,33 @@ pub fn driven_source(
     source.add(String::from_str(alloc, "input")?, input.to_vec(alloc)?)?;
     Ok(source)
 }
+
+/// A source that holds `topology`, `old`, `new`, `policy` and `plan`, and these lines as the standard input. A take gives at most
+/// so many bytes, and no call fails.
+pub fn served_source(
+    alloc: Global,
+    texts: &UpdateTexts<'_>,
+    plan: &[u8],
+    lines: &[u8],
+    piece: usize,
+) -> Result<MemorySource, Memory>
+    requires { 1 ≤ piece }
+{
+    let mut source = MemorySource::make(alloc, piece, Vec::new(alloc))?;
+    source.add(
+        String::from_str(alloc, "topology")?,
+        texts.topology.to_vec(alloc)?,
+    )?;
+    source.add(String::from_str(alloc, "old")?, texts.old.to_vec(alloc)?)?;
+    source.add(String::from_str(alloc, "new")?, texts.new.to_vec(alloc)?)?;
+    source.add(
+        String::from_str(alloc, "policy")?,
+        texts.policy.to_vec(alloc)?,
+    )?;
+    source.add(String::from_str(alloc, "plan")?, plan.to_vec(alloc)?)?;
+    source.add(
+        String::from_str(alloc, "/dev/stdin")?,
+        lines.to_vec(alloc)?,
+    )?;
+    Ok(source)
+}

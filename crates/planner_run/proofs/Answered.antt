@@ -9,7 +9,7 @@ use Rattle.command_base.specs.Answers.{Answer}
 use Rattle.command_base.specs.Dialogues.{LeadsTo, Lacks}
 use Rattle.command_base.specs.Runs.{IsSettled, EndsAs, Answered, AnswersAll, AnswersFront}
 use Rattle.command_base.proofs.RunLaws.{told_all, told_front}
-use Rattle.planner_run.specs.Commands.{Asked, asked, dialogue, dialogue_of, dialogue_on, IsSaid, usage_line}
+use Rattle.planner_run.specs.Commands.{Asked, AsksToServe, asked, dialogue, dialogue_of, dialogue_on, IsSaid, usage_line}
 
 -- the dialogue of a command is that of the words that ask for it
 pub leads_asked : (held : Option Files) (words : List (List ℕ)) (a : Asked) (answer : Answer) (selected : List ℕ) (taken : ℕ)
@@ -67,3 +67,7 @@ unfolding dialogue
 answered held words old new result files a all tells asks =
     let there : Answered IsSaid files (dialogue words) old new result = subst (λ h. AnswersAll IsSaid h (dialogue words) old new result) tells all in
     subst (λ b. Answered IsSaid files (dialogue_on b) old new result) asks there
+
+-- words that ask for another command don't ask to serve
+pub unserved : {words : List (List ℕ)} {a : Asked} → asked words ≡ Some a → ¬ AsksToServe (Some a) → ¬ AsksToServe (asked words)
+unserved asks other serves = other (subst AsksToServe asks serves)

@@ -34,6 +34,7 @@ use Rattle.import_command.specs.Imported.{ImportMeaning, import_dialogue, IsImpo
 use Rattle.explain_command.specs.Explained.{IsExplainAnswer}
 use Rattle.drive_command.specs.Names as drive
 use Rattle.drive_command.specs.Driven.{DriveMeaning, drive_dialogue, IsDriveAnswer}
+use Rattle.serve_command.specs.Serving.{SaysRefusal}
 use Rattle.planner_run.specs.declared.command.Command.{Command}
 use Rattle.planner_run.specs.declared.command.Command.TheVariants as command
 use Rattle.planner_run.specs.declared.command.CommandName.{CommandName}
@@ -56,6 +57,7 @@ pub data Asked : Type 0 where
   Explain : check.CheckNames → Asked
   Import : imports.ImportNames → Asked
   Drive : drive.DriveNames → Asked
+  Serve : check.CheckNames → Asked
   Sample : ℕ → Asked
 
 -- the command of a name, if it is that of one
@@ -76,6 +78,7 @@ name_in word =
     else if bytes_eq word (codes "explain") then Some command_name.Explain
     else if bytes_eq word (codes "import") then Some command_name.Import
     else if bytes_eq word (codes "drive") then Some command_name.Drive
+    else if bytes_eq word (codes "serve") then Some command_name.Serve
     else if bytes_eq word (codes "sample") then Some command_name.Sample
     else None
 
@@ -96,6 +99,7 @@ asked_by command_name.Simulate words = option_map Simulate (simulate.names_in wo
 asked_by command_name.Explain words = option_map Explain (check.names_in words)
 asked_by command_name.Import words = option_map Import (imports.names_in words)
 asked_by command_name.Drive words = option_map Drive (drive.names_in words)
+asked_by command_name.Serve words = option_map Serve (check.names_in words)
 asked_by command_name.Sample words = option_map Sample (sample.size_in words)
 
 -- the same behind a name that is that of a command, or none
@@ -125,6 +129,7 @@ seen (command.Simulate names) = Simulate (simulate.names_seen names)
 seen (command.Explain names) = Explain (check.names_seen names)
 seen (command.Import names) = Import (imports.names_seen names)
 seen (command.Drive names) = Drive (drive.names_seen names)
+seen (command.Serve names) = Serve (check.names_seen names)
 seen (command.Sample size) = Sample size.switches
 
 -- of what a command says its answer
@@ -144,6 +149,7 @@ pub data Ending : Type 0 where
   OfExplain : CheckMeaning → Ending
   OfImport : ImportMeaning → Ending
   OfDrive : DriveMeaning → Ending
+  OfServe : CheckMeaning → Ending
   OfSample : ℕ → Ending
   OfUsage : Ending
 
@@ -151,7 +157,7 @@ pub data Ending : Type 0 where
 abbrev pub usage_line : List ℕ
 usage_line = codes "unknown command or wrong words\n"
 
--- what each command says of it
+-- what each command says of it; `serve` of a plan that it doesn't serve
 abbrev pub IsSaid : Ending → Answer → Type 0
 IsSaid (OfConfig m) answer = IsConfigAnswer m answer
 IsSaid (OfPaths m) answer = IsPathsAnswer m answer
@@ -168,6 +174,7 @@ IsSaid (OfSimulate start count m) answer = IsSimulateAnswer start count m answer
 IsSaid (OfExplain m) answer = IsExplainAnswer m answer
 IsSaid (OfImport m) answer = IsImportAnswer m answer
 IsSaid (OfDrive m) answer = IsDriveAnswer m answer
+IsSaid (OfServe m) answer = SaysRefusal m answer
 IsSaid (OfSample n) answer = SaysSummary n answer
 IsSaid OfUsage answer = answer ≡ record { status = status.Usage; text = usage_line }
 
@@ -188,6 +195,7 @@ dialogue_of (Simulate names) = and_then (check_dialogue names.check) (λ m. Ends
 dialogue_of (Explain names) = and_then (check_dialogue names) (λ m. Ends (OfExplain m))
 dialogue_of (Import names) = and_then (import_dialogue names) (λ m. Ends (OfImport m))
 dialogue_of (Drive names) = and_then (drive_dialogue names) (λ m. Ends (OfDrive m))
+dialogue_of (Serve names) = and_then (check_dialogue names) (λ m. Ends (OfServe m))
 dialogue_of (Sample n) = Ends (OfSample n)
 
 -- the dialogue of what is asked for, if anything is
@@ -198,3 +206,9 @@ dialogue_on (Some asked) = dialogue_of asked
 -- the program's dialogue with its files on these words
 unfoldable pub dialogue : List (List ℕ) → Dialogue Ending
 dialogue words = dialogue_on (asked words)
+
+-- a plan is to be served: then lines are answered one by one, and not the files by one text
+abbrev pub AsksToServe : Option Asked → Type 0
+AsksToServe None = ⊥
+AsksToServe (Some (Serve names)) = Unit {0}
+AsksToServe (Some other) = ⊥

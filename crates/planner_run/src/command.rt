@@ -30,6 +30,7 @@ pub enum Command<'a> {
     Explain(CheckNames<'a>),
     Import(ImportNames<'a>),
     Drive(DriveNames<'a>),
+    Serve(CheckNames<'a>),
     Sample(RingSize),
 }
 
@@ -51,6 +52,7 @@ pub enum CommandName {
     Explain,
     Import,
     Drive,
+    Serve,
     Sample,
 }
 
@@ -74,6 +76,7 @@ fn name_of(word: &str) -> Option<CommandName>
         "explain" => Some(CommandName::Explain),
         "import" => Some(CommandName::Import),
         "drive" => Some(CommandName::Drive),
+        "serve" => Some(CommandName::Serve),
         "sample" => Some(CommandName::Sample),
         _ => None,
     }
@@ -99,6 +102,7 @@ fn asked_by(name: CommandName, words: &[String]) -> Option<Command<'_>>
         CommandName::Explain => check_names(words).map(Command::Explain),
         CommandName::Import => import_names(words).map(Command::Import),
         CommandName::Drive => drive_names(words).map(Command::Drive),
+        CommandName::Serve => check_names(words).map(Command::Serve),
         CommandName::Sample => match ring_size(words) {
             Some(size) => Some(Command::Sample(size)),
             None => None,

@@ -2,7 +2,7 @@
 ghost use Rattle.std.specs.Prelude.{◌≡◌, ◌≢◌, ◌⊎◌, ◌↔◌, ◌≤◌, ℕ, None, Some, IfOk, IfErr, map, string_bytes};
 ghost use Rattle.std.specs.Io.KnownBytes.{Appends, Keeps};
 ghost use Rattle.file_access.specs.Causes.{Rose};
-ghost use Rattle.file_access.specs.Outside.{Files, AppendsFront};
+ghost use Rattle.file_access.specs.Outside.{Files, AppendsFront, IsMissing};
 ghost use Rattle.command_base.specs.Dialogues.{Lacks};
 ghost use Rattle.command_base.specs.Names.{UpdateNames, PlanNames};
 ghost use Rattle.command_base.specs.Replies.{answer_of, Meets};
@@ -11,6 +11,7 @@ ghost use Rattle.config_command.specs.Names.{ConfigNames};
 ghost use Rattle.config_command.specs.Promise.{ConfigPromise};
 ghost use Rattle.paths_command.specs.Promise.{PathsPromise};
 ghost use Rattle.check_base.specs.Names.{CheckNames};
+ghost use Rattle.check_base.specs.Checks.{check_dialogue};
 ghost use Rattle.check_command.specs.Promise.{CheckPromise};
 ghost use Rattle.certify_command.specs.Promise.{CertifyPromise};
 ghost use Rattle.plan_command.specs.Promise.{PlanPromise};
@@ -29,9 +30,10 @@ ghost use Rattle.import_command.specs.Names.{ImportNames};
 ghost use Rattle.import_command.specs.Promise.{ImportPromise};
 ghost use Rattle.drive_command.specs.Names.{DriveNames};
 ghost use Rattle.drive_command.specs.Promise.{DrivePromise};
+ghost use Rattle.serve_command.specs.Serving.{IsServeEnd, input_name};
 ghost use Rattle.sample_command.specs.Summaries.{SaysSummary};
 ghost use Rattle.sample_command.specs.Promise.{SamplePromise};
-ghost use Rattle.planner_run.specs.Commands.{Config, Paths, Check, Certify, Plan, Pack, Upgrade, Emit, Replay, Tables, Trace, Simulate, Explain, Import, Drive, Sample, asked, seen, dialogue, dialogue_of, IsSaid, usage_line};
+ghost use Rattle.planner_run.specs.Commands.{Config, Paths, Check, Certify, Plan, Pack, Upgrade, Emit, Replay, Tables, Trace, Simulate, Explain, Import, Drive, Serve, Sample, AsksToServe, asked, seen, dialogue, dialogue_of, IsSaid, usage_line};
 
 use crate::command::{Command, command_of};
 use certify_command::certify;
@@ -51,16 +53,17 @@ use file_access::{Sink, Source, WriteFault, pour};
 use import_command::import;
 use import_command::laws::import_promised;
 use net_base::Memory;
-use paths_command::laws::paths_promised;
-use paths_command::paths;
 use pack_command::laws::pack_promised;
 use pack_command::pack;
+use paths_command::laws::paths_promised;
+use paths_command::paths;
 use plan_command::laws::plan_promised;
 use plan_command::plan;
 use replay_command::laws::replay_promised;
 use replay_command::replay;
 use sample_command::laws::sample_promised;
 use sample_command::{RingSize, sample};
+use serve_command::serve;
 use simulate_command::laws::simulate_promised;
 use simulate_command::simulate;
 use std::alloc::Global;
@@ -86,6 +89,7 @@ fn sample_reply(alloc: Global, size: RingSize) -> Result<Reply, Exit>
 
 /// The reply to a command. A sample leaves the source as it is, so it has no fault of reading.
 fn reply_to<S: Source>(alloc: Global, command: &Command<'_>, source: &mut S) -> Result<Reply, Exit>
+    requires { ¬ AsksToServe (Some (seen command.now)) }
     ensures meets { Meets IsSaid (S.held source.old) (dialogue_of (seen command.now))
         (S.faults source.old) (S.faults source.new) result (S.selected source.new)
         (S.taken source.new) }
@@ -110,6 +114,7 @@ fn reply_to<S: Source>(alloc: Global, command: &Command<'_>, source: &mut S) -> 
         Command::Explain(names) => explain(alloc, source, names),
         Command::Import(names) => import(alloc, source, names),
         Command::Drive(names) => drive(alloc, source, names),
+        Command::Serve(_) => unreachable!(),
         Command::Sample(size) => sample_reply(alloc, *size),
     }
 }
@@ -137,30 +142,45 @@ fn respond<S: Source, K: Sink>(
     source: &mut S,
     sink: &mut K,
 ) -> Status
-    // The status and the text are where the dialogue of the words leads.
-    ensures ends { EndsAs IsSaid (S.held source.old) (dialogue (map string_bytes words.now))
+    // The status and the text are where the dialogue of the words leads, unless a plan is to be served.
+    ensures ends { ¬ AsksToServe (asked (map string_bytes words.now))
+        → EndsAs IsSaid (S.held source.old) (dialogue (map string_bytes words.now))
         (K.written sink.old) (K.written sink.new) (S.selected source.new) (S.taken source.new)
         result }
 
     // Where the source tells, a settled run has the status and the whole text of the answer over its files.
-    ensures all { IsSettled result
+    ensures all { ¬ AsksToServe (asked (map string_bytes words.now)) → IsSettled result
         → AnswersAll IsSaid (S.held source.old) (dialogue (map string_bytes words.now))
         (K.written sink.old) (K.written sink.new) result }
-    ensures front { result ≡ Status.WriteFault
+    ensures front { ¬ AsksToServe (asked (map string_bytes words.now))
+        → result ≡ Status.WriteFault
         → AnswersFront IsSaid (S.held source.old) (dialogue (map string_bytes words.now))
         (K.written sink.old) (K.written sink.new) }
-    ensures nothing { (result ≡ Status.ReadFault) ⊎ (result ≡ Status.Memory)
+    ensures nothing { ¬ AsksToServe (asked (map string_bytes words.now))
+        → (result ≡ Status.ReadFault) ⊎ (result ≡ Status.Memory)
         → Keeps (K.written sink.old) (K.written sink.new) }
 
     // Usage comes exactly for words that are none of the listed forms.
     ensures usage { IsSettled result
         → ((result ≡ Status.Usage) ↔ (asked (map string_bytes words.now) ≡ None)) }
 
-    ensures read_fault { result ≡ Status.ReadFault
+    ensures read_fault { ¬ AsksToServe (asked (map string_bytes words.now))
+        → result ≡ Status.ReadFault
         → Rose (S.faults source.old) (S.faults source.new)
         ⊎ Lacks (S.held source.old) (dialogue (map string_bytes words.now)) }
     ensures write_fault { result ≡ Status.WriteFault
         → Rose (K.faults sink.old) (K.faults sink.new) }
+
+    // A plan that is served answers the lines of the standard input, one after the other.
+    ensures serve { (names : CheckNames)
+        → asked (map string_bytes words.now) ≡ Some (Serve names)
+        → IsServeEnd (S.held source.old) names (K.written sink.old) (K.written sink.new)
+        (S.selected source.new) (S.taken source.new) result }
+    ensures serve_fault { (names : CheckNames)
+        → asked (map string_bytes words.now) ≡ Some (Serve names) → result ≡ Status.ReadFault
+        → Rose (S.faults source.old) (S.faults source.new)
+        ⊎ Lacks (S.held source.old) (check_dialogue names)
+        ⊎ IsMissing (S.held source.old) input_name }
 
     // A sample leaves the source as it is.
     ensures unread { (n : ℕ) → asked (map string_bytes words.now) ≡ Some (Sample n) → source.new
@@ -170,6 +190,7 @@ fn respond<S: Source, K: Sink>(
 {
     match command_of(words) {
         None => write_answer(sink, Status::Usage, USAGE_LINE),
+        Some(Command::Serve(names)) => serve(alloc, source, sink, &names),
         Some(command) => match reply_to(alloc, &command, source) {
             Ok(reply) => write_answer(sink, reply.status, &reply.text),
             Err(Exit::Says(reply)) => write_answer(sink, reply.status, &reply.text),
@@ -181,33 +202,38 @@ fn respond<S: Source, K: Sink>(
 
 /// Does what the words ask for, with the files of the source, and writes the text to the sink.
 ///
-/// `words` are those after the program's name. The answer is built whole before any of it is written.
+/// `words` are those after the program's name. The answer is built whole before any of it is written; `serve` alone answers line
+/// by line.
 pub fn run<S: Source, K: Sink>(
     alloc: Global,
     words: &[String],
     source: &mut S,
     sink: &mut K,
 ) -> Status
-    // The status and the text are where the dialogue of the words leads.
-    ensures ends { EndsAs IsSaid (S.held source.old) (dialogue (map string_bytes words.now))
+    // The status and the text are where the dialogue of the words leads, unless a plan is to be served.
+    ensures ends { ¬ AsksToServe (asked (map string_bytes words.now))
+        → EndsAs IsSaid (S.held source.old) (dialogue (map string_bytes words.now))
         (K.written sink.old) (K.written sink.new) (S.selected source.new) (S.taken source.new)
         result }
 
     // Where the source tells, a settled run has the status and the whole text of the answer over its files.
-    ensures all { IsSettled result
+    ensures all { ¬ AsksToServe (asked (map string_bytes words.now)) → IsSettled result
         → AnswersAll IsSaid (S.held source.old) (dialogue (map string_bytes words.now))
         (K.written sink.old) (K.written sink.new) result }
-    ensures front { result ≡ Status.WriteFault
+    ensures front { ¬ AsksToServe (asked (map string_bytes words.now))
+        → result ≡ Status.WriteFault
         → AnswersFront IsSaid (S.held source.old) (dialogue (map string_bytes words.now))
         (K.written sink.old) (K.written sink.new) }
-    ensures nothing { (result ≡ Status.ReadFault) ⊎ (result ≡ Status.Memory)
+    ensures nothing { ¬ AsksToServe (asked (map string_bytes words.now))
+        → (result ≡ Status.ReadFault) ⊎ (result ≡ Status.Memory)
         → Keeps (K.written sink.old) (K.written sink.new) }
 
     // Usage comes exactly for words that are none of the listed forms.
     ensures usage { IsSettled result
         → ((result ≡ Status.Usage) ↔ (asked (map string_bytes words.now) ≡ None)) }
 
-    ensures read_fault { result ≡ Status.ReadFault
+    ensures read_fault { ¬ AsksToServe (asked (map string_bytes words.now))
+        → result ≡ Status.ReadFault
         → Rose (S.faults source.old) (S.faults source.new)
         ⊎ Lacks (S.held source.old) (dialogue (map string_bytes words.now)) }
     ensures write_fault { result ≡ Status.WriteFault
@@ -262,6 +288,17 @@ pub fn run<S: Source, K: Sink>(
     ensures drive { (files : Files) (names : DriveNames) → S.held source.old ≡ Some files
         → asked (map string_bytes words.now) ≡ Some (Drive names)
         → DrivePromise files names (K.written sink.old) (K.written sink.new) result }
+
+    // A plan that is served answers the lines of the standard input, one after the other.
+    ensures serve { (names : CheckNames)
+        → asked (map string_bytes words.now) ≡ Some (Serve names)
+        → IsServeEnd (S.held source.old) names (K.written sink.old) (K.written sink.new)
+        (S.selected source.new) (S.taken source.new) result }
+    ensures serve_fault { (names : CheckNames)
+        → asked (map string_bytes words.now) ≡ Some (Serve names) → result ≡ Status.ReadFault
+        → Rose (S.faults source.old) (S.faults source.new)
+        ⊎ Lacks (S.held source.old) (check_dialogue names)
+        ⊎ IsMissing (S.held source.old) input_name }
 
     // A sample reads no file: its promise holds over every source, which it leaves as it is.
     ensures sample { (n : ℕ) → asked (map string_bytes words.now) ≡ Some (Sample n)

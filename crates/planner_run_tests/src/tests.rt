@@ -3,7 +3,7 @@ ghost use Rattle.std.specs.Prelude.{◌≤◌};
 
 use command_base::Status;
 use example_files::{
-    Answer, ConfigTexts, UpdateTexts, config_source, driven_source, square, update_source, words,
+    Answer, ConfigTexts, UpdateTexts, config_source, driven_source, served_source, square, update_source, words,
 };
 use file_access::{MemorySink, MemorySource};
 use planner_run::run::run;
@@ -303,5 +303,31 @@ fn other_words_and_names(rt: HostRuntime) {
         let answer = ran_over(&rt, rt.alloc(), texts, &mut source);
         let text = if want == Status::Usage { usage } else { b"" };
         assert!(rt; answer.is(want, text), "{texts:?}");
+    }
+}
+
+/// What happens at the core of a controller: sessions open, one of them in pieces; a round is made, and then taken back.
+const LINES: &[u8] = b"# hello\nback\nstart\n\
+feed s1 0100000800000000\nfeed s2 0100000800000000\nfeed s3 01000008000000\nfeed s3 00\nfeed s4 0100000800000000\n\
+start\nfeed s1 0113000800000002\noops\nback";
+
+/// The block of line 0, and one for each line.
+const BLOCKS: &[u8] = b"send s1 0100000800000000\nsend s2 0100000800000000\nsend s3 0100000800000000\nsend s4 0100000800000000\nok settled 0 of 2\n\
+ok settled 0 of 2\nno begun\nno open s1\n\
+ok settled 0 of 2\nok settled 0 of 2\nok settled 0 of 2\nok settled 0 of 2\nok settled 0 of 2\n\
+start\nsend s1 010e005000000001003220ef000000000000000000000000000000000000080000000000000000000a0000000000000000000000000000000002000000000064ffffffffffff00000000000800040000\nsend s1 0112000800000002\nok running 1 of 2\n\
+change 0\nsettle\nok settled 1 of 2\n\
+bad line\n\
+back\nsend s1 010e005000000003003220ef000000000000000000000000000000000000080000000000000000000a0000000000000000000000000000000002000000000064ffffffffffff00000000000800020000\nsend s1 0112000800000004\nok running 1 of 2\n";
+
+#[test]
+fn each_line_is_answered(rt: HostRuntime) {
+    for piece in [1, 7, 4096] {
+        let alloc = rt.alloc();
+        let source = served_source(alloc, &square::update(), square::plan(), LINES, piece);
+        let mut source = source.expect(&rt, "a source");
+        let words = ["serve", "topology", "old", "new", "policy", "plan"];
+        let answer = ran_over(&rt, alloc, &words, &mut source);
+        assert!(rt; answer.is(Status::Done, BLOCKS), "{piece}");
     }
 }

@@ -1,5 +1,5 @@
 -- How a run ends that says something of its files.
-use Rattle.std.proofs.Common.{◌≡◌, ◌≢◌, ℕ, List, None, inl, inr, refl, sym}
+use Rattle.std.proofs.Common.{◌≡◌, ◌≢◌, ℕ, List, None, inl, inr, refl, sym, subst}
 use Rattle.std.specs.Prelude.{Option, ◌⊎◌}
 use Rattle.std.specs.Io.KnownBytes.{Appends}
 use Rattle.file_access.specs.Outside.{Files, AppendsFront}
@@ -11,6 +11,7 @@ use Rattle.command_base.specs.Runs.{EndsAs}
 use Rattle.command_base.proofs.DialogueLaws.{leads_whole}
 use Rattle.check_base.specs.Checks.{CheckMeaning}
 use Rattle.serve_command.specs.Serving.{SaysRefusal, EndsRefused}
+use Rattle.serve_command.specs.Stops.{EndsServing}
 
 wrote : (old new : Option (List ℕ)) (answer : Answer) (result : Status) → result ≢ status.WriteFault → (result ≡ status.WriteFault) ⊎ ((result ≡ answer.status) × Appends old new answer.text) → (answer.status ≡ result) × Appends old new answer.text
 wrote old new answer result other (inl is) = absurd (other is)
@@ -44,3 +45,11 @@ ends_refused held d m last old new selected taken status.BadFile gives whole (an
 ends_refused held d m last old new selected taken status.TooFewTags gives whole (answer, says, is, all) = (answer, leads_whole gives says whole, is, all)
 ends_refused held d m last old new selected taken status.TooSmall gives whole (answer, says, is, all) = (answer, leads_whole gives says whole, is, all)
 ends_refused held d m last old new selected taken status.NotARun gives whole (answer, says, is, all) = (answer, leads_whole gives says whole, is, all)
+
+usage_ends_nothing : (text : List (List ℕ) → List ℕ) (input old new : Option (List ℕ)) (taken : ℕ) → EndsServing text input old new taken status.Usage → ⊥
+usage_ends_nothing text input old new taken (inl before) = before
+usage_ends_nothing text input old new taken (inr among) = among.ends
+
+-- a driver that is served ends by no wrong words
+pub never_usage : (text : List (List ℕ) → List ℕ) (input old new : Option (List ℕ)) (taken : ℕ) (result : Status) → EndsServing text input old new taken result → result ≢ status.Usage
+never_usage text input old new taken result ends is = usage_ends_nothing text input old new taken (subst (λ (s : Status). EndsServing text input old new taken s) is ends)

@@ -43,6 +43,7 @@ fn write_reply<K: Sink>(sink: &mut K, reply: &Reply) -> Status
         × Appends (K.written sink.old) (K.written sink.new) reply.now.text.items) }
     ensures front { result ≡ Status.WriteFault
         → AppendsFront (K.written sink.old) (K.written sink.new) reply.now.text.items }
+    ensures usage { result ≢ Status.Usage }
     ensures cause { result ≡ Status.WriteFault → Rose (K.faults sink.old) (K.faults sink.new) }
     ensures later { K.faults sink.old ≤ K.faults sink.new }
 {
@@ -59,6 +60,7 @@ fn write_exit<K: Sink>(sink: &mut K, exit: Exit) -> Status
         → EndsEarly held None dialogue before now exit selected taken
         → EndsAs SaysRefusal held dialogue (K.written sink.old) (K.written sink.new) selected taken
         result }
+    ensures usage { result ≢ Status.Usage }
     ensures read_fault { result ≡ Status.ReadFault → exit ≡ Exit.ReadFault }
     ensures write_fault { result ≡ Status.WriteFault
         → Rose (K.faults sink.old) (K.faults sink.new) }
@@ -174,6 +176,7 @@ fn serve_files<S: Source, K: Sink>(
         × EndsRefused (meaning_of files.now) (K.written sink.old) (K.written sink.new) result)
         ⊎ Serves (meaning_of files.now) (input_of (S.held source.old)) (K.written sink.old)
         (K.written sink.new) (S.taken source.new) result }
+    ensures usage { result ≢ Status.Usage }
     ensures held { S.held source.new ≡ S.held source.old }
     ensures read_fault { result ≡ Status.ReadFault
         → Rose (S.faults source.old) (S.faults source.new)
@@ -212,6 +215,7 @@ pub fn serve<S: Source, K: Sink>(
 ) -> Status
     ensures ends { IsServeEnd (S.held source.old) (names_seen names.now) (K.written sink.old)
         (K.written sink.new) (S.selected source.new) (S.taken source.new) result }
+    ensures usage { result ≢ Status.Usage }
     ensures held { S.held source.new ≡ S.held source.old }
     ensures read_fault { result ≡ Status.ReadFault
         → Rose (S.faults source.old) (S.faults source.new)
