@@ -69,5 +69,5 @@ answered held words old new result files a all tells asks =
     subst (λ b. Answered IsSaid files (dialogue_on b) old new result) asks there
 
 -- words that ask for another command don't ask to serve
-pub unserved : {words : List (List ℕ)} {a : Asked} → asked words ≡ Some a → ¬ AsksToServe (Some a) → ¬ AsksToServe (asked words)
-unserved asks other serves = other (subst AsksToServe asks serves)
+pub unserved : (words : List (List ℕ)) (a : Asked) → asked words ≡ Some a → ¬ AsksToServe (Some a) → ¬ AsksToServe (asked words)
+unserved words a asks other serves = other (subst AsksToServe asks serves)
