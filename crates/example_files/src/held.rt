@@ -149,9 +149,6 @@ pub fn served_source(
         texts.policy.to_vec(alloc)?,
     )?;
     source.add(String::from_str(alloc, "plan")?, plan.to_vec(alloc)?)?;
-    source.add(
-        String::from_str(alloc, "/dev/stdin")?,
-        lines.to_vec(alloc)?,
-    )?;
+    source.add(String::from_str(alloc, "/dev/stdin")?, lines.to_vec(alloc)?)?;
     Ok(source)
 }

@@ -18,6 +18,6 @@ pub mod wide;
 
 pub use crate::answer::{Answer, answer_of};
 pub use crate::held::{
-    ConfigTexts, UpdateTexts, config_source, driven_source, served_source, plan_names, update_names,
-    update_source, words,
+    ConfigTexts, UpdateTexts, config_source, driven_source, plan_names, served_source,
+    update_names, update_source, words,
 };

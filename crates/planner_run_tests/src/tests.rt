@@ -3,7 +3,8 @@ ghost use Rattle.std.specs.Prelude.{◌≤◌};
 
 use command_base::Status;
 use example_files::{
-    Answer, ConfigTexts, UpdateTexts, config_source, driven_source, served_source, square, update_source, words,
+    Answer, ConfigTexts, UpdateTexts, config_source, driven_source, served_source, square,
+    update_source, words,
 };
 use file_access::{MemorySink, MemorySource};
 use planner_run::run::run;
@@ -312,7 +313,8 @@ feed s1 0100000800000000\nfeed s2 0100000800000000\nfeed s3 01000008000000\nfeed
 start\nfeed s1 0113000800000002\noops\nback";
 
 /// The block of line 0, and one for each line.
-const BLOCKS: &[u8] = b"send s1 0100000800000000\nsend s2 0100000800000000\nsend s3 0100000800000000\nsend s4 0100000800000000\nok settled 0 of 2\n\
+const BLOCKS: &[u8] =
+    b"send s1 0100000800000000\nsend s2 0100000800000000\nsend s3 0100000800000000\nsend s4 0100000800000000\nok settled 0 of 2\n\
 ok settled 0 of 2\nno begun\nno open s1\n\
 ok settled 0 of 2\nok settled 0 of 2\nok settled 0 of 2\nok settled 0 of 2\nok settled 0 of 2\n\
 start\nsend s1 010e005000000001003220ef000000000000000000000000000000000000080000000000000000000a0000000000000000000000000000000002000000000064ffffffffffff00000000000800040000\nsend s1 0112000800000002\nok running 1 of 2\n\
