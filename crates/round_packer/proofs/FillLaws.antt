@@ -1,7 +1,8 @@
 -- A change that is tried beside those that are taken.
 use Rattle.std.proofs.Common.{◌≡◌, ℕ, zero, suc, ◌<◌, ◌≤◌, Bool, List, [], ◌∷◌, ◌++◌, length, drop, get_or, refl, sym, ◌∙◌, subst, ap, inl, inr, arith}
 use Rattle.std.specs.List.{AllByRecursion}
-use Rattle.net_base.proofs.MemberLaws.{each_append}
+use Rattle.net_base.specs.Members.{IsIn}
+use Rattle.net_base.proofs.MemberLaws.{each_append, each_at}
 use Rattle.topology.specs.Networks.{Network}
 use Rattle.flow_rules.specs.declared.rules.Rule.{Rule}
 use Rattle.update_model.specs.Changes.{rule_of}
@@ -13,9 +14,11 @@ use Rattle.round_mix.specs.Prepared.{MixedState}
 use Rattle.mixed_walks.specs.Walks.{TablesKeepVlans}
 use Rattle.packed_rounds.specs.Packing.{Target, CanStand, IsFilled}
 use Rattle.round_trials.specs.Filling.{TrialState, FitTables, IsTrial}
-use Rattle.round_packer.specs.Kept.{AreKept, HasUnsafe, HasAtoms, ArePreparedFor}
-use Rattle.round_packer.specs.Filling.{IsPlain, IsFilling, IsTried}
+use Rattle.round_packer.specs.declared.failing.Failure.{Failure}
+use Rattle.round_packer.specs.Kept.{AreKept, HasAtoms, ArePreparedFor, IsFailing, IsFailureOf}
+use Rattle.round_packer.specs.Filling.{IsPlain, IsFilling, IsTried, HasFailed}
 use Rattle.round_packer.proofs.KeptLaws.{keeps_round}
+use Rattle.round_packer.proofs.FailureLaws.{never_beside, all_more, failed_here, each_both}
 
 -- the switches are prepared for the taken changes, as walks want it
 pub prepared_here : (net : Network) (mixes : List MixedState) (tables : List (List Rule)) (round : List Change) → TablesKeepVlans tables → AllByRecursion (λ c. KeepsVlan (rule_of c).action) round
@@ -70,19 +73,77 @@ module _ (to : Target) (tables : List (List Rule)) (round : List Change) (p : Tr
           filling_with (round ++ c ∷ []) q trial same taken keeps_more new kept marks atoms,
         )
 
-    -- a class is not safe beside it
-    pub tried_unsafe : (q : TrialState) → IsTrial to.net q → q.tables ≡ p.tables → q.round ≡ round → HasUnsafe to tables (round ++ c ∷ []) → (new : List ℕ) → AreKept to tables round new
+    -- it fails for a class
+    pub tried_failed : (q : TrialState) → IsTrial to.net q → q.tables ≡ p.tables → q.round ≡ round → (f : Failure) → IsFailureOf to tables (round ++ c ∷ []) c f → (new : List ℕ) → AreKept to tables round new
         → (marks : List Bool) → HasAtoms to.classes marks → IsTried to tables round c q new marks
-    tried_unsafe q trial same is unsafe new kept marks atoms =
-        inr (λ can. unsafe.never (can.safe unsafe.number unsafe.class unsafe.is_class), filling_with round q trial same is at.changes new kept marks atoms)
+    tried_failed q trial same is f (of_it, fails) new kept marks atoms =
+        inr (λ can. fails.never (can.safe fails.number f.class fails.is_class), filling_with round q trial same is at.changes new kept marks atoms)
 
--- one change more was tried
-pub filled_next : (to : Target) (tables : List (List Rule)) (taken round : List Change) (c : Change) (front rest : List Change) (q : TrialState) (new : List ℕ) (marks : List Bool)
-    → ((last : List Change) → IsFilled (CanStand to tables) round (c ∷ rest) last → IsFilled (CanStand to tables) taken front last)
-    → IsTried to tables round c q new marks
-    → (next : List Change) × IsFilling to tables next q new marks × ((last : List Change) → IsFilled (CanStand to tables) next rest last → IsFilled (CanStand to tables) taken front last)
-filled_next to tables taken round c front rest q new marks so_far (inl (can, filling)) = (round ++ c ∷ [], filling, λ last filled. so_far last (inl (can, filled)))
-filled_next to tables taken round c front rest q new marks so_far (inr (never, filling)) = (round, filling, λ last filled. so_far last (inr (never, filled)))
+    -- and that is known
+    pub failed_now : (f : Failure) → IsFailureOf to tables (round ++ c ∷ []) c f → HasFailed to tables round f
+    failed_now f (of_it, fails) =
+        failed_here to tables round f (subst (λ (d : Change). KeepsVlan (rule_of d).action) (sym of_it) plain.keeps)
+        (subst (λ (d : Change). IsFailing to tables (round ++ d ∷ []) f) (sym of_it) fails)
+
+-- ---- going through changes
+
+module _ (to : Target) (tables : List (List Rule)) (taken changes : List Change) (known : List Failure) where
+  -- so many of the changes were gone through that the rest is left, and these failures were found
+  pub record AreGone (rest : List Change) (p : TrialState) (came : List ℕ) (looked : List Bool) (found : List Failure) : Type 0 where
+    pub now : List Change
+    pub filling : IsFilling to tables now p came looked
+    pub so_far : (last : List Change) → IsFilled (CanStand to tables) now rest last → IsFilled (CanStand to tables) taken changes last
+    pub known_failed : AllByRecursion (HasFailed to tables now) known
+    pub found_failed : AllByRecursion (HasFailed to tables now) found
+
+  module _ (c : Change) (rest : List Change) (p : TrialState) (came : List ℕ) (looked : List Bool) (found : List Failure) (gone : AreGone (c ∷ rest) p came looked found) where
+    -- the failure of the next one is known
+    pub gone_known : (f : Failure) → IsIn f known → f.change ≡ c → AreGone rest p came looked (found ++ f ∷ [])
+    gone_known f i of_it =
+        let failed = each_at (HasFailed to tables gone.now) known f gone.known_failed i in
+        record {
+          now = gone.now;
+          filling = gone.filling;
+          so_far = λ last filled. gone.so_far last
+              (inr (subst (λ (d : Change). ¬ CanStand to tables (gone.now ++ d ∷ [])) of_it (never_beside to tables gone.now f failed), filled));
+          known_failed = gone.known_failed;
+          found_failed = each_both (HasFailed to tables gone.now) found f gone.found_failed failed;
+        }
+
+    module _ (q : TrialState) (new : List ℕ) (marks : List Bool) where
+      -- the next one was tried
+      pub gone_tried : IsTried to tables gone.now c q new marks → AreGone rest q new marks found
+      gone_tried (inl (can, filling)) = record {
+        now = gone.now ++ c ∷ [];
+        filling = filling;
+        so_far = λ last filled. gone.so_far last (inl (can, filled));
+        known_failed = all_more to tables gone.now c known gone.known_failed;
+        found_failed = all_more to tables gone.now c found gone.found_failed;
+      }
+      gone_tried (inr (never, filling)) = record {
+        now = gone.now;
+        filling = filling;
+        so_far = λ last filled. gone.so_far last (inr (never, filled));
+        known_failed = gone.known_failed;
+        found_failed = gone.found_failed;
+      }
+
+      -- and failed
+      pub gone_failed : IsTried to tables gone.now c q new marks → (f : Failure) → HasFailed to tables gone.now f → AreGone rest q new marks (found ++ f ∷ [])
+      gone_failed (inl (can, filling)) f failed = record {
+        now = gone.now ++ c ∷ [];
+        filling = filling;
+        so_far = λ last filled. gone.so_far last (inl (can, filled));
+        known_failed = all_more to tables gone.now c known gone.known_failed;
+        found_failed = all_more to tables gone.now c (found ++ f ∷ []) (each_both (HasFailed to tables gone.now) found f gone.found_failed failed);
+      }
+      gone_failed (inr (never, filling)) f failed = record {
+        now = gone.now;
+        filling = filling;
+        so_far = λ last filled. gone.so_far last (inr (never, filled));
+        known_failed = gone.known_failed;
+        found_failed = each_both (HasFailed to tables gone.now) found f gone.found_failed failed;
+      }
 
 -- a member of a list, of which all hold
 pub each_there : {A : Type 0} (P : A → Type 0) (xs : List A) (i : ℕ) (x : A) → i < length xs → x ≡ get_or xs i x → AllByRecursion P xs → P x

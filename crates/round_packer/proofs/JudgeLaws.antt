@@ -1,6 +1,6 @@
 -- What is told of the classes, class by class.
 use Rattle.std.proofs.Common.{◌≡◌, ◌≢◌, ◌↔◌, ℕ, ◌%◌, ◌<◌, Bool, true, false, List, [], ◌∷◌, ◌++◌, length, get_or, refl, sym, ◌∙◌, subst, ap, inl, inr, arith}
-use Rattle.std.specs.Prelude.{◌&&◌, IsTrue, IsSome, Option, Some, None}
+use Rattle.std.specs.Prelude.{◌&&◌, IsSome, Option, Some, None}
 use Rattle.std.specs.List.{AllByRecursion}
 use Rattle.std.proofs.lemmas.Bool.{cases_eq, cases_Bool, or_parts, false≢true}
 use Rattle.std.proofs.lemmas.List.{get_or_default}
@@ -26,7 +26,8 @@ use Rattle.class_watch.specs.Walks.{meets}
 use Rattle.evidence_store.specs.Found.{IsFound}
 use Rattle.evidence_store.specs.declared.class_evidence.ClassEvidence.{ClassEvidence}
 use Rattle.packed_rounds.specs.Packing.{Target}
-use Rattle.round_packer.specs.Kept.{HoldsClass, IsKept, AreKept, AreWatched, HasAtoms, IsTold, AreTold, AreJudged, enters_at, set_at}
+use Rattle.round_packer.specs.declared.failing.Failure.{Failure}
+use Rattle.round_packer.specs.Kept.{HoldsClass, IsKept, AreKept, AreWatched, HasAtoms, IsTold, AreTold, AreJudgedBeside, enters_at, set_at}
 use Rattle.round_packer.proofs.KeptLaws.{held_without, kept_unmet}
 
 -- ---- one class
@@ -41,18 +42,15 @@ found_decides net demands tables changes class None h = (λ some. absurd (false�
 pub numbered_class : (classes : ClassList) (n : ℕ) (numbered : NumberedClass) → numbered.number ≡ n → IsNumbered classes numbered → (class : Class) → IsClass classes n class → numbered.class ≡ class
 numbered_class classes n numbered number is class is_n = same_class classes n numbered.class class (subst (λ (i : ℕ). IsClass classes i numbered.class) number is) is_n
 
--- what is found for the class is told of it
-pub told_by : (to : Target) (tables : List (List Rule)) (changes : List Change) (c : Change) (own : Bool) (n : ℕ) (came : List ℕ) (numbered : NumberedClass) → numbered.number ≡ n → IsNumbered to.classes numbered
-    → HoldsClass to.net tables changes numbered.class (set_at came numbered.number) → (kept : Bool) → IsTrue kept ↔ IsSafeByEvidence to.net to.demands tables changes numbered.class
-    → IsTold to tables changes c own n came kept
-told_by to tables changes c own n came numbered number is held true safe = λ class is_n at.
+-- a class that was found safe is kept
+pub told_safe : (to : Target) (tables : List (List Rule)) (changes : List Change) (c : Change) (own : Bool) (n : ℕ) (came : List ℕ) (numbered : NumberedClass) → numbered.number ≡ n → IsNumbered to.classes numbered
+    → HoldsClass to.net tables changes numbered.class (set_at came numbered.number) → IsSafeByEvidence to.net to.demands tables changes numbered.class → IsTold to tables changes c own n came None
+told_safe to tables changes c own n came numbered number is held safe = λ class is_n at.
     let same = numbered_class to.classes n numbered number is class is_n in
     record {
-      safe = subst (λ (x : Class). IsSafeByEvidence to.net to.demands tables changes x) same (safe.0 refl);
+      safe = subst (λ (x : Class). IsSafeByEvidence to.net to.demands tables changes x) same safe;
       held = subst (λ (x : Class). HoldsClass to.net tables changes x (set_at came n)) same (subst (λ (i : ℕ). HoldsClass to.net tables changes numbered.class (set_at came i)) number held);
     }
-told_by to tables changes c own n came numbered number is held false safe =
-    record { number = numbered.number; class = numbered.class; is_class = is; never = λ by. false≢true (safe.1 by) }
 
 -- ---- the sets
 
@@ -94,20 +92,20 @@ module _ (to : Target) (tables : List (List Rule)) (changes : List Change) where
     ];
   }
 
-  pub told_on : (c : Change) (own : Bool) (n : ℕ) (old new : List ℕ) → AreWatched to tables changes old new → IsTold to tables changes c own n old true → IsTold to tables changes c own n new true
+  pub told_on : (c : Change) (own : Bool) (n : ℕ) (old new : List ℕ) → AreWatched to tables changes old new → IsTold to tables changes c own n old None → IsTold to tables changes c own n new None
   told_on c own n old new watched told = λ class is at. kept_on old new watched n class is (told class is at)
 
   -- where it is told of the classes on both sides, all are kept
-  pub told_both : (c : Change) (old new : List ℕ) (kept : Bool) → length new ≡ class_count to.classes → AreWatched to tables changes old new → AreTold to tables changes c true old true
-      → AreTold to tables changes c false new kept → AreJudged to tables changes new kept
-  told_both c old new true count watched ours theirs = record {
+  pub told_both : (c : Change) (old new : List ℕ) (failure : Option Failure) → length new ≡ class_count to.classes → AreWatched to tables changes old new → AreTold to tables changes c true old None
+      → AreTold to tables changes c false new failure → AreJudgedBeside to tables changes c new failure
+  told_both c old new None count watched ours theirs = record {
     count = count;
     each = λ n class is. elim (cases_Bool (enters_at c class)) [
       | inl on ↦ kept_on old new watched n class is (ours n class is on)
       | inr off ↦ theirs n class is off
     ];
   }
-  told_both c old new false count watched ours theirs = theirs
+  told_both c old new (Some f) count watched ours theirs = theirs
 
 module _ (to : Target) (tables : List (List Rule)) (taken : List Change) (c : Change) where
   -- classes that are kept without the change stay so where they are watched beside it
@@ -126,12 +124,12 @@ module _ (to : Target) (tables : List (List Rule)) (taken : List Change) (c : Ch
   module _ (rules : TablesKeepVlans tables) (keeps : AllByRecursion (λ d. KeepsVlan (rule_of d).action) taken) where
     -- a class that the change meets nowhere
     pub told_unmet : (own : Bool) (n : ℕ) (came : List ℕ) → AreKept to tables taken came → ((class : Class) → IsClass to.classes n class → enters_at c class ≡ own → meets c class (set_at came n) ≡ false)
-        → IsTold to tables (taken ++ c ∷ []) c own n came true
+        → IsTold to tables (taken ++ c ∷ []) c own n came None
     told_unmet own n came kept off = λ class is at. kept_unmet to tables taken c rules keeps class (set_at came n) (off class is at) (kept.each n class is)
 
     -- the classes of atoms that the change doesn't touch
     pub told_passed : (own : Bool) (looked : List Bool) → HasAtoms to.classes looked → AreTouched to.classes (c ∷ []) looked → (n : ℕ) → get_or looked (n % length looked) false ≡ false
-        → (came : List ℕ) → AreKept to tables taken came → IsTold to tables (taken ++ c ∷ []) c own n came true
+        → (came : List ℕ) → AreKept to tables taken came → IsTold to tables (taken ++ c ∷ []) c own n came None
     told_passed own looked atoms touched n off came kept =
         told_unmet own n came kept (λ class is at.
         let within = number_fits to.classes n class is in

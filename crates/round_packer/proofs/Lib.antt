@@ -1,4 +1,5 @@
 pub mod KeptLaws
+pub mod FailureLaws
 pub mod JudgeLaws
 pub mod FillLaws
 pub mod PackLaws

@@ -12,7 +12,8 @@ use Rattle.certificates.specs.Certified.{KeepsVlan}
 use Rattle.mixed_walks.specs.Walks.{TablesKeepVlans}
 use Rattle.packed_rounds.specs.Packing.{Target, CanStand, IsFilled, ArePacked, PacksOrdered, PacksStuck, tables_past}
 use Rattle.round_trials.specs.Filling.{TrialState, IsTrial}
-use Rattle.round_packer.specs.Kept.{AreKept, HasAtoms}
+use Rattle.round_packer.specs.declared.failing.Failure.{Failure}
+use Rattle.round_packer.specs.Kept.{AreKept, HasAtoms, IsFailing}
 
 -- a change at a switch of the network that neither sets nor strips a tag
 pub record IsPlain (net : Network) (c : Change) : Type 0 where
@@ -28,6 +29,14 @@ pub record IsFilling (to : Target) (tables : List (List Rule)) (round : List Cha
   pub changes : AllByRecursion (λ c. KeepsVlan (rule_of c).action) round
   pub kept : AreKept to tables round came
   pub atoms : HasAtoms to.classes looked
+
+-- the change of the failure keeps the VLANs, and failed for its class beside the first of the changes that are taken
+pub record HasFailed (to : Target) (tables : List (List Rule)) (taken : List Change) (f : Failure) : Type 0 where
+  pub early : List Change
+  pub late : List Change
+  pub are : taken ≡ early ++ late
+  pub keeps : KeepsVlan (rule_of f.change).action
+  pub failing : IsFailing to tables (early ++ f.change ∷ []) f
 
 -- what trying a change beside the taken ones leads to: it is taken, or it can't stand beside them
 abbrev pub IsTried : Target → List (List Rule) → List Change → Change → TrialState → List ℕ → List Bool → Type 0

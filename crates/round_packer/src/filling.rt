@@ -1,20 +1,22 @@
 //! A round is filled, change by change.
-ghost use Rattle.std.specs.Prelude.{◌≡◌, List, IfOk, OnOk};
+ghost use Rattle.std.specs.Prelude.{◌≡◌, List, IfOk, IfSome, OnOk};
 ghost use Rattle.std.specs.List.{AllByRecursion};
 ghost use Rattle.flow_rules.specs.declared.rules.Rule.{Rule};
 ghost use Rattle.update_model.specs.declared.Change.{Change as ChangeOf};
 ghost use Rattle.round_packer.specs.Kept.{IsGoal, target_of};
-ghost use Rattle.round_packer.specs.Filling.{IsFilling, IsFilledBy, IsPlain, IsTried};
+ghost use Rattle.round_packer.specs.Filling.{IsFilling, IsFilledBy, IsPlain, IsTried, HasFailed};
 
+use crate::failing::{Failure, Left, known};
 use crate::goal::Goal;
-use crate::judging::{Tried, all_kept};
+use crate::judging::{Tried, failure_beside};
 use class_watch::{ClassWatch, LookedAtoms};
 use net_base::Memory;
 use round_trials::RoundTrial;
 use std::alloc::Global;
 use update_model::Change;
 
-/// Takes a change if it can stand in the round beside those that are taken.
+/// Takes a change if it can stand in the round beside those that are taken. Otherwise the result is its failure, where that is
+/// by a class.
 fn try_change(
     alloc: Global,
     goal: &Goal,
@@ -22,22 +24,27 @@ fn try_change(
     watch: &mut ClassWatch,
     looked: &mut LookedAtoms,
     change: &Change,
-) -> Result<(), Memory>
+) -> Result<Option<Failure>, Memory>
     requires goal { IsGoal goal.now.net.now goal.now.new.now goal.now.duties.now
         goal.now.classes.now goal.now.list.now }
     requires plain { IsPlain goal.now.net.now change.now }
     requires filling { (tables : List (List Rule)) × (round : List ChangeOf)
         × IsFilling (target_of goal.now.net.now goal.now.new.now goal.now.duties.now) tables
         round trial.old watch.old.came.items looked.old }
-    ensures { OnOk result ((tables : List (List Rule)) (round : List ChangeOf)
+    ensures tried { OnOk result ((tables : List (List Rule)) (round : List ChangeOf)
         → IsFilling (target_of goal.now.net.now goal.now.new.now goal.now.duties.now) tables
         round trial.old watch.old.came.items looked.old
         → IsTried (target_of goal.now.net.now goal.now.new.now goal.now.duties.now) tables
         round change.now trial.new watch.new.came.items looked.new) }
+    ensures failed { IfOk result (λ failure. (tables : List (List Rule)) (round : List ChangeOf)
+        → IsFilling (target_of goal.now.net.now goal.now.new.now goal.now.duties.now) tables
+        round trial.old watch.old.came.items looked.old
+        → IfSome failure (HasFailed
+        (target_of goal.now.net.now goal.now.new.now goal.now.duties.now) tables round)) }
 {
     goal.net.keeps_rules();
     if !trial.take(alloc, goal.net, change)? {
-        return Ok(());
+        return Ok(None);
     }
     looked.look_at_touched(goal.list, change);
     let tried = Tried {
@@ -45,36 +52,63 @@ fn try_change(
         change,
         mixes: trial.mixes(),
     };
-    if all_kept(goal, watch, &tried, looked)? {
-        return Ok(());
+    match failure_beside(goal, watch, &tried, looked)? {
+        Some(failure) => {
+            trial.leave_last(alloc, goal.net, change)?;
+            Ok(Some(failure))
+        }
+        None => Ok(None),
     }
-    trial.leave_last(alloc, goal.net, change)?;
-    Ok(())
 }
 
-/// Takes each of the changes, in order, that can stand in the round beside those that are taken before.
+/// Takes each of the changes, in order, that can stand in the round beside those that are taken before. One whose failure is
+/// known is passed over. The result lists the failures by a class, in order.
 pub(crate) fn fill(
     alloc: Global,
     goal: &Goal,
     trial: &mut RoundTrial,
     watch: &mut ClassWatch,
     looked: &mut LookedAtoms,
-    changes: &[Change],
-) -> Result<(), Memory>
+    left: &Left,
+) -> Result<Vec<Failure>, Memory>
     requires goal { IsGoal goal.now.net.now goal.now.new.now goal.now.duties.now
         goal.now.classes.now goal.now.list.now }
-    requires plain { AllByRecursion (IsPlain goal.now.net.now) changes.now }
+    requires plain { AllByRecursion (IsPlain goal.now.net.now) left.now.changes.now }
     requires filling { (tables : List (List Rule)) × (round : List ChangeOf)
         × IsFilling (target_of goal.now.net.now goal.now.new.now goal.now.duties.now) tables
-        round trial.old watch.old.came.items looked.old }
-    ensures { OnOk result ((tables : List (List Rule)) (round : List ChangeOf)
+        round trial.old watch.old.came.items looked.old
+        × AllByRecursion (HasFailed
+        (target_of goal.now.net.now goal.now.new.now goal.now.duties.now) tables round)
+        left.now.failed.now }
+    ensures filled { OnOk result ((tables : List (List Rule)) (round : List ChangeOf)
         → IsFilling (target_of goal.now.net.now goal.now.new.now goal.now.duties.now) tables
         round trial.old watch.old.came.items looked.old
+        → AllByRecursion (HasFailed
+        (target_of goal.now.net.now goal.now.new.now goal.now.duties.now) tables round)
+        left.now.failed.now
         → IsFilledBy (target_of goal.now.net.now goal.now.new.now goal.now.duties.now) tables
-        round changes.now trial.new watch.new.came.items looked.new) }
+        round left.now.changes.now trial.new watch.new.came.items looked.new) }
+    ensures failed { IfOk result (λ failures. (tables : List (List Rule)) (round : List ChangeOf)
+        → IsFilling (target_of goal.now.net.now goal.now.new.now goal.now.duties.now) tables
+        round trial.old watch.old.came.items looked.old
+        → AllByRecursion (HasFailed
+        (target_of goal.now.net.now goal.now.new.now goal.now.duties.now) tables round)
+        left.now.failed.now
+        → AllByRecursion (HasFailed
+        (target_of goal.now.net.now goal.now.new.now goal.now.duties.now) tables
+        trial.new.round) failures.items) }
 {
-    for change in changes {
-        try_change(alloc, goal, trial, watch, looked, change)?;
+    let mut failures = Vec::new(alloc);
+    let mut place = 0;
+    for change in left.changes {
+        if let Some(failure) = known(left.failed, place, change) {
+            place += 1;
+            failures.push(failure)?;
+            continue;
+        }
+        if let Some(failure) = try_change(alloc, goal, trial, watch, looked, change)? {
+            failures.push(failure)?;
+        }
     }
-    Ok(())
+    Ok(failures)
 }

@@ -8,8 +8,9 @@ ghost use Rattle.update_model.specs.declared.Change.{Change as ChangeOf};
 ghost use Rattle.certificates.specs.Rounds.{IsSafeByEvidence};
 ghost use Rattle.check_reasons.specs.AtomMarks.{AreTouched};
 ghost use Rattle.evidence_store.specs.Last.{HoldsLast};
-ghost use Rattle.round_packer.specs.Kept.{IsGoal, ArePreparedFor, AreKept, AreWatched, AreJudged, AreTold, HasAtoms, HoldsClass, IsTold, set_at, target_of};
+ghost use Rattle.round_packer.specs.Kept.{IsGoal, ArePreparedFor, AreKept, AreWatched, AreJudged, AreJudgedBeside, AreTold, HasAtoms, HoldsClass, IsTold, set_at, target_of};
 
+use crate::failing::Failure;
 use crate::goal::{Goal, numbered};
 use class_watch::{ClassWatch, LookedAtoms, meets};
 use dest_classes::NumberedClass;
@@ -69,16 +70,16 @@ fn is_safe(
     Ok(is_found(found))
 }
 
-/// Whether the class of a number stays safe beside the change that is tried, where it enters at the change's own switch, or
-/// where it doesn't. A class that the change meets at no switch that its walks come to stays as it is.
-fn is_kept(
+/// The failure of the change that is tried, if the class of a number isn't safe beside it, and enters at the change's own
+/// switch, or doesn't. A class that the change meets at no switch that its walks come to stays as it is.
+fn class_failure(
     goal: &Goal,
     watch: &mut ClassWatch,
     tried: &Tried,
     last: &mut LastSets,
     number: u32,
     own: bool,
-) -> Result<bool, Memory>
+) -> Result<Option<Failure>, Memory>
     requires goal { IsGoal goal.now.net.now goal.now.new.now goal.now.duties.now
         goal.now.classes.now goal.now.list.now }
     requires number { number < class_count goal.now.duties.now.classes }
@@ -86,14 +87,14 @@ fn is_kept(
         × ArePreparedFor goal.now.net.now tried.now.mixes.now tables changes }
     requires came { length watch.old.came.items ≡ class_count goal.now.duties.now.classes }
     requires last { HoldsLast goal.now.net.now goal.now.duties.now last.old }
-    ensures told { IfOk result (λ kept. (tables : List (List Rule)) (taken : List ChangeOf)
+    ensures told { IfOk result (λ failure. (tables : List (List Rule)) (taken : List ChangeOf)
         → ArePreparedFor goal.now.net.now tried.now.mixes.now tables
         (taken ++ tried.now.change.now ∷ [])
         → AreKept (target_of goal.now.net.now goal.now.new.now goal.now.duties.now) tables taken
         watch.old.came.items
         → IsTold (target_of goal.now.net.now goal.now.new.now goal.now.duties.now) tables
         (taken ++ tried.now.change.now ∷ []) tried.now.change.now own number
-        watch.new.came.items kept) }
+        watch.new.came.items failure) }
     ensures watched { OnOk result ((tables : List (List Rule)) (changes : List ChangeOf)
         → ArePreparedFor goal.now.net.now tried.now.mixes.now tables changes
         → AreWatched (target_of goal.now.net.now goal.now.new.now goal.now.duties.now) tables
@@ -104,25 +105,31 @@ fn is_kept(
     let class = numbered(goal, number);
     let enters = class.class.entry.switch.0 == tried.change.switch().0;
     if enters != own {
-        return Ok(true);
+        return Ok(None);
     }
     if !meets(tried.change, class.class, watch.came[number as usize]) {
-        return Ok(true);
+        return Ok(None);
     }
-    let safe = is_safe(tried.alloc, goal, watch, tried.mixes, last, class)?;
-    Ok(safe)
+    if is_safe(tried.alloc, goal, watch, tried.mixes, last, class)? {
+        return Ok(None);
+    }
+    Ok(Some(Failure {
+        change: *tried.change,
+        class: class.class,
+        visited: watch.came[number as usize],
+    }))
 }
 
-/// Whether the classes stay safe that enter at the change's own switch, or those that don't, class by class up to the first
-/// that doesn't. It looks at those whose atoms the change touches.
-fn are_kept(
+/// The failure of the change that is tried by the first class that isn't safe beside it, if there is one, of those that enter
+/// at the change's own switch, or of those that don't. It looks at those whose atoms the change touches.
+fn classes_failure(
     goal: &Goal,
     watch: &mut ClassWatch,
     tried: &Tried,
     looked: &LookedAtoms,
     last: &mut LastSets,
     own: bool,
-) -> Result<bool, Memory>
+) -> Result<Option<Failure>, Memory>
     requires goal { IsGoal goal.now.net.now goal.now.new.now goal.now.duties.now
         goal.now.classes.now goal.now.list.now }
     requires prepared { (tables : List (List Rule)) × (changes : List ChangeOf)
@@ -132,14 +139,14 @@ fn are_kept(
     requires atoms { HasAtoms goal.now.duties.now.classes looked.now }
     requires touched { AreTouched goal.now.duties.now.classes (tried.now.change.now ∷ [])
         looked.now }
-    ensures told { IfOk result (λ kept. (tables : List (List Rule)) (taken : List ChangeOf)
+    ensures told { IfOk result (λ failure. (tables : List (List Rule)) (taken : List ChangeOf)
         → ArePreparedFor goal.now.net.now tried.now.mixes.now tables
         (taken ++ tried.now.change.now ∷ [])
         → AreKept (target_of goal.now.net.now goal.now.new.now goal.now.duties.now) tables taken
         watch.old.came.items
         → AreTold (target_of goal.now.net.now goal.now.new.now goal.now.duties.now) tables
         (taken ++ tried.now.change.now ∷ []) tried.now.change.now own
-        watch.new.came.items kept) }
+        watch.new.came.items failure) }
     ensures watched { OnOk result ((tables : List (List Rule)) (changes : List ChangeOf)
         → ArePreparedFor goal.now.net.now tried.now.mixes.now tables changes
         → AreWatched (target_of goal.now.net.now goal.now.new.now goal.now.duties.now) tables
@@ -150,22 +157,22 @@ fn are_kept(
     let end = goal.classes.count();
     let mut number = looked.next_number(0, end);
     'judging: while number < end {
-        if !is_kept(goal, watch, tried, last, number, own)? {
-            return Ok(false);
+        if let Some(failure) = class_failure(goal, watch, tried, last, number, own)? {
+            return Ok(Some(failure));
         }
         number = looked.next_number(number + 1, end);
     }
-    Ok(true)
+    Ok(None)
 }
 
-/// Whether all classes stay safe beside the change that is tried: first those that enter at its own switch, since one that
-/// doesn't is mostly among them.
-pub(crate) fn all_kept(
+/// The failure of the change that is tried, if some class isn't safe beside it. The classes that enter at its own switch come
+/// first, since one that isn't safe is mostly among them.
+pub(crate) fn failure_beside(
     goal: &Goal,
     watch: &mut ClassWatch,
     tried: &Tried,
     looked: &LookedAtoms,
-) -> Result<bool, Memory>
+) -> Result<Option<Failure>, Memory>
     requires goal { IsGoal goal.now.net.now goal.now.new.now goal.now.duties.now
         goal.now.classes.now goal.now.list.now }
     requires prepared { (tables : List (List Rule)) × (changes : List ChangeOf)
@@ -174,13 +181,13 @@ pub(crate) fn all_kept(
     requires atoms { HasAtoms goal.now.duties.now.classes looked.now }
     requires touched { AreTouched goal.now.duties.now.classes (tried.now.change.now ∷ [])
         looked.now }
-    ensures judged { IfOk result (λ kept. (tables : List (List Rule)) (taken : List ChangeOf)
+    ensures judged { IfOk result (λ failure. (tables : List (List Rule)) (taken : List ChangeOf)
         → ArePreparedFor goal.now.net.now tried.now.mixes.now tables
         (taken ++ tried.now.change.now ∷ [])
         → AreKept (target_of goal.now.net.now goal.now.new.now goal.now.duties.now) tables taken
         watch.old.came.items
-        → AreJudged (target_of goal.now.net.now goal.now.new.now goal.now.duties.now) tables
-        (taken ++ tried.now.change.now ∷ []) watch.new.came.items kept) }
+        → AreJudgedBeside (target_of goal.now.net.now goal.now.new.now goal.now.duties.now) tables
+        (taken ++ tried.now.change.now ∷ []) tried.now.change.now watch.new.came.items failure) }
     ensures watched { OnOk result ((tables : List (List Rule)) (changes : List ChangeOf)
         → ArePreparedFor goal.now.net.now tried.now.mixes.now tables changes
         → AreWatched (target_of goal.now.net.now goal.now.new.now goal.now.duties.now) tables
@@ -188,11 +195,11 @@ pub(crate) fn all_kept(
     ensures count { length watch.new.came.items ≡ length watch.old.came.items }
 {
     let mut last = LastSets::none();
-    if !are_kept(goal, watch, tried, looked, &mut last, true)? {
-        return Ok(false);
+    if let Some(failure) = classes_failure(goal, watch, tried, looked, &mut last, true)? {
+        return Ok(Some(failure));
     }
-    let kept = are_kept(goal, watch, tried, looked, &mut last, false)?;
-    Ok(kept)
+    let failure = classes_failure(goal, watch, tried, looked, &mut last, false)?;
+    Ok(failure)
 }
 
 /// Whether all classes are safe while the changes are made that the switches are prepared for, class by class up to the first

@@ -1,6 +1,7 @@
 //! Packed rounds: each holds every change that can still stand in it.
 #![tactic(auto)]
 
+mod failing;
 mod filling;
 mod goal;
 mod judging;
@@ -37,7 +38,10 @@ pub enum Packing {
 /// A try of a change looks once at each atom of addresses, at each change that the round took so far, and at each class whose
 /// address the change's prefix holds; it prepares the change's switch, and takes one walk for each class that the change
 /// covers, by its address and VLAN, at a switch that its walks come to, up to the first that isn't safe. Those that enter at
-/// the change's switch come first. Each round tries each change that remains once, and prepares each switch once.
+/// the change's switch come first. A change that failed for a class can't stand until a round makes a change that covers the
+/// class, by its address and VLAN, at a switch that its mixed walks came to then, and isn't tried before: for that each failure
+/// that is known is compared with each change of a round. Each round tries each other change that remains once, and prepares
+/// each switch once.
 pub fn pack(
     alloc: Global,
     net: &Net,

@@ -12,6 +12,7 @@ ghost use Rattle.round_packer.specs.Filling.{EndsAt, IsPackedTo};
 ghost use Rattle.round_packer.specs.Ends.{IsPacking};
 
 use crate::Packing;
+use crate::failing::{Left, unmet};
 use crate::filling::fill;
 use crate::goal::Goal;
 use crate::judging::all_safe;
@@ -63,14 +64,20 @@ fn pack_rounds(
         rounds.new none_remains) }
 {
     goal.net.keeps_rules();
-    let mut left = remaining(alloc, trial.tables(), goal.new)?;
-    'packing: while !left.is_empty() {
-        fill(alloc, goal, trial, watch, looked, &left)?;
+    let mut changes = remaining(alloc, trial.tables(), goal.new)?;
+    let mut failed = Vec::new(alloc);
+    'packing: while !changes.is_empty() {
+        let left = Left {
+            changes: &changes,
+            failed: &failed,
+        };
+        let failures = fill(alloc, goal, trial, watch, looked, &left)?;
         if trial.round().is_empty() {
             return Ok(false);
         }
+        failed = unmet(alloc, &failures, trial.round())?;
         keep_round(alloc, goal.net, trial, rounds)?;
-        left = remaining(alloc, trial.tables(), goal.new)?;
+        changes = remaining(alloc, trial.tables(), goal.new)?;
     }
     Ok(true)
 }

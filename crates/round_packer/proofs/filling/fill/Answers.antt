@@ -1,41 +1,98 @@
-use Rattle.std.proofs.Common.{◌≡◌, ◌+◌, List, ◌∷◌, drop, suc, refl, sym, ◌∙◌, ap, subst, add-one}
+use Rattle.std.proofs.Common.{◌≡◌, ◌+◌, List, Vec, Global, ◌∷◌, drop, suc, refl, sym, ◌∙◌, ap, subst, add-one, arith}
 use Rattle.std.proofs.Math.Seq.{drop-cons}
+use Rattle.std.specs.Prelude.{Option, IfSome}
+use Rattle.std.specs.List.{AllByRecursion}
 use Rattle.update_model.specs.declared.Change.{Change}
 use Rattle.packed_rounds.specs.Packing.{CanStand, IsFilled}
+use Rattle.round_packer.specs.declared.failing.Failure.{Failure}
 use Rattle.round_packer.specs.Kept.{target_of}
-use Rattle.round_packer.specs.Filling.{IsPlain}
-use Rattle.round_packer.proofs.FillLaws.{filled_next, each_there, drop_past}
+use Rattle.round_packer.specs.Filling.{IsPlain, HasFailed}
+use Rattle.round_packer.proofs.FillLaws.{AreGone, gone_known, gone_tried, gone_failed, each_there, drop_past}
+use Rattle.round_packer.proofs.filling.fill.Goals.{in-Some-2+in_ok-push-2, in_default-2}
 use Rattle.round_packer.proofs.filling.fill.Goals as goal
 
 pub try_change-requires-clause-plain : goal.try_change-requires-clause-plain
 try_change-requires-clause-plain c =
-    each_there (IsPlain c.args.goal.now.net.now) c.args.changes.now c.loop-change.change-index c.change-item.result c.loop-change-test.true c.change-item.is c.requires.plain
+    each_there (IsPlain c.args.goal.now.net.now) c.args.left.now.changes.now c.loop-change.change-index c.change-item.result c.loop-change-test.true c.change-item.is c.requires.plain
 
 pub try_change-requires-clause-filling : goal.try_change-requires-clause-filling
 try_change-requires-clause-filling c =
-    let (tables, round, at) = c.requires.filling in
-    let (now, here, so_far) = c.loop-change.invariant tables round at in
-    (tables, now, here)
+    let (tables, round, at, failed) = c.requires.filling in
+    let gone = c.loop-change.invariant.gone tables round at failed in
+    (tables, gone.now, gone.filling)
+
+pub loop-change-preserved-in-Some : goal.loop-change-preserved-in-Some
+loop-change-preserved-in-Some c =
+    let there = c.in-Some.ensures.there in
+    let place = there.0 in
+    record {
+      within = omega arith;
+      gone = λ tables round at failed.
+          let to = (target_of c.args.goal.now.net.now c.args.goal.now.new.now c.args.goal.now.duties.now) in
+          let i = c.loop-change.change-index in
+          let changes = c.args.left.now.changes.now in
+          let known = c.args.left.now.failed.now in
+          let d = c.change-item.result in
+          let rest = drop (i + 1) changes in
+          let split : drop i changes ≡ d ∷ rest =
+          drop-cons changes i d c.loop-change-test.true ∙ ap (λ (x : Change). x ∷ drop (suc i) changes) (sym c.change-item.is) ∙ ap (λ n. d ∷ drop n changes) (sym (add-one i)) in
+          let p = c.loop-change.trial in
+          let came = c.loop-change.watch.came.items in
+          let looked = c.loop-change.looked in
+          let found = c.loop-change.failures.items in
+          let gone : AreGone to tables round changes known (d ∷ rest) p came looked found =
+          subst (λ (cs : List Change). AreGone to tables round changes known cs p came looked found) split (c.loop-change.invariant.gone tables round at failed) in
+          subst (AreGone to tables round changes known rest p came looked) (sym c.in_ok-push.ensures.items)
+          (gone_known to tables round changes known d rest p came looked found gone c.in-Some.failure there.1 c.in-Some.ensures.change);
+    }
 
 pub loop-change-preserved : goal.loop-change-preserved
-loop-change-preserved c = λ tables round at.
-    let to = (target_of c.args.goal.now.net.now c.args.goal.now.new.now c.args.goal.now.duties.now) in
-    let i = c.loop-change.change-index in
-    let changes = c.args.changes.now in
-    let d = c.change-item.result in
-    let rest = drop (i + 1) changes in
-    let split : drop i changes ≡ d ∷ rest =
-    drop-cons changes i d c.loop-change-test.true ∙ ap (λ (x : Change). x ∷ drop (suc i) changes) (sym c.change-item.is) ∙ ap (λ n. d ∷ drop n changes) (sym (add-one i)) in
-    let (now, here, so_far) = c.loop-change.invariant tables round at in
-    filled_next to tables round now d changes rest c.try_change.new.trial c.try_change.new.watch.came.items c.try_change.new.looked
-    (λ last filled. so_far last (subst (λ (cs : List Change). IsFilled (CanStand to tables) now cs last) (sym split) filled)) (c.in_ok-try_change.ensures tables now here)
+loop-change-preserved c = record {
+  within = c.loop-change.invariant.within;
+  gone = λ tables round at failed.
+      let to = (target_of c.args.goal.now.net.now c.args.goal.now.new.now c.args.goal.now.duties.now) in
+      let i = c.loop-change.change-index in
+      let changes = c.args.left.now.changes.now in
+      let known = c.args.left.now.failed.now in
+      let d = c.change-item.result in
+      let rest = drop (i + 1) changes in
+      let split : drop i changes ≡ d ∷ rest =
+      drop-cons changes i d c.loop-change-test.true ∙ ap (λ (x : Change). x ∷ drop (suc i) changes) (sym c.change-item.is) ∙ ap (λ n. d ∷ drop n changes) (sym (add-one i)) in
+      let p = c.loop-change.trial in
+      let came = c.loop-change.watch.came.items in
+      let looked = c.loop-change.looked in
+      let found = c.loop-change.failures.items in
+      let gone : AreGone to tables round changes known (d ∷ rest) p came looked found =
+      subst (λ (cs : List Change). AreGone to tables round changes known cs p came looked found) split (c.loop-change.invariant.gone tables round at failed) in
+      let q = c.try_change.new.trial in
+      let new = c.try_change.new.watch.came.items in
+      let marks = c.try_change.new.looked in
+      let tried = c.in_ok-failure.ensures.tried tables gone.now gone.filling in
+      let P = AreGone to tables round changes known rest q new marks in
+      elim c.match-branch-3.branch [
+        | in-Some-2+in_ok-push-2 w ↦
+            let f = w.in-Some-2.failure in
+            let is = ap (λ (v : Vec Failure Global). v.items) w.failures-is ∙ w.in_ok-push-2.ensures.items in
+            let fails = subst (λ (o : Option Failure). IfSome o (HasFailed to tables gone.now)) w.in-Some-2.is (c.in_ok-failure.ensures.failed tables gone.now gone.filling) in
+            subst P (sym is) (gone_failed to tables round changes known d rest p came looked found gone q new marks tried f fails)
+        | in_default-2 w ↦
+            subst (λ (v : Vec Failure Global). P v.items) (sym w.failures-is) (gone_tried to tables round changes known d rest p came looked found gone q new marks tried)
+      ];
+}
 
-pub returns : goal.returns
-returns c = λ tables round at.
+pub returns-clause-filled : goal.returns-clause-filled
+returns-clause-filled c = λ tables round at failed.
     let to = (target_of c.args.goal.now.net.now c.args.goal.now.new.now c.args.goal.now.duties.now) in
-    let (now, here, so_far) = c.loop-change.invariant tables round at in
+    let gone = c.loop-change.invariant.gone tables round at failed in
     record {
-      round = now;
-      filled = so_far now (subst (λ (cs : List Change). IsFilled (CanStand to tables) now cs now) (sym (drop_past c.args.changes.now c.loop-change.change-index c.loop-change-test.false)) refl);
-      filling = here;
+      round = gone.now;
+      filled = gone.so_far gone.now
+          (subst (λ (cs : List Change). IsFilled (CanStand to tables) gone.now cs gone.now) (sym (drop_past c.args.left.now.changes.now c.loop-change.change-index c.loop-change-test.false)) refl);
+      filling = gone.filling;
     }
+
+pub returns-clause-failed : goal.returns-clause-failed
+returns-clause-failed c = λ tables round at failed.
+    let to = (target_of c.args.goal.now.net.now c.args.goal.now.new.now c.args.goal.now.duties.now) in
+    let gone = c.loop-change.invariant.gone tables round at failed in
+    subst (λ (cs : List Change). AllByRecursion (HasFailed to tables cs) c.loop-change.failures.items) (sym gone.filling.round_is) gone.found_failed

@@ -1,15 +1,18 @@
-use Rattle.std.proofs.Common.{List, drop}
+use Rattle.std.proofs.Common.{◌≤◌, List, drop, length}
+use Rattle.std.specs.List.{AllByRecursion}
 use Rattle.flow_rules.specs.declared.rules.Rule.{Rule}
 use Rattle.update_model.specs.declared.Change.{Change}
-use Rattle.packed_rounds.specs.Packing.{CanStand, IsFilled}
 use Rattle.round_packer.specs.Kept.{target_of}
-use Rattle.round_packer.specs.Filling.{IsFilling}
+use Rattle.round_packer.specs.Filling.{IsFilling, HasFailed}
+use Rattle.round_packer.proofs.FillLaws.{AreGone}
 use Rattle.round_packer.proofs.filling.fill.Given as goal
 
 abbrev pub invariant-loop-change : goal.invariant-loop-change
-invariant-loop-change l =
-    (tables : List (List Rule)) (round : List Change)
-    → IsFilling (target_of l.goal.net.now l.goal.new.now l.goal.duties.now) tables round l.fn.trial l.fn.watch.came.items l.fn.looked
-    → (now : List Change) × IsFilling (target_of l.goal.net.now l.goal.new.now l.goal.duties.now) tables now l.trial l.watch.came.items l.looked
-    × ((last : List Change) → IsFilled (CanStand (target_of l.goal.net.now l.goal.new.now l.goal.duties.now) tables) now (drop l.change-index l.changes) last
-    → IsFilled (CanStand (target_of l.goal.net.now l.goal.new.now l.goal.duties.now) tables) round l.changes last)
+invariant-loop-change l = record {
+  within : l.place ≤ length l.left.failed.now;
+  gone : (tables : List (List Rule)) (round : List Change)
+      → IsFilling (target_of l.goal.net.now l.goal.new.now l.goal.duties.now) tables round l.fn.trial l.fn.watch.came.items l.fn.looked
+      → AllByRecursion (HasFailed (target_of l.goal.net.now l.goal.new.now l.goal.duties.now) tables round) l.left.failed.now
+      → AreGone (target_of l.goal.net.now l.goal.new.now l.goal.duties.now) tables round l.left.changes.now l.left.failed.now (drop l.change-index l.left.changes.now) l.trial l.watch.came.items l.looked
+      l.failures.items;
+}

@@ -1,10 +1,11 @@
-use Rattle.std.proofs.Common.{ℕ, true, [], ◌∷◌, ◌++◌, refl, sym, ◌∙◌, ap, subst, inl, inr, arith}
+use Rattle.std.proofs.Common.{ℕ, [], ◌∷◌, ◌++◌, refl, sym, ◌∙◌, ap, subst, inl, inr, arith}
+use Rattle.std.specs.Prelude.{None}
 use Rattle.std.proofs.lemmas.Bool.{cases_lt, cases_eq}
 use Rattle.dest_classes.specs.Classes.{class_count}
 use Rattle.dest_classes.proofs.MapLaws.{number_fits}
 use Rattle.round_packer.specs.Kept.{IsTold, target_of}
 use Rattle.round_packer.proofs.JudgeLaws.{told_passed, told_on, watched_same, watched_then, kept_watched, keeps_front}
-use Rattle.round_packer.proofs.judging.are_kept.Goals as goal
+use Rattle.round_packer.proofs.judging.classes_failure.Goals as goal
 
 pub judging-init : goal.judging-init
 judging-init c =
@@ -22,14 +23,14 @@ judging-init c =
           (first.passed n (omega arith) less) came kept;
     }
 
-pub is_kept-requires-clause-number : goal.is_kept-requires-clause-number
-is_kept-requires-clause-number c =
+pub class_failure-requires-clause-number : goal.class_failure-requires-clause-number
+class_failure-requires-clause-number c =
     let count = c.count-end.ensures.count ∙ sym (ap class_count c.requires.goal.duties_of_them) in
     let less = c.judging-test.true in
     omega arith
 
-pub is_kept-requires-clause-came : goal.is_kept-requires-clause-came
-is_kept-requires-clause-came c = c.judging.invariant.count ∙ c.requires.came
+pub class_failure-requires-clause-came : goal.class_failure-requires-clause-came
+class_failure-requires-clause-came c = c.judging.invariant.count ∙ c.requires.came
 
 pub judging-preserved : goal.judging-preserved
 judging-preserved c =
@@ -38,9 +39,9 @@ judging-preserved c =
     let number = c.judging.number in
     let first = c.args.watch.now.came.items in
     let mid = c.judging.watch.came.items in
-    let new = c.is_kept.new.watch.came.items in
+    let new = c.class_failure.new.watch.came.items in
     let inv = c.judging.invariant in
-    let one = c.in_ok-is_kept.ensures in
+    let one = c.in_ok-failure.ensures in
     let following = c.next_number-number-in-judging.ensures in
     record {
       within = following.within;
@@ -52,12 +53,12 @@ judging-preserved c =
           let watched = one.watched tables changes prepared in
           let kept_mid = kept_watched to tables taken change first mid (inv.watched tables changes prepared) kept in
           let kept_new = kept_watched to tables taken change mid new watched kept_mid in
-          let here : IsTold to tables changes change c.args.own number new true =
-          subst (IsTold to tables changes change c.args.own number new) c.if-not-branch.false (one.told tables taken prepared kept_mid) in
+          let here : IsTold to tables changes change c.args.own number new None =
+          subst (IsTold to tables changes change c.args.own number new) c.in_default.is (one.told tables taken prepared kept_mid) in
           elim (cases_lt n number) [
             | inl below ↦ told_on to tables changes change c.args.own n mid new watched (inv.told tables taken prepared kept n below)
             | inr past ↦ elim (cases_eq n number) [
-              | inl e ↦ subst (λ (i : ℕ). IsTold to tables changes change c.args.own i new true) (sym e) here
+              | inl e ↦ subst (λ (i : ℕ). IsTold to tables changes change c.args.own i new None) (sym e) here
               | inr ne ↦
                   told_passed to tables taken change prepared.keeps_old (keeps_front taken (change ∷ []) (prepared.keeps 0 (omega arith))) c.args.own c.args.looked.now c.requires.atoms c.requires.touched n
                   (following.passed n (omega arith) less) new kept_new
@@ -65,19 +66,19 @@ judging-preserved c =
           ];
     }
 
-pub returns-then-not-branch-clause-told : goal.returns-then-not-branch-clause-told
-returns-then-not-branch-clause-told c = λ tables taken prepared kept.
+pub returns-in-Some-clause-told : goal.returns-in-Some-clause-told
+returns-in-Some-clause-told c = λ tables taken prepared kept.
     let to = (target_of c.args.goal.now.net.now c.args.goal.now.new.now c.args.goal.now.duties.now) in
     let change = c.args.tried.now.change.now in
     let changes = taken ++ change ∷ [] in
     let inv = c.judging.invariant in
     let kept_mid = kept_watched to tables taken change c.args.watch.now.came.items c.judging.watch.came.items (inv.watched tables changes prepared) kept in
-    subst (IsTold to tables changes change c.args.own c.judging.number c.is_kept.new.watch.came.items) c.if-not-branch.true (c.in_ok-is_kept.ensures.told tables taken prepared kept_mid)
+    subst (IsTold to tables changes change c.args.own c.judging.number c.class_failure.new.watch.came.items) c.in-Some.is (c.in_ok-failure.ensures.told tables taken prepared kept_mid)
 
-pub returns-then-not-branch-clause-watched : goal.returns-then-not-branch-clause-watched
-returns-then-not-branch-clause-watched c = λ tables changes prepared.
-    watched_then (target_of c.args.goal.now.net.now c.args.goal.now.new.now c.args.goal.now.duties.now) tables changes c.args.watch.now.came.items c.judging.watch.came.items c.is_kept.new.watch.came.items (c.judging.invariant.watched tables changes prepared)
-    (c.in_ok-is_kept.ensures.watched tables changes prepared)
+pub returns-in-Some-clause-watched : goal.returns-in-Some-clause-watched
+returns-in-Some-clause-watched c = λ tables changes prepared.
+    watched_then (target_of c.args.goal.now.net.now c.args.goal.now.new.now c.args.goal.now.duties.now) tables changes c.args.watch.now.came.items c.judging.watch.came.items c.class_failure.new.watch.came.items (c.judging.invariant.watched tables changes prepared)
+    (c.in_ok-failure.ensures.watched tables changes prepared)
 
 pub returns-clause-told : goal.returns-clause-told
 returns-clause-told c = λ tables taken prepared kept n class is at.

@@ -1,13 +1,13 @@
 use Rattle.std.proofs.Common.{◌≡◌, ℕ, Bool, true, false, [], ◌∷◌, ◌++◌, refl, sym, ◌∙◌, ap, subst, arith}
 use mathlib.Core.Bool.{beq}
 use Rattle.std.specs.Prelude.{◌==◌, not}
-use Rattle.std.proofs.lemmas.Bool.{false≢true}
+use Rattle.std.proofs.lemmas.Bool.{false≢true, both_ways}
 use Rattle.net_base.specs.declared.ids.SwitchId.{SwitchId}
 use Rattle.dest_classes.specs.declared.Class.{Class}
 use Rattle.class_watch.specs.Walks.{meets}
 use Rattle.round_packer.specs.Kept.{HoldsClass, set_at, target_of}
-use Rattle.round_packer.proofs.JudgeLaws.{numbered_class, told_by, told_unmet, watched_one, keeps_front, read_as}
-use Rattle.round_packer.proofs.judging.is_kept.Goals as goal
+use Rattle.round_packer.proofs.JudgeLaws.{numbered_class, told_safe, told_unmet, watched_one, keeps_front, read_as}
+use Rattle.round_packer.proofs.judging.class_failure.Goals as goal
 
 pub index-requires : goal.index-requires
 index-requires c = let number = c.requires.number in let count = c.requires.came in omega arith
@@ -25,20 +25,48 @@ returns-then-not-meets-clause-told c = λ tables taken prepared kept.
     let read = read_as c.args.watch.now.came.items c.args.number c.index.result.now (omega arith) c.index.ensures in
     subst (λ (ms : ℕ). meets change class ms ≡ false) read (subst (λ (x : Class). meets change x c.index.result.now ≡ false) same (sym c.meets.ensures ∙ c.if-not-meets.true)))
 
+pub returns-then-branch-clause-told : goal.returns-then-branch-clause-told
+returns-then-branch-clause-told c = λ tables taken prepared kept.
+    let to = (target_of c.args.goal.now.net.now c.args.goal.now.new.now c.args.goal.now.duties.now) in
+    let change = c.args.tried.now.change.now in
+    let numbered = c.numbered-class.result in
+    let found = c.in_ok-is_safe.ensures in
+    told_safe to tables (taken ++ change ∷ []) change c.args.own c.args.number c.is_safe.new.watch.came.items numbered c.numbered-class.ensures.number c.numbered-class.ensures.class
+    (found.held tables (taken ++ change ∷ []) prepared) ((found.safe tables (taken ++ change ∷ []) prepared).0 c.if-branch.true)
+
 pub returns-clause-told : goal.returns-clause-told
 returns-clause-told c = λ tables taken prepared kept.
     let to = (target_of c.args.goal.now.net.now c.args.goal.now.new.now c.args.goal.now.duties.now) in
     let change = c.args.tried.now.change.now in
     let numbered = c.numbered-class.result in
-    let found = c.in_ok-safe.ensures in
-    told_by to tables (taken ++ change ∷ []) change c.args.own c.args.number c.is_safe.new.watch.came.items numbered c.numbered-class.ensures.number c.numbered-class.ensures.class
-    (found.held tables (taken ++ change ∷ []) prepared) c.in_ok-safe.safe (found.safe tables (taken ++ change ∷ []) prepared)
+    let found = c.in_ok-is_safe.ensures in
+    let changes = taken ++ change ∷ [] in
+    let read = read_as c.is_safe.new.watch.came.items c.args.number c.index-2.result.now (let a = found.count in let b = c.requires.came in let less = c.requires.number in omega arith) c.index-2.ensures in
+    let at = ap (set_at c.is_safe.new.watch.came.items) c.numbered-class.ensures.number in (
+      refl,
+      record {
+        number = numbered.number;
+        is_class = c.numbered-class.ensures.class;
+        never = λ by. both_ways c.in_ok-is_safe.field-0 c.if-branch.false ((found.safe tables changes prepared).1 by);
+        held = subst (HoldsClass to.net tables changes numbered.class) (at ∙ sym read) (found.held tables changes prepared);
+      },
+    )
+
+pub returns-then-branch-clause-watched : goal.returns-then-branch-clause-watched
+returns-then-branch-clause-watched c = λ tables changes prepared.
+    let to = (target_of c.args.goal.now.net.now c.args.goal.now.new.now c.args.goal.now.duties.now) in
+    let numbered = c.numbered-class.result in
+    let found = c.in_ok-is_safe.ensures in
+    watched_one to tables changes c.args.watch.now.came.items c.is_safe.new.watch.came.items numbered.number found.count found.others
+    (λ class is.
+    let same = numbered_class to.classes numbered.number numbered refl c.numbered-class.ensures.class class is in
+    subst (λ (x : Class). HoldsClass to.net tables changes x (set_at c.is_safe.new.watch.came.items numbered.number)) same (found.held tables changes prepared))
 
 pub returns-clause-watched : goal.returns-clause-watched
 returns-clause-watched c = λ tables changes prepared.
     let to = (target_of c.args.goal.now.net.now c.args.goal.now.new.now c.args.goal.now.duties.now) in
     let numbered = c.numbered-class.result in
-    let found = c.in_ok-safe.ensures in
+    let found = c.in_ok-is_safe.ensures in
     watched_one to tables changes c.args.watch.now.came.items c.is_safe.new.watch.came.items numbered.number found.count found.others
     (λ class is.
     let same = numbered_class to.classes numbered.number numbered refl c.numbered-class.ensures.class class is in
