@@ -1,8 +1,8 @@
 -- A failure stands while more changes are taken, and after a round no change of which meets its class.
 use Rattle.std.proofs.Common.{◌≡◌, ℕ, Bool, true, false, List, [], ◌∷◌, ◌++◌, refl, sym, ◌∙◌, subst, ap, inl, inr}
-use Rattle.std.specs.Prelude.{◌&&◌, ◌==◌, IsTrue}
+use Rattle.std.specs.Prelude.{◌&&◌, ◌==◌, not, IsTrue}
 use Rattle.std.specs.List.{AllByRecursion, list_any}
-use Rattle.std.proofs.lemmas.Bool.{both_ways, and_from, and_parts, or_parts, false≢true, cond-false, eqb-true}
+use Rattle.std.proofs.lemmas.Bool.{both_ways, and_from, and_parts, or_parts, cond_both, not-true, false≢true, cond-false, eqb-true}
 use Rattle.std.proofs.lemmas.List.{append-nil, append_assoc}
 use Rattle.net_base.specs.Members.{IsSubsequence}
 use Rattle.net_base.proofs.MemberLaws.{each_at, each_from_in, each_weaker, in_from_filter}
@@ -37,7 +37,7 @@ use Rattle.class_watch.proofs.StandLaws.{alike_walks, alike_safe}
 use Rattle.packed_rounds.specs.Packing.{Target, CanStand}
 use Rattle.round_trials.proofs.FitLaws.{at_more, within_good}
 use Rattle.round_packer.specs.declared.failing.Failure.{Failure}
-use Rattle.round_packer.specs.Kept.{HoldsClass, IsFailing, change_eq}
+use Rattle.round_packer.specs.Kept.{HoldsClass, IsFailing, change_eq, unmet}
 use Rattle.round_packer.specs.Filling.{HasFailed}
 use Rattle.round_packer.proofs.KeptLaws.{keeps_round}
 
@@ -196,3 +196,12 @@ failed_after to tables rules round keeps good f off h =
         held = held_alone to tables rules early late good_parts f.change keep f.class f.visited h.failing.held off_parts;
       });
     }
+
+-- so for all of them
+pub unmet_stand : (to : Target) (tables : List (List Rule)) → TablesKeepVlans tables → (round : List Change) → AllByRecursion (λ d. KeepsVlan (rule_of d).action) round → IsGoodRound tables round
+    → (fs : List Failure) → AllByRecursion (HasFailed to tables round) fs → AllByRecursion (HasFailed to (tables_after round tables) []) (unmet round fs)
+unmet_stand to tables rules round keeps good [] all = tt
+unmet_stand to tables rules round keeps good (f ∷ fs) all =
+    let rest = unmet_stand to tables rules round keeps good fs all.1 in
+    cond_both (not (meets_any round f.class f.visited)) (f ∷ unmet round fs) (unmet round fs) (AllByRecursion (HasFailed to (tables_after round tables) []))
+    (λ on. (failed_after to tables rules round keeps good f (not-true (meets_any round f.class f.visited) on) all.0, rest)) (λ _. rest)

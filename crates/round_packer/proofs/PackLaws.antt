@@ -26,9 +26,10 @@ use Rattle.packed_rounds.specs.Packing.{Target, CanStand, IsFilled, IsPackedRoun
 use Rattle.packed_rounds.proofs.Packed.{packed_part, part_made, some_more}
 use Rattle.round_trials.specs.Filling.{TrialState, IsTrial}
 use Rattle.round_packer.specs.declared.failing.Failure.{Failure}
-use Rattle.round_packer.specs.Kept.{HasUnsafe, HasAtoms, AreKept}
+use Rattle.round_packer.specs.Kept.{HasUnsafe, HasAtoms, AreKept, unmet}
 use Rattle.round_packer.specs.Filling.{IsPlain, IsFilling, IsFilledBy, IsPackedTo, EndsAt, HasFailed}
 use Rattle.round_packer.proofs.KeptLaws.{kept_after}
+use Rattle.round_packer.proofs.FailureLaws.{unmet_stand}
 
 -- ---- tables that keep the VLANs
 
@@ -127,15 +128,15 @@ module _ (to : Target) (new_unique : AllUnique to.new) (old : List (List Rule)) 
       })
 
   -- and the failures stand that no change of it meets
-  pub failed_next : (made : List Change) → made ≡ q.round → (failed : List Failure)
-      → (TablesKeepVlans tables → AllByRecursion (λ d. KeepsVlan (rule_of d).action) made → IsGoodRound tables made → AllByRecursion (HasFailed to (tables_after made tables) []) failed)
-      → (all : List (List Change)) → all ≡ rounds ++ q.round ∷ [] → AllByRecursion (HasFailed to (tables_past all old) []) failed
-  failed_next made is failed stand all all_is =
+  pub failed_next : (made : List Change) → made ≡ q.round → (fs : List Failure) → AllByRecursion (HasFailed to tables q.round) fs → (all : List (List Change)) → all ≡ rounds ++ q.round ∷ []
+      → AllByRecursion (HasFailed to (tables_past all old) []) (unmet made fs)
+  failed_next made is fs failed all all_is =
       let same : made ≡ round = is ∙ filled.filling.round_is in
       let past : tables_past all old ≡ tables_after made tables =
       ap (λ (rs : List (List Change)). tables_past rs old) all_is ∙ past_more rounds q.round old ∙ ap (λ (cs : List Change). tables_after cs tables) (sym is) in
-      subst (λ (ts : List (List Rule)). AllByRecursion (HasFailed to ts []) failed) (sym past)
-      (stand filled.filling.rules (subst (AllByRecursion (λ (d : Change). KeepsVlan (rule_of d).action)) (sym same) filled.filling.changes) (subst (IsGoodRound tables) (sym same) good))
+      subst (λ (ts : List (List Rule)). AllByRecursion (HasFailed to ts []) (unmet made fs)) (sym past)
+      (unmet_stand to tables filled.filling.rules made (subst (AllByRecursion (λ (d : Change). KeepsVlan (rule_of d).action)) (sym same) filled.filling.changes) (subst (IsGoodRound tables) (sym same) good) fs
+      (subst (λ (cs : List Change). AllByRecursion (HasFailed to tables cs) fs) (sym is) failed))
 
   -- and fewer remain
   pub fewer_left : q.round ≢ [] → (t : TrialState) → t.tables ≡ tables_after q.round q.tables → length (remaining t.tables to.new) < length (remaining tables to.new)

@@ -1,5 +1,5 @@
 -- Classes that stay safe while changes are made, and the switches that their mixed walks come to.
-use Rattle.std.specs.Prelude.{◌≡◌, ◌⊎◌, ◌==◌, ◌&&◌, ℕ, ◌<◌, Bool, true, false, List, length, slice_index_or, Option, Some, None}
+use Rattle.std.specs.Prelude.{◌≡◌, ◌⊎◌, ◌==◌, ◌&&◌, ℕ, ◌<◌, Bool, true, false, List, length, filter, not, slice_index_or, Option, Some, None}
 use Rattle.topology.specs.Networks.{Network}
 use Rattle.flow_rules.specs.Tables.{TableState, rules_of_all}
 use Rattle.flow_rules.specs.declared.rules.Rule.{Rule}
@@ -15,7 +15,7 @@ use Rattle.certificates.specs.Rounds.{one_round_of, IsSafeByEvidence}
 use Rattle.round_mix.specs.Prepared.{MixedState}
 use Rattle.mixed_walks.specs.Walks.{IsRoundOf}
 use Rattle.class_watch.specs.Classes.{AreClasses}
-use Rattle.class_watch.specs.Walks.{HoldsWalks}
+use Rattle.class_watch.specs.Walks.{HoldsWalks, meets_any}
 use Rattle.packed_rounds.specs.Packing.{Target}
 use Rattle.round_packer.specs.declared.failing.Failure.{Failure}
 
@@ -76,6 +76,10 @@ pub record IsFailing (to : Target) (tables : List (List Rule)) (changes : List C
 -- so it is, and the failure is one of this change
 abbrev pub IsFailureOf : Target → List (List Rule) → List Change → Change → Failure → Type 0
 IsFailureOf to tables changes c f = (f.change ≡ c) × IsFailing to tables changes f
+
+-- the failures whose class no change of the round meets
+abbrev pub unmet : List Change → List Failure → List Failure
+unmet round failures = filter (λ f. not (meets_any round f.class f.visited)) failures
 
 -- the set of each class is as it was, or has the switches that its mixed walks come to while the changes are made
 pub record AreWatched (to : Target) (tables : List (List Rule)) (changes : List Change) (old new : List ℕ) : Type 0 where

@@ -1,19 +1,11 @@
 //! Why a change can't stand beside others, and how long that is known.
-ghost use Rattle.std.specs.Prelude.{◌≡◌, ◌<◌, List, [], length, IfOk, IfSome};
-ghost use Rattle.std.specs.List.{AllByRecursion};
-ghost use Rattle.flow_rules.specs.declared.rules.Rule.{Rule};
-ghost use Rattle.update_model.specs.Changes.{rule_of, tables_after, IsGoodRound};
-ghost use Rattle.certificates.specs.Certified.{KeepsVlan};
-ghost use Rattle.mixed_walks.specs.Walks.{TablesKeepVlans};
-ghost use Rattle.packed_rounds.specs.Packing.{Target};
+ghost use Rattle.std.specs.Prelude.{◌≡◌, ◌<◌, length, IfSome};
 ghost use Rattle.net_base.specs.Members.{IsIn};
-ghost use Rattle.round_packer.specs.Kept.{change_eq};
-ghost use Rattle.round_packer.specs.Filling.{HasFailed};
+ghost use Rattle.round_packer.specs.Kept.{change_eq, unmet};
 
 use class_watch::meets_any;
 use dest_classes::Class;
-use net_base::{Memory, SwitchSet};
-use std::alloc::Global;
+use net_base::SwitchSet;
 use update_model::Change;
 
 /// A change that can't stand beside others, a class that no evidence keeps safe then, and the switches that the mixed walks of
@@ -61,24 +53,10 @@ pub(crate) fn known(failed: &[Failure], place: usize, change: &Change) -> Option
     }
 }
 
-/// The failures that stand after a round: those whose class no change of the round covers at a switch that its mixed walks
-/// come to. The walks are then the same, and so is what keeps the class safe.
-pub(crate) fn unmet(
-    alloc: Global,
-    failures: &[Failure],
-    round: &[Change],
-) -> Result<Vec<Failure>, Memory>
-    ensures { IfOk result (λ unmet. (to : Target) (tables : List (List Rule))
-        → TablesKeepVlans tables → AllByRecursion (λ c. KeepsVlan (rule_of c).action) round.now
-        → IsGoodRound tables round.now
-        → AllByRecursion (HasFailed to tables round.now) failures.now
-        → AllByRecursion (HasFailed to (tables_after round.now tables) []) unmet.items) }
+/// Forgets the failures whose class a change of a round covers at a switch that its mixed walks come to. The others stand after
+/// the round: the walks are then the same, and so is what keeps the class safe.
+pub(crate) fn forget_met(failures: &mut Vec<Failure>, round: &[Change])
+    ensures { failures.new.items ≡ unmet round.now failures.old.items }
 {
-    let mut unmet = Vec::new(alloc);
-    for failure in failures {
-        if !meets_any(round, failure.class, failure.visited) {
-            unmet.push(*failure)?;
-        }
-    }
-    Ok(unmet)
+    failures.retain(|failure| !meets_any(round, failure.class, failure.visited));
 }

@@ -12,7 +12,7 @@ ghost use Rattle.round_packer.specs.Filling.{EndsAt, IsPackedTo};
 ghost use Rattle.round_packer.specs.Ends.{IsPacking};
 
 use crate::Packing;
-use crate::failing::{Left, unmet};
+use crate::failing::{Left, forget_met};
 use crate::filling::fill;
 use crate::goal::Goal;
 use crate::judging::all_safe;
@@ -71,11 +71,11 @@ fn pack_rounds(
             changes: &changes,
             failed: &failed,
         };
-        let failures = fill(alloc, goal, trial, watch, looked, &left)?;
+        failed = fill(alloc, goal, trial, watch, looked, &left)?;
         if trial.round().is_empty() {
             return Ok(false);
         }
-        failed = unmet(alloc, &failures, trial.round())?;
+        forget_met(&mut failed, trial.round());
         keep_round(alloc, goal.net, trial, rounds)?;
         changes = remaining(alloc, trial.tables(), goal.new)?;
     }

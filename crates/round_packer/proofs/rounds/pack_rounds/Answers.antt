@@ -40,7 +40,7 @@ keep_round-requires c =
     let (left, so_far) = c.packing.invariant in
     let to = (target_of c.args.goal.now.net.now c.args.goal.now.new.now c.args.goal.now.duties.now) in
     let known = subst (AllByRecursion (HasFailed to (tables_past c.packing.rounds old) [])) (sym c.deref-in-packing.ensures.value) (so_far old packed).1 in
-    (c.in_ok-failures.ensures.filled (tables_past c.packing.rounds old) [] (so_far old packed).0.filling known).filling.trial_is
+    (c.in_ok-failed.ensures.filled (tables_past c.packing.rounds old) [] (so_far old packed).0.filling known).filling.trial_is
 
 pub packing-preserved : goal.packing-preserved
 packing-preserved c = (
@@ -52,17 +52,15 @@ packing-preserved c = (
       let (at, failed) = so_far old packed in
       let known = subst (AllByRecursion (HasFailed to (tables_past c.packing.rounds old) [])) (sym c.deref-in-packing.ensures.value) failed in
       let filled = filled_left to old c.packing.rounds c.packing.trial c.packing.watch.came.items c.packing.looked at c.deref.result.now (c.deref.ensures.value ∙ left) c.fill.new.trial
-      c.fill.new.watch.came.items c.fill.new.looked (c.in_ok-failures.ensures.filled (tables_past c.packing.rounds old) [] at.filling known) in
+      c.fill.new.watch.came.items c.fill.new.looked (c.in_ok-failed.ensures.filled (tables_past c.packing.rounds old) [] at.filling known) in
       let kept = c.in_ok-keep_round.ensures in (
         packed_next to new_unique old c.packing.rounds c.packing.trial c.packing.watch.came.items c.packing.looked at c.fill.new.trial c.fill.new.watch.came.items c.fill.new.looked filled
             (subst (λ (cs : List Change). cs ≢ []) c.round.ensures (told_some c.round.result.now (length c.round.result.now) c.is_empty-in-packing.result refl c.is_empty-in-packing.ensures c.if-is_empty.false))
             c.keep_round.new.trial kept.trial kept.tables kept.none c.keep_round.new.rounds kept.rounds,
-        failed_next to new_unique old c.packing.rounds c.packing.trial c.packing.watch.came.items c.packing.looked at c.fill.new.trial c.fill.new.watch.came.items c.fill.new.looked filled
-            c.round-in-packing.result.now c.round-in-packing.ensures c.in_ok-failed.failed.items
-            (λ rules keeps good. c.in_ok-failed.ensures to (tables_past c.packing.rounds old) rules keeps good
-            (subst (λ (cs : List Change). AllByRecursion (HasFailed to (tables_past c.packing.rounds old) cs) c.deref-in-packing-2.result.now) (sym c.round-in-packing.ensures)
-            (subst (AllByRecursion (HasFailed to (tables_past c.packing.rounds old) c.fill.new.trial.round)) (sym c.deref-in-packing-2.ensures.value)
-            (c.in_ok-failures.ensures.failed (tables_past c.packing.rounds old) [] at.filling known)))) c.keep_round.new.rounds kept.rounds,
+        subst (AllByRecursion (HasFailed to (tables_past c.keep_round.new.rounds old) [])) (sym c.forget_met.ensures)
+            (failed_next to new_unique old c.packing.rounds c.packing.trial c.packing.watch.came.items c.packing.looked at c.fill.new.trial c.fill.new.watch.came.items c.fill.new.looked filled
+            c.round-in-packing.result.now c.round-in-packing.ensures c.in_ok-failed.failed.items (c.in_ok-failed.ensures.failed (tables_past c.packing.rounds old) [] at.filling known)
+            c.keep_round.new.rounds kept.rounds),
       ),
 )
 
@@ -75,7 +73,7 @@ packing-smaller c =
     let (at, failed) = so_far old packed in
     let known = subst (AllByRecursion (HasFailed to (tables_past c.packing.rounds old) [])) (sym c.deref-in-packing.ensures.value) failed in
     let filled = filled_left to old c.packing.rounds c.packing.trial c.packing.watch.came.items c.packing.looked at c.deref.result.now (c.deref.ensures.value ∙ left) c.fill.new.trial
-    c.fill.new.watch.came.items c.fill.new.looked (c.in_ok-failures.ensures.filled (tables_past c.packing.rounds old) [] at.filling known) in
+    c.fill.new.watch.came.items c.fill.new.looked (c.in_ok-failed.ensures.filled (tables_past c.packing.rounds old) [] at.filling known) in
     let kept = c.in_ok-keep_round.ensures in
     let fewer = fewer_left to new_unique old c.packing.rounds c.packing.trial c.packing.watch.came.items c.packing.looked at c.fill.new.trial c.fill.new.watch.came.items c.fill.new.looked filled
     (subst (λ (cs : List Change). cs ≢ []) c.round.ensures (told_some c.round.result.now (length c.round.result.now) c.is_empty-in-packing.result refl c.is_empty-in-packing.ensures c.if-is_empty.false)) c.keep_round.new.trial kept.tables in
@@ -93,7 +91,7 @@ returns-then-is_empty c = λ old packed.
     let (at, failed) = so_far old packed in
     let known = subst (AllByRecursion (HasFailed to (tables_past c.packing.rounds old) [])) (sym c.deref-in-packing.ensures.value) failed in
     let filled = filled_left to old c.packing.rounds c.packing.trial c.packing.watch.came.items c.packing.looked at c.deref.result.now (c.deref.ensures.value ∙ left) c.fill.new.trial
-    c.fill.new.watch.came.items c.fill.new.looked (c.in_ok-failures.ensures.filled (tables_past c.packing.rounds old) [] at.filling known) in
+    c.fill.new.watch.came.items c.fill.new.looked (c.in_ok-failed.ensures.filled (tables_past c.packing.rounds old) [] at.filling known) in
     let new_unique : AllUnique to.new = λ s. unique_in_table (rules_at to.new s) (c.requires.goal.user.distinct s) in
     stuck_here to new_unique old c.packing.rounds c.packing.trial c.packing.watch.came.items c.packing.looked at c.fill.new.trial c.fill.new.watch.came.items c.fill.new.looked filled
     (subst (λ (cs : List Change). cs ≢ []) (left_remains to old c.packing.rounds c.packing.trial c.packing.watch.came.items c.packing.looked at c.packing.changes.items left)
