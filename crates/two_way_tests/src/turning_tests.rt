@@ -25,15 +25,15 @@ const FIRST_TURNED: &str =
     "s1 010e004800000005 0004 \ns0 010e004800000006 0004 \ns0 0112000800000007\ns1 0112000800000008\n";
 
 /// Replies to barrier requests.
-const R3: &[u8] = b"\x01\x13\x00\x08\x00\x00\x00\x03";
+const REPLY_3: &[u8] = b"\x01\x13\x00\x08\x00\x00\x00\x03";
 
-const R4: &[u8] = b"\x01\x13\x00\x08\x00\x00\x00\x04";
+const REPLY_4: &[u8] = b"\x01\x13\x00\x08\x00\x00\x00\x04";
 
-const R6: &[u8] = b"\x01\x13\x00\x08\x00\x00\x00\x06";
+const REPLY_6: &[u8] = b"\x01\x13\x00\x08\x00\x00\x00\x06";
 
-const R7: &[u8] = b"\x01\x13\x00\x08\x00\x00\x00\x07";
+const REPLY_7: &[u8] = b"\x01\x13\x00\x08\x00\x00\x00\x07";
 
-const R8: &[u8] = b"\x01\x13\x00\x08\x00\x00\x00\x08";
+const REPLY_8: &[u8] = b"\x01\x13\x00\x08\x00\x00\x00\x08";
 
 /// In the course of the steps this is said behind the greeting.
 fn is_said(rt: &(impl Abort + AllocGlobal), name: &str, steps: &[Step], lines: &[&str]) {
@@ -57,11 +57,11 @@ fn a_round_is_taken_back(rt: HostRuntime) {
                 OPEN_0,
                 OPEN_1,
                 Start,
-                Feed(0, R3),
-                Feed(1, R4),
+                Feed(0, REPLY_3),
+                Feed(1, REPLY_4),
                 Back,
-                Feed(0, R7),
-                Feed(1, R8),
+                Feed(0, REPLY_7),
+                Feed(1, REPLY_8),
             ],
             &[
                 "start\n",
@@ -78,10 +78,10 @@ fn a_round_is_taken_back(rt: HostRuntime) {
                 OPEN_1,
                 Start,
                 Back,
-                Feed(0, R3),
-                Feed(0, R7),
-                Feed(1, R4),
-                Feed(1, R8),
+                Feed(0, REPLY_3),
+                Feed(0, REPLY_7),
+                Feed(1, REPLY_4),
+                Feed(1, REPLY_8),
             ],
             &[
                 "start\n",
@@ -96,11 +96,11 @@ fn a_round_is_taken_back(rt: HostRuntime) {
                 OPEN_0,
                 OPEN_1,
                 Start,
-                Feed(0, R3),
+                Feed(0, REPLY_3),
                 Back,
-                Feed(0, R7),
-                Feed(1, R4),
-                Feed(1, R8),
+                Feed(0, REPLY_7),
+                Feed(1, REPLY_4),
+                Feed(1, REPLY_8),
             ],
             &[
                 "start\n",
@@ -116,12 +116,12 @@ fn a_round_is_taken_back(rt: HostRuntime) {
                 OPEN_0,
                 OPEN_1,
                 Start,
-                Feed(0, R3),
-                Feed(1, R4),
+                Feed(0, REPLY_3),
+                Feed(1, REPLY_4),
                 Start,
-                Feed(0, R6),
+                Feed(0, REPLY_6),
                 Back,
-                Feed(0, R8),
+                Feed(0, REPLY_8),
                 Back,
             ],
             &[
@@ -170,10 +170,10 @@ fn a_call_at_the_wrong_time_is_refused(rt: HostRuntime) {
                 Start,
                 Back,
                 Start,
-                Feed(0, R3),
-                Feed(0, R7),
-                Feed(1, R4),
-                Feed(1, R8),
+                Feed(0, REPLY_3),
+                Feed(0, REPLY_7),
+                Feed(1, REPLY_4),
+                Feed(1, REPLY_8),
                 Start,
             ],
             &[
@@ -190,10 +190,10 @@ fn a_call_at_the_wrong_time_is_refused(rt: HostRuntime) {
                 OPEN_0,
                 OPEN_1,
                 Start,
-                Feed(0, R3),
-                Feed(1, R4),
+                Feed(0, REPLY_3),
+                Feed(1, REPLY_4),
                 Start,
-                Feed(0, R6),
+                Feed(0, REPLY_6),
                 Start,
             ],
             &[
@@ -221,7 +221,7 @@ fn a_session_is_opened_again(rt: HostRuntime) {
                 Feed(0, b"\x02\x02\x00\x08\x00\x00\x00\x00"),
                 Reopen(0),
                 OPEN_0,
-                Feed(0, R3),
+                Feed(0, REPLY_3),
             ],
             &[
                 "start\n",
@@ -235,13 +235,13 @@ fn a_session_is_opened_again(rt: HostRuntime) {
                 OPEN_0,
                 OPEN_1,
                 Start,
-                Feed(1, R8),
+                Feed(1, REPLY_8),
                 Back,
                 Reopen(1),
                 OPEN_1,
-                Feed(1, R8),
-                Feed(0, R3),
-                Feed(0, R7),
+                Feed(1, REPLY_8),
+                Feed(0, REPLY_3),
+                Feed(0, REPLY_7),
             ],
             &[
                 "start\n",
@@ -252,7 +252,7 @@ fn a_session_is_opened_again(rt: HostRuntime) {
         ),
         (
             "an answer out of order ends the session",
-            &[OPEN_0, OPEN_1, Start, Back, Feed(0, R7)],
+            &[OPEN_0, OPEN_1, Start, Back, Feed(0, REPLY_7)],
             &["start\n", FIRST, FIRST_TURNED, "failed s0 Xid\nundone 0\n"],
         ),
         (
