@@ -1,7 +1,7 @@
 -- The two drivers do the same: byte by byte, and when a round starts.
-use Rattle.std.proofs.Common.{◌≡◌, ◌≢◌, ℕ, zero, suc, ◌+◌, ◌<◌, ◌≤◌, Bool, true, false, cond, eqb, ltb, not, ◌&&◌, ◌||◌, List, [], ◌∷◌, ◌++◌, length, map, take, drop, replicate, set, get_or, get_or-set_same, get_or-set_other, refl, sym, ap, ◌∙◌, subst, inl, inr, append-nil, length-set, length-append, arith}
-use Rattle.std.specs.Prelude.{Option, Some, None, is_some, is_none, filter, flat_map, find}
-use Rattle.std.specs.List.{AllByRecursion, concat, cons_option, list_all, list_any, range_with_len}
+use Rattle.std.proofs.Common.{◌≡◌, ◌≢◌, ℕ, zero, suc, ◌+◌, ◌<◌, ◌≤◌, Bool, true, false, cond, eqb, ltb, not, ◌&&◌, List, [], ◌∷◌, ◌++◌, length, map, take, drop, replicate, set, get_or, get_or-set_same, get_or-set_other, refl, sym, ap, ◌∙◌, subst, inl, inr, append-nil, length-set, length-append, arith}
+use Rattle.std.specs.Prelude.{Option, Some, None, is_some, is_none, flat_map}
+use Rattle.std.specs.List.{AllByRecursion, concat, cons_option}
 use Rattle.std.specs.Option.{option_map, option_map_or}
 use Rattle.std.proofs.lemmas.Bool.{cases_Bool, cases_eq, cond-true, cond-false, cond_both, eq-eqb, ne_eqb, ltb-true, ltb-false}
 use Rattle.std.proofs.lemmas.List.{length-replicate, map-append, drop_at, take_more, length-take-le, length-map, set-set, get_or_past}
@@ -21,19 +21,15 @@ use Rattle.update_model.specs.declared.Phase.{Phase}
 use Rattle.update_model.specs.declared.Phase.TheVariants as phase
 use Rattle.openflow10.specs.Messages.{wire_text}
 use Rattle.openflow10.specs.declared.Message.{Message}
-use Rattle.openflow10.specs.declared.Message.TheVariants.{BarrierRequest}
-use Rattle.round_messages.specs.Requests.{Sent, Request, is_changed, switch_numbered, switches_changed, change_request, barrier_request, round_requests, requests_from, sent_for, sent_from, first_xid}
+use Rattle.round_messages.specs.Requests.{Request, is_changed, switch_numbered, switches_changed, change_request, barrier_request, round_requests, requests_from, sent_from, first_xid}
 use Rattle.round_messages.specs.ToSwitch.{messages_to, AreFor}
 use Rattle.round_messages.proofs.Requests.{requests_from-push, round_count, request_count}
-use Rattle.round_messages.proofs.BySwitch.{each_round, round_alone, messages_in_turn, no_barrier}
+use Rattle.round_messages.proofs.BySwitch.{each_round, round_alone, messages_in_turn}
 use Rattle.switch_session.specs.Channels.{ChannelState, first_channel, hello, is_open, is_failed, asked, after_byte}
-use Rattle.switch_session.specs.Laws.{KeepsBarrier, ReadsAll}
 use Rattle.switch_session.specs.declared.Session.{Session}
 use Rattle.switch_session.specs.declared.Session.TheVariants.{Waiting, Open, Failed}
-use Rattle.switch_session.proofs.ByteLaws.{keeps_barrier}
-use Rattle.switch_session.proofs.RequestLaws.{reads_bytes}
 use Rattle.switch_session.proofs.TalkLaws.{front_nil}
-use Rattle.turned_rounds.specs.Batches.{next_xid, xid_behind, batch_of, outgoing_of}
+use Rattle.turned_rounds.specs.Batches.{xid_behind, batch_of, outgoing_of}
 use Rattle.turned_rounds.specs.declared.outgoing.Outgoing.{Outgoing}
 use Rattle.turned_rounds.proofs.NumberLaws.{batch_is}
 use Rattle.two_way_runs.specs.States as two_way
@@ -42,11 +38,11 @@ use Rattle.update_driver.specs.Drivers.{DriverState as OnwardState, channel_at, 
 use Rattle.update_driver.specs.Calls as onward
 use Rattle.update_driver.specs.Laws.{begun_count}
 use Rattle.update_driver.proofs.SoundLaws.{IsSound, MayBegin, sound_first, sound_fed, sound_call, may_begin, begun, none_is}
-use Rattle.update_driver.proofs.AskedLaws.{barrier_for, barrier_in-change, told_at}
+use Rattle.update_driver.proofs.AskedLaws.{barrier_for, told_at}
 use Rattle.update_driver.proofs.PieceLaws.{parts, fed-append}
 use Rattle.two_way_driver.specs.PeerStates.{PeerState}
-use Rattle.two_way_driver.specs.Peers.{first_peer, opened_anew, failure_in, heard_of, heard_by, kept_of, peer_after, asks, answers}
-use Rattle.two_way_driver.specs.Drivers.{DriverState, peer_at, with_peer, saying, sends, is_to_open, is_to, asks_if, next_if, asked_from, sent_out, settled_in, all_answered, settled_if_answered, log_if, change_notes, made, carried_out, answered, sent_again, opened, running_round, asked_round, heard, fed_byte, fed, first_words, first_driver, flagged, first_not_open, started_with, start_fault_in, started_in}
+use Rattle.two_way_driver.specs.Peers.{first_peer, failure_in, peer_after, asks, answers}
+use Rattle.two_way_driver.specs.Drivers.{DriverState, peer_at, with_peer, saying, sends, is_to_open, asked_from, sent_out, settled_in, all_answered, settled_if_answered, log_if, change_notes, made, carried_out, answered, sent_again, opened, running_round, asked_round, heard, fed_byte, fed, first_words, first_driver, flagged, first_not_open, started_with, start_fault_in, started_in}
 use Rattle.two_way_driver.specs.Calls.{DriverView, with_state, start_fault}
 use Rattle.two_way_driver.specs.Laws.{after_call, after_calls, driver_after, event_in, events_in, phase_of}
 use Rattle.two_way_driver.specs.Sending.{texts_to, texts_for}
@@ -62,183 +58,8 @@ use Rattle.two_way_driver.specs.declared.peers.Heard.TheVariants.{Nothing, Opene
 use Rattle.two_way_driver.proofs.ServingLaws.{length-asked}
 use Rattle.two_way_driver.proofs.SendingLaws.{texts-append, quiet, texts_open, changes_quiet, hello_first}
 use Rattle.driver_agreement.specs.Agreement.{two_way_call, Agree}
-use Rattle.driver_agreement.proofs.ByteLaws.{with_sent, Grows, byte_grows}
-
-abbrev events_of : List Event → List two_way.TwoWayEvent
-events_of log = map two_way.Onward log
-
--- ---- the barrier requests that wait for answers
-
-same_waits : (peers : List PeerState) (channels : List ChannelState) → length peers ≡ length channels
-    → ((i : ℕ) → i < length peers → (get_or peers i first_peer).asked ≡ (get_or channels i first_channel).outstanding) → all_answered peers ≡ none_outstanding channels
-same_waits [] [] e at = refl
-same_waits [] (c ∷ channels) e at = absurd (omega arith)
-same_waits (p ∷ peers) [] e at = absurd (omega arith)
-same_waits (p ∷ peers) (c ∷ channels) e at =
-    ap (λ (o : Option ℕ). is_none o && all_answered peers) (at 0 (omega arith)) ∙ ap (λ b. is_none c.outstanding && b) (same_waits peers channels (omega arith) (λ i less. at (suc i) (omega arith)))
-
-none_at : (channels : List ChannelState) (i : ℕ) → none_outstanding channels ≡ true → (get_or channels i first_channel).outstanding ≡ None
-none_at [] i all = refl
-none_at (c ∷ channels) zero all = from c.outstanding (list_all (λ (d : ChannelState). is_none d.outstanding) channels) all
-  where
-    from : (o : Option ℕ) (b : Bool) → (is_none o && b) ≡ true → o ≡ None
-    from None b e = refl
-    from (Some x) b e = absurd (let f : false ≡ true = e in cc)
-none_at (c ∷ channels) (suc i) all = none_at channels i (rest c.outstanding (list_all (λ (d : ChannelState). is_none d.outstanding) channels) all)
-  where
-    rest : (o : Option ℕ) (b : Bool) → (is_none o && b) ≡ true → b ≡ true
-    rest None b e = e
-    rest (Some x) b e = absurd (let f : false ≡ true = e in cc)
-
--- ---- one switch
-
--- what the one driver keeps of a switch is what the other keeps, which knows besides all that was sent
-record PeerAs (c : ChannelState) (p : PeerState) (texts : List (List ℕ)) : Type 0 where
-  channel : p.channel ≡ with_sent c p.channel.sent
-  behind : p.behind ≡ None
-  asked : p.asked ≡ c.outstanding
-  sent : concat texts ≡ c.sent
-  waits : c.session ≡ Waiting → c.outstanding ≡ None
-  reads : ReadsAll c
-
--- stages in which no round is being taken back
-abbrev IsOnward : Stage → Type 0
-IsOnward (Settled k) = Unit {0}
-IsOnward (Onward k) = Unit {0}
-IsOnward (Undone k) = ⊥
-
--- what a byte makes of a switch's channel
-module _ (b : ℕ) (c : ChannelState) (p : PeerState) (texts : List (List ℕ)) (seen : PeerAs c p texts) where
-  abbrev a : ChannelState
-  a = after_byte b c
-
-  abbrev x : List ℕ
-  x = p.channel.sent
-
-  g : Grows c a (λ y. after_byte b (with_sent c y))
-  g = byte_grows b c seen.reads
-
-  abbrev ch : ChannelState
-  ch = p.channel
-
-  after_is : after_byte b ch ≡ with_sent a (x ++ g.more)
-  after_is = ap (after_byte b) seen.channel ∙ g.others x
-
-  abbrev grown : ChannelState
-  grown = with_sent a (x ++ g.more)
-
-  abbrev reply_heard : Heard
-  reply_heard = cond (ltb (length x) (length (x ++ g.more))) (Replied (drop (length x) (x ++ g.more))) (cond (is_failed c.session) Nothing (failure_in a.session))
-
-  abbrev unanswered_heard : Heard
-  unanswered_heard = cond (is_open a.session && not (is_open c.session)) Opened reply_heard
-
-  heard_is : heard_by ch (after_byte b ch) ≡ cond (is_answered c.outstanding a.outstanding) Answered unanswered_heard
-  unfolding heard_of
-  heard_is = ap (λ (y : ChannelState). heard_by ch y) after_is ∙ ap (λ (y : ChannelState). heard_of y.session y.outstanding (length x) grown) seen.channel
-
-  more_none : ltb (length x) (length (x ++ g.more)) ≡ false → g.more ≡ []
-  more_none f = empty g.more (let le = ltb-false (length x) (length (x ++ g.more)) f in let count = length-append x g.more in omega arith)
-    where
-      empty : (l : List ℕ) → length l ≤ 0 → l ≡ []
-      empty [] le = refl
-      empty (y ∷ l) le = absurd (omega arith)
-
-  -- the channel that is kept
-  kept_is : (y : List ℕ) × (kept_of ch (after_byte b ch) ≡ with_sent a y)
-  kept_is =
-      subst (λ (z : ChannelState). (y : List ℕ) × (kept_of ch z ≡ with_sent a y)) (sym after_is)
-      (cond_both (ltb (length x) (length (x ++ g.more))) (opened_anew a.outstanding) grown (λ (z : ChannelState). (y : List ℕ) × (z ≡ with_sent a y))
-      (λ t. elim g.reply [
-        | inl none ↦ absurd (let more = ltb-true (length x) (length (x ++ g.more)) t in let count = length-append x g.more in let zero_more = ap length none in omega arith)
-        | inr r ↦ (
-          hello,
-          ap (λ (s : Session). let z : ChannelState = record { session = s; unread = []; sent = hello; outstanding = a.outstanding } in z) (sym r.session)
-              ∙ ap (λ (u : List ℕ). let z : ChannelState = record { session = a.session; unread = u; sent = hello; outstanding = a.outstanding } in z) (sym r.unread),
-        )
-      ])
-      (λ f. (x ++ g.more, refl)))
-
-  next_is : (peer_after b p).channel ≡ with_sent a (peer_after b p).channel.sent
-  unfolding peer_after
-  next_is = let (y, is) = kept_is in is ∙ ap (with_sent a) (sym (ap (λ (z : ChannelState). z.sent) is))
-
-  next_reads : ReadsAll a
-  next_reads = reads_bytes (b ∷ []) c seen.reads
-
-  same_outstanding : is_answered c.outstanding a.outstanding ≡ false → a.outstanding ≡ c.outstanding
-  same_outstanding f = by (keeps_barrier (b ∷ []) c) c.outstanding refl
-    where
-      by : KeepsBarrier c a → (o : Option ℕ) → c.outstanding ≡ o → a.outstanding ≡ c.outstanding
-      by (inl same) o is = same
-      by (inr none) None is = none ∙ sym is
-      by (inr none) (Some n) is =
-          let t : is_none a.outstanding ≡ false = ap (λ (q : Option ℕ). is_some q && is_none a.outstanding) (sym is) ∙ f in
-          let u : is_none a.outstanding ≡ true = ap is_none none in
-          absurd (let v : true ≡ false = sym u ∙ t in cc)
-
-  next_waits : a.session ≡ Waiting → a.outstanding ≡ None
-  next_waits w = let (was, same) = g.waits w in same ∙ seen.waits was
-
-  -- nothing was answered, and this was sent
-  peer_unanswered : (words : List (List ℕ)) → is_answered c.outstanding a.outstanding ≡ false → concat words ≡ g.more → PeerAs a (peer_after b p) (texts ++ words)
-  unfolding peer_after
-  peer_unanswered words f is = record {
-    channel = next_is;
-    behind = seen.behind;
-    asked = seen.asked ∙ sym (same_outstanding f);
-    sent = concat-append texts words ∙ ap (λ (l : List ℕ). l ++ concat words) seen.sent ∙ ap (λ (l : List ℕ). c.sent ++ l) is ∙ sym g.sent;
-    waits = next_waits;
-    reads = next_reads;
-  }
-
-  -- the barrier request was answered: nothing was sent
-  answered_none : is_answered c.outstanding a.outstanding ≡ true → (a.outstanding ≡ None) × (g.more ≡ [])
-  answered_none t =
-      let (some, none) = parts (is_some c.outstanding) a.outstanding t in (
-        none,
-        elim g.reply [
-          | inl empty ↦ empty
-          | inr r ↦ absurd (let e : is_some c.outstanding ≡ false = ap is_some (sym r.outstanding ∙ none) in let f : true ≡ false = sym some ∙ e in cc)
-        ],
-      )
-
-  peer_answered : is_answered c.outstanding a.outstanding ≡ true → PeerAs a (record (peer_after b p) { asked = None }) texts
-  unfolding peer_after
-  peer_answered t =
-      let (none, empty) = answered_none t in
-      record {
-        channel = next_is;
-        behind = seen.behind;
-        asked = sym none;
-        sent = seen.sent ∙ sym (append-nil c.sent) ∙ ap (λ (l : List ℕ). c.sent ++ l) (sym empty) ∙ sym g.sent;
-        waits = next_waits;
-        reads = next_reads;
-      }
-
-  -- the session was opened: nothing was outstanding, and nothing is sent
-  opened_none : (is_open a.session && not (is_open c.session)) ≡ true → (p.asked ≡ None) × (g.more ≡ [])
-  opened_none t =
-      let now : a.session ≡ Open = is_open_now a.session (not (is_open c.session)) t in
-      elim (g.opens now) [
-        | inl was ↦ absurd (let e : (is_open a.session && not (is_open c.session)) ≡ false = ap (λ (s : Session). is_open a.session && not (is_open s)) was ∙ and_false (is_open a.session) in let f : true ≡ false = sym t ∙ e in cc)
-        | inr w ↦ (
-          seen.asked ∙ seen.waits w.0,
-          elim g.reply [
-            | inl empty ↦ empty
-            | inr r ↦ absurd (let f : Waiting ≡ Open = sym w.0 ∙ r.was_open in cc)
-          ],
-        )
-      ]
-    where
-      is_open_now : (s : Session) (q : Bool) → (is_open s && q) ≡ true → s ≡ Open
-      is_open_now Waiting q e = absurd (let f : false ≡ true = e in cc)
-      is_open_now Open q e = refl
-      is_open_now (Failed why) q e = absurd (let f : false ≡ true = e in cc)
-
-      and_false : (q : Bool) → (q && false) ≡ false
-      and_false true = refl
-      and_false false = refl
+use Rattle.driver_agreement.proofs.SwitchLaws.{events_of, same_waits, none_at, PeerAs, IsOnward, x, g, unanswered_heard, heard_is, more_none, peer_unanswered, peer_answered, opened_none}
+use Rattle.driver_agreement.proofs.MessageLaws.{behind_is, concat_texts, none_passes, find_alike, none_found, texts_are, no_barrier_in, barriers_to, changed_from, asks_so, asked_barrier}
 
 -- ---- events
 
@@ -499,149 +320,6 @@ module _ (net : Network) (rounds inverses : List (List Change)) where
       let first = byte_follows s within b d e sound f in
       subst (λ (y : OnwardState). Follows y (fed net rounds inverses s bytes (fed_byte net rounds inverses s b e))) (sym (fed-append rounds s (b ∷ []) bytes d (omega arith)))
       (fed_follows s bytes (one.fed rounds s (b ∷ []) d) (fed_byte net rounds inverses s b e) within (sound_fed net rounds d s (b ∷ []) sound) first)
-
--- ---- the messages of a round
-
-next_of : (y : ℕ) → y + 1 ≤ 4294967295 → next_xid y ≡ suc y
-next_of y few = cond-false (eqb y 4294967295) 1 (suc y) (ne_eqb y 4294967295 (λ e. omega arith))
-
-behind_is : (y n : ℕ) → y + n ≤ 4294967295 → xid_behind y n ≡ y + n
-behind_is y zero few = let e : y ≡ y + zero = omega arith in e
-behind_is y (suc n) few =
-    let e : suc y + n ≡ y + suc n = omega arith in
-    ap (λ z. xid_behind z n) (next_of y (omega arith)) ∙ behind_is (suc y) n (omega arith) ∙ e
-
-concat_texts : (ms : List Message) → concat (map wire_text ms) ≡ flat_map wire_text ms
-concat_texts [] = refl
-concat_texts (m ∷ ms) = ap (λ (l : List ℕ). wire_text m ++ l) (concat_texts ms)
-
-none_passes : {A : Type 0} (test : A → Bool) (xs : List A) → list_any test xs ≡ false → filter test xs ≡ []
-none_passes test [] e = refl
-none_passes test (y ∷ xs) e =
-    let here : test y ≡ false = neither_first (test y) (list_any test xs) e in
-    let later : list_any test xs ≡ false = neither_last (test y) (list_any test xs) e in
-    cond-false (test y) (y ∷ filter test xs) (filter test xs) here ∙ none_passes test xs later
-  where
-    neither_first : (a b : Bool) → (a || b) ≡ false → a ≡ false
-    neither_first true b e = e
-    neither_first false b e = refl
-
-    neither_last : (a b : Bool) → (a || b) ≡ false → b ≡ false
-    neither_last true b e = absurd (let f : true ≡ false = e in cc)
-    neither_last false b e = e
-
-find_alike : {A : Type 0} (p q : A → Bool) → ((x : A) → p x ≡ q x) → (xs : List A) → find p xs ≡ find q xs
-find_alike p q same [] = refl
-find_alike p q same (x ∷ xs) = ap (λ t. cond t (Some x) (find p xs)) (same x) ∙ ap (λ o. cond (q x) (Some x) o) (find_alike p q same xs)
-
--- none of the switches that pass one test passes another
-none_found : (p q : SwitchId → Bool) (n m i : ℕ) → find p (filter q (map switch_numbered (range_with_len n m))) ≡ None → n ≤ i → i < n + m → q (switch_numbered i) ≡ true → p (switch_numbered i) ≡ false
-none_found p q n zero i none le less on = absurd (omega arith)
-none_found p q n (suc m) i none le less on =
-    let rest = filter q (map switch_numbered (range_with_len (n + 1) m)) in
-    let whole : cond (q (switch_numbered n)) (cond (p (switch_numbered n)) (Some (switch_numbered n)) (find p rest)) (find p rest) ≡ None = sym (chosen (q (switch_numbered n)) rest) ∙ none in
-    elim (cases_Bool (q (switch_numbered n))) [
-      | inl first ↦ (
-          let here : cond (p (switch_numbered n)) (Some (switch_numbered n)) (find p rest) ≡ None = sym (cond-true (q (switch_numbered n)) _ (find p rest) first) ∙ whole in
-          elim (cases_Bool (p (switch_numbered n))) [
-            | inl hit ↦ absurd (let f : Some (switch_numbered n) ≡ None = sym (cond-true (p (switch_numbered n)) (Some (switch_numbered n)) (find p rest) hit) ∙ here in cc)
-            | inr miss ↦ elim (cases_eq n i) [
-              | inl same ↦ ap (λ (j : ℕ). p (switch_numbered j)) (sym same) ∙ miss
-              | inr differs ↦ none_found p q (n + 1) m i (sym (cond-false (p (switch_numbered n)) (Some (switch_numbered n)) (find p rest) miss) ∙ here) (omega (arith, differs)) (omega arith) on
-            ]
-          ])
-      | inr off ↦ none_found p q (n + 1) m i (sym (cond-false (q (switch_numbered n)) _ (find p rest) off) ∙ whole)
-          (let differs : n ≢ i = λ e. (let f : true ≡ false = sym on ∙ ap (λ (j : ℕ). q (switch_numbered j)) (sym e) ∙ off in absurd (cc)) in omega (arith, differs)) (omega arith) on
-    ]
-  where
-    chosen : (t : Bool) (others : List SwitchId) → find p (cond t (switch_numbered n ∷ others) others) ≡ cond t (cond (p (switch_numbered n)) (Some (switch_numbered n)) (find p others)) (find p others)
-    chosen true others = refl
-    chosen false others = refl
-
-module _ (k : ℕ) (s : SwitchId) where
-  -- the messages to the switch, one by one
-  texts_are : (y : ℕ) (rs : List Request) → AllByRecursion (λ (r : Request). r.round ≡ k) rs → texts_for s (map outgoing_of (sent_from y rs)) ≡ map wire_text (messages_to k s (sent_from y rs))
-  texts_are y [] each = refl
-  texts_are y (r ∷ rs) each =
-      let m = sent_for r y in
-      let mine : List Outgoing = filter (is_to s) (map outgoing_of (sent_from (suc y) rs)) in
-      let others : List Sent = filter (λ (n : Sent). eqb n.round k && eqb n.switch.0 s.0) (sent_from (suc y) rs) in
-      let rest : map (λ (o : Outgoing). o.text) mine ≡ map wire_text (map (λ (n : Sent). n.message) others) = texts_are (suc y) rs each.1 in
-      elim (eqb r.switch.0 s.0) as (λ t. map (λ (o : Outgoing). o.text) (cond t (outgoing_of m ∷ mine) mine) ≡ map wire_text (map (λ (n : Sent). n.message) (cond t (m ∷ others) others))) [
-        | true ↦ ap (λ (l : List (List ℕ)). wire_text m.message ∷ l) rest
-        | false ↦ rest
-      ]
-      ∙ ap (λ t. map wire_text (map (λ (n : Sent). n.message) (cond (t && eqb r.switch.0 s.0) (m ∷ others) others))) (sym (eq-eqb r.round k each.0))
-
-  -- messages of changes ask for no barrier
-  no_barrier_in : (y : ℕ) (cs : List Change) (ms : List Message) → barrier_in (messages_to k s (sent_from y (map (change_request k) cs)) ++ ms) ≡ barrier_in ms
-  no_barrier_in y [] ms = refl
-  no_barrier_in y (c ∷ cs) ms =
-      let m = sent_for (change_request k c) y in
-      let others : List Sent = filter (λ (n : Sent). eqb n.round k && eqb n.switch.0 s.0) (sent_from (suc y) (map (change_request k) cs)) in
-      let rest : barrier_in (map (λ (n : Sent). n.message) others ++ ms) ≡ barrier_in ms = no_barrier_in (suc y) cs ms in
-      elim (eqb m.round k && eqb m.switch.0 s.0) as (λ t. barrier_in (map (λ (n : Sent). n.message) (cond t (m ∷ others) others) ++ ms) ≡ barrier_in ms) [
-        | true ↦ barrier_in-change c y (map (λ (n : Sent). n.message) others ++ ms) ∙ rest
-        | false ↦ rest
-      ]
-
-module _ (k : ℕ) (round : List Change) where
-  -- the barrier requests of a round to a switch, where the first of these switches has number n
-  abbrev barriers_to : SwitchId → ℕ → List SwitchId → List Message
-  barriers_to s y switches = messages_to k s (sent_from y (map (barrier_request k) switches))
-
-  abbrev changed_from : ℕ → ℕ → List SwitchId
-  changed_from n m = filter (is_changed round) (map switch_numbered (range_with_len n m))
-
-  changed_first : (n m : ℕ) → is_changed round (switch_numbered n) ≡ true → changed_from n (suc m) ≡ switch_numbered n ∷ changed_from (n + 1) m
-  changed_first n m on = rw on refl
-
-  changed_later : (n m : ℕ) → is_changed round (switch_numbered n) ≡ false → changed_from n (suc m) ≡ changed_from (n + 1) m
-  changed_later n m off = rw off refl
-
-  barrier_here : (s t : SwitchId) (switches : List SwitchId) (y : ℕ) → eqb t.0 s.0 ≡ true → barriers_to s y (t ∷ switches) ≡ BarrierRequest y ∷ barriers_to s (suc y) switches
-  barrier_here s t switches y this = let same : eqb k k ≡ true = eq-eqb k k refl in rw (same, this) refl
-
-  barrier_past : (s t : SwitchId) (switches : List SwitchId) (y : ℕ) → eqb t.0 s.0 ≡ false → barriers_to s y (t ∷ switches) ≡ barriers_to s (suc y) switches
-  barrier_past s t switches y other = let same : eqb k k ≡ true = eq-eqb k k refl in rw (same, other) refl
-
-  abbrev asks_so : PeerState → Option ℕ → PeerState
-  asks_so p o = option_map_or (λ x. asks x p) o p
-
-  asked_barrier : (y n : ℕ) (peers : List PeerState) (i : ℕ) → i < length peers → y + length peers ≤ 4294967295
-      → get_or (asked_from y round n peers) i first_peer ≡ asks_so (get_or peers i first_peer) (barrier_in (barriers_to (switch_numbered (n + i)) y (changed_from n (length peers))))
-  asked_barrier y n [] i less few = absurd (omega arith)
-  asked_barrier y n (p ∷ peers) zero less few =
-      let m = length peers in
-      let s = switch_numbered (n + 0) in
-      let place : n ≡ n + 0 = omega arith in
-      elim (cases_Bool (is_changed round (switch_numbered n))) [
-        | inl on ↦
-            ap (λ t. asks_if t y p) on
-            ∙ ap (λ (l : List Message). asks_so p (barrier_in l)) (sym (ap (barriers_to s y) (changed_first n m on) ∙ barrier_here s (switch_numbered n) (changed_from (n + 1) m) y (eq-eqb n (n + 0) place)))
-        | inr off ↦
-            ap (λ t. asks_if t y p) off
-            ∙ ap (λ (l : List Message). asks_so p (barrier_in l)) (sym (ap (barriers_to s y) (changed_later n m off) ∙ no_barrier k s (is_changed round) (n + 1) m y (inl (omega arith))))
-      ]
-  asked_barrier y n (p ∷ peers) (suc i) less few =
-      let m = length peers in
-      let s = switch_numbered (n + suc i) in
-      let place : suc n + i ≡ n + suc i = omega arith in
-      let q = get_or peers i first_peer in
-      let step : suc n ≡ n + 1 = omega arith in
-      let Rest : ℕ → Type 0 = λ z. get_or (asked_from z round (suc n) peers) i first_peer ≡ asks_so q (barrier_in (barriers_to s z (changed_from (n + 1) m))) in
-      let later : (z : ℕ) → z + m ≤ 4294967295 → Rest z = λ z fits. (
-      asked_barrier z (suc n) peers i (omega arith) fits ∙ ap (λ (j : ℕ). asks_so q (barrier_in (barriers_to (switch_numbered j) z (changed_from (suc n) m)))) place
-      ∙ ap (λ (j : ℕ). asks_so q (barrier_in (barriers_to s z (changed_from j m)))) step) in
-      elim (cases_Bool (is_changed round (switch_numbered n))) [
-        | inl on ↦
-            ap (λ t. get_or (asked_from (next_if t y) round (suc n) peers) i first_peer) on
-            ∙ ap (λ z. get_or (asked_from z round (suc n) peers) i first_peer) (next_of y (omega arith)) ∙ later (suc y) (omega arith)
-            ∙ ap (λ (l : List Message). asks_so q (barrier_in l)) (sym (ap (barriers_to s y) (changed_first n m on) ∙ barrier_past s (switch_numbered n) (changed_from (n + 1) m) y (ne_eqb n (n + suc i) (λ e. omega arith))))
-        | inr off ↦
-            ap (λ t. get_or (asked_from (next_if t y) round (suc n) peers) i first_peer) off ∙ later y (omega arith)
-            ∙ ap (λ (l : List Message). asks_so q (barrier_in l)) (sym (ap (barriers_to s y) (changed_later n m off)))
-      ]
 
 -- ---- a round starts
 

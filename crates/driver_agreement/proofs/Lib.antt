@@ -1,2 +1,4 @@
 pub mod ByteLaws
+pub mod SwitchLaws
+pub mod MessageLaws
 pub mod AgreeLaws

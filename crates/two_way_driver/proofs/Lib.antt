@@ -5,4 +5,5 @@ pub mod RunLaws
 pub mod ReplyLaws
 pub mod WordLaws
 pub mod AnswerLaws
+pub mod XidLaws
 pub mod SendingLaws

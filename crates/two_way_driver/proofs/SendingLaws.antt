@@ -31,7 +31,7 @@ use Rattle.two_way_driver.specs.Drivers.{DriverState, peer_at, with_peer, saying
 use Rattle.two_way_driver.specs.Calls.{DriverView, with_state, silent, start_fault, back_fault, started, turned}
 use Rattle.two_way_driver.specs.Laws.{Call, Start, Back, Reopen, Feed, IsCall, after_call, after_calls, driver_after}
 use Rattle.two_way_driver.specs.Words.{after_call_anew, said_by_each, joined}
-use Rattle.two_way_driver.specs.Sending.{text_to, texts_to, texts_for, session_at, start_asks, back_asks, asked_by, asking, unanswered, HasHello, Answers, Sends, GoesOn}
+use Rattle.two_way_driver.specs.Sending.{text_to, texts_to, texts_for, session_at, start_asks, back_asks, asking, unanswered, HasHello, Answers, Sends}
 use Rattle.two_way_driver.specs.declared.Stage.{Stage}
 use Rattle.two_way_driver.specs.declared.Stage.TheVariants.{Settled, Onward, Undone}
 use Rattle.two_way_driver.specs.declared.Logged.{Logged}
@@ -712,112 +712,6 @@ module _ (v : DriverView) (s : SwitchId) where
   sends_call Back within read = sends_back
   sends_call (Reopen t) within read = sends_reopen t
   sends_call (Feed t bytes) within read = sends_fed t bytes within read
-
--- ---- the xids
-
-record SameNumbers (d e : DriverState) : Type 0 where
-  first : e.first ≡ d.first
-  next : e.next ≡ d.next
-
-numbers_refl : (d : DriverState) → SameNumbers d d
-numbers_refl d = record { first = refl; next = refl }
-
-numbers_settled : (stage : Stage) (d : DriverState) → SameNumbers d (settled_in stage d)
-unfolding settled_in
-numbers_settled (Settled k) d = numbers_refl d
-numbers_settled (Onward k) d = record { first = refl; next = refl }
-numbers_settled (Undone k) d = record { first = refl; next = refl }
-
-numbers_if_answered : (d : DriverState) → SameNumbers d (settled_if_answered d)
-unfolding settled_if_answered
-numbers_if_answered d = cond_both (all_answered d.peers) (settled_in d.stage d) d (SameNumbers d) (λ _. numbers_settled d.stage d) (λ _. numbers_refl d)
-
-numbers_carried : (round : List Change) (t : SwitchId) (stage : Stage) (d : DriverState) → SameNumbers d (carried_out round t stage d)
-unfolding made undone
-numbers_carried round t (Settled k) d = numbers_refl d
-numbers_carried round t (Onward k) d = record { first = refl; next = refl }
-numbers_carried round t (Undone k) d =
-    cond_both (get_or d.in_force t.0 false) (record d { in_force = set d.in_force t.0 false; said = d.said ++ undo_notes t 0 round }) d (SameNumbers d)
-    (λ _. record { first = refl; next = refl }) (λ _. numbers_refl d)
-
-numbers_answered : (round : List Change) (t : SwitchId) (d : DriverState) → SameNumbers d (answered round t d)
-unfolding answered made
-numbers_answered round t d =
-    let e = with_peer t (answers (peer_at d t)) d in
-    let last = carried_out round t e.stage e in
-    cond_both (is_some (peer_at d t).behind) (made round t e) (settled_if_answered last) (SameNumbers d) (λ _. record { first = refl; next = refl })
-    (λ _. let a = numbers_carried round t e.stage e in let b = numbers_if_answered last in record { first = b.first ∙ a.first; next = b.next ∙ a.next })
-
-numbers_opened : (net : Network) (changes : List Change) (t : SwitchId) (d : DriverState) → SameNumbers d (opened net changes t d)
-unfolding opened
-numbers_opened net changes t d =
-    elim (peer_at d t).asked as (λ (o : Option ℕ). SameNumbers d (option_map_or (λ x. sent_again net changes t x d) o d)) [
-      | None ↦ numbers_refl d
-      | Some x ↦ record { first = refl; next = refl }
-    ]
-
-module _ (net : Network) (rounds inverses : List (List Change)) where
-  numbers_heard : (t : SwitchId) (came : Heard) (d : DriverState) → SameNumbers d (heard net rounds inverses t came d)
-  numbers_heard t Nothing d = numbers_refl d
-  numbers_heard t Opened d = numbers_opened net (asked_round rounds inverses d.stage) t d
-  numbers_heard t Answered d = numbers_answered (running_round rounds d.stage) t d
-  numbers_heard t (Replied text) d = record { first = refl; next = refl }
-  numbers_heard t (Broke cause) d = record { first = refl; next = refl }
-
-  numbers_byte : (t : SwitchId) (b : ℕ) (d : DriverState) → SameNumbers d (fed_byte net rounds inverses t b d)
-  unfolding fed_byte
-  numbers_byte t b d =
-      let p = peer_at d t in
-      let h = numbers_heard t (heard_by p.channel (after_byte b p.channel)) (with_peer t (peer_after b p) d) in
-      record { first = h.first; next = h.next }
-
-  numbers_fed : (t : SwitchId) (bytes : List ℕ) (d : DriverState) → SameNumbers d (fed net rounds inverses t bytes d)
-  numbers_fed t [] d = numbers_refl d
-  numbers_fed t (b ∷ bytes) d =
-      let a = numbers_byte t b d in
-      let h = numbers_fed t bytes (fed_byte net rounds inverses t b d) in
-      record { first = h.first ∙ a.first; next = h.next ∙ a.next }
-
--- the messages of a round took the next xids
-record TakesNumbers (net : Network) (changes : Option (List Change)) (d e : DriverState) : Type 0 where
-  first : e.first ≡ option_map_or (λ _. d.next) changes d.first
-  next : e.next ≡ option_map_or (λ cs. xid_behind d.next (length (batch_of net d.next cs))) changes d.next
-
-module _ (v : DriverView) where
-  takes_sent : (changes : List Change) (stage : Stage) (d : DriverState) → TakesNumbers v.net (Some changes) d (settled_if_answered (sent_out v.net changes stage d))
-  unfolding sent_out
-  takes_sent changes stage d = let h = numbers_if_answered (sent_out v.net changes stage d) in record { first = h.first; next = h.next }
-
-  takes_start : (stage : Stage) (d : DriverState) → TakesNumbers v.net (start_asks v stage) d (started_in v.net v.rounds stage d)
-  takes_start (Settled k) d = let h = takes_sent (round_after k v.rounds) (Onward k) (flagged false (saying (Log logged.Start ∷ []) d)) in record { first = h.first; next = h.next }
-  takes_start (Onward k) d = record { first = refl; next = refl }
-  takes_start (Undone k) d = record { first = refl; next = refl }
-
-  takes_back : (stage : Stage) (d : DriverState) → TakesNumbers v.net (back_asks v stage) d (turned_in v.net v.inverses stage d)
-  takes_back (Settled zero) d = record { first = refl; next = refl }
-  takes_back (Settled (suc k)) d = let h = takes_sent (round_after k v.inverses) (Undone k) (flagged true (saying (Log logged.Back ∷ []) d)) in record { first = h.first; next = h.next }
-  takes_back (Onward k) d = takes_sent (round_after k v.inverses) (Undone k) d
-  takes_back (Undone k) d = record { first = refl; next = refl }
-
-  abbrev Takes : Option (List Change) → DriverView → Type 0
-  Takes changes w = TakesNumbers v.net changes v.state w.state
-
-  takes_call : (c : Call) → Takes (asked_by v c) (after_call v c)
-  takes_call Start =
-      elim (is_none (start_fault v)) as (λ b. Takes (cond b (start_asks v v.state.stage) None) (cond b (started v) v)) [
-        | true ↦ takes_start v.state.stage v.state
-        | false ↦ record { first = refl; next = refl }
-      ]
-  takes_call Back =
-      elim (is_none (back_fault v)) as (λ b. Takes (cond b (back_asks v v.state.stage) None) (cond b (turned v) v)) [
-        | true ↦ takes_back v.state.stage v.state
-        | false ↦ record { first = refl; next = refl }
-      ]
-  takes_call (Reopen t) = record { first = refl; next = refl }
-  takes_call (Feed t bytes) = let h = numbers_fed v.net v.rounds v.inverses t bytes v.state in record { first = h.first; next = h.next }
-
-  pub goes_on : (c : Call) → GoesOn v (after_call v c) c
-  goes_on c = let h = takes_call c in record { first = h.first; next = h.next }
 
 -- ---- all calls
 

@@ -1,4 +1,5 @@
-use Rattle.two_way_driver.proofs.SendingLaws.{each_call, all_calls, goes_on}
+use Rattle.two_way_driver.proofs.SendingLaws.{each_call, all_calls}
+use Rattle.two_way_driver.proofs.XidLaws.{goes_on}
 use Rattle.two_way_driver.proofs.sending.what_is_sent.Goals as goal
 
 pub returns-clause-each : goal.returns-clause-each
