@@ -87,7 +87,8 @@ class Grid:
 def new_weights(rows, columns, destinations):
     grid, draw = Grid(rows, columns), random.Random(1)
     homes = draw.sample(range(grid.size), destinations)
-    policy = {"demands": [{"from": "any", "dst": prefix(j), "deliver": True} for j in range(destinations)]}
+    demands = [{"from": f"g{i}:1", "dst": prefix(j), "deliver": True} for j, home in enumerate(homes) for i in range(grid.size) if i != home]
+    policy = {"demands": demands}
     return grid.topology(), grid.config(homes, draw), grid.config(homes, draw), policy
 
 
@@ -98,9 +99,9 @@ def of_workload(name):
 
 def main():
     both("ring of 128, 4 destinations", turned(128, 4))
-    both("ring of 128, 15 destinations", turned(128, 15))
-    both("grid of 8 by 8, new weights, 15 destinations", new_weights(8, 8, 15))
-    both("grid of 8 by 16, new weights, 15 destinations", new_weights(8, 16, 15))
+    both("ring of 128, 15 destinations, most traffic may be dropped", turned(128, 15))
+    both("grid of 8 by 8, new weights, 8 destinations", new_weights(8, 8, 8))
+    both("grid of 8 by 16, new weights, 4 destinations", new_weights(8, 16, 4))
     both("reversed ring of 64", of_workload("plan-reversed-64"))
     both("ring of 128, nothing must arrive", free(128, 4))
     both("ring of 128 with 2048 rules, most traffic may be dropped", of_workload("plan-rules"))
