@@ -97,6 +97,33 @@ fn a_ring_is_turned_in_two_phases_where_they_have_fewer_rounds(rt: HostRuntime) 
     }
 }
 
+/// An update of one switch, whose only rule gets another priority.
+fn raised(topology: &'static [u8]) -> UpdateTexts<'static> {
+    UpdateTexts {
+        topology,
+        old: br#"{"rules":[{"switch":"s","priority":100,"dst":"10.0.0.0/24","out":2}]}"#,
+        new: br#"{"rules":[{"switch":"s","priority":200,"dst":"10.0.0.0/24","out":2}]}"#,
+        policy: br#"{"demands":[]}"#,
+    }
+}
+
+#[test]
+fn an_insert_waits_for_room(rt: HostRuntime) {
+    let rows: [(&[u8], &[u8]); 2] = [
+        (
+            br#"{"switches":[{"name":"s","capacity":1}],"links":[],"hosts":["s:1","s:2"],"vlans":["untagged"],"tags":[]}"#,
+            b"accepted: ordered, 2 rounds, 6 classes\n",
+        ),
+        (
+            br#"{"switches":[{"name":"s","capacity":2}],"links":[],"hosts":["s:1","s:2"],"vlans":["untagged"],"tags":[]}"#,
+            b"accepted: ordered, 1 rounds, 6 classes\n",
+        ),
+    ];
+    for (topology, line) in rows {
+        is_accepted(&rt, rt.alloc(), &raised(topology), line, "room");
+    }
+}
+
 #[test]
 fn the_shorter_plan_is_written(rt: HostRuntime) {
     let rows: [(UpdateTexts<'_>, Status, &[u8]); 5] = [
