@@ -1,14 +1,12 @@
 -- Clashes by positions.
-use Rattle.std.proofs.Common.{◌≡◌, ◌⊎◌, ℕ, zero, suc, ◌+◌, ◌<◌, ◌≤◌, true, false, List, [], ◌∷◌, length, get_or, sym, ◌∙◌, subst, ap, inl, inr, arith}
+use Rattle.std.proofs.Common.{◌≡◌, ℕ, zero, suc, ◌+◌, ◌<◌, ◌≤◌, List, [], ◌∷◌, length, get_or, sym, ◌∙◌, subst, ap, inl, inr, arith}
 use Rattle.std.specs.Prelude.{slice_get, Some}
 use Rattle.flow_rules.specs.Overlaps.{IsClash}
 use Rattle.flow_rules.specs.declared.rules.Rule.{Rule}
-use Rattle.std.proofs.lemmas.Bool.{cases_lt, both_ways}
-use Rattle.std.proofs.lemmas.List.{length-map, get_or_default}
+use Rattle.std.proofs.lemmas.Bool.{cases_lt}
+use Rattle.std.proofs.lemmas.List.{length-map}
 use Rattle.flow_rules.specs.Frees.{IsFree, IsFreeUpTo}
 use Rattle.round_mix.specs.Marks.{rules_of}
-use Rattle.round_mix.specs.Order.{AreInOrder, IsInOrder, may_clash}
-use Rattle.round_mix.proofs.OrderLaws.{order_at, may_clash_between}
 use Rattle.net_base.proofs.ItemLaws.{past_end}
 use Rattle.flow_rules.specs.Overlaps.{IsClashAt}
 use Rattle.round_mix.specs.declared.MarkedRule.{MarkedRule}
@@ -43,35 +41,6 @@ module _ (marks : List MarkedRule) (i j : ℕ) (m n : MarkedRule) (i_in : i < le
         | inl less ↦ free l above less at
         | inr more ↦ (let e : l ≡ j = omega arith in apart (clash_of (subst (λ (k : ℕ). IsClashAt (rules_of marks) i k) e at)))
       ]
-
-  -- of rules in order, those from one on that can't clash don't
-  pub free_far : AreInOrder marks → i < j → may_clash m n ≡ false → IsFreeUpTo (rules_of marks) i j → IsFree (rules_of marks) i
-  free_far order less off free l above at =
-      elim (cases_lt l j) [
-        | inl below ↦ free l above below at
-        | inr from ↦ (
-            let within = past_end (rules_of marks) l at.other at.other_at in
-            let same = length-map marks (λ (x : MarkedRule). x.rule) in
-            let l_in : l < length marks = omega arith in
-            both_ways (may_clash m n) off (beyond l from l_in at))
-      ]
-    where
-      n_at : n ≡ get_or marks j m
-      n_at = n_is ∙ get_or_default marks j n m j_in
-
-      clash_at_place : (l : ℕ) (q : MarkedRule) → l < length marks → q ≡ get_or marks l q → IsClashAt (rules_of marks) i l → IsClash m.rule q.rule
-      clash_at_place l q l_in q_is at = clash_between marks i l m q i_in l_in m_is q_is at
-
-      beyond : (l : ℕ) → j ≤ l → l < length marks → IsClashAt (rules_of marks) i l → may_clash m n ≡ true
-      beyond l from l_in at =
-          let q = get_or marks l m in
-          let q_is = get_or_default marks l m q l_in in
-          let first : IsInOrder m n = subst (λ (x : MarkedRule). IsInOrder x n) (sym m_is) (subst (λ (x : MarkedRule). IsInOrder (get_or marks i m) x) (sym n_at) (order_at marks order i j m less j_in)) in
-          let next : (n ≡ q) ⊎ IsInOrder n q = elim (cases_lt j l) [
-            | inl more ↦ inr (subst (λ (x : MarkedRule). IsInOrder x q) (sym n_at) (order_at marks order j l m more l_in))
-            | inr less ↦ (let e : j ≡ l = omega arith in inl (n_at ∙ ap (λ (k : ℕ). get_or marks k m) e))
-          ] in
-          may_clash_between m n q first next (clash_at_place l q l_in q_is at)
 
 -- no rule is left
 pub free_end : (marks : List MarkedRule) (i j : ℕ) → length marks ≤ j → IsFreeUpTo (rules_of marks) i j → IsFree (rules_of marks) i

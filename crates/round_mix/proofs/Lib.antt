@@ -15,3 +15,4 @@ pub mod TriedLaws
 pub mod PickedLaws
 pub mod AmongLaws
 pub mod NearestLaws
+pub mod SweepLaws

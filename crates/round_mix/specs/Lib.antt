@@ -9,3 +9,4 @@ pub mod Order
 pub mod Named
 pub mod Apart
 pub mod Tried
+pub mod Kinds

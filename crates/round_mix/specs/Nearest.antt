@@ -3,7 +3,6 @@ use Rattle.std.specs.Prelude.{◌≡◌, ℕ, ◌≤◌, Bool, true, false, List
 use Rattle.std.specs.Option.{option_map_or}
 use Rattle.flow_rules.specs.Patterns.{Header, covers}
 use Rattle.flow_rules.specs.declared.rules.Pattern.{Pattern}
-use Rattle.update_model.specs.declared.Change.{Change}
 use Rattle.round_mix.specs.declared.MarkedRule.{MarkedRule}
 
 -- the patterns of marked rules

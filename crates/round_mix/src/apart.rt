@@ -1,12 +1,11 @@
 //! Whether no two marked rules clash.
 ghost use Rattle.std.specs.Prelude.{◌≡◌, IsTrue, IsPermutation, vec_capacity};
 ghost use Rattle.round_mix.specs.Apart.{AreApart, is_apart};
-ghost use Rattle.round_mix.specs.Order.{AreInOrder, AreInKeyOrder};
-ghost use Rattle.round_mix.specs.Prepared.{IsFalling};
+ghost use Rattle.round_mix.specs.Order.{AreInKeyOrder};
 
 use crate::MarkedRule;
-use crate::clashes::is_free;
-use crate::sorting::{sort, sort_by_key};
+use crate::kinds::are_apart_by_kind;
+use crate::sorting::sort_by_key;
 
 /// Whether the second of two neighbours in key order tests the same as the first, if it has the same priority, and they
 /// don't clash.
@@ -43,33 +42,9 @@ fn are_apart_by_key(marks: &mut Vec<MarkedRule>) -> bool
     are_apart(marks)
 }
 
-/// Sorts marked rules by priority and address, and says whether no two of them clash.
-fn are_apart_by_address(marks: &mut Vec<MarkedRule>) -> bool
-    ensures permutation { IsPermutation marks.old.items marks.new.items }
-    ensures order { AreInOrder marks.new.items }
-    ensures apart { IsTrue result → AreApart marks.new.items }
-    ensures room { vec_capacity marks.new ≡ vec_capacity marks.old }
-{
-    sort(marks);
-    is_free(marks)
-}
-
-/// Sorts marked rules by priority, and says whether no two of them clash. Where rules of one priority test different
-/// things beside the address, each is compared with those of its priority whose first address lies in its prefix.
+/// Sorts marked rules by their keys, and says whether no two of them clash. Where rules of one priority test different things
+/// beside the address, they are swept by kinds.
 pub fn sort_apart(marks: &mut Vec<MarkedRule>) -> bool
-    ensures permutation { IsPermutation marks.old.items marks.new.items }
-    ensures falling { IsFalling marks.new.items }
-    ensures apart { IsTrue result → AreApart marks.new.items }
-    ensures room { vec_capacity marks.new ≡ vec_capacity marks.old }
-{
-    if are_apart_by_key(marks) {
-        return true;
-    }
-    are_apart_by_address(marks)
-}
-
-/// Sorts marked rules by their keys, and says as `sort_apart` whether no two of them clash.
-pub fn sort_apart_by_key(marks: &mut Vec<MarkedRule>) -> bool
     ensures permutation { IsPermutation marks.old.items marks.new.items }
     ensures order { AreInKeyOrder marks.new.items }
     ensures apart { IsTrue result → AreApart marks.new.items }
@@ -78,7 +53,7 @@ pub fn sort_apart_by_key(marks: &mut Vec<MarkedRule>) -> bool
     if are_apart_by_key(marks) {
         return true;
     }
-    let is_apart = are_apart_by_address(marks);
+    let is_apart = are_apart_by_kind(marks);
     sort_by_key(marks);
     is_apart
 }

@@ -19,6 +19,7 @@ ghost use Rattle.round_mix.specs.Scan.{actions_by, is_kept, scan};
 mod apart;
 mod changes;
 mod clashes;
+mod kinds;
 mod marking;
 mod named;
 mod nearest;
@@ -35,7 +36,7 @@ use nearest::{Packet, fill_space, nearest};
 use net_base::{Memory, Place};
 use path_walk::Outcome;
 use path_walk::following::act;
-use sorting::sort;
+use sorting::sort_by_key;
 use std::alloc::Global;
 use std::marker::Model;
 use table_index::Index;
@@ -320,7 +321,7 @@ fn mix(table: &Table, changes: &[Change], marks: &mut Vec<MarkedRule>) -> Result
     if let Some((i, j)) = least_clash(marks) {
         return Err(MixFault::Ambiguous(i, j));
     }
-    sort(marks);
+    sort_by_key(marks);
     Ok(())
 }
 
@@ -372,9 +373,10 @@ impl Mixed {
 
     /// Prepares one switch: a table and the changes of a round there. After a refusal nothing is prepared.
     ///
-    /// It sorts the rules, and then compares each with those behind it of the same priority whose first address lies in
-    /// its prefix. Many changes are looked up among the sorted rules. A few, and those of a round that it refuses, are each
-    /// compared with all rules and all changes; and where it answers that a mixture is unclear, it compares each two rules.
+    /// It sorts the rules by their keys; where those of one priority don't all test the same beside the address, it sorts
+    /// them three times more at most, by what two kinds of them both test. So it takes n log n for n rules. 16 changes and
+    /// more are looked up among the sorted rules. Fewer, and those of a round that it refuses, are each compared with all
+    /// rules and all changes; and where it answers that a mixture is unclear, it compares each two rules.
     pub fn load(&mut self, table: &Table, changes: &[Change]) -> Result<(), MixFault>
         requires { entries_needed table.now.rules changes.now ≤ self.old.room }
         ensures ok { OnOk result (IsSomeAnd self.new.prepared

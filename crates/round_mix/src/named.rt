@@ -8,7 +8,7 @@ ghost use Rattle.round_mix.specs.Marks.{all_rules, rules_of};
 ghost use Rattle.round_mix.specs.Named.{names, IsPlaceOf, IsMarkedBy, AreMarked};
 ghost use Rattle.round_mix.specs.Prepared.{IsPrepared};
 
-use crate::apart::sort_apart_by_key;
+use crate::apart::sort_apart;
 use crate::marking::{fill, mark_by};
 use crate::{Mark, MarkedRule};
 use flow_rules::{Rule, Table, key_order};
@@ -82,8 +82,7 @@ fn put_marks(marks: &mut Vec<MarkedRule>, changes: &[Change]) -> bool
     true
 }
 
-/// Prepares a table and changes by looking up each change's key among the sorted rules, in time n log n beside the search
-/// for clashes. It answers false where the changes aren't good or some mixture isn't clear, without a reason.
+/// Prepares a table and changes by looking up each change's key among the sorted rules, in time n log n. It answers false where the changes aren't good or some mixture isn't clear, without a reason.
 pub fn mix_by_key(table: &Table, changes: &[Change], marks: &mut Vec<MarkedRule>) -> bool
     requires { length (all_rules table.now.rules changes.now) ≤ vec_capacity marks.old }
     ensures prepared { IsTrue result → IsPrepared table.now.rules changes.now marks.new.items }
@@ -91,7 +90,7 @@ pub fn mix_by_key(table: &Table, changes: &[Change], marks: &mut Vec<MarkedRule>
 {
     let none = &changes[..0];
     fill(none, changes, table.rules(), marks);
-    if !sort_apart_by_key(marks) {
+    if !sort_apart(marks) {
         return false;
     }
     put_marks(marks, changes)
