@@ -8,7 +8,13 @@ _planner() {
         return
     fi
     if [[ ${COMP_WORDS[COMP_CWORD]} == -* ]]; then
-        mapfile -t COMPREPLY < <(compgen -W "--help -o --strict --quiet" -- "${COMP_WORDS[COMP_CWORD]}")
+        local options="--help -o --strict --quiet"
+        case ${COMP_WORDS[1]} in
+            collect) options="--switches --listen --patience $options" ;;
+            apply) options="--switches --listen --wait --ask --patience --resume --back --repair --take-over --no-mark $options" ;;
+            update) options="--switches --listen --wait --ask --patience --yes --dry-run $options" ;;
+        esac
+        mapfile -t COMPREPLY < <(compgen -W "$options" -- "${COMP_WORDS[COMP_CWORD]}")
         return
     fi
     case ${COMP_WORDS[1]} in

@@ -60,6 +60,11 @@ def entry(command):
     return [".TP", f"\\fB{command.name}\\fP {usage_line(command)}".replace("from-", "from\\-"), escaped(command.text)]
 
 
+def flags_of(name):
+    """The options of a command that it alone has, or few others."""
+    return " ".join(flag.split()[0] for flag, _ in words.OWN_OPTIONS[name])
+
+
 def completion():
     """Returns the script that completes the words in bash."""
     counts = {}
@@ -69,6 +74,7 @@ def completion():
     cases = "".join(f"        {' | '.join(names)}) files={count} ;;\n" for count, names in sorted(counts.items()) if count)
     options = " ".join(flag.split()[0] for flag, _ in words.OPTIONS if flag != "--version")
     names = " ".join([*(command.name for command in words.COMMANDS), "--help", "--version"])
+    own = "".join(f'            {name}) options="{flags_of(name)} $options" ;;\n' for name in words.OWN_OPTIONS)
     return f"""# Completes the words of the planner in bash:  . docs/planner.bash
 
 _planner() {{
@@ -79,7 +85,10 @@ _planner() {{
         return
     fi
     if [[ ${{COMP_WORDS[COMP_CWORD]}} == -* ]]; then
-        mapfile -t COMPREPLY < <(compgen -W "{options}" -- "${{COMP_WORDS[COMP_CWORD]}}")
+        local options="{options}"
+        case ${{COMP_WORDS[1]}} in
+{own}        esac
+        mapfile -t COMPREPLY < <(compgen -W "$options" -- "${{COMP_WORDS[COMP_CWORD]}}")
         return
     fi
     case ${{COMP_WORDS[1]}} in

@@ -12,7 +12,7 @@ FILES = {
     "PLAN": "rounds of changes, with the evidence by which they can be checked; format 1 or 2",
     "SCHEDULE": "a run, one event a line: rounds start, changes are made, rounds are settled, packets enter, hop and are lost",
     "REPLIES": "what switches answered when they were asked for their flow statistics: the name of a switch and the bytes of one message, a line each",
-    "INPUT": "what a controller was given, one line each: `start`, or `feed` with the name of a switch and bytes that it sent",
+    "INPUT": "what a controller was given, one line each: `start`, or `feed` with the name of a switch and bytes that it sent; of `apply` also `back` and `reopen`",
 }
 # The name that a file has in a folder that stands in place of names.
 IN_FOLDER = {"TOPO": "topology.json", "CONFIG": "old.json", "OLD": "old.json", "NEW": "new.json", "POLICY": "policy.json", "PLAN": "plan.json",
@@ -125,10 +125,11 @@ FRONT = [
             "what the switches answer when they are asked for their tables: the REPLIES that `import` reads",
             "Asks each switch for its flow table, and writes what `planner import` reads. What a configuration can't say is refused, in words.", False),
     Command("apply", "TOPO OLD NEW POLICY PLAN INPUT --switches FILE",
-            "carries a plan out on the switches, round by round; INPUT is the record of it",
+            "carries a plan out on the switches, round by round, or takes it back; INPUT is the record of it",
             "Carries out a plan on the switches. When it begins, before each round, after each lost connection and at the end it compares what they have with what "
-            "`planner tables` says they must have, and stops where that differs; `--repair` puts it right. Every message of the plan is decided by `planner drive`; "
-            "INPUT records what came and what was started, and `--resume` goes on with it. A mark on the switches tells other controllers of the update.", False),
+            "`planner tables` says they must have, and stops where that differs; `--repair` puts it right. Every message of the plan is decided by `planner serve`, "
+            "which stays beside it; INPUT records the lines that it was given. `--resume` goes on with it, and `--back` turns the update back, wherever it stands. A "
+            "mark on the switches tells other controllers of the update.", False),
     Command("update", "DIR --switches FILE",
             "all of it by one command: from the tables that the switches have to those of DIR/new.json, after a question",
             "Reads the tables of the switches, makes a plan from them to DIR/new.json under DIR/policy.json, says what it is in words, asks whether it may be "
@@ -181,6 +182,19 @@ WISHES = [
     ("the rest", ["upgrade", "sample", "install"]),
 ]
 BY_NAME = {command.name: command for command in COMMANDS}
+# The options of the commands that speak with switches, and what each says.
+CONNECTIONS = [("--switches FILE", "which switches there are: a line for each, its name, its datapath id, and where it listens"),
+               ("--listen HOST:PORT", "where the switches connect to that don't listen")]
+CARRYING_OUT = [("--wait SECONDS", "how long after a round was settled the next one begins (2 s)"), ("--ask", "a round begins when the operator presses Enter"),
+                ("--patience SECONDS", "how long a switch may be away, or take for an answer (60 s)")]
+OWN_OPTIONS = {
+    "collect": [*CONNECTIONS, ("--patience SECONDS", "how long a switch may take (10 s)")],
+    "apply": [*CONNECTIONS, *CARRYING_OUT, ("--resume", "goes on with the record of an earlier run"),
+              ("--back", "goes on with it backwards: turns the round that runs, and undoes those that are settled, one by one, up to OLD"),
+              ("--repair", "puts right what a switch doesn't have as it must have it, in place of stopping"),
+              ("--take-over", "takes away the marks of other updates"), ("--no-mark", "puts no mark on the switches, and doesn't mind those of others")],
+    "update": [*CONNECTIONS, *CARRYING_OUT, ("--yes", "doesn't ask before the first change"), ("--dry-run", "ends before the first change")],
+}
 # Commands of the program that are newer than some builds of it.
 NEW = ("paths", "trace", "tables", "certify", "pack", "serve")
 

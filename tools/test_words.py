@@ -1,5 +1,6 @@
 """Tests that the manual, the completion, the README and the help are made of the words of planner_tools/words.py, and that the program has them."""
 import os
+import re
 import subprocess
 import sys
 import unittest
@@ -50,6 +51,13 @@ class Words(unittest.TestCase):
         self.assertEqual([*(command.name for command in words.COMMANDS), "--help", "--version"], offered)
         self.assertEqual((["check"], ""), completed("ch"))
         self.assertEqual((["--strict"], ""), completed("check", "--s"))
+        self.assertEqual((["--back"], ""), completed("apply", "--b"))
+
+    def test_the_options_of_the_commands_that_speak_with_switches_are_theirs(self):
+        for name, options in words.OWN_OPTIONS.items():
+            with self.subTest(name):
+                usage = said(name, "--help").partition("\n\n")[0]
+                self.assertEqual(set(re.findall(r"--[a-z-]+", usage)) - {"--help"}, {flag.split()[0] for flag, _ in options})
 
     def test_nothing_is_offered_where_files_or_numbers_stand(self):
         self.assertEqual(([], ""), completed("check", ""))

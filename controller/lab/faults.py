@@ -1,7 +1,7 @@
 #!/usr/bin/env python3
 """Updates of Open vSwitch bridges under traffic, among faults: what is told, what was broken, and whether the next step that is told works.
 
-    controller/lab/faults.py FOLDER [--only FAULT] [--wait SECONDS] [--seed N] [--by COMMAND] [--plan FILE]
+    controller/lab/faults.py FOLDER [--only FAULT].. [--wait SECONDS] [--seed N] [--by COMMAND] [--plan FILE]
 
 FOLDER has topology.json, old.json, new.json and policy.json, as examples/square has. The plan is that of `pack`, or of `plan` where the program has no
 `pack`; --by names another command, and --plan a plan that is there already. Each fault has bridges of its own, made by bridges.sh in a userspace
@@ -16,10 +16,14 @@ that is what `planner apply` answers for. PLANNER names another program than the
     cuts              connections are cut at random moments, three times a second
     late              all that one switch says comes 3 s late
     silent            one switch says nothing any more from the middle of the update on; then it speaks again
+    cut in mid-round  the connection of a switch is cut when it has been given its messages of the middle round, and before it is heard
     full table        a switch takes no further entry; then it has room again
+    turned from full  the same, and the update is turned back while the table is full
+    turned back       the update is ended in the middle of the middle round, and turned back
+    turned at the end the update comes to its end, and is turned back
     full disk         the record can't be written any more in the middle of the update (a limit on the size of files); then it can
 
-Exit status: 0 where each fault was told, none broke a packet beside it, and each next step led to the new tables.
+Exit status: 0 where each fault was told, none broke a packet beside it, and each next step led to the new tables, or those that turn back to the old ones.
 """
 import argparse
 import contextlib
@@ -76,6 +80,7 @@ class Lab:
         self.pour = subprocess.Popen([sys.executable, "-B", HERE / "traffic.py", "pour", self.dir, *self.files[:4], self.sent])
         stack.callback(self.end_traffic)
         self.fault_at = None         # the switch at which the fault is
+        self.led_to = "new"          # to which tables the last run was to lead
         time.sleep(0.5)
 
     def ofctl(self, *words):
@@ -116,6 +121,22 @@ class Lab:
             self.record = pathlib.Path(shlex.split(shell[1])[-1])
         more = ["--resume"] + (["--repair"] if "--repair" in then else []) + (["--take-over"] if "--take-over" in then else [])
         return f"{'`head`, ' if shell else ''}{' '.join(more)}", *self.end_of(self.begin(*more))
+
+    def turn_back(self):
+        """Turns the update back. What it did, and the end of that."""
+        self.led_to = "old"
+        return "--back", *self.end_of(self.begin("--back"))
+
+    def begin_slowly(self):
+        """A run in whose middle round a switch has been given its messages and isn't heard yet; and that switch. A round without changes is passed over."""
+        plan = json.loads(pathlib.Path(self.files[4]).read_text())
+        at = next(at for at in range(self.rounds // 2, self.rounds) if plan["rounds"][at])
+        name = plan["rules"][plan["rounds"][at][0][1]]["switch"]
+        self.between.delay[name] = 1.5
+        run = self.begin()
+        self.until(f"round {at + 1} starts", run)
+        time.sleep(0.5)
+        return run, name
 
     def end_traffic(self):
         if self.pour.poll() is None:
@@ -232,15 +253,46 @@ def silent(lab):
     return told, *lab.go_on(told)
 
 
-def full_table(lab):
+def cut_in_mid_round(lab):
+    run, name = lab.begin_slowly()
+    lab.between.cut(name)
+    lab.between.delay.clear()
+    status, told = lab.end_of(run)
+    return told, "it goes on by itself", status, told
+
+
+def turned_back(lab):
+    run, _ = lab.begin_slowly()
+    run.send_signal(signal.SIGTERM)
+    told = lab.end_of(run)[1]
+    lab.between.delay.clear()
+    return told, *lab.turn_back()
+
+
+def turned_at_the_end(lab):
+    told = lab.end_of(lab.begin())[1]
+    return told, *lab.turn_back()
+
+
+def fill(lab):
+    """Lets one switch that inserts take one entry alone beyond its old table, and the mark; and carries the plan out. Which switch it is, and the end of that."""
     plan = json.loads(pathlib.Path(lab.files[4]).read_text())
     inserts = [plan["rules"][at]["switch"] for one in plan["rounds"] for do, at in one if do == "insert"]
     name = inserts[-1] if inserts else lab.names[0]
     old = sum(rule["switch"] == name for rule in json.loads((lab.folder / "old.json").read_text())["rules"])
     lab.vsctl("--", "--id=@table", "create", "flow_table", f"flow_limit={old + 1}", "overflow_policy=refuse", "--", "set", "bridge", name, "flow_tables:0=@table")
-    status, told = lab.end_of(lab.begin())
+    return name, *lab.end_of(lab.begin())
+
+
+def full_table(lab):
+    name, status, told = fill(lab)
     lab.vsctl("clear", "bridge", name, "flow_tables")
     return (told, *lab.go_on(told)) if status else (told, "no round inserts", status, told)
+
+
+def turned_from_full(lab):
+    _, status, told = fill(lab)
+    return (told, *lab.turn_back()) if status else (told, "no round inserts", status, told)
 
 
 def full_disk(lab):
@@ -253,7 +305,8 @@ def full_disk(lab):
 
 
 FAULTS = {"two controllers": two_controllers, "emptied switch": emptied_switch, "change by hand": change_by_hand, "kills": kills, "cuts": cuts, "late": late,
-          "silent": silent, "full table": full_table, "full disk": full_disk}
+          "silent": silent, "cut in mid-round": cut_in_mid_round, "full table": full_table, "turned from full": turned_from_full, "full disk": full_disk,
+          "turned back": turned_back, "turned at the end": turned_at_the_end}
 
 
 def telling(said):
@@ -266,7 +319,7 @@ def telling(said):
 def main(words):
     parser = argparse.ArgumentParser(description=__doc__, formatter_class=argparse.RawDescriptionHelpFormatter)
     parser.add_argument("folder", metavar="FOLDER", type=pathlib.Path)
-    parser.add_argument("--only", metavar="FAULT", choices=FAULTS)
+    parser.add_argument("--only", metavar="FAULT", choices=FAULTS, action="append")
     parser.add_argument("--wait", metavar="SECONDS", default="0.5")
     parser.add_argument("--seed", metavar="N", type=int, default=1)
     parser.add_argument("--by", metavar="COMMAND")
@@ -276,14 +329,14 @@ def main(words):
     is_good = True
     print("| Fault | What is told | Next step | Packets sent | Broken by the fault | Broken beside it |\n|---|---|---|---|---|---|", flush=True)
     for name, fault in FAULTS.items():
-        if asked.only not in (None, name):
+        if asked.only and name not in asked.only:
             continue
         with contextlib.ExitStack() as stack:
             lab = Lab(asked.folder, stack, asked.wait, random.Random(asked.seed), make)
             told, done, status, end = fault(lab)
             lab.end_traffic()
             sent, by_fault, beside = lab.judge()
-        print(f"| {name} | {telling(told)} | {done}: {'led to the new tables' if status == 0 else 'FAILED'} | {sent} | {by_fault} | {len(beside)} |", flush=True)
+        print(f"| {name} | {telling(told)} | {done}: {f'led to the {lab.led_to} tables' if status == 0 else 'FAILED'} | {sent} | {by_fault} | {len(beside)} |", flush=True)
         if beside or status:
             is_good = False
             print("\n".join([*beside[:5], *lab.said]), file=sys.stderr)

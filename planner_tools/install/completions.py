@@ -1,5 +1,6 @@
 """The completions for zsh and fish, made of the words of the planner. That for bash is in manual.py."""
 from planner_tools import words
+from planner_tools.manual import flags_of
 
 FLAGS = ("--help", "--version")
 
@@ -22,6 +23,7 @@ def quoted(text):
 
 def zsh():
     listed = "\n".join(f"        {quoted(command.name + ':' + short(command.answer))}" for command in words.COMMANDS)
+    own = "\n".join(f"            {name}) compadd -- {flags_of(name)} ;;" for name in words.OWN_OPTIONS)
     without = " | ".join(name for name, count in counts().items() if not count) or "none"
     return f"""#compdef planner
 # Completes the words of the planner in zsh.
@@ -34,6 +36,12 @@ _planner() {{
     if (( CURRENT == 2 )); then
         _describe 'command' commands
         compadd -- {' '.join(FLAGS)}
+        return
+    fi
+    if [[ ${{words[CURRENT]}} == -* ]]; then
+        case ${{words[2]}} in
+{own}
+        esac
         return
     fi
     case ${{words[2]}} in
@@ -53,5 +61,7 @@ def fish():
     lines = ["# Completes the words of the planner in fish.", "complete -c planner -f"]
     lines += [f"complete -c planner -n {quoted(first)} -a {quoted(command.name)} -d {quoted(short(command.answer))}" for command in words.COMMANDS]
     lines += [f"complete -c planner -n {quoted(first)} -l {flag.lstrip('-')}" for flag in FLAGS]
+    lines += [f"complete -c planner -n {quoted('__fish_seen_subcommand_from ' + name)} -l {flag.split()[0].lstrip('-')} -d {quoted(short(text))}"
+              for name, options in words.OWN_OPTIONS.items() for flag, text in options]
     lines.append(f"complete -c planner -n {quoted('__fish_seen_subcommand_from ' + with_files)} -F")
     return "\n".join(lines) + "\n"

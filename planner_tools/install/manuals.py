@@ -15,6 +15,10 @@ def page(command, day):
     lines = [f'.TH {name_of(command).upper()} 1 "{day}" "planner {VERSION}" "User commands"', ".SH NAME", f"{name_of(command).replace('-', chr(92) + '-')} \\- {answer}", ".SH SYNOPSIS",
              f"\\fBplanner {command.name.replace('-', chr(92) + '-')}\\fP {usage_line(command)}", ".SH DESCRIPTION", escaped(command.text), ".PP",
              escaped("This command is one of the proved program." if command.is_proved else "This command is one of the front end, which is tested and not proved.")]
+    own = words.OWN_OPTIONS.get(command.name, [])
+    lines += [".SH OPTIONS"] if own else []
+    for flag, text in own:
+        lines += [".TP", f".B {escaped(flag)}", escaped(text)]
     named = [word for word in command.words()[0] if word in words.FILES]
     if named:
         lines.append(".SH FILES")

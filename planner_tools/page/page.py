@@ -69,8 +69,8 @@ def values_of(asked):
 
 
 def schedule_values(planner, update, name):
-    """The lines of a schedule, and what `planner replay` says of it. A record of an update, which has what switches sent, is no schedule: what
-    `planner drive` says of it is one."""
+    """The lines of a schedule, and what `planner replay` says of it. A record of an update, which has what switches sent, is no schedule: the
+    events that `planner drive` or `planner serve` says of it are one."""
     topology, old, _, _, plan = update
     with open(name, encoding="utf-8", errors="replace", newline="") as file:
         text = file.read()

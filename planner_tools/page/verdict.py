@@ -48,10 +48,26 @@ def verdict_of_configuration(planner, files):
 
 def driven(planner, update, record):
     """Returns the events of the record of an update, as a schedule."""
+    with open(record, "rb") as lines:
+        if any(line.startswith((b"back", b"reopen ")) for line in lines):
+            return served(planner, update, record)
     status, lines = ask(planner, "drive", *update, record)
     if status != YES:
         raise Refused("\n".join(lines) or f"planner drive ended with status {status}", status)
     return "".join(f"{line}\n" for line in lines if not line.startswith("# sent "))
+
+
+def served(planner, update, record):
+    """Returns the events of the record of an update whose sessions were opened anew. Those of one that was turned back are no schedule."""
+    with open(record, "rb") as lines:
+        done = subprocess.run([planner, "serve", *update], stdin=lines, stdout=subprocess.PIPE, text=True, errors="replace", check=False)
+    told = done.stdout.splitlines()
+    if done.returncode != YES:
+        raise Refused("\n".join(told) or f"planner serve ended with status {done.returncode}", done.returncode)
+    events = [line for line in told if line.split(" ")[0] in ("start", "back", "change", "undo", "settle")]
+    if any(line.split(" ")[0] in ("back", "undo") for line in events):
+        raise Refused(f"{record} is of an update that was turned back: its events are no schedule, and no page plays them", NO)
+    return "".join(f"{line}\n" for line in [*events, told[-1].replace("ok ", "# ", 1)])
 
 
 def traces(planner, topology, old, plan, schedule):

@@ -1,1 +1,1 @@
-"""The tables of real switches: reading them, and carrying plans out. Every byte that changes a table is decided by `planner drive`."""
+"""The tables of real switches: reading them, and carrying plans out. Every byte that changes a table is decided by `planner serve`."""

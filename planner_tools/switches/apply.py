@@ -1,17 +1,21 @@
-"""Carries out a plan on the switches of a network. Every byte that changes what becomes of a packet is decided by the program; this script carries bytes.
+"""Carries out a plan on the switches of a network, or takes it back. Every byte that changes what becomes of a packet is decided by the program; this script
+carries bytes.
 
     planner apply TOPOLOGY OLD NEW POLICY PLAN INPUT --switches FILE [--listen HOST:PORT] [--wait SECONDS | --ask] [--patience SECONDS]
-                  [--resume] [--repair] [--take-over] [--no-mark]
+                  [--resume] [--back] [--repair] [--take-over] [--no-mark]
 
-FILE and --listen are those of `planner collect`. INPUT is the record of the update, a new file. What the switches send is appended to it, and a line `start`
-for each round; then `planner drive` reads it, and what it says is to be sent beyond the last time is sent. So `planner drive TOPOLOGY OLD NEW POLICY
-PLAN INPUT` tells anyone later what was sent, what was answered, and how far the update came.
+FILE and --listen are those of `planner collect`. INPUT is the record of the update, a new file. `planner serve` stays beside this script for the whole run: it
+is given a line for each round that begins, for what the switches send, and for each session that is opened anew, and what it answers is sent. Each line is
+on the disk, in INPUT, before it is given. So `planner serve TOPOLOGY OLD NEW POLICY PLAN < INPUT` tells anyone later what was sent, what was answered,
+and how far the update came.
 
     --wait SECONDS      a round begins so long after the one before was settled, the first one so long after the tables were read (2 s). It has to be
                         longer than any packet is on its way: this no message shows
     --ask               instead, a round begins when the operator presses Enter
     --patience SECONDS  how long a switch may be away, or may take for anything it is asked (60 s)
     --resume            go on with an INPUT that an earlier run left
+    --back              go on with it backwards: turn the round that runs, and undo those that are settled, one by one, up to OLD. Any update can be turned
+                        back, also one that is done, after a failed session, and in the middle of a round; --resume then carries it out once more
     --repair            where a switch doesn't have what it must have, give it that, by messages of `planner emit`, in place of stopping
     --take-over         take away the marks of other updates from the switches: their controllers are to stop
     --no-mark           put no mark on the switches: another controller isn't told of this update, and its mark isn't minded
@@ -20,11 +24,11 @@ What the switches have is read when a run begins, before each round, after each 
 says they must have. At the beginning and at the end the program itself compares it with OLD and NEW: INPUT.before and INPUT.after keep what the switches
 answered, and INPUT.before.json and INPUT.after.json the configurations.
 
-Exit status: 0 all rounds are settled, and the switches have NEW; 1 stopped, a line says why, how far it came, and what to do next; 2 wrong words.
+Exit status: 0 all rounds are settled and the switches have NEW, or with --back none is and they have OLD; 1 stopped, a line says why, how far it came, and
+what to do next; 2 wrong words.
 """
 import argparse
 import os
-import pathlib
 import select
 import signal
 import sys
@@ -33,8 +37,6 @@ import time
 from planner_tools.switches import openflow
 from planner_tools.switches.comparison import Comparison
 from planner_tools.switches.connections import Stop, Switches, host_and_port, say
-from planner_tools.switches.conversation import temporary
-from planner_tools.switches.driven import Driven
 
 # What to do after an error of a switch, by its type and code; then the update is taken up.
 AFTER_ERROR = {(3, 0): "make room in its table (entries for other traffic; the capacity in the topology has to leave them room)",
@@ -46,48 +48,78 @@ class Update(Comparison):
 
     def run(self):
         begun = time.monotonic()
-        self.drive()
+        self.open_core()
         say(f"the plan is accepted; {self.state()}")
+        if self.options.back and self.core.is_running and not self.core.is_back:
+            self.turn()
         self.switches = Switches(self.listed, self.options.listen, self.options.patience)
-        self.is_marked = self.driven.begun and self.driven.settled < self.driven.rounds and self.record.is_marked and not self.options.no_mark
+        self.is_marked = self.record.is_marked and self.is_on_the_way() and not self.options.no_mark
         self.compare()
-        if not self.driven.begun:
+        if self.is_to_go_on() and not self.is_marked:
             self.put_marks()
+        if not self.core.begun:
             self.compare_as_configuration("before", self.options.old)
         self.settled_at = time.monotonic()
-        while self.driven.settled < self.driven.rounds:
+        while self.is_to_go_on():
             self.pump()
             if self.suspects:
                 self.compare()
-            if self.may_start():
+            if self.may_begin():
                 self.asked = False
-                if self.compare() and not self.awaited():
-                    self.start()
+                if self.compare() and self.are_all_there():
+                    self.begin_round()
+        self.end(begun)
+
+    def end(self, begun):
+        """All is done: compares the tables with those that are wanted, and takes the marks away."""
+        wanted = self.options.old if self.options.back else self.options.new
         self.compare()
-        self.compare_as_configuration("after", self.options.new)
+        self.compare_as_configuration("after", wanted)
         self.take_marks_away()
         self.record.keep()
-        say(f"done: all {self.driven.rounds} rounds are settled, and the switches have the tables of {self.options.new}; {time.monotonic() - begun:.1f} s, "
-            f"{self.seconds:.1f} s of them in {self.runs} runs of `planner drive`; the record is {self.options.input}")
+        what = f"all {self.core.rounds} rounds are settled"
+        if self.options.back:
+            what = f"no round is settled any more, {self.core.carried_out} were carried out and {self.core.undone} undone" if self.core.begun else "no round was begun"
+        say(f"done: {what}, and the switches have the tables of {wanted}; {time.monotonic() - begun:.1f} s; the record is {self.options.input}")
 
-    def start(self):
-        number, waited = self.driven.settled + 1, time.monotonic() - self.settled_at
-        self.record.remark(f"round {number} starts, after a wait of {waited:.3f} s{', as the operator said' if self.options.ask else ''}")
-        self.record.start()
+    def is_on_the_way(self):
+        """Whether the update is neither at its beginning nor at its end."""
+        return self.core.is_running or 0 < self.core.settled < self.core.rounds
+
+    def is_to_go_on(self):
+        """Whether there is a round that runs, or a next one on the way that is asked for."""
+        return self.core.is_running or (self.core.settled > 0 if self.options.back else self.core.settled < self.core.rounds)
+
+    def next_words(self):
+        """The round that begins next."""
+        return f"the undoing of round {self.core.settled}" if self.options.back else f"round {self.core.settled + 1}"
+
+    def turn(self):
+        """Turns the running round. Its messages are sent when the switches are there: to each that has what it must have, behind `reopen`."""
+        words = f"round {self.core.number()} is turned back"
+        self.record.remark(words)
+        say(words)
+        self.record.give("back")
+        self.follow()
+
+    def begin_round(self):
+        """Begins the next round, or to undo the one that was settled last."""
+        waited = f"after a wait of {time.monotonic() - self.settled_at:.3f} s{', as the operator said' if self.options.ask else ''}"
+        self.record.remark(f"round {self.core.settled} is undone, {waited}" if self.options.back else f"round {self.core.settled + 1} starts, {waited}")
         self.started_at, self.asked = time.monotonic(), False
-        self.drive()
         self.sent_rounds += 1
-        self.send()
+        self.record.give("back" if self.options.back else "start")
+        self.follow()
 
-    def may_start(self):
+    def may_begin(self):
         """Whether there is a next round, every switch is there, and the packets that entered before have left, by the operator's rule."""
-        if self.driven.running or self.driven.settled == self.driven.rounds or self.awaited():
+        if self.core.is_running or not self.is_to_go_on() or not self.are_all_there():
             return False
         return self.operator_says_so() if self.options.ask else time.monotonic() - self.settled_at >= self.options.wait
 
     def operator_says_so(self):
         if not self.asked:
-            say(f"round {self.driven.settled + 1} of {self.driven.rounds} is next: press Enter when all packets that entered before have left")
+            say(f"{self.next_words()} of {self.core.rounds} is next: press Enter when all packets that entered before have left")
             self.asked = True
         if not select.select([sys.stdin], [], [], 0)[0]:
             return False
@@ -97,27 +129,24 @@ class Update(Comparison):
 
     def tell_progress(self):
         now = time.monotonic()
-        left = self.driven.rounds - self.driven.settled
-        if self.sent_rounds > 1:
+        left = self.core.settled if self.options.back else self.core.rounds - self.core.settled
+        if self.sent_rounds > 1 and self.settled_at is not None:
             self.cycles.append(now - self.settled_at)
         self.settled_at = now
         seconds = f", {now - self.started_at:.3f} s after its start" if self.started_at else ""
         least = self.options.wait + (now - self.started_at if self.started_at else 0.0)
         each = sum(self.cycles[-20:]) / len(self.cycles[-20:]) if self.cycles else least
         time_left = "" if self.options.ask or not left else f"; {left} left, some {duration(each * left)}"
-        say(f"round {self.driven.settled} of {self.driven.rounds} is settled{seconds}{time_left}")
+        is_undone = self.core.is_back and not self.core.is_running
+        say(f"round {self.core.settled + is_undone} of {self.core.rounds} is {'undone' if is_undone else 'settled'}{seconds}{time_left}")
 
     def after_refusal(self, status, text):
         go_on = "go on with --resume" if self.options.resume or self.record.starts else "begin again"
-        line = text.rpartition(" ")[2].strip()
         if status == 1 and text.startswith("refused: "):
             return f"make a plan that `planner check` accepts; nothing can be done with {self.options.plan}"
         if status == 3:
             return f"correct that file, docs/FORMATS.md has every refusal; then {go_on}"
-        if status == 8 and line.isdigit():
-            good = (int(line) - 1) // 2 * 2
-            return f"`head -n {good} {self.options.input} > {self.options.input}-2` keeps the lines before that start; go on with that record by --resume"
-        return f"see that the program can run: `{' '.join(['planner drive', *self.files, self.options.input])}`; then {go_on}"
+        return f"see that the program can run: `{' '.join(['planner serve', *self.files])} < {self.options.input}`; then {go_on}"
 
     def failed_session(self, name, cause):
         """The end after a failed session: its cause in words, what was refused, and how the update is taken up."""
@@ -127,30 +156,18 @@ class Update(Comparison):
             kind, code = int(cause[1]), int(cause[2])
             words = f" ({openflow.error_words(kind, code)})"
             then = AFTER_ERROR.get((kind, code), f"see why {name} can't do that")
-            xid = openflow.xid_of(error) if error else 0
-            words += "".join(f"; it is about: {openflow.change_words(one)}" for one in openflow.cut(self.driven.sent[name])[0]
-                             if openflow.type_of(one) == openflow.FLOW_MOD and openflow.xid_of(one) == xid)
-        good = self.good_lines or self.lines_before_failure()
+            change = self.core.changes.get(name, {}).get(openflow.xid_of(error) if error else 0)
+            words += f"; it is about: {openflow.change_words(change)}" if change else ""
         return Stop(f"the session with {name} failed: {' '.join(cause)}{words}",
-                    f"{then}; `head -n {good} {self.options.input} > {self.options.input}-2` makes the record before it; go on with that one by --resume: "
-                    f"the messages of the running round are sent again to each switch that hasn't answered them")
-
-    def lines_before_failure(self):
-        """How many lines of a record that was taken up stand before the one by which a session failed."""
-        lines = pathlib.Path(self.options.input).read_bytes().splitlines(keepends=True)
-        good, bad = 0, self.record.lines // 2
-        while bad - good > 1:
-            middle = (good + bad) // 2
-            with temporary("record", b"".join(lines[:2 * middle])) as name:
-                text = self.ask("drive", *self.files, name)[1]
-            good, bad = (good, middle) if Driven(text).failed else (middle, bad)
-        return 2 * good
+                    f"{then}; then go on with --resume: what {name} hasn't answered of the running round is sent again, on a new session")
 
     def leave(self):
         """Takes the mark away where nothing of the update was begun, and closes the connections."""
+        if self.serve is not None:
+            self.serve.close()
         if self.switches is None:
             return
-        if self.is_marked and not self.driven.begun and not self.record.starts:
+        if self.is_marked and not self.core.begun and not self.record.starts:
             for one in self.switches.named.values():
                 one.send(self.mark.take_away())
         try:
@@ -167,14 +184,15 @@ def duration(seconds):
 def stopped(update, options, why):
     """Says in one line why it stopped, how far it came, and what to do next."""
     is_begun = options.resume or update is not None and update.record.starts
-    go_on = "go on with --resume" if is_begun or update and update.driven else "begin again"
+    go_on = "go on with --resume" if is_begun or update and update.core else "begin again"
     if isinstance(why, Stop):
         what, then = why.what, why.then
     elif isinstance(why, KeyboardInterrupt):
         what, then = "the operator ended it", go_on
     else:
         what, then = f"{why.filename}: {why.strerror}" if getattr(why, "filename", None) else str(why), f"see to it; then {go_on}"
-    if update and update.driven:
+    then = other_ways(update, options, then)
+    if update and update.core:
         far = update.state()
     elif update and options.resume:
         far = f"{update.record.starts} rounds were started by the record, and nothing was sent in this run"
@@ -183,7 +201,7 @@ def stopped(update, options, why):
     say(f"stopped: {what}; {far}. Next: {then}")
     if update is None:
         return
-    if update.driven is None and not options.resume:
+    if update.core is None and not options.resume:
         update.record.remove()       # nothing was begun
         return
     try:
@@ -191,6 +209,14 @@ def stopped(update, options, why):
         update.record.keep()
     except Stop:
         pass
+
+
+def other_ways(update, options, then):
+    """What to do next, for the way on which the update is; and that it can be turned."""
+    if options.back:
+        return then.replace("--resume", "--back") + ("; --resume in its place carries the update out again" if update and update.core and update.core.begun else "")
+    is_to_turn = update and update.core and update.core.begun and "--resume" in then
+    return then + ("; --back in its place turns the update back" if is_to_turn else "")
 
 
 def parser_of_words():
@@ -203,6 +229,7 @@ def parser_of_words():
     parser.add_argument("--ask", action="store_true")
     parser.add_argument("--patience", metavar="SECONDS", type=float, default=60.0)
     parser.add_argument("--resume", action="store_true")
+    parser.add_argument("--back", action="store_true")
     parser.add_argument("--repair", action="store_true")
     parser.add_argument("--take-over", action="store_true")
     parser.add_argument("--no-mark", action="store_true")
@@ -211,6 +238,7 @@ def parser_of_words():
 
 def main(words):
     options = parser_of_words().parse_args(words)
+    options.resume = options.resume or options.back       # only what is begun can be turned
     signal.signal(signal.SIGTERM, signal.default_int_handler)
     update = None
     try:

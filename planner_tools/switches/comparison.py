@@ -8,7 +8,7 @@ from planner_tools.switches.connections import Stop, say
 from planner_tools.switches.conversation import REPAIR_BARRIER, REPAIR_XID, Conversation, temporary, write
 from planner_tools.switches.expected import Expected, repair_plan
 from planner_tools.switches.marks import MARK_BARRIER
-from planner_tools.switches.record import MARKED
+from planner_tools.switches.record import MARKED, UNMARKED
 
 # `check` accepts it exactly where the two configurations have the same tables and good paths.
 NO_ROUNDS = {"format": 2, "kind": "ordered", "rules": [], "rounds": [], "numberings": [], "befores": [], "uses": [], "picks": []}
@@ -20,9 +20,9 @@ class Comparison(Conversation):
     """Compares the tables, and puts marks on the switches."""
 
     def must_have(self):
-        """What the switches must have by what `drive` said last."""
+        """What the switches must have by what `serve` has said."""
         if self.expected is None:
-            with temporary("schedule", self.driven.schedule().encode()) as name:
+            with temporary("schedule", self.core.schedule().encode()) as name:
                 status, text = self.ask("tables", self.options.topology, self.options.old, self.options.plan, name)
             if status != 0:
                 raise Stop(f"`planner tables` ended with status {status}{f' and said: {text.strip()}' if text else ''}",
@@ -34,7 +34,8 @@ class Comparison(Conversation):
         """What of a switch's answers isn't as it must be. Where it has the mark of another update it is Stop."""
         try:
             answers = self.tables.answers[name]
-            found, marks = self.must_have().differences(name, answers), answers.marks()
+            is_undone = self.core.is_running and self.core.is_back and name not in self.core.owing()
+            found, marks = self.must_have().differences(name, answers, is_undone), answers.marks()
         except (ValueError, struct.error):
             raise Stop(f"{name}: entries don't fill its statistics", "see what is at the other end of the connection") from None
         others = [mark for mark in marks if mark != self.mark]
@@ -63,18 +64,6 @@ class Comparison(Conversation):
             self.suspects.add(connection.name)
         else:
             self.let_on(connection)
-
-    def let_on(self, connection):
-        """A switch has what it must have. Where it hasn't answered the last request to it, which was sent on another connection, that is sent again."""
-        name = connection.name
-        if connection.is_good:
-            return
-        connection.is_good = True
-        if name in self.unanswered():
-            words = f"{name} has what it must have; the messages of round {self.driven.settled + 1} to it are sent again"
-            self.record.remark_seldom(name + " again", words)
-            say(words)
-            connection.send(self.driven.requests[name][0])
 
     def compare(self):
         """Asks every switch for its table, and compares. Whether nothing had to be put right; where something isn't as it must be it is Stop, or is put
@@ -124,7 +113,7 @@ class Comparison(Conversation):
         by_hand = [str(one) for one in found if not one.can_be_repaired()]
         if by_hand:
             return Stop(f"{what}; {entries(len(by_hand))} of them no message of a plan can reach, as {by_hand[0]}", "take these away at the switch by hand; then go on with --resume, or --resume --repair")
-        if self.driven.begun:
+        if self.core.begun:
             return Stop(what, "go on with --resume --repair, which sends what is missing and takes away what is too much; or put it right by hand, and go on with --resume")
         return Stop(f"{what}. So the switches don't have the tables of {self.options.old}", self.before_the_beginning())
 
@@ -175,7 +164,7 @@ class Comparison(Conversation):
         """Puts the mark of the update on every switch, and reads the tables again, so of two controllers one at least sees the other's mark."""
         if self.options.no_mark:
             return
-        self.is_marked = True
+        self.is_marked = self.record.is_marked = True
         self.record.remark(MARKED.strip())
         for name in self.listed:
             self.say_to(name, self.mark.put(), MARK_BARRIER)
@@ -191,6 +180,9 @@ class Comparison(Conversation):
             self.say_to(name, self.mark.take_away(), MARK_BARRIER)
         while self.owed:
             self.pump()
+        if self.record.is_marked:
+            self.record.remark(UNMARKED.strip())
+            self.record.is_marked = False
 
     def import_tables(self, word):
         """What `planner import` makes of what the switches answered."""
@@ -205,7 +197,7 @@ class Comparison(Conversation):
         if status != 0:
             where = entry_at(f"{self.options.input}.{word}", text)
             raise Stop(f"`planner import` refuses the tables of the switches: {text.strip()}{f', which is {where}' if where else ''}",
-                       f"change it at the switch, docs/FORMATS.md says what is wrong with it; then {'go on with --resume' if self.driven.begun else 'begin again with another record'}")
+                       f"change it at the switch, docs/FORMATS.md says what is wrong with it; then {'go on with --resume' if self.core.begun else 'begin again with another record'}")
         write(config, text)
         with temporary("plan", json.dumps(NO_ROUNDS).encode()) as name:
             status, text = self.ask("check", self.options.topology, config, path, self.options.policy, name)
@@ -229,7 +221,7 @@ class MissingMark:
 
 
 def with_own_xid(message, is_last):
-    """A message of `emit` with an xid of this script's, so that its answer isn't taken for one to `drive`. The rest stays."""
+    """A message of `emit` with an xid of this script's, so that its answer isn't taken for one to `serve`. The rest stays."""
     return message[:4] + (REPAIR_BARRIER if is_last else REPAIR_XID).to_bytes(4, "big") + message[8:]
 
 

@@ -17,7 +17,7 @@ from planner_tools.files import NotJson, read_json
 from planner_tools.network import Network
 from planner_tools.switches import openflow
 
-# The upper half of all xids of these scripts' own messages. Those of `planner drive` count from 1 and are far below.
+# The upper half of all xids of these scripts' own messages. Those of `planner serve` count from 1 and are far below.
 OWN = 0xFEA70000
 FEATURES_XID = OWN
 # How often a switch that can't be reached is tried, in seconds.
@@ -98,8 +98,10 @@ class Connection:
         self.early = []          # messages that came before the name was known
         self.why = None          # why it is of no use, where it said so
         self.is_open = False     # whether its HELLO came
-        self.given = 0           # how many of the bytes of `drive` to this switch are done with
-        self.is_good = False     # whether its switch was found to have what it must have
+        self.is_good = False     # whether its switch was found to have what it must have, and the update goes on on it
+        self.heard_at = None     # when its switch first answered for its table
+        self.is_asked_again = False      # whether it was asked once more, when the connection had stood for a while
+        self.kept = []           # what came for the session before the connection was good
         sock.setblocking(False)
         sock.setsockopt(socket.IPPROTO_TCP, socket.TCP_NODELAY, 1)
         self.send(openflow.HELLO_BYTES)

@@ -10,24 +10,26 @@ from planner_tools.proved import say_why
 from planner_tools.switches import openflow
 from planner_tools.switches.collect import Tables
 from planner_tools.switches.connections import OWN, Stop, lock, read_switches, say
-from planner_tools.switches.driven import Driven, run_beside
 from planner_tools.switches.marks import MARK_XID, Mark
 from planner_tools.switches.record import Record
+from planner_tools.switches.served import Core, Ended, Serve, run_beside
 
-# What of a session is fed: all on which `drive` acts, but requests for an echo, which are answered at once. It passes over the rest.
+# What of a session is fed: all on which `serve` acts, but requests for an echo, which are answered at once. It passes over the rest.
 FED = (openflow.HELLO, openflow.ERROR, openflow.ECHO_REQUEST, openflow.BARRIER_REPLY)
 # Who hasn't answered yet is said so often while the patience lasts.
 TOLD = 12
+# How long the connection has to have stood on which the messages of a round are sent again, in seconds; with a shorter --wait that long.
+STANDS = 2.0
 REPAIR_XID, REPAIR_BARRIER = OWN + 0x20, OWN + 0x21
 
 
 def is_own(message):
-    """Whether a message answers one of these scripts' own, of which `drive` knows nothing."""
+    """Whether a message answers one of these scripts' own, of which `serve` knows nothing."""
     return openflow.type_of(message) in (openflow.ERROR, openflow.BARRIER_REPLY) and openflow.xid_of(message) >> 16 == OWN >> 16
 
 
 class Conversation:
-    """A record, the program that reads it, and the switches. What follows from what is said is of the classes above."""
+    """A record, the program that is given its lines, and the switches. What follows from what is said is of the classes above."""
 
     def __init__(self, options):
         self.options = options
@@ -38,19 +40,20 @@ class Conversation:
         self.record = Record(options.input, options.resume, f"files {' '.join(one[:16] for one in sums)}")
         self.mark = Mark(self.record.token, self.record.begun)
         self.is_marked = False       # whether each switch has, or should have, the mark
-        self.switches = None         # made when `drive` has accepted the plan
+        self.switches = None         # made when `serve` has accepted the plan
         self.events = []             # what came while a program ran
-        self.driven = None           # what `drive` said last
+        self.serve = None            # the run of `planner serve`
+        self.core = None             # what it has said, once it has said anything
+        self.unsure = set()          # the switches with a session of an earlier run, until it is opened anew
         self.expected = None         # what the switches must have by that, once it was asked for
         self.tables = Tables(list(self.listed))
         self.suspects = set()        # the switches that answered otherwise when they came back
         self.is_reading = False      # whether all switches are being read
         self.taken_away = set()      # the marks of other updates that were taken away, each with its switch
         self.owed = {}               # by switch: messages of this script that aren't answered, and the xid of the barrier request behind them
-        self.good_lines = 0          # how many lines of the record `drive` has read without a failed session
-        self.runs, self.seconds, self.cycles = 0, 0.0, []
+        self.cycles = []             # the seconds of each round of this run, with its wait
         self.settled_at = self.started_at = None
-        self.sent_rounds = 0         # how many rounds this run has sent
+        self.sent_rounds = 0         # how many rounds this run has begun, in either way
         self.compared_at = self.record.last_compared and f"{self.record.last_compared}Z"      # when the tables were last as they must be
         self.since, self.told = {}, time.monotonic()       # since when each switch is waited for, and when that was said last
         self.asked = False
@@ -65,39 +68,60 @@ class Conversation:
         else:
             self.events += self.switches.poll(0.005, quiet=0.0)
 
-    def drive(self):
-        """Has the record on the disk, and asks `planner drive` what follows from it."""
+    def open_core(self):
+        """Begins `planner serve`, and gives it the lines of the record. What it says of those has been sent, or is said again behind `reopen`."""
         self.record.keep()
-        self.record.is_fresh = False
-        before, last = time.monotonic(), self.driven
-        status, text = self.ask("drive", *self.files, self.options.input)
-        self.runs, self.seconds = self.runs + 1, self.seconds + time.monotonic() - before
-        if status != 0:
-            if last is None:
-                say_why("drive", *self.files, self.options.input)
-            raise Stop(f"`planner drive` ended with status {status}{f' and said: {text.strip()}' if text else ''}", self.after_refusal(status, text))
-        self.driven, self.expected = Driven(text), None
-        if last is not None and self.driven.settled > last.settled:
-            self.tell_progress()
-        for name, cause in self.driven.failed.items():
-            raise self.failed_session(name, cause)
-        self.good_lines = self.record.lines
+        self.serve, core = Serve(self.files, self.keep_listening), Core()
+        lines = self.record.take_unfollowed()
+        try:
+            core.take("", self.serve.first())
+            for line, block in zip(lines, self.serve.blocks(lines)):
+                core.take(line, block)
+        except Ended as end:
+            say_why("check", *self.files, good=(0,))
+            raise self.serve_ended(end) from None
+        self.core = core
+        self.unsure = set(self.listed) if lines else set()
 
-    def send(self):
-        """Sends what `drive` said beyond the last time."""
-        for name, one in list(self.switches.named.items()):
-            if one.is_good and one.given < len(self.driven.sent[name]):
-                one.send(self.driven.sent[name][one.given:])
-                one.given = len(self.driven.sent[name])
+    def serve_ended(self, end):
+        text = f" and said: {end.text.strip()}" if end.text else ""
+        return Stop(f"`planner serve` ended with status {end.status}{text}", self.after_refusal(end.status, end.text))
+
+    def follow(self):
+        """Has the record on the disk, gives `serve` the lines that it hasn't been given, and sends what it says."""
+        lines = self.record.take_unfollowed()
+        if not lines:
+            return
+        self.record.keep()
+        carried_out, undone, failed = self.core.carried_out, self.core.undone, set(self.core.failed)
+        try:
+            for line, block in zip(lines, self.serve.blocks(lines)):
+                self.send(self.core.take(line, block))
+                if line in ("start", "back") and not block[-1].startswith("ok "):
+                    raise Stop(f"`planner serve` answers `{block[-1]}` to `{line}`", "see what the record has; then go on with --resume")
+        except Ended as end:
+            raise self.serve_ended(end) from None
+        self.expected = None
+        if (carried_out, undone) != (self.core.carried_out, self.core.undone):
+            self.tell_progress()
+        for name in self.core.failed:
+            if name not in failed:
+                raise self.failed_session(name, self.core.failed[name])
+
+    def send(self, messages):
+        """Sends what `serve` says, to those whose connection is good. The others get it when theirs is, behind `reopen`. HELLO was sent as a connection was made."""
+        for name, message in messages:
+            one = self.switches.named.get(name) if self.switches else None
+            if one is not None and one.is_good and openflow.type_of(message) != openflow.HELLO:
+                one.send(message)
 
     def pump(self):
         """Notes what the switches sent, and sends what follows from it."""
         events, self.events = self.events + self.switches.poll(0.02), []
         for what, connection, message in events:
             self.take(what, connection, message)
-        if self.record.is_fresh:
-            self.drive()
-            self.send()
+        self.follow()
+        self.ask_again()
         self.mind_patience()
 
     def mind_patience(self):
@@ -108,7 +132,7 @@ class Conversation:
             return
         name = min(names, key=lambda one: self.since[one])
         waited = now - self.since[name]
-        if waited > self.options.patience:
+        if waited > self.options.patience + (min(self.options.wait, STANDS) if self.core.begun else 0):
             raise Stop(f"the patience of {self.options.patience:g} s is at its end: {name} {self.why_awaited(name)}", f"see that {name} is connected and answers; then go on with --resume")
         if now - self.told > self.options.patience / TOLD:
             self.told = now
@@ -117,9 +141,11 @@ class Conversation:
     def why_awaited(self, name):
         if name not in self.switches.named:
             return f"isn't connected{self.switches.why_away(name)}"
-        if name not in self.record.opened:
+        if name not in self.core.open and not self.switches.named[name].kept:
             return "has sent no HELLO"
-        return "hasn't answered the messages of the round" if name in self.unanswered() else "hasn't answered"
+        if name in self.tables.missing():
+            return "hasn't answered the question for its table"
+        return "hasn't answered the messages of the round" if name in self.core.owing() else "hasn't answered"
 
     def take(self, what, connection, message):
         name = connection.name
@@ -131,11 +157,16 @@ class Conversation:
             self.tables.forget(name)
         elif self.tables.take(connection, message):
             if self.tables.answers[name].is_whole and not connection.is_good:
+                connection.heard_at = connection.heard_at or time.monotonic()
                 self.look_at_returned(connection)
-        elif not openflow.is_message(message) or openflow.type_of(message) in FED and not is_own(message):
+        elif not openflow.is_message(message):
             self.record.feed(name, message)
         elif is_own(message):
             self.take_own(name, message)
+        elif openflow.type_of(message) in FED and connection.is_good:
+            self.record.feed(name, message)
+        elif openflow.type_of(message) in FED:
+            connection.kept.append(message)      # it is of the session that is opened by it
 
     def take_own(self, name, message):
         """Takes an answer to a message of this script that isn't a question."""
@@ -157,24 +188,65 @@ class Conversation:
         words = f"{name} is connected: {connection.peer}, datapath id {connection.datapath:016x}"
         self.record.remark_seldom(name, words)
         say(words)
-        connection.given, connection.is_good = len(self.driven.sent[name]), False
         if name in self.owed:
             connection.send(self.owed[name][0])
         self.tables.ask(connection)
 
-    def unanswered(self):
-        """The switches that haven't answered the barrier request of the running round."""
-        return {name for name, (_, xid) in self.driven.requests.items() if (name, xid) not in self.record.answered}
+    def must_reopen(self, name):
+        """Whether what was sent to a switch on its session is perhaps not carried out, and not answered: its next connection is a new session."""
+        return name in self.unsure or name in self.core.owing()
+
+    def has_stood(self, connection):
+        """Whether a connection has stood for a while since its switch answered on it. By then the switch has taken up what it takes of an older one."""
+        return connection.heard_at is not None and time.monotonic() - connection.heard_at >= min(self.options.wait, STANDS)
+
+    def ask_again(self):
+        """Asks the switches anew whose connection has stood long enough to be a new session."""
+        for name, one in self.switches.named.items():
+            if not (one.is_good or one.is_asked_again or self.is_reading or self.suspects) and self.has_stood(one):
+                one.is_asked_again = True
+                self.tables.ask(one)
+
+    def let_on(self, connection):
+        """A switch has what it must have, so the update goes on on its connection. Where an older one leaves it unsure what the switch has got, that is a new
+        session, and `serve` says what the switch has to be sent again."""
+        name = connection.name
+        is_anew = self.must_reopen(name)
+        if connection.is_good or is_anew and self.core.begun and not self.has_stood(connection):
+            return
+        self.follow()
+        connection.is_good = True
+        if is_anew:
+            self.tell_reopened(name)
+            self.unsure.discard(name)
+            self.record.give(f"reopen {name}")
+        for message in connection.kept:
+            self.record.feed(name, message)
+        self.follow()
+
+    def tell_reopened(self, name):
+        if self.core.is_running:
+            words = f"{name} has what it must have; its session is opened anew, and what it hasn't answered of {self.round_words()} is sent again"
+            self.record.remark_seldom(name + " again", words)
+            say(words)
 
     def awaited(self):
         """The switches for which the update waits: they are away, or owe an answer."""
-        away = {name for name in self.listed if name not in self.switches.named or name not in self.record.opened}
-        return sorted(away | self.unanswered() | self.tables.missing() | set(self.owed))
+        away = {name for name in self.listed if name not in self.switches.named or name not in self.core.open and not self.switches.named[name].kept}
+        return sorted(away | self.core.owing() | self.tables.missing() | set(self.owed))
+
+    def are_all_there(self):
+        """Whether a round can begin: no switch is waited for, and the update goes on on the connection of each."""
+        return not self.awaited() and all(one.is_good for one in self.switches.named.values())
+
+    def round_words(self):
+        return f"{'the undoing of ' if self.core.is_back else ''}round {self.core.number()}"
 
     def state(self):
         """How far the update is."""
-        words = f"{self.driven.settled} of {self.driven.rounds} rounds are settled"
-        words += f", round {self.driven.settled + 1} is running" if self.driven.running else ""
+        words = f"{self.core.settled} of {self.core.rounds} rounds are settled"
+        words += f" ({self.core.carried_out} were carried out and {self.core.undone} undone)" if self.core.undone else ""
+        words += f", round {self.core.number()} is {'being undone' if self.core.is_back else 'running'}" if self.core.is_running else ""
         names = self.awaited() if self.switches is not None else []
         return words + (f", no answer yet from {', '.join(names)}" if names else "")
 

@@ -41,9 +41,9 @@ class Expected:
             after = None if change["do"] == "delete" else {word: it for word, it in change.items() if word != "do"}
             self.pending.setdefault(change["switch"], {})[rule_key(change)] = after
 
-    def differences(self, name, answers):
-        """What of a switch's answers isn't as it must be."""
-        rules, pending = self.rules.get(name, {}), self.pending.get(name, {})
+    def differences(self, name, answers, is_decided=False):
+        """What of a switch's answers isn't as it must be. Where it is decided that no pending change of the switch is in force, each entry must be as before."""
+        rules, pending = self.rules.get(name, {}), {} if is_decided else self.pending.get(name, {})
         found, seen = [], set()
         for entry in answers.shown():
             key, odd = entry.test(), entry.oddity()

@@ -84,7 +84,7 @@ def offered_versions(hello):
 
 
 def change_words(piece):
-    """What a flow message of `planner drive` does, in words."""
+    """What a flow message of `planner serve` does, in words."""
     wildcards, in_port = struct.unpack("!IH", piece[8:14])
     vlan, command, priority = int.from_bytes(piece[26:28], "big"), int.from_bytes(piece[56:58], "big"), int.from_bytes(piece[62:64], "big")
     length = 32 - min(32, wildcards >> 14 & 63)

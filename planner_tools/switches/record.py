@@ -1,6 +1,6 @@
-"""The record of an update: the file INPUT of `planner drive`. Lines are only ever appended, and are on the disk before anything follows from them.
+"""The record of an update: the lines that `planner serve` is given. Lines are only ever appended, and are on the disk before anything follows from them.
 
-Before each line stands a line `#N SUM`, which `drive` passes over: N counts the lines from 1, and SUM is the first 16 digits of the SHA-256 of the SUM
+Before each line stands a line `#N SUM`, which `serve` passes over: N counts the lines from 1, and SUM is the first 16 digits of the SHA-256 of the SUM
 before it and the line. So a line that was changed, taken out or added later is found, and named.
 """
 import datetime
@@ -17,8 +17,8 @@ SUM = re.compile("#([1-9][0-9]*) ([0-9a-f]{16})")
 HEAD = re.compile("# update ([0-9a-f]{12}) begun ([0-9]+) (.*)")
 FEED = re.compile("feed ([^ ]+) (([0-9a-fA-F]{2}){8,})")
 # Remarks that are made right after the tables were found to be as they must be.
-COMPARED = re.compile("# (....-..-..T..:..:..)[^ ]* (?:round [0-9]+ starts|the switches have the tables of) ")
-MARKED = " the mark of the update is put on the switches"
+COMPARED = re.compile("# (....-..-..T..:..:..)[^ ]* (?:round [0-9]+ starts|round [0-9]+ is undone|the switches have the tables of)[ ,]")
+MARKED, UNMARKED = " the mark of the update is put on the switches", " the mark of the update is taken away"
 # What comes and goes with one switch is noted once in so many seconds, so that a switch that comes and goes for a week fills no disk.
 SELDOM = 600.0
 
@@ -32,7 +32,7 @@ class Record:
         """Opens a new record, whose first line has this head, or with `resume` one that was begun with the same head."""
         self.path, self.head = path, head
         if os.path.exists(path) != resume:
-            raise Stop(*((f"there is no record {path}", "leave out --resume to begin an update") if resume else
+            raise Stop(*((f"there is no record {path}: nothing of this update was begun", "leave out --resume to begin an update") if resume else
                          (f"{path} is there already: an update was begun with it", "go on with --resume, or give the record another name")))
         try:
             self.file = open(path, "r+b" if resume else "x+b", buffering=0)
@@ -42,10 +42,9 @@ class Record:
         except OSError as fault:
             raise Stop(f"{path}: {fault.strerror}", f"see to it; then {'go on with --resume' if resume else 'begin again'}") from None
         self.is_broken = False        # whether a line couldn't be written: then no further one is
-        self.is_fresh = True          # whether it has lines that `drive` hasn't seen
-        self.opened = set()           # the switches from which a HELLO was fed
-        self.answered = set()         # (switch, xid) of the barrier replies that were fed
-        self.errors = {}              # the first error that was fed of each switch
+        self.unfollowed = []          # its lines that `serve` hasn't been given in this run
+        self.opened = set()           # the switches from which a HELLO was fed, on their present session
+        self.errors = {}              # the first error that was fed of each switch, on its present session
         self.starts = 0               # how many rounds were started by it
         self.is_marked = False        # whether the mark was put on the switches
         self.lines, self.count, self.sum, self.size = 0, 0, "", 0       # lines of the file, those with a sum, the last sum, bytes of the file
@@ -109,13 +108,11 @@ class Record:
         if mark[2] != sum_of(self.sum, line):
             raise self.not_as_written(at + 2, "was changed", at)
         self.count, self.sum, self.lines, self.size = self.count + 1, mark[2], at + 2, self.size + len(lines[at]) + len(line) + 2
-        self.starts += line == "start"
-        self.is_marked = self.is_marked or line.endswith(MARKED)
-        feed, compared = FEED.fullmatch(line), COMPARED.match(line)
-        if feed:
-            self.note(feed[1], bytes.fromhex(feed[2]))
-        elif compared:
+        self.is_marked = (self.is_marked or line.endswith(MARKED)) and not line.endswith(UNMARKED)
+        compared = COMPARED.match(line)
+        if compared:
             self.last_compared = compared[1]
+        self.note(line)
 
     def not_as_written(self, number, what, good):
         """The first line that isn't as it was written, and how many are good before it."""
@@ -162,23 +159,38 @@ class Record:
 
     def feed(self, switch, piece):
         if openflow.is_message(piece) and openflow.type_of(piece) == openflow.HELLO and switch in self.opened:
-            return               # `drive` passes over a further one, and a switch that comes and goes would fill the record
-        self.add(f"feed {switch} {piece.hex()}")
-        self.note(switch, piece)
-        self.is_fresh = True
+            return               # `serve` passes over a further one, and a switch that comes and goes would fill the record
+        self.give(f"feed {switch} {piece.hex()}")
 
-    def start(self):
-        self.add("start")
-        self.starts += 1
-        self.is_fresh = True
+    def give(self, line):
+        """Appends a line that isn't a remark."""
+        self.add(line)
+        self.note(line)
 
-    def note(self, switch, piece):
+    def note(self, line):
+        """Notes what follows from a line for those behind it."""
+        if line == "" or line.startswith("#"):
+            return
+        self.unfollowed.append(line)
+        words, feed = line.split(" "), FEED.fullmatch(line)
+        if words[0] == "start":
+            self.starts += 1
+        elif words[0] == "reopen":
+            self.opened.discard(words[1])
+            self.errors.pop(words[1], None)
+        elif feed:
+            self.note_message(feed[1], bytes.fromhex(feed[2]))
+
+    def note_message(self, switch, piece):
         if openflow.type_of(piece) == openflow.HELLO:
             self.opened.add(switch)
         elif openflow.type_of(piece) == openflow.ERROR:
             self.errors.setdefault(switch, piece)
-        elif openflow.type_of(piece) == openflow.BARRIER_REPLY:
-            self.answered.add((switch, openflow.xid_of(piece)))
+
+    def take_unfollowed(self):
+        """The lines that `serve` is to be given next."""
+        lines, self.unfollowed = self.unfollowed, []
+        return lines
 
     def keep(self):
         """Has the disk take what was appended."""

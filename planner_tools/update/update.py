@@ -3,7 +3,8 @@
     planner update DIR --switches FILE [--listen HOST:PORT] [--wait SECONDS | --ask] [--patience SECONDS] [--yes | --dry-run]
 
 DIR has topology.json, new.json and policy.json. The steps are those that can be taken one by one as well: collect, import, plan, check, apply. What they make is
-kept in a new folder in DIR, `update-1` and so on: `replies`, `old.json`, `plan.json`, and `record`, the record of the update.
+kept in a new folder in DIR, `update-1` and so on: `replies`, `old.json`, `plan.json`, and `record`, the record of the update. At the end stand the commands
+that go on with it, or turn it back to the tables that the switches had.
 
 Before the first change a summary is printed, and it is asked whether the plan may be carried out; --yes answers so, and --dry-run ends there.
 
@@ -162,13 +163,15 @@ class Update:
         return [*words, *self.connection_words(), *wait, "--patience", f"{self.options.patience:g}"]
 
     def apply(self):
-        """Carries the plan out. What stands in the way is said by `apply` itself; behind it comes the line to go on with."""
+        """Carries the plan out. What stands in the way is said by `apply` itself; behind it come the lines to go on with and to turn back with."""
         words = self.apply_words()
         status = apply.main(words[2:])
         record = self.path("record")
         if status == 0:
-            say(f"the record is {record}; `planner drive` prints from it what was sent")
+            say(f"the record is {record}; `planner serve` prints from it what was sent")
+            say(f"this turns the update back: {shlex.join([*words, '--back'])}")
         elif os.path.exists(record):
+            say(f"this turns the update back: {shlex.join([*words, '--back'])}")
             say(f"where the line above says to go on with --resume, this does it: {shlex.join([*words, '--resume'])}")
         else:
             say("stopped at step 5 of 5, apply. Nothing was sent")

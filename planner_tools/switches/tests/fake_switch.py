@@ -69,19 +69,20 @@ class FakeSwitch(threading.Thread):
     noise       what it sends behind each such reply
     echo        seconds between its echo requests; it closes the connection where three in a row aren't answered
     hello       its HELLO
+    greeting    what it sends behind its HELLO on each connection but the first
     largest     the greatest length of a statistics reply
     has_extended  whether it has extended statistics of its table
     refuses     whether it refuses each flow message that the controller makes of its own
     """
 
     def __init__(self, datapath, address, rules=(), listen=False, error_at=None, error=(3, 0), close_at=None, piece=None, delay=0.0, is_silent=False, noise=b"",
-                 echo=None, hello=bytes.fromhex("0100000800000001"), largest=65535, empty_at=None, late=0.0, has_extended=False, refuses=False):
+                 echo=None, hello=bytes.fromhex("0100000800000001"), largest=65535, empty_at=None, late=0.0, has_extended=False, refuses=False, greeting=b""):
         super().__init__(daemon=True)
         self.datapath, self.address, self.listen = datapath, address, listen
         self.table = {key_of(match_of(rule), rule["priority"]): [match_of(rule), rule["priority"], actions_of(rule)] for rule in rules}
         self.error_at, self.error, self.close_at, self.piece, self.delay, self.is_silent = error_at, error, close_at, piece, delay, is_silent
         self.noise, self.echo, self.hello, self.largest = noise, echo, hello, largest
-        self.empty_at, self.late, self.has_extended, self.refuses = empty_at, late, has_extended, refuses
+        self.empty_at, self.late, self.has_extended, self.refuses, self.greeting = empty_at, late, has_extended, refuses, greeting
         self.entries = None         # entries to report in place of its table
         self.extended = None        # entries of its extended statistics, where it has such
         self.own_messages = self.flow_messages = self.barriers = self.connections = self.echoes = 0
@@ -128,7 +129,7 @@ class FakeSwitch(threading.Thread):
         sock.setsockopt(socket.IPPROTO_TCP, socket.TCP_NODELAY, 1)
         sock.settimeout(0.02)
         self.ended.wait(self.late)
-        self.send(sock, self.hello)
+        self.send(sock, self.hello + (self.greeting if self.connections > 1 else b""))
         rest, due, owed = b"", time.monotonic() + (self.echo or 1e9), 0
         while not self.ended.is_set():
             if time.monotonic() > due:

@@ -100,8 +100,10 @@ class Network:
         words = [sys.executable, FRONT_END, "collect", self.files[0], "--switches", self.listed, *self.where, *more]
         return subprocess.run(list(map(str, words)), capture_output=True, text=True, timeout=LONGEST, check=False)
 
-    def drive(self):
-        return planner("drive", *self.files, self.record)
+    def told(self):
+        """What `planner serve` says of the record."""
+        with open(self.record, "rb") as record:
+            return subprocess.run([PLANNER, "serve", *map(str, self.files)], stdin=record, capture_output=True, text=True, timeout=LONGEST, check=False).stdout
 
     def has(self, config):
         """Whether the switches have exactly the rules of a configuration."""
@@ -113,12 +115,22 @@ class UpdateTest(unittest.TestCase):
     """Tests of whole updates."""
 
     def settles(self, net, run):
-        """The record of an update that came to its end, as `drive` tells it."""
+        """What `serve` says of the record of an update that came to its end."""
         status, said = run
         self.assertEqual(status, 0, said)
-        text = net.drive()
-        self.assertRegex(text, r"# settled (\d+) of \1\n$")
+        text = net.told()
+        self.assertRegex(text, r"\nok settled (\d+) of \1\n$")
         self.assertTrue(net.has(net.files[2]))
+        return text
+
+    def is_back(self, net, run):
+        """What `serve` says of the record of an update that was turned back to its beginning."""
+        status, said = run
+        self.assertEqual(status, 0, said)
+        text = net.told()
+        self.assertRegex(text, r"\nok settled 0 of \d+\n$")
+        self.assertTrue(net.has(net.files[1]))
+        self.assertFalse([key for one in net.switches.values() for key in one.table if key[3] == fake_switch.MARK_TYPE])
         return text
 
     def stops(self, run, what, then):

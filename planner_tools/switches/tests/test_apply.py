@@ -10,7 +10,12 @@ from planner_tools.switches.connections import OWN
 
 
 def sent(text):
-    return {line.split()[2]: bytes.fromhex(line.split()[3]) for line in text.splitlines() if line.startswith("# sent ")}
+    """All bytes that `serve` says are sent to each switch."""
+    found = {}
+    for line in text.splitlines():
+        if line.startswith("send "):
+            found[line.split()[1]] = found.get(line.split()[1], b"") + bytes.fromhex(line.split()[2])
+    return found
 
 
 class Applying(UpdateTest):
@@ -19,11 +24,11 @@ class Applying(UpdateTest):
             with self.subTest(name):
                 net = Network(self, name)
                 run = net.apply("--wait", wait)
-                rounds = int(re.search(r"# settled \d+ of (\d+)", self.settles(net, run))[1])
+                rounds = int(re.search(r"ok settled \d+ of (\d+)", self.settles(net, run))[1])
                 told = re.findall(r"round (\d+) of \d+ is settled, [0-9.]+ s after its start; (\d+) left, some \d+ s", run[1])
                 self.assertEqual(told, [(str(it), str(rounds - it)) for it in range(1, rounds)])
 
-    def test_what_a_switch_receives_is_what_drive_says_and_questions_that_change_nothing(self):
+    def test_what_a_switch_receives_is_what_serve_says_and_questions_that_change_nothing(self):
         net = Network(self, "square")
         text = self.settles(net, net.apply())
         def without_xid(data):
@@ -36,7 +41,7 @@ class Applying(UpdateTest):
             self.assertLessEqual(without_xid(b"".join(it for it in pieces if openflow.xid_of(it) >= OWN)), own)
             self.assertEqual([it[8:10] for it in pieces if openflow.type_of(it) == openflow.STATS_REQUEST].count(b"\0\1"), 5)     # at first, behind the mark, before each round, at last
 
-    def test_each_line_of_the_record_is_followed_by_what_drive_says_of_it(self):
+    def test_each_line_of_the_record_is_followed_by_what_serve_says_of_it(self):
         net = Network(self, "square")
         self.settles(net, net.apply())
         lines = net.record.read_text().splitlines()
@@ -81,25 +86,25 @@ class Applying(UpdateTest):
         run = net.apply()
         self.stops(run, "the session with w failed: Error 3 0 (flow message failed: all tables full); it is about: insert priority 16384 0.0.0.0/0 VLAN 3000; "
                    "0 of 8 rounds are settled, round 1 is running", "make room in its table")
-        self.assertIn("# failed w Error 3 0\n", net.drive())
-        again = net.apply("--resume")
-        self.stops(again, "the session with w failed: Error 3 0 (flow message failed: all tables full); it is about: insert priority 16384", "make room in its table")
-        self.assertRegex(again[1], r"`head -n \d+ [^`]*` makes the record before it")
+        self.assertIn("\nfailed w Error 3 0\n", net.told())
+        self.assertIn("; --back in its place turns the update back", run[1].splitlines()[-1])
 
-    def test_after_a_failed_session_the_lines_before_it_are_a_record_to_go_on_with(self):
+    def test_after_a_failed_session_the_record_is_gone_on_with_by_a_new_session(self):
         for name, more in (("square", {"s3": {"error_at": 1}}), ("detour", {"d": {"error_at": 3}})):
             with self.subTest(name):
                 net = Network(self, name, only=more)
-                net.do_next(net.apply()[1])
-                self.settles(net, net.apply("--resume"))
+                self.stops(net.apply(), "failed: Error 3 0", "then go on with --resume: what")
+                text = self.settles(net, net.apply("--resume"))
+                self.assertEqual(text.count("\nfailed "), 1)
 
     def test_a_switch_that_goes_and_comes_back_gets_the_messages_of_the_round_again(self):
         net = Network(self, "square", only={"s3": {"close_at": 1}})
         run = net.apply()
         text = self.settles(net, run)
         self.assertIn("s3 closed its connection; 1 of 2 rounds are settled, round 2 is running", run[1])
-        self.assertIn("s3 has what it must have; the messages of round 2 to it are sent again", run[1])
-        self.assertEqual((net.switches["s3"].connections, text.count("# failed")), (2, 0))
+        self.assertIn("s3 has what it must have; its session is opened anew, and what it hasn't answered of round 2 is sent again", run[1])
+        self.assertEqual((net.switches["s3"].connections, text.count("\nfailed ")), (2, 0))
+        self.assertRegex(net.record.read_text(), "\nreopen s3\n#.*\nfeed s3 01000008")
 
     def test_a_killed_update_is_resumed(self):
         for text in ("round 1 starts", "\nstart\n", "round 2 starts"):

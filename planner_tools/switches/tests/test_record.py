@@ -30,7 +30,7 @@ class Recording(unittest.TestCase):
         """A record with a round that was started and answered; its lines, each with its end."""
         record = self.record()
         record.feed("s1", openflow.HELLO_BYTES)
-        record.start()
+        record.give("start")
         record.feed("s1", REPLY)
         record.remark("round 1 is settled")
         record.file.close()
@@ -58,8 +58,8 @@ class Recording(unittest.TestCase):
 
     def test_a_record_is_taken_up_as_it_was(self):
         record = self.taken_up(self.written())
-        self.assertEqual((record.opened, record.answered, record.starts), ({"s1"}, {("s1", 1)}, 1))
-        record.start()
+        self.assertEqual((record.opened, record.take_unfollowed(), record.starts), ({"s1"}, [f"feed s1 {openflow.HELLO_BYTES.hex()}", "start", f"feed s1 {REPLY.hex()}"], 1))
+        record.give("start")
         record.file.close()
         self.assertEqual(self.record(resume=True).starts, 2)
 
@@ -112,6 +112,26 @@ class Recording(unittest.TestCase):
         record.file.close()
         self.assertLess(os.path.getsize(self.path), 2000)
 
+    def test_what_belongs_to_a_session_ends_with_it(self):
+        record = self.record()
+        error = openflow.message(openflow.ERROR, 7, bytes.fromhex("00030000"))
+        for _ in range(2):
+            record.feed("s1", openflow.HELLO_BYTES)
+            record.feed("s1", error)
+            self.assertEqual((record.opened, record.errors), ({"s1"}, {"s1": error}))
+            record.give("reopen s1")
+            self.assertEqual((record.opened, record.errors), (set(), {}))
+        self.assertEqual(len(record.take_unfollowed()), 6)
+        self.assertEqual(record.take_unfollowed(), [])
+
+    def test_the_mark_is_on_the_switches_until_it_is_taken_away(self):
+        record = self.record()
+        for words, is_marked in (("the mark of the update is put on the switches", True), ("the mark of the update is taken away", False)):
+            record.remark(words)
+            record.file.close()
+            record = self.record(resume=True)
+            self.assertEqual(record.is_marked, is_marked)
+
     def test_a_record_that_can_t_be_written_is_named_and_stays_whole(self):
         code = f"""
 import resource, sys
@@ -121,7 +141,7 @@ record = Record({self.path!r}, False, "files a b")
 resource.setrlimit(resource.RLIMIT_FSIZE, (record.size + 100,) * 2)
 try:
     for _ in range(9):
-        record.start()
+        record.give("start")
 except Stop as stop:
     print(stop.what)
 try:

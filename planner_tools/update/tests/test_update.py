@@ -76,8 +76,8 @@ class Updating(unittest.TestCase):
                 made = net.wanted / "update-1"
                 self.assertEqual({"replies", "old.json", "plan.json", "record"} - set(os.listdir(made)), set())
                 files = [net.wanted / "topology.json", made / "old.json", net.wanted / "new.json", net.wanted / "policy.json", made / "plan.json", made / "record"]
-                done = subprocess.run([PLANNER, "drive", *map(str, files)], capture_output=True, text=True, timeout=LONGEST, check=False)
-                self.assertRegex(done.stdout, r"# settled (\d+) of \1\n$")
+                done = subprocess.run([PLANNER, "serve", *map(str, files[:-1])], input=files[-1].read_text(), capture_output=True, text=True, timeout=LONGEST, check=False)
+                self.assertRegex(done.stdout, r"\nok settled (\d+) of \1\n$")
                 status, said = self.run_it(net, "--yes")
                 self.assertEqual(status, 0)
                 self.assertIn("already: nothing is to be done", said)
@@ -151,14 +151,26 @@ class Updating(unittest.TestCase):
         self.assertIn("the session with s3 failed: Error 3 0", said)
         self.assertRegex(said.splitlines()[-1], r"^where the line above says to go on with --resume, this does it: planner apply .*/update-1/record .*--resume$")
 
+    def carry_out(self, words):
+        """Does a line that was said."""
+        done = subprocess.run([sys.executable, str(FRONT_END), *shlex.split(words)], capture_output=True, text=True, timeout=LONGEST, check=False, env={**os.environ, "PLANNER": PLANNER})
+        self.assertEqual(done.returncode, 0, done.stderr)
+
+    def test_the_line_that_turns_an_update_back(self):
+        for only, status in (({}, 0), ({"d": {"error_at": 3}}, 1)):
+            with self.subTest(status=status):
+                net = self.network("detour", only=only)
+                found, said = self.run_it(net, "--yes")
+                self.assertEqual(found, status, said)
+                self.carry_out(re.search(r"this turns the update back: planner (.*)", said)[1])
+                self.assertTrue(net.has(EXAMPLES / "detour" / "old.json"))
+
     def test_an_update_that_was_cut_off_is_gone_on_with(self):
         net = self.network(only={"s3": {"is_silent": True}})
         status, said = self.run_it(net, "--yes", "--patience", "0.5")
         self.assertEqual(status, 1, said)
         net.switches["s3"].is_silent = False
-        line = said.splitlines()[-1].partition("this does it: planner ")[2]
-        done = subprocess.run([sys.executable, str(FRONT_END), *shlex.split(line)], capture_output=True, text=True, timeout=LONGEST, check=False, env={**os.environ, "PLANNER": PLANNER})
-        self.assertEqual(done.returncode, 0, done.stderr)
+        self.carry_out(said.splitlines()[-1].partition("this does it: planner ")[2])
         self.assertTrue(net.has(net.wanted / "new.json"))
 
 
