@@ -104,6 +104,8 @@ def bad_input(line, names):
     """What is wrong with a line of the inputs of a driver, and what would be right."""
     words = line.split()
     right = "`start`, or `feed SWITCH HEX`"
+    if words and words[0] in ("back", "reopen"):
+        return f"`{words[0]}` is a line of `serve`, and none of `drive`", f"{right}; `planner serve` takes such a record from its standard input"
     if not words or words[0] not in INPUTS:
         return (f"`{short(words[0])}` is no input{did_you_mean(words[0], INPUTS)}" if words else "the line has nothing but white space"), right
     fault = shape_fault(line)

@@ -110,10 +110,14 @@ class Conversation:
 
     def send(self, messages):
         """Sends what `serve` says, to those whose connection is good. The others get it when theirs is, behind `reopen`. HELLO was sent as a connection was made."""
+        pieces = {}
         for name, message in messages:
+            if openflow.type_of(message) != openflow.HELLO:
+                pieces.setdefault(name, []).append(message)
+        for name, those in pieces.items():
             one = self.switches.named.get(name) if self.switches else None
-            if one is not None and one.is_good and openflow.type_of(message) != openflow.HELLO:
-                one.send(message)
+            if one is not None and one.is_good:
+                one.send(b"".join(those))
 
     def pump(self):
         """Notes what the switches sent, and sends what follows from it."""

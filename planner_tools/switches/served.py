@@ -1,4 +1,5 @@
 """Runs of the program while switches are listened to; and `planner serve`, the core of the controller, which stays beside them for a whole run."""
+import collections
 import os
 import select
 import subprocess
@@ -52,7 +53,8 @@ class Serve:
     """A run of `planner serve`: lines in, a block of lines out for each."""
 
     def __init__(self, files, meanwhile):
-        self.meanwhile, self.rest = meanwhile, b""
+        self.meanwhile = meanwhile
+        self.lines, self.rest = collections.deque(), b""         # what it has written: whole lines, and the beginning of the next one
         self.run = begin(["serve", *files], stdin=subprocess.PIPE)
         os.set_blocking(self.run.stdin.fileno(), False)
 
@@ -71,10 +73,8 @@ class Serve:
         """The next block, and what of these bytes it hasn't taken by then."""
         block = []
         while not block or not is_last(block[-1]):
-            line, end, rest = self.rest.partition(b"\n")
-            if end:
-                block.append(line.decode("ascii", "replace"))
-                self.rest = rest
+            if self.lines:
+                block.append(self.lines.popleft().decode("ascii", "replace"))
             else:
                 unsent = self.exchange(unsent, block)
         return block, unsent
@@ -93,7 +93,8 @@ class Serve:
             data = os.read(self.run.stdout.fileno(), 1 << 20)
             if not data:
                 raise Ended(self.run.wait(), "".join(f"{line}\n" for line in block) + self.rest.decode("utf-8", "replace"))
-            self.rest += data
+            *lines, self.rest = (self.rest + data).split(b"\n")
+            self.lines.extend(lines)
         elif not to_write:
             self.meanwhile()
         return unsent
