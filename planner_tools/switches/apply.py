@@ -76,6 +76,10 @@ class Update(Comparison):
         self.compare()
         self.compare_as_configuration("after", wanted)
         self.take_marks_away()
+        while self.tables.missing():         # of a switch whose connection was lost meanwhile
+            self.pump()
+        if self.suspects:
+            self.compare()
         self.record.keep()
         what = f"all {self.core.rounds} rounds are settled"
         if self.options.back:

@@ -93,7 +93,7 @@ class Conversation:
         if not lines:
             return
         self.record.keep()
-        carried_out, undone, failed = self.core.carried_out, self.core.undone, set(self.core.failed)
+        carried_out, undone, failures = self.core.carried_out, self.core.undone, self.core.failures
         try:
             for line, block in zip(lines, self.serve.blocks(lines)):
                 self.send(self.core.take(line, block))
@@ -104,9 +104,8 @@ class Conversation:
         self.expected = None
         if (carried_out, undone) != (self.core.carried_out, self.core.undone):
             self.tell_progress()
-        for name in self.core.failed:
-            if name not in failed:
-                raise self.failed_session(name, self.core.failed[name])
+        if self.core.failures > failures:
+            raise self.failed_session(*list(self.core.failed.items())[-1])
 
     def send(self, messages):
         """Sends what `serve` says, to those whose connection is good. The others get it when theirs is, behind `reopen`. HELLO was sent as a connection was made."""

@@ -124,6 +124,7 @@ class Core:
         self.history = []        # of each round that is settled or runs the changes in force, in their order
         self.open = set()        # the switches whose session is open
         self.failed = {}         # by switch: the cause for which its session failed
+        self.failures = 0        # how many sessions have failed so far
         self.due = {}            # by switch: the xids of the barrier requests on its session that aren't answered
         self.changes = {}        # by switch: its messages of the running round, by their xids
 
@@ -173,6 +174,7 @@ class Core:
             return [(words[1], message)]
         if words[0] == "failed":
             self.failed[words[1]], self.due[words[1]] = words[2:], []
+            self.failures += 1
             self.open.discard(words[1])
         else:
             self.take_event(words)

@@ -143,6 +143,22 @@ class Turning(UpdateTest):
     def test_an_answer_on_the_new_connection_isn_t_one_of_the_old_session(self):
         net = Network(self, "square", only={"s3": {"close_at": 1, "greeting": openflow.message(openflow.BARRIER_REPLY, 4)}})
         self.stops(net.apply(), "the session with s3 failed: Xid 4", "--resume")
+        self.stops(net.apply("--back"), "the session with s3 failed: Xid 4", "--back")
+        net.switches["s3"].greeting = b""
+        self.is_back(net, net.apply("--back"))
+
+    def test_the_operator_s_key_undoes_each_round(self):
+        net = Network(self, "square")
+        self.settles(net, net.apply())
+        run = net.begin("--back", "--ask")
+        for number in (2, 1):
+            for line in run.stderr:
+                if "press Enter" in line:
+                    break
+            self.assertIn(f"the undoing of round {number} of 2 is next", line)
+            run.stdin.write("\n")
+            run.stdin.flush()
+        self.is_back(net, (0, run.communicate(timeout=LONGEST)[1]))
 
     # ---- `serve` itself
 
