@@ -7,7 +7,7 @@ networks of 3 to 5 switches. The switches are made up: they answer in time or la
 then with an error, a wrong number or a message that is none. Prints how much was compared; the exit status is 1 where something differs, or nothing was
 compared with `drive`. Where the program has no `serve` yet it says so.
 
-    PLANNER=.. reliability/serve.py [--lists N] [--lines N] [--networks N] [--seed N]"""
+    PLANNER=.. reliability/serve.py [--lists N] [--lines N] [--networks N] [--restless SHARE] [--seed N]"""
 import argparse
 import collections
 import json
@@ -26,6 +26,8 @@ import serve_model as model
 # How long it may take for a block to come, and the status of a command that isn't there.
 SECONDS, WRONG_WORDS = 60, 2
 ENDS = ("ok ", "no ", "bad line")
+# How many of the lines for `serve` are to be none of `drive`.
+RESTLESS = 0.12
 NO_SERVE = "the program has no `serve` yet: it was compared with `drive` alone"
 
 
@@ -73,10 +75,11 @@ class Switches:
 
 
 class Lines:
-    """Random lines, each by what the model has said of those before."""
+    """Random lines, each by what the model has said of those before. `restless` is how often one is to be none of `drive`: at 0.4 most rounds are turned, and
+    sessions begin anew while answers of both ways are due."""
 
-    def __init__(self, rng, update, plan, is_driven):
-        self.rng, self.is_driven = rng, is_driven
+    def __init__(self, rng, update, plan, is_driven, restless=RESTLESS):
+        self.rng, self.is_driven, self.restless = rng, is_driven, restless
         self.serve = model.Serve(update["topology"], update["old"], plan)
         self.names = self.serve.switches
         self.switches = Switches(rng, self.names, rng.choice([0, 0, 0.01, 0.05]))
@@ -101,7 +104,7 @@ class Lines:
 
     def next_line(self):
         rng, speaking = self.rng, [name for name, waiting in self.switches.waiting.items() if waiting]
-        if not self.is_driven and rng.random() < 0.12:
+        if not self.is_driven and rng.random() < self.restless:
             return rng.choice([self.back, self.back, self.reopen, self.comment, self.bad])()
         if speaking and rng.random() < 0.85:
             return self.feed(rng.choice(speaking))
@@ -279,7 +282,7 @@ def compare(program_path, chosen, folder):
                 print(f"{name}, list {i}: drive says (status {said[0]})\n{said[1]}the model\n{report_of(made)}")
             if not has_serve:
                 continue
-            made = Lines(rng, update, plan, False).go_on(rng.randint(0, chosen.lines))
+            made = Lines(rng, update, plan, False, chosen.restless).go_on(rng.randint(0, chosen.lines))
             fault = differing(made, program.serve(made.lines))
             found.update({"lists for serve": 1, "lines for serve": len(made.lines), "events of serve": len(made.serve.events),
                           "lines that serve can't follow": sum(not block[-1].startswith("ok ") for block in made.blocks)})
@@ -297,6 +300,8 @@ def main():
     parser.add_argument("--lists", type=int, default=20, metavar="N", help="how many lists of lines for each update (20)")
     parser.add_argument("--lines", type=int, default=200, metavar="N", help="the longest list (200)")
     parser.add_argument("--networks", type=int, default=20, metavar="N", help="how many random updates (20)")
+    parser.add_argument("--restless", type=float, default=RESTLESS, metavar="SHARE", help=f"how many of the lines for serve turn a round, open a session anew, or "
+                        f"say nothing ({RESTLESS})")
     parser.add_argument("--seed", type=int, default=1, metavar="N")
     chosen = parser.parse_args()
     with tempfile.TemporaryDirectory() as name:

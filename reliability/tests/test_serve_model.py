@@ -3,8 +3,10 @@ script finds a program that says something else. Those that compare the model wi
 
     cd reliability && PLANNER=PROGRAM python3 -B -m unittest discover -s tests -p 'test_serve*.py'"""
 import argparse
+import collections
 import contextlib
 import io
+import itertools
 import json
 import os
 import pathlib
@@ -287,7 +289,9 @@ class Random(unittest.TestCase):
     def setUpClass(cls):
         for name, plan in (("square", plan_of("square")), ("detour", plan_of("detour")), ("leaf-spine", in_one_round(plan_of("leaf-spine")))):
             update = explore.example(name)
-            cls.made += [(f"{name} {seed}", update, plan, serve.Lines(random.Random(f"{name} {seed}"), update, plan, False).go_on(300)) for seed in range(8)]
+            for restless, seed in itertools.product((serve.RESTLESS, 0.4), range(8)):
+                made = serve.Lines(random.Random(f"{name} {restless} {seed}"), update, plan, False, restless).go_on(300)
+                cls.made.append((f"{name} {restless} {seed}", update, plan, made))
 
     def lists(self):
         for name, update, plan, made in self.made:
@@ -300,6 +304,25 @@ class Random(unittest.TestCase):
         for word, least in (("start", 60), ("back", 20), ("change", 200), ("undo", 60), ("settle", 80)):
             self.assertGreater(events.count(word), least, word)
         self.assertEqual({"settled", "running", "finished", "begun", "open", "line"}, ends)
+
+    def test_sessions_begin_anew_in_all_stages(self):
+        """Rounds are begun and turned while a session isn't open, and sessions open while messages of either way wait for them."""
+        met = collections.Counter()
+        for update, plan, made in self.lists():
+            again = model.Serve(update["topology"], update["old"], plan)
+            again.begin()
+            for line in made.lines:
+                way, waiting = again.sending and again.sending.way, {name for name, one in again.sessions.items() if one.state != model.OPEN}
+                unanswered = again.sending.unanswered & waiting if again.sending else set()
+                block, word = again.line(line), line.split(b" ")[0].decode("latin-1")
+                met[word, way, "no open" if block[-1].startswith("no open") else "ok" if block[-1].startswith("ok ") else "no"] += 1
+                met[word, way, "waits"] += unanswered != set()
+                met[word, way, "sent again"] += word == "feed" and any(line.startswith("send ") and line.split(" ")[2].startswith("010e") for line in block)
+                met[word, way, "Xid"] += any(" Xid " in line for line in block)
+        for what, least in ((("reopen", None, "ok"), 50), (("reopen", model.FORWARD, "waits"), 20), (("reopen", model.BACK, "waits"), 100),
+                            (("feed", model.FORWARD, "sent again"), 20), (("feed", model.BACK, "sent again"), 100), (("feed", model.BACK, "Xid"), 10),
+                            (("back", model.FORWARD, "waits"), 10), (("back", None, "no open"), 0), (("start", None, "no open"), 50), (("start", model.BACK, "no"), 100)):
+            self.assertGreater(met[what], least, what)
 
     def test_the_events_are_a_run(self):
         """A round is settled where all its changes are in force, or none, and the next event fits to what is in force."""
@@ -358,11 +381,12 @@ def tables_of(names, rules):
 
 @unittest.skipUnless(os.environ.get("PLANNER"), "PLANNER names no program to compare the model with")
 class BesideDrive(unittest.TestCase):
-    def test_lists_of_starts_and_bytes(self):
-        said = io.StringIO()
-        with tempfile.TemporaryDirectory() as name, contextlib.redirect_stdout(said):
-            self.assertFalse(serve.compare(runs.program(), argparse.Namespace(lists=3, lines=200, networks=2, seed=1), pathlib.Path(name)), said.getvalue())
-        self.assertIn(" 0 differences", said.getvalue())
+    def test_lists_of_lines(self):
+        for restless in (serve.RESTLESS, 0.4):
+            said, chosen = io.StringIO(), argparse.Namespace(lists=3, lines=200, networks=2, restless=restless, seed=1)
+            with self.subTest(restless), tempfile.TemporaryDirectory() as name, contextlib.redirect_stdout(said):
+                self.assertFalse(serve.compare(runs.program(), chosen, pathlib.Path(name)), said.getvalue())
+            self.assertIn(" 0 differences", said.getvalue())
 
     def test_messages_are_those_of_emit(self):
         for example in ("square", "detour", "leaf-spine"):
@@ -388,7 +412,7 @@ class Script(unittest.TestCase):
         said, updates = io.StringIO(), [(name, explore.example(name), in_one_round(plan_of(name)) if name == "leaf-spine" else plan_of(name)) for name in names]
         with (tempfile.TemporaryDirectory() as folder, contextlib.redirect_stdout(said), unittest.mock.patch.dict(os.environ, FAULT=fault),
               unittest.mock.patch.object(serve, "updates", lambda *_: updates)):
-            is_wrong = serve.compare(str(HERE / "serve_stand_in.py"), argparse.Namespace(lists=lists, lines=400, seed=1), pathlib.Path(folder))
+            is_wrong = serve.compare(str(HERE / "serve_stand_in.py"), argparse.Namespace(lists=lists, lines=400, restless=serve.RESTLESS, seed=1), pathlib.Path(folder))
         return is_wrong, said.getvalue()
 
     def test_a_program_that_says_the_same(self):
