@@ -1,6 +1,7 @@
 #!/usr/bin/env python3
 """Times `pack` beside `plan` over the same files: rings that turn round, trees and new link weights in a plane graph, a ring whose
-traffic may mostly be dropped, and thousands of changes at one switch. Prints rounds, seconds and memory of both; tests nothing."""
+traffic may mostly be dropped, and thousands of changes at one switch. Prints rounds, seconds and memory of both, and for `pack` between which
+numbers its tries of a change are: the program doesn't tell how many there were, and the plan bounds them. Tests nothing."""
 import heapq
 import json
 import pathlib
@@ -8,6 +9,7 @@ import random
 import tempfile
 
 import measure
+import tries
 from rings import Ring, prefix
 from workloads import PACK, PLAN, WORKLOADS
 
@@ -21,6 +23,18 @@ def rounds_of(text):
         return text.decode().split("\n")[0]
 
 
+def tries_of(text):
+    """Between which numbers the tries of an ordered plan are, or nothing."""
+    try:
+        plan = json.loads(text)
+    except ValueError:
+        return ""
+    if plan["kind"] != "ordered":
+        return ""
+    least, greatest = tries.bounds(plan["rounds"])
+    return f", {least} tries" if least == greatest else f", {least} to {greatest} tries"
+
+
 def both(title, files):
     """Runs both commands over the same files."""
     with tempfile.TemporaryDirectory() as name:
@@ -29,7 +43,7 @@ def both(title, files):
             (folder / f"{file}.json").write_text(json.dumps(value))
         for words in (PLAN, PACK):
             text = measure.run(f"{title}, {words[0]}", words, folder, shown=0)
-            print(f"    {rounds_of(text)}")
+            print(f"    {rounds_of(text)}{tries_of(text) if words is PACK else ''}")
 
 
 def without_tags(topology):

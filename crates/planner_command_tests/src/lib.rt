@@ -2,6 +2,8 @@
 #![tactic(auto)]
 
 #[cfg(test)]
+mod growing;
+#[cfg(test)]
 mod neighbours;
 #[cfg(test)]
 mod pack_command_tests;
@@ -13,3 +15,5 @@ mod retried;
 mod ring;
 #[cfg(test)]
 mod sample_command_tests;
+#[cfg(test)]
+mod stuck;

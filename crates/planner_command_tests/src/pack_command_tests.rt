@@ -1,5 +1,6 @@
 //! `pack` over files in memory, and `check` of what it wrote.
 use crate::ring::Ring;
+use crate::{growing, stuck};
 use check_base::CheckNames;
 use check_command::check;
 use command_base::Status;
@@ -34,6 +35,16 @@ fn are_answered(rt: &impl Abort, alloc: Global, rows: &[(UpdateTexts<'_>, Status
     for (i, (texts, want, text)) in rows.iter().enumerate() {
         let answer = packed(rt, alloc, texts, 0);
         assert!(rt; answer.is(*want, text), "row {i}");
+    }
+}
+
+/// Each of the updates gets its plan, which is accepted by its line.
+fn are_packed(rt: &impl Abort, alloc: Global, rows: &[(UpdateTexts<'_>, &[u8], &[u8])]) {
+    for (i, (texts, text, line)) in rows.iter().enumerate() {
+        let answer = packed(rt, alloc, texts, 0);
+        assert!(rt; answer.is(Status::Done, text), "row {i}");
+        let verdict = checked(rt, alloc, texts, text);
+        assert!(rt; verdict.is(Status::Done, line), "row {i}");
     }
 }
 
@@ -138,6 +149,52 @@ fn the_shorter_plan_is_written(rt: HostRuntime) {
         ),
     ];
     are_answered(&rt, rt.alloc(), &rows);
+}
+
+#[test]
+fn where_one_of_packing_and_the_search_is_stuck_the_other_plans(rt: HostRuntime) {
+    let rows: [(UpdateTexts<'_>, &[u8], &[u8]); 2] = [
+        (
+            stuck::packing(),
+            stuck::packing_plan(),
+            b"accepted: ordered, 5 rounds, 3 classes\n",
+        ),
+        (
+            stuck::search(),
+            stuck::search_plan(),
+            b"accepted: ordered, 2 rounds, 6 classes\n",
+        ),
+    ];
+    are_packed(&rt, rt.alloc(), &rows);
+}
+
+#[test]
+fn a_longer_plan_of_the_search_gives_way_to_two_phases(rt: HostRuntime) {
+    let rows: [(&str, UpdateTexts<'_>, &[u8]); 2] = [
+        (
+            "tags",
+            stuck::longer_packing(),
+            b"accepted: two-phase, 8 rounds, 7 classes\n",
+        ),
+        (
+            "no tags",
+            stuck::longer_packing_without_tags(),
+            b"accepted: ordered, 9 rounds, 7 classes\n",
+        ),
+    ];
+    for (row, texts, line) in rows {
+        is_accepted(&rt, rt.alloc(), &texts, line, row);
+    }
+}
+
+#[test]
+fn a_round_has_the_sets_of_all_its_changes(rt: HostRuntime) {
+    let rows: [(UpdateTexts<'_>, &[u8], &[u8]); 1] = [(
+        growing::update(),
+        growing::plan(),
+        b"accepted: ordered, 2 rounds, 6 classes\n",
+    )];
+    are_packed(&rt, rt.alloc(), &rows);
 }
 
 #[test]

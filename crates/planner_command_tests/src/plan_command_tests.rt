@@ -1,5 +1,5 @@
 //! `plan` over files in memory, and `check` of what it planned.
-use crate::{neighbours, retried};
+use crate::{neighbours, retried, stuck};
 use check_base::CheckNames;
 use check_command::check;
 use command_base::Status;
@@ -164,7 +164,7 @@ fn a_stuck_search_leads_to_two_phases(rt: HostRuntime) {
 
 #[test]
 fn a_stuck_search_without_tags_or_room_says_so(rt: HostRuntime) {
-    let rows: [(UpdateTexts<'_>, Status, &[u8]); 4] = [
+    let rows: [(UpdateTexts<'_>, Status, &[u8]); 5] = [
         (
             detour::update_of_four_entries(),
             Status::TooSmall,
@@ -187,6 +187,7 @@ tried: [[{"do":"replace","dst":"10.0.0.0/24","out":1,"priority":100,"switch":"w"
             Status::TooFewTags,
             b"too few tags: need 1, has 0\ntried: []\n",
         ),
+        (stuck::search(), Status::TooFewTags, stuck::search_tried()),
     ];
     are_answered(&rt, rt.alloc(), &rows);
 }
