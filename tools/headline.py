@@ -1,5 +1,5 @@
 #!/usr/bin/env python3
-"""Makes docs/HEADLINE.md: all definitions on which the clause of `check` rests, copied from the crates; and the counts in README.md.
+"""Makes docs/HEADLINE.md: all definitions on which the headline rests, a field of the promises of `check` and of `serve`, copied from the crates; and the counts in README.md.
 
     tools/headline.py             writes the page and the counts, and prints these
     tools/headline.py --check     writes nothing, and fails where the page or the counts are not what this script makes
@@ -23,12 +23,19 @@ PARTS = (
         ("IsCertified", "is_two_phase"),
     ),
     ("What the files mean", "Which network, configurations, demands and plan the bytes of five files stand for, and when `check` accepts them.", ("FilesAreCertified", "FilesMeanPlan")),
+    (
+        "Runs both ways",
+        "What the second sentence says of runs in which the update is turned back, and onward again. What it says of packets, of plans and of files is in the parts above.",
+        ("IsTwoWayConsistent",),
+    ),
 )
 HEAD = """# The definitions of the headline
 
 > If `planner check` accepts a plan, then in every run that interleaves its single rule changes, in any order within a round, with single packet hops, no packet visits a switch twice, every packet that leaves has met its waypoints in their order, none that must arrive is dropped by a switch, and under a two-phase plan each packet's whole path is that of the old or of the new configuration.
 
-This page has every definition on which the sentence rests, from its words down to numbers and lists. In each part a file stands before those that it rests on, and a definition before those of its file that it is made of; what an earlier part has isn't repeated. `tools/headline.py` copies them from the crates and counts them, and the test command fails where the page is not what the script makes. [THEOREMS.md](THEOREMS.md) leads from the words of the sentence to the first of them, and states the premises.
+> While `planner serve` answers for such a plan, the update may at any moment be turned back, in the middle of a round or between two, and forward again, however often: in every run of that kind the same holds of every packet.
+
+This page has every definition on which the sentences rest, from their words down to numbers and lists. In each part a file stands before those that it rests on, and a definition before those of its file that it is made of; what an earlier part has isn't repeated. `tools/headline.py` copies them from the crates and counts them, and the test command fails where the page is not what the script makes. [THEOREMS.md](THEOREMS.md) leads from the words of the sentences to the first of them, and states the premises.
 """
 NOTATION = """## How to read it
 

@@ -32,6 +32,7 @@ ghost use Rattle.drive_command.specs.Names.{DriveNames};
 ghost use Rattle.drive_command.specs.Promise.{DrivePromise};
 ghost use Rattle.serve_command.specs.Serving.{IsServeEnd};
 ghost use Rattle.serve_command.specs.Stops.{input_name};
+ghost use Rattle.serve_promise.specs.Promise.{ServePromise};
 ghost use Rattle.sample_command.specs.Summaries.{SaysSummary};
 ghost use Rattle.sample_command.specs.Promise.{SamplePromise};
 ghost use Rattle.planner_run.specs.Commands.{Config, Paths, Check, Certify, Plan, Pack, Upgrade, Emit, Replay, Tables, Trace, Simulate, Explain, Import, Drive, Serve, Sample, AsksToServe, asked, seen, dialogue, dialogue_of, IsSaid, usage_line};
@@ -65,6 +66,7 @@ use replay_command::replay;
 use sample_command::laws::sample_promised;
 use sample_command::{RingSize, sample};
 use serve_command::serve;
+use serve_promise::laws::serve_promised;
 use simulate_command::laws::simulate_promised;
 use simulate_command::simulate;
 use std::alloc::Global;
@@ -301,6 +303,12 @@ pub fn run<S: Source, K: Sink>(
         ⊎ Lacks (S.held source.old) (check_dialogue names)
         ⊎ IsMissing (S.held source.old) input_name }
 
+    // The second headline is the field `both_ways` of this promise.
+    ensures serve_promise { (files : Files) (names : CheckNames) → S.held source.old ≡ Some files
+        → asked (map string_bytes words.now) ≡ Some (Serve names)
+        → ServePromise files names (K.written sink.old) (K.written sink.new) (S.taken source.new)
+        result }
+
     // A sample reads no file: its promise holds over every source, which it leaves as it is.
     ensures sample { (n : ℕ) → asked (map string_bytes words.now) ≡ Some (Sample n)
         → SamplePromise n (K.written sink.old) (K.written sink.new) result }
@@ -322,6 +330,7 @@ pub fn run<S: Source, K: Sink>(
     explain_promised();
     import_promised();
     drive_promised();
+    serve_promised();
     sample_promised();
     respond(alloc, words, source, sink)
 }

@@ -1,4 +1,6 @@
-use Rattle.std.proofs.Common.{map, string_bytes}
+use Rattle.std.proofs.Common.{map, string_bytes, subst}
+use Rattle.std.specs.Prelude.{Option}
+use Rattle.file_access.specs.Outside.{Files}
 use Rattle.command_base.specs.Readings.{reading_update, reading_plan_files}
 use Rattle.command_base.proofs.RunLaws.{answered_as}
 use Rattle.config_command.specs.Configs.{config_dialogue, IsConfigAnswer}
@@ -17,6 +19,7 @@ use Rattle.upgrade_command.specs.Texts.{IsUpgradeAnswer}
 use Rattle.emit_command.specs.Answers.{IsEmitAnswer}
 use Rattle.import_command.specs.Imported.{import_dialogue, IsImportAnswer}
 use Rattle.drive_command.specs.Driven.{drive_dialogue, IsDriveAnswer}
+use Rattle.serve_command.specs.Serving.{IsServeEnd}
 use Rattle.planner_run.specs.Commands.{Config, Paths, Check, Certify, Plan, Pack, Upgrade, Emit, Replay, Tables, Trace, Simulate, Explain, Import, Drive, Sample, OfConfig, OfPaths, OfCheck, OfCertify, OfPlan, OfPack, OfUpgrade, OfEmit, OfReplay, OfTables, OfTrace, OfSimulate, OfExplain, OfImport, OfDrive, IsSaid}
 use Rattle.planner_run.proofs.Answered.{answered, unserved}
 use Rattle.planner_run.proofs.Sampled.{sample_ends}
@@ -96,6 +99,11 @@ pub returns-clause-drive : goal.returns-clause-drive
 returns-clause-drive g c = λ files names tells asks.
     c.drive_promised.ensures files names _ _ _ (λ settled.
     answered_as IsDriveAnswer IsSaid OfDrive files (drive_dialogue names) _ _ _ (λ m answer said. said) (answered _ _ _ _ _ files (Drive names) (c.respond.ensures.all (unserved (map string_bytes c.args.words.now) (Drive names) asks (λ none. none)) settled) tells asks))
+
+pub returns-clause-serve_promise : goal.returns-clause-serve_promise
+returns-clause-serve_promise g c = λ files names tells asks.
+    c.serve_promised.ensures files names _ _ _ _ _
+    (subst (λ (held : Option Files). IsServeEnd held names (g.K.Sink.written c.args.sink.now) (g.K.Sink.written c.respond.new.sink) (g.S.Source.selected c.respond.new.source) (g.S.Source.taken c.respond.new.source) c.respond.result) tells (c.respond.ensures.serve names asks))
 
 pub returns-clause-sample : goal.returns-clause-sample
 returns-clause-sample g c = λ n asks.

@@ -1,0 +1,6 @@
+mod Networks
+mod PlanTables
+mod FileLaws
+mod BlockLaws
+mod RunningLaws
+mod PromiseLaws
