@@ -33,7 +33,7 @@ HEAD = """# The definitions of the headline
 
 > If `planner check` accepts a plan, then in every run that interleaves its single rule changes, in any order within a round, with single packet hops, no packet visits a switch twice, every packet that leaves has met its waypoints in their order, none that must arrive is dropped by a switch, and under a two-phase plan each packet's whole path is that of the old or of the new configuration.
 
-> While `planner serve` answers for such a plan, the update may at any moment be turned back, in the middle of a round or between two, and forward again, however often: in every run of that kind the same holds of every packet.
+> While `planner serve` answers for such a plan, the update may at any moment be turned back, also in the middle of a round, and forward again: in every such run the same holds of every packet.
 
 This page has every definition on which the sentences rest, from their words down to numbers and lists. In each part a file stands before those that it rests on, and a definition before those of its file that it is made of; what an earlier part has isn't repeated. `tools/headline.py` copies them from the crates and counts them, and the test command fails where the page is not what the script makes. [THEOREMS.md](THEOREMS.md) leads from the words of the sentences to the first of them, and states the premises.
 """
@@ -477,11 +477,9 @@ def page(specs):
 
 def with_counts(readme, rows):
     """Returns the text of README.md with the counts of the parts between their marks."""
-    parts = [
-        f"for {title[0].lower()}{title[1:]} {definitions} definitions in {lines} lines, and {types} types that the code declares"
-        for title, definitions, lines, types, _, _ in rows[:-1]
-    ]
-    text, found = re.subn(r"<!-- counts -->.*?<!-- /counts -->", f"<!-- counts -->{'; '.join(parts)}<!-- /counts -->", readme, flags=re.S)
+    parts = [f"{definitions} definitions in {lines} lines for {title[0].lower()}{title[1:]}" for title, definitions, lines, *_ in rows[:-1]]
+    declared = f"and {rows[-1][3]} types that the code declares"
+    text, found = re.subn(r"<!-- counts -->.*?<!-- /counts -->", f"<!-- counts -->{', '.join([*parts, declared])}<!-- /counts -->", readme, flags=re.S)
     if found != 1:
         raise LookupError("README.md has no marks <!-- counts --> and <!-- /counts --> around the counts")
     return text
