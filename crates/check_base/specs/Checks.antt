@@ -16,7 +16,8 @@ use Rattle.command_base.specs.Judgements.{most_classes}
 use Rattle.command_base.specs.Dialogues.{Dialogue, Ends, and_then}
 use Rattle.command_base.specs.Meanings.{IsReadAs}
 use Rattle.command_base.specs.Readings.{reading_update, reading_plan}
-use Rattle.command_base.specs.Updates.{FilesMeanUpdate}
+use Rattle.command_base.specs.Updates.{FilesMeanUpdate, meaning_of}
+use Rattle.check_base.specs.declared.check_files.CheckFiles.{CheckFiles}
 use Rattle.check_base.specs.Names.{CheckNames}
 use Rattle.check_base.specs.ReasonLines.{refused_line, class_named}
 
@@ -24,6 +25,10 @@ use Rattle.check_base.specs.ReasonLines.{refused_line, class_named}
 pub record CheckMeaning : Type 0 where
   pub update : Update
   pub plan : Plan
+
+-- the meaning of an update and a plan that were read
+abbrev pub check_meaning_of : CheckFiles → CheckMeaning
+check_meaning_of files = record { update = meaning_of files.update; plan = files.plan }
 
 -- the update by the rounds of its plan
 abbrev pub task_in : CheckMeaning → Task

@@ -13,16 +13,15 @@ use Rattle.command_base.specs.Answers.{Answer}
 use Rattle.command_base.specs.Dialogues.{Gives, file_read}
 use Rattle.command_base.specs.Judgements.{most_classes}
 use Rattle.command_base.specs.Runs.{EndsAs}
-use Rattle.command_base.specs.Updates as update
-use Rattle.check_base.specs.Checks.{CheckMeaning, check_count, check_dialogue, task_in}
+use Rattle.check_base.specs.declared.check_files.CheckFiles.{CheckFiles}
+use Rattle.check_base.specs.Checks.{CheckMeaning, check_count, check_dialogue, check_meaning_of, task_in}
 use Rattle.check_base.specs.Names.{CheckNames}
-use Rattle.serve_command.specs.declared.readings.ServeFiles.{ServeFiles}
 use Rattle.serve_command.specs.Served.{served_text}
 use Rattle.serve_command.specs.Stops.{EndsServing, input_of}
 
 -- the meaning of an update and a plan that were read
-abbrev pub meaning_of : ServeFiles → CheckMeaning
-meaning_of files = record { update = update.meaning_of files.update; plan = files.plan }
+abbrev pub meaning_of : CheckFiles → CheckMeaning
+meaning_of files = check_meaning_of files
 
 -- the text that answers lines over the driver of a plan, which can take each of its rounds back
 abbrev pub text_on : CheckMeaning → List (List ℕ) → List ℕ

@@ -20,8 +20,7 @@ ghost use Rattle.serve_command.specs.Stops.{EndsServing, input_of, input_name};
 use crate::greeting::serve_desk;
 use crate::lines::Desk;
 use crate::place::Place;
-use crate::readings::{ServeFiles, read_files};
-use check_base::CheckNames;
+use check_base::{CheckFiles, CheckNames, read_check_files};
 use command_base::{Exit, Reply, Status};
 use file_access::{Sink, Source, WriteFault, pour};
 use net_base::Memory;
@@ -82,7 +81,7 @@ fn serve_both_ways<S: Source, K: Sink>(
     alloc: Global,
     source: &mut S,
     sink: &mut K,
-    files: &ServeFiles,
+    files: &CheckFiles,
     inverses: &Rounds,
 ) -> Status
     requires { AreTurnable files.now.update.net files.now.plan.rounds inverses.now }
@@ -123,7 +122,7 @@ fn serve_certified<S: Source, K: Sink>(
     alloc: Global,
     source: &mut S,
     sink: &mut K,
-    files: &ServeFiles,
+    files: &CheckFiles,
 ) -> Status
     requires old { IsUserConfig files.now.update.net (rules_of_all files.now.update.old) }
     requires new { IsUserConfig files.now.update.net (rules_of_all files.now.update.new) }
@@ -167,7 +166,7 @@ fn serve_files<S: Source, K: Sink>(
     alloc: Global,
     source: &mut S,
     sink: &mut K,
-    files: &ServeFiles,
+    files: &CheckFiles,
 ) -> Status
     requires old { IsUserConfig files.now.update.net (rules_of_all files.now.update.old) }
     requires new { IsUserConfig files.now.update.net (rules_of_all files.now.update.new) }
@@ -226,7 +225,7 @@ pub fn serve<S: Source, K: Sink>(
     ensures later_source { S.faults source.old ≤ S.faults source.new }
     ensures later_sink { K.faults sink.old ≤ K.faults sink.new }
 {
-    match read_files(alloc, source, names) {
+    match read_check_files(alloc, source, names) {
         Ok(files) => {
             let status = serve_files(alloc, source, sink, &files);
             drop(files);

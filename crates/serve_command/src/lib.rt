@@ -8,7 +8,6 @@ mod greeting;
 mod input;
 mod lines;
 mod place;
-mod readings;
 mod stop;
 
 pub use crate::command::serve;

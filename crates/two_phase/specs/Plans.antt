@@ -1,5 +1,5 @@
 -- The two-phase plan as a whole, and why there is none.
-use Rattle.std.specs.Prelude.{◌≡◌, ℕ, ◌<◌, ◌≤◌, List, length}
+use Rattle.std.specs.Prelude.{◌≡◌, ℕ, ◌+◌, ◌<◌, ◌≤◌, List, [], ◌∷◌, length}
 use Rattle.net_base.specs.declared.ids.SwitchId.{SwitchId}
 use Rattle.topology.specs.Networks.{Network, switch_count, capacity_of}
 use Rattle.flow_rules.specs.declared.rules.Rule.{Rule}
@@ -11,7 +11,7 @@ use Rattle.certificates.specs.declared.Evidence.TheVariants.{TwoPhase}
 use Rattle.certificates.specs.declared.Plan.{Plan}
 use Rattle.tag_allocator.specs.Tags.{available_tags}
 use Rattle.table_difference.specs.SameClasses.{classes_before}
-use Rattle.two_phase.specs.TwoPhasePlan.{two_phase_rounds, two_phase_need}
+use Rattle.two_phase.specs.TwoPhasePlan.{label_tables, two_phase_rounds, two_phase_need}
 use Rattle.two_phase.specs.Laws.{two_phase_task, two_phase_evidence}
 use Rattle.two_phase.specs.declared.planning.TwoFault.{TwoFault}
 use Rattle.two_phase.specs.declared.planning.TwoFault.TheVariants.{TooFewTags, TooSmall, Memory}
@@ -19,6 +19,14 @@ use Rattle.two_phase.specs.declared.planning.TwoFault.TheVariants.{TooFewTags, T
 -- the two-phase plan, with the rounds that were tried before
 abbrev pub two_phase_plan : Network → List (List Rule) → List (List Rule) → List (List Change) → Plan
 two_phase_plan net old new tried = record { rounds = two_phase_rounds net old new; evidence = TwoPhase (two_phase_evidence net new tried) }
+
+-- a two-phase plan of these rounds, which lays its ingress rules in so many layers, by rank or by depth: the first label table is in
+-- force from round 1, the second from the round of the exchange
+abbrev pub layered_plan : Network → List (List Change) → ℕ → List (List Change) → Plan
+layered_plan net rounds layers tried = record {
+  rounds = rounds;
+  evidence = TwoPhase (record { labels = label_tables net; picks = record { round = 1; labels = 0 } ∷ record { round = layers + 2; labels = 1 } ∷ []; tried = tried });
+}
 
 -- there are too few tags: more declared VLANs than available ones
 pub record AreTooFew (net : Network) (need has : ℕ) : Type 0 where

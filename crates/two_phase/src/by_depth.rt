@@ -1,13 +1,13 @@
 //! The two-phase plan by depth, or why there is none.
 //!
-//! As in the plan by rank, each part is made by a function of its own, which lends what it owns.
-ghost use Rattle.std.specs.Prelude.{◌≡◌, ◌≤◌, IfOk, IfErr, List, map, length};
+//! As in the plan by rank, the rounds are made by a function of their own, and the one that owns the tags lends them.
+ghost use Rattle.std.specs.Prelude.{◌≡◌, IfOk, IfErr, List, map};
 ghost use Rattle.flow_rules.specs.Tables.{rules_of_all};
 ghost use Rattle.path_walk.specs.UserConfigs.{IsUserConfig};
 ghost use Rattle.demands.specs.Duties.{DemandView};
 ghost use Rattle.certificates.specs.Valid.{IsValidPlan};
 ghost use Rattle.certificates.specs.Certified.{classes_for};
-ghost use Rattle.tag_allocator.specs.Tags.{tags_of, available_tags};
+ghost use Rattle.tag_allocator.specs.Tags.{tags_of};
 ghost use Rattle.table_difference.specs.Tried.{AreTried};
 ghost use Rattle.table_difference.specs.SameClasses.{HasSameClasses, classes_before};
 ghost use Rattle.two_phase.specs.Laws.{FitsTwoPhase};
@@ -15,10 +15,9 @@ ghost use Rattle.two_phase.specs.Plans.{IsTwoCause};
 ghost use Rattle.two_phase.specs.Depths.{depth_plan, depth_task, IsCertifiedByDepth};
 
 use crate::depth_rounds::make_depth_rounds;
-use crate::planning::{TwoFault, allot_tags, check_room, make_evidence};
-use certificates::{Evidence, Plan};
+use crate::planning::{TwoFault, plan_of_rounds, tags_in_room};
+use certificates::Plan;
 use flow_rules::Config;
-use net_base::Memory;
 use std::alloc::Global;
 use table_difference::classes::rounds_make_no_classes;
 use tag_allocator::TagMap;
@@ -33,49 +32,18 @@ fn make_depth_plan(
     new: &Config,
     tags: &TagMap,
     tried: &Rounds,
-) -> Result<Plan, Memory>
-    requires old { IsUserConfig net.now (rules_of_all old.now) }
-    requires new { IsUserConfig net.now (rules_of_all new.now) }
-    requires tags { tags.now ≡ map (λ t. t.tag) (tags_of net.now) }
-    requires fits { FitsTwoPhase net.now (rules_of_all old.now) (rules_of_all new.now) }
-    ensures { IfOk result
-        (λ p. p ≡ depth_plan net.now (rules_of_all old.now) (rules_of_all new.now) tried.now) }
-{
-    let (rounds, depths) = make_depth_rounds(alloc, net, old, new, tags)?;
-    match make_evidence(alloc, net, tags, depths, tried) {
-        Ok(evidence) => Ok(Plan {
-            rounds,
-            evidence: Evidence::TwoPhase(evidence),
-        }),
-        Err(memory) => {
-            drop(rounds);
-            Err(memory)
-        }
-    }
-}
-
-/// The plan with the tags of the declared VLANs, where there is room for it.
-fn depth_plan_in_room(
-    alloc: Global,
-    net: &Net,
-    old: &Config,
-    new: &Config,
-    tags: &TagMap,
-    tried: &Rounds,
 ) -> Result<Plan, TwoFault>
     requires old { IsUserConfig net.now (rules_of_all old.now) }
     requires new { IsUserConfig net.now (rules_of_all new.now) }
     requires tags { tags.now ≡ map (λ t. t.tag) (tags_of net.now) }
-    requires enough { length net.now.vlans ≤ length (available_tags net.now) }
+    requires fits { FitsTwoPhase net.now (rules_of_all old.now) (rules_of_all new.now) }
     ensures plan { IfOk result
         (λ p. p ≡ depth_plan net.now (rules_of_all old.now) (rules_of_all new.now) tried.now) }
-    ensures fits { IfOk result
-        (λ _. FitsTwoPhase net.now (rules_of_all old.now) (rules_of_all new.now)) }
     ensures cause { IfErr result
         (IsTwoCause net.now (rules_of_all old.now) (rules_of_all new.now)) }
 {
-    check_room(net, old, new)?;
-    Ok(make_depth_plan(alloc, net, old, new, tags, tried)?)
+    let (rounds, depths) = make_depth_rounds(alloc, net, old, new, tags)?;
+    Ok(plan_of_rounds(alloc, net, tags, rounds, depths, tried)?)
 }
 
 /// The two-phase plan by depth, with the rounds that were tried before copied into its evidence: that of `two_phase` with
@@ -113,8 +81,8 @@ pub fn two_phase_by_depth(
 {
     net.keeps_rules();
     rounds_make_no_classes(net, old, new);
-    let tags = allot_tags(alloc, net)?;
-    let plan = depth_plan_in_room(alloc, net, old, new, &tags, tried);
+    let tags = tags_in_room(alloc, net, old, new)?;
+    let plan = make_depth_plan(alloc, net, old, new, &tags, tried);
     drop(tags);
     plan
 }

@@ -8,7 +8,7 @@ ghost use Rattle.path_walk.specs.UserConfigs.{IsUserConfig};
 ghost use Rattle.certificates.specs.Valid.{IsValidPlan};
 ghost use Rattle.two_phase.specs.Laws.{FitsTwoPhase, two_phase_task};
 ghost use Rattle.table_difference.specs.Tried.{AreTried};
-ghost use Rattle.two_phase.specs.Plans.{two_phase_plan, IsTwoCause, IsCertifiedTwoPhase};
+ghost use Rattle.two_phase.specs.Plans.{layered_plan, two_phase_plan, IsTwoCause, IsCertifiedTwoPhase};
 ghost use Rattle.table_difference.specs.SameClasses.{HasSameClasses, classes_before};
 ghost use Rattle.certificates.specs.Certified.{classes_for};
 ghost use Rattle.demands.specs.Duties.{DemandView};
@@ -59,7 +59,7 @@ impl From<Memory> for TwoFault {
 }
 
 /// The tags of the declared VLANs.
-pub(crate) fn allot_tags(alloc: Global, net: &Net) -> Result<TagMap, TwoFault>
+fn allot_tags(alloc: Global, net: &Net) -> Result<TagMap, TwoFault>
     ensures tags { IfOk result (λ tags. tags ≡ map (λ t. t.tag) (tags_of net.now)) }
     ensures enough { IfOk result (λ _. length net.now.vlans ≤ length (available_tags net.now)) }
     ensures cause { IfErr result
@@ -73,7 +73,7 @@ pub(crate) fn allot_tags(alloc: Global, net: &Net) -> Result<TagMap, TwoFault>
 }
 
 /// Whether each switch has room for what the plan needs there.
-pub(crate) fn check_room(net: &Net, old: &Config, new: &Config) -> Result<(), TwoFault>
+fn check_room(net: &Net, old: &Config, new: &Config) -> Result<(), TwoFault>
     requires old { IsUserConfig net.now (rules_of_all old.now) }
     requires new { IsUserConfig net.now (rules_of_all new.now) }
     requires tags { length net.now.vlans ≤ length (available_tags net.now) }
@@ -97,6 +97,31 @@ pub(crate) fn check_room(net: &Net, old: &Config, new: &Config) -> Result<(), Tw
     Ok(())
 }
 
+/// The tags of the declared VLANs, where there is room for the plan.
+pub(crate) fn tags_in_room(
+    alloc: Global,
+    net: &Net,
+    old: &Config,
+    new: &Config,
+) -> Result<TagMap, TwoFault>
+    requires old { IsUserConfig net.now (rules_of_all old.now) }
+    requires new { IsUserConfig net.now (rules_of_all new.now) }
+    ensures tags { IfOk result (λ tags. tags ≡ map (λ t. t.tag) (tags_of net.now)) }
+    ensures fits { IfOk result
+        (λ _. FitsTwoPhase net.now (rules_of_all old.now) (rules_of_all new.now)) }
+    ensures cause { IfErr result
+        (IsTwoCause net.now (rules_of_all old.now) (rules_of_all new.now)) }
+{
+    let tags = allot_tags(alloc, net)?;
+    match check_room(net, old, new) {
+        Ok(()) => Ok(tags),
+        Err(fault) => {
+            drop(tags);
+            Err(fault)
+        }
+    }
+}
+
 /// The same rounds again.
 fn copy_rounds(alloc: Global, rounds: &Rounds) -> Result<Rounds, Memory>
     ensures { IfOk result (λ copy. copy ≡ rounds.now) }
@@ -108,25 +133,25 @@ fn copy_rounds(alloc: Global, rounds: &Rounds) -> Result<Rounds, Memory>
     Ok(copy)
 }
 
-/// The evidence of the plan.
-pub(crate) fn make_evidence(
+/// The evidence of a plan with so many layers of ingress rules, ranks or depths.
+fn make_evidence(
     alloc: Global,
     net: &Net,
     tags: &TagMap,
-    ranks: usize,
+    layers: usize,
     tried: &Rounds,
 ) -> Result<TwoPhaseEvidence, Memory>
     requires tags { tags.now ≡ map (λ t. t.tag) (tags_of net.now) }
     requires enough { length net.now.vlans ≤ length (available_tags net.now) }
-    requires few { ranks ≤ 2049 }
+    requires few { layers ≤ 2049 }
     ensures labels { IfOk result (λ e. e.labels ≡ label_tables net.now) }
     ensures picks { IfOk result
         (λ e. e.picks
-        ≡ record { round = 1; labels = 0 } ∷ record { round = ranks + 2; labels = 1 } ∷ []) }
+        ≡ record { round = 1; labels = 0 } ∷ record { round = layers + 2; labels = 1 } ∷ []) }
     ensures tried { IfOk result (λ e. e.tried ≡ tried.now) }
 {
     let labels = make_label_tables(alloc, net, tags)?;
-    let picks = make_label_picks(alloc, ranks)?;
+    let picks = make_label_picks(alloc, layers)?;
     Ok(TwoPhaseEvidence {
         labels,
         picks,
@@ -134,24 +159,21 @@ pub(crate) fn make_evidence(
     })
 }
 
-/// The plan with the tags of the declared VLANs.
-fn make_plan(
+/// The plan of these rounds, with so many layers of ingress rules, ranks or depths, and the tags of the declared VLANs.
+pub(crate) fn plan_of_rounds(
     alloc: Global,
     net: &Net,
-    old: &Config,
-    new: &Config,
     tags: &TagMap,
+    rounds: Rounds,
+    layers: usize,
     tried: &Rounds,
 ) -> Result<Plan, Memory>
-    requires old { IsUserConfig net.now (rules_of_all old.now) }
-    requires new { IsUserConfig net.now (rules_of_all new.now) }
     requires tags { tags.now ≡ map (λ t. t.tag) (tags_of net.now) }
-    requires fits { FitsTwoPhase net.now (rules_of_all old.now) (rules_of_all new.now) }
-    ensures { IfOk result
-        (λ p. p ≡ two_phase_plan net.now (rules_of_all old.now) (rules_of_all new.now) tried.now) }
+    requires enough { length net.now.vlans ≤ length (available_tags net.now) }
+    requires few { layers ≤ 2049 }
+    ensures { IfOk result (λ p. p ≡ layered_plan net.now rounds layers tried.now) }
 {
-    let (rounds, ranks) = make_rounds(alloc, net, old, new, tags)?;
-    match make_evidence(alloc, net, tags, ranks, tried) {
+    match make_evidence(alloc, net, tags, layers, tried) {
         Ok(evidence) => Ok(Plan {
             rounds,
             evidence: Evidence::TwoPhase(evidence),
@@ -163,8 +185,8 @@ fn make_plan(
     }
 }
 
-/// The plan with the tags of the declared VLANs, where there is room for it.
-fn plan_in_room(
+/// The plan with the tags of the declared VLANs.
+fn make_plan(
     alloc: Global,
     net: &Net,
     old: &Config,
@@ -175,16 +197,14 @@ fn plan_in_room(
     requires old { IsUserConfig net.now (rules_of_all old.now) }
     requires new { IsUserConfig net.now (rules_of_all new.now) }
     requires tags { tags.now ≡ map (λ t. t.tag) (tags_of net.now) }
-    requires enough { length net.now.vlans ≤ length (available_tags net.now) }
+    requires fits { FitsTwoPhase net.now (rules_of_all old.now) (rules_of_all new.now) }
     ensures plan { IfOk result
         (λ p. p ≡ two_phase_plan net.now (rules_of_all old.now) (rules_of_all new.now) tried.now) }
-    ensures fits { IfOk result
-        (λ _. FitsTwoPhase net.now (rules_of_all old.now) (rules_of_all new.now)) }
     ensures cause { IfErr result
         (IsTwoCause net.now (rules_of_all old.now) (rules_of_all new.now)) }
 {
-    check_room(net, old, new)?;
-    Ok(make_plan(alloc, net, old, new, tags, tried)?)
+    let (rounds, ranks) = make_rounds(alloc, net, old, new, tags)?;
+    Ok(plan_of_rounds(alloc, net, tags, rounds, ranks, tried)?)
 }
 
 /// The versioned two-phase plan of an update (Reitblatt and others, 2012), with the rounds that were tried before copied
@@ -221,8 +241,8 @@ pub fn two_phase(
 {
     net.keeps_rules();
     rounds_make_no_classes(net, old, new);
-    let tags = allot_tags(alloc, net)?;
-    let plan = plan_in_room(alloc, net, old, new, &tags, tried);
+    let tags = tags_in_room(alloc, net, old, new)?;
+    let plan = make_plan(alloc, net, old, new, &tags, tried);
     drop(tags);
     plan
 }

@@ -21,7 +21,7 @@ returns-in-Ok-clause-ends g c =
       | inr serves ↦ inr (record {
         meaning = meaning_of c.in-Ok.files;
         gives = c.in-Ok.ensures.gives None;
-        serves = subst (λ (h : Option Files). Serves (meaning_of c.in-Ok.files) (input_of h) (g.K.Sink.written c.args.sink.now) (g.K.Sink.written c.serve_files-status.new.sink) (g.S.Source.taken c.serve_files-status.new.source) c.serve_files-status.result) c.read_files.ensures.held serves;
+        serves = subst (λ (h : Option Files). Serves (meaning_of c.in-Ok.files) (input_of h) (g.K.Sink.written c.args.sink.now) (g.K.Sink.written c.serve_files-status.new.sink) (g.S.Source.taken c.serve_files-status.new.source) c.serve_files-status.result) c.read_check_files.ensures.held serves;
       })
     ]
 
@@ -30,7 +30,7 @@ returns-in-Err-clause-ends g c = inl (c.write_exit.ensures.ends _ _ _ _ _ _ (c.i
 
 pub returns-in-Err-clause-read_fault : goal.returns-in-Err-clause-read_fault
 returns-in-Err-clause-read_fault g c = λ is.
-    let early : EndsEarly (g.S.Source.held c.args.source.now) None (check_dialogue (names_seen c.args.names.now)) (g.S.Source.faults c.args.source.now) (g.S.Source.faults c.read_files.new.source) exit.ReadFault (g.S.Source.selected c.read_files.new.source) (g.S.Source.taken c.read_files.new.source) =
-    subst (λ (x : Exit). EndsEarly (g.S.Source.held c.args.source.now) None (check_dialogue (names_seen c.args.names.now)) (g.S.Source.faults c.args.source.now) (g.S.Source.faults c.read_files.new.source) x (g.S.Source.selected c.read_files.new.source) (g.S.Source.taken c.read_files.new.source)) (c.write_exit.ensures.read_fault is) (c.in-Err.ensures.stops None)
+    let early : EndsEarly (g.S.Source.held c.args.source.now) None (check_dialogue (names_seen c.args.names.now)) (g.S.Source.faults c.args.source.now) (g.S.Source.faults c.read_check_files.new.source) exit.ReadFault (g.S.Source.selected c.read_check_files.new.source) (g.S.Source.taken c.read_check_files.new.source) =
+    subst (λ (x : Exit). EndsEarly (g.S.Source.held c.args.source.now) None (check_dialogue (names_seen c.args.names.now)) (g.S.Source.faults c.args.source.now) (g.S.Source.faults c.read_check_files.new.source) x (g.S.Source.selected c.read_check_files.new.source) (g.S.Source.taken c.read_check_files.new.source)) (c.write_exit.ensures.read_fault is) (c.in-Err.ensures.stops None)
     in
     elim early.ended [ inl rose ↦ inl rose | inr lacks ↦ inr (inl lacks) ]
