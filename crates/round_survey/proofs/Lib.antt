@@ -1,3 +1,4 @@
 pub mod MemberLaws
+pub mod GateLaws
 pub mod SeenLaws
 pub mod MarkLaws

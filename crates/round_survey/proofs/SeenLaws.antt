@@ -16,15 +16,19 @@ use Rattle.demands.specs.Duties.{DemandView, PacketDuties, duties_of}
 use Rattle.update_model.specs.Changes.{round_after}
 use Rattle.update_model.specs.Mixtures.{Rollout, tables_before, IsPossible, MayGo, IsMixedWalk, IsOnMixedWalk, AreGoodRounds, AreClearRounds}
 use Rattle.acyclic_numbering.specs.Heights.{IsEdge, Falls}
+use Rattle.certificates.specs.Steps.{MayLeave, switches_along}
 use Rattle.certificates.proofs.Falling.{distinct_walk}
 use Rattle.mixed_walks.specs.Walks.{WalkState, switches_of, Covers, IsWalked, KeepVlansUpTo, TablesKeepVlans}
 use Rattle.net_base.specs.Switches.{has}
 use Rattle.class_watch.specs.Walks.{HoldsWalks, meets_any}
 use Rattle.class_watch.proofs.StandLaws.{possible_next, next_held, next_outcomes}
-use Rattle.breaking_walks.specs.Breaking.{Breaks, HasBreakingWalk}
+use Rattle.breaking_walks.specs.Breaking.{Breaks, HasBreakingWalk, MayLeaveUnmet}
 use Rattle.breaking_walks.specs.Surveys.{NeverDrops, NeverRepeats}
 use Rattle.breaking_walks.proofs.SurveyLaws.{never_again}
+use Rattle.round_survey.specs.Gates.{AreGates, IsMetFrom}
 use Rattle.round_survey.specs.Surveys.{KeepsDuties, IsSeen, IsKnown, HoldsWalksBefore}
+use Rattle.round_survey.specs.declared.seen.Seen.{Seen}
+use Rattle.round_survey.proofs.GateLaws.{gate_for, met_along_gates}
 
 -- what was walked for a class alone holds its walks
 pub covers_walked : (u : Rollout) (k dst : ℕ) (entry : Place) (noted : WalkState) → IsWalked u k dst entry noted → Covers u k dst entry noted
@@ -48,24 +52,44 @@ module _ (u : Rollout) (k : ℕ) (class : Class) (noted : WalkState) (covers : C
       (covers.dropping (end_of class.entry rest).switch (record { place = end_of class.entry rest; on_walk = (rest, walk, refl); drops = drops; at_is = refl }))
 
   -- what is seen where the noted walks hold those of the class
-  pub covered_seen : (came : ℕ) (falls may_drop : Bool) → ((s : SwitchId) → IsTrue (has came s) ↔ IsIn s (switches_of noted.places))
-      → (falls ≡ true → (numbers : List ℕ) × Falls (IsEdge noted.steps) numbers) → (may_drop ≡ false → noted.dropping ≡ []) → IsSeen u k class came falls may_drop
-  covered_seen came falls may_drop each have none = record {
-    walks = covered_came came each;
+  pub covered_seen : (seen : Seen) → ((s : SwitchId) → IsTrue (has seen.came s) ↔ IsIn s (switches_of noted.places))
+      → (seen.falls ≡ true → (numbers : List ℕ) × Falls (IsEdge noted.steps) numbers) → (seen.may_drop ≡ false → noted.dropping ≡ []) → (seen.may_leave ≡ false → noted.leaving ≡ [])
+      → AreGates seen.gates.numbering seen.gates.set noted → IsSeen u k class seen
+  covered_seen seen each have none stay gates = record {
+    walks = covered_came seen.came each;
     repeats = λ on. let (numbers, lower) = have on in covered_repeats numbers lower;
     drops = λ off. covered_drops (none off);
+    leaves = λ off s leaves. subst (λ (xs : List SwitchId). IsIn s xs) (stay off) (covers.leaving s leaves);
+    gates = λ s is. gate_for u k class noted covers seen.gates.numbering s (gates s is);
   }
 
--- a class without waypoints keeps its duties where no switch stands twice on its walks, and nothing is discarded that must arrive
-pub seen_keeps : (u : Rollout) (demands : List DemandView) (k : ℕ) (class : Class) (came : ℕ) (falls may_drop : Bool) → IsSeen u k class came falls may_drop
-    → falls ≡ true → (duties_of demands class.entry class.first).chains ≡ [] → (may_drop ≡ false) ⊎ ((duties_of demands class.entry class.first).arrive ≡ false) → KeepsDuties u demands k class
-seen_keeps u demands k class came falls may_drop seen on none safe = λ has.
-    elim has.breaks [
-      | inl again ↦ never_again u k class.first class.entry (seen.repeats on) has.rest has.walk again
+-- a class keeps its duties where no switch stands twice on its walks, nothing is discarded that must arrive, and none leaves or
+-- each chain is one of gates
+pub seen_keeps : (u : Rollout) (demands : List DemandView) (k : ℕ) (class : Class) (seen : Seen) → IsSeen u k class seen → seen.falls ≡ true
+    → (seen.may_drop ≡ false) ⊎ ((duties_of demands class.entry class.first).arrive ≡ false)
+    → (seen.may_leave ≡ false) ⊎ ((chain : List SwitchId) → IsIn chain (duties_of demands class.entry class.first).chains
+    → IsMetFrom seen.gates.numbering seen.gates.set class.entry.switch chain)
+    → KeepsDuties u demands k class
+seen_keeps u demands k class seen is on safe met = λ found.
+    let leaves = λ (unmet : MayLeaveUnmet u k class.first (end_of class.entry found.rest) (duties_of demands class.entry class.first).chains (switches_along class.entry found.rest)).
+    let so : MayLeave u k class.first class.entry (end_of class.entry found.rest).switch = record {
+      place = end_of class.entry found.rest;
+      port = unmet.port;
+      vlan = unmet.vlan;
+      on_walk = (found.rest, found.walk, refl);
+      leaves = unmet.leaves;
+      at_is = refl;
+    } in so in
+    elim found.breaks [
+      | inl again ↦ never_again u k class.first class.entry (is.repeats on) found.rest found.walk again
       | inr other ↦ elim other [
-        | inl leaves ↦ subst (λ (chains : List (List SwitchId)). IsIn leaves.misses.chain chains) none leaves.misses.asked
+        | inl unmet ↦ elim met [
+          | inl off ↦ is.leaves off (end_of class.entry found.rest).switch (leaves unmet)
+          | inr all ↦ unmet.misses.missed
+              (met_along_gates u k class seen.gates.numbering seen.gates.set is.gates found.rest found.walk (leaves unmet) unmet.misses.chain (all unmet.misses.chain unmet.misses.asked))
+        ]
         | inr drops ↦ elim safe [
-          | inl off ↦ seen.drops off has.rest has.walk drops.1
+          | inl off ↦ is.drops off found.rest found.walk drops.1
           | inr free ↦ both_ways (duties_of demands class.entry class.first).arrive free drops.0
         ]
       ]

@@ -1,3 +1,4 @@
 pub mod Keeping
 pub mod Rounds
+pub mod Gates
 pub mod Surveys

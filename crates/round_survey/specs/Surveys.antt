@@ -1,15 +1,20 @@
 -- What is known of the classes in a round.
-use Rattle.std.specs.Prelude.{◌≡◌, ℕ, zero, suc, ◌<◌, Bool, true, false, List, length, slice_get, Some}
+use Rattle.std.specs.Prelude.{◌≡◌, ℕ, zero, suc, ◌<◌, Bool, true, false, IsTrue, List, length, slice_get, Some}
 use Rattle.net_base.specs.Members.{IsIn}
+use Rattle.net_base.specs.Switches.{has}
+use Rattle.net_base.specs.declared.ids.SwitchId.{SwitchId}
 use Rattle.dest_classes.specs.Classes.{ClassList, class_count, IsClass}
 use Rattle.dest_classes.specs.declared.Class.{Class}
 use Rattle.dest_classes.specs.declared.NumberedClass.{NumberedClass}
 use Rattle.demands.specs.Duties.{DemandView, duties_of}
 use Rattle.update_model.specs.Mixtures.{Rollout}
+use Rattle.certificates.specs.Steps.{MayLeave}
 use Rattle.class_watch.specs.Classes.{AreClasses}
 use Rattle.class_watch.specs.Walks.{HoldsWalks}
 use Rattle.breaking_walks.specs.Breaking.{HasBreakingWalk}
 use Rattle.breaking_walks.specs.Surveys.{NeverDrops, NeverRepeats}
+use Rattle.round_survey.specs.Gates.{IsGateFor}
+use Rattle.round_survey.specs.declared.seen.Seen.{Seen}
 
 -- no mixed walk of round k breaks the duties of the class
 abbrev pub KeepsDuties : Rollout → List DemandView → ℕ → Class → Type 0
@@ -20,11 +25,14 @@ abbrev pub KeptBefore : Rollout → List DemandView → ClassList → ℕ → Ty
 KeptBefore u demands classes k = (j : ℕ) → j < k → (n : ℕ) (class : Class) → IsClass classes n class → KeepsDuties u demands j class
 
 -- what is seen of a class in round k: the set has each switch that its mixed walks come to; where the walks fall, on none of them
--- a switch stands twice; where they may not drop, on none of them a packet may be discarded
-pub record IsSeen (u : Rollout) (k : ℕ) (class : Class) (came : ℕ) (falls may_drop : Bool) : Type 0 where
-  pub walks : HoldsWalks u k class came
-  pub repeats : falls ≡ true → NeverRepeats u k class.first class.entry
-  pub drops : may_drop ≡ false → NeverDrops u k class.first class.entry
+-- a switch stands twice; where they may not drop, on none of them a packet may be discarded, where they may not leave, none may
+-- leave; and the gates are gates on them
+pub record IsSeen (u : Rollout) (k : ℕ) (class : Class) (seen : Seen) : Type 0 where
+  pub walks : HoldsWalks u k class seen.came
+  pub repeats : seen.falls ≡ true → NeverRepeats u k class.first class.entry
+  pub drops : seen.may_drop ≡ false → NeverDrops u k class.first class.entry
+  pub leaves : seen.may_leave ≡ false → (s : SwitchId) → ¬ MayLeave u k class.first class.entry s
+  pub gates : (s : SwitchId) → IsTrue (has seen.gates.set s) → IsGateFor u k class seen.gates.numbering s
 
 -- the set holds the walks of the class in round k, and the class keeps its duties
 pub record IsKnown (u : Rollout) (demands : List DemandView) (k : ℕ) (class : Class) (set : ℕ) : Type 0 where

@@ -1,6 +1,7 @@
 //! What the mixed walks of the classes in a round show: which of them can't break their duties there.
 #![tactic(auto)]
 
+mod gates;
 mod keeping;
 mod members;
 mod missed;

@@ -10,6 +10,7 @@ ghost use Rattle.dest_classes.specs.declared.NumberedClass.{NumberedClass as Num
 ghost use Rattle.update_model.specs.Mixtures.{Rollout};
 ghost use Rattle.mixed_walks.specs.Walks.{Covers};
 ghost use Rattle.round_survey.specs.Rounds.{update_of, IsPreparedRound};
+ghost use Rattle.round_survey.specs.Gates.{AreStepsOf};
 ghost use Rattle.round_survey.specs.Surveys.{IsSeen, AreKnown, IsAlike, AreAlike, AreMembers};
 
 use crate::round::PreparedRound;
@@ -86,13 +87,26 @@ pub(crate) fn walk_members(walk: &mut WalkRoom, round: PreparedRound<'_>, member
     requires entries { (m : NumberedClassOf) → IsIn m members.now
         → IsUsed round.net.now (stop_of m.class.entry) }
     requires alike { AreAlike members.now }
-    ensures { (m : NumberedClassOf) → IsIn m members.now
+    ensures covers { (m : NumberedClassOf) → IsIn m members.now
         → Covers (update_of round.entry) round.entry.number m.class.first m.class.entry walk.new }
+    ensures within { AreStepsOf round.entry.net.now walk.new.steps }
 {
     walk.clear();
     for member in members {
         walk.walk_more(round.net, round.mixes, member.class);
     }
+}
+
+/// Whether one of these classes has waypoints. Only the speed rests on it.
+pub(crate) fn have_chains(members: &[NumberedClass], duties: &Duties) -> bool
+    requires { (m : NumberedClassOf) → IsIn m members.now → IsNumbered duties.now.classes m }
+{
+    for member in members {
+        if duties.chains(member.number) > 0 {
+            return true;
+        }
+    }
+    false
 }
 
 /// Marks a class, with the switches that its walks come to, where what was seen of it keeps its duties.
@@ -110,11 +124,11 @@ fn settle(
     ensures good { length good.new ≡ length good.old }
     ensures each { (u : Rollout) (k : ℕ) (classes : List ClassOf)
         → slice_get classes numbered.number ≡ Some numbered.class
-        → IsSeen u k numbered.class seen.now.came seen.now.falls seen.now.may_drop
+        → IsSeen u k numbered.class seen.now
         → AreKnown u duties.now.demands k classes came.old good.old
         → AreKnown u duties.now.demands k classes came.new good.new }
 {
-    if keeps_duties(seen, duties, numbered.number) {
+    if keeps_duties(seen, duties, numbered) {
         let place = numbered.number as usize;
         came[place] = seen.came;
         good[place] = true;
@@ -138,7 +152,7 @@ pub(crate) fn settle_members(
     ensures each { (u : Rollout) (k : ℕ) (classes : List ClassOf)
         → ((m : NumberedClassOf) → IsIn m members.now
         → (slice_get classes m.number ≡ Some m.class)
-        × IsSeen u k m.class seen.now.came seen.now.falls seen.now.may_drop)
+        × IsSeen u k m.class seen.now)
         → AreKnown u duties.now.demands k classes came.old good.old
         → AreKnown u duties.now.demands k classes came.new good.new }
 {

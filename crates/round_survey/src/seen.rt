@@ -1,51 +1,113 @@
 //! What the walks that were walked last show of the classes among them.
-ghost use Rattle.std.specs.Prelude.{◌≡◌, ℕ, ◌<◌, true, IfOk};
-ghost use Rattle.dest_classes.specs.Classes.{class_count, IsClass};
+ghost use Rattle.std.specs.Prelude.{◌≡◌, ◌⊎◌, ℕ, ◌<◌, true, false, List, IfOk};
+ghost use Rattle.net_base.specs.Members.{IsIn};
+ghost use Rattle.net_base.specs.declared.ids.SwitchId.{SwitchId as Switch};
+ghost use Rattle.dest_classes.specs.Classes.{class_count};
+ghost use Rattle.dest_classes.specs.Numbered.{IsNumbered};
 ghost use Rattle.dest_classes.specs.declared.Class.{Class as ClassOf};
+ghost use Rattle.demands.specs.Duties.{duties_of};
 ghost use Rattle.update_model.specs.Mixtures.{Rollout};
 ghost use Rattle.mixed_walks.specs.Walks.{Covers};
+ghost use Rattle.round_survey.specs.Gates.{AreStepsOf, AreGates, IsMetFrom};
 ghost use Rattle.round_survey.specs.Surveys.{IsSeen, KeepsDuties};
 
+use crate::gates::{Gates, find_gates, is_met, no_gates};
 use breaking_walks::have_falling;
 use class_watch::switches_on;
 use demands::Duties;
+use dest_classes::NumberedClass;
 use mixed_walks::WalkRoom;
 use net_base::{Memory, SwitchSet};
 use std::alloc::Global;
 use topology::Net;
 
 /// The switches that walks come to; whether there are numbers that fall along each of their steps, so that no switch stands
-/// twice on one; and whether a packet may be discarded on them.
-#[derive(Clone, Copy)]
+/// twice on one; whether a packet may be discarded on them, or leave; and gates that it passes then.
+#[derive(Drop)]
 pub(crate) struct Seen {
     pub(crate) came: SwitchSet,
     pub(crate) falls: bool,
     pub(crate) may_drop: bool,
+    pub(crate) may_leave: bool,
+    pub(crate) gates: Gates,
 }
 
-/// What the walks that were walked last show of each class whose walks are among them.
-pub(crate) fn see(alloc: Global, net: &Net, walk: &WalkRoom) -> Result<Seen, Memory>
+/// The gates on the walks that were walked last, if they are wanted.
+fn gates_on(alloc: Global, net: &Net, walk: &WalkRoom, are_wanted: bool) -> Result<Gates, Memory>
+    requires { AreStepsOf net.now walk.now.steps }
+    ensures { IfOk result (λ gates. AreGates gates.numbering gates.set walk.now) }
+{
+    if !are_wanted {
+        return no_gates(alloc);
+    }
+    find_gates(alloc, net, walk)
+}
+
+/// What the walks that were walked last show of each class whose walks are among them; the gates only if they are wanted.
+pub(crate) fn see(
+    alloc: Global,
+    net: &Net,
+    walk: &WalkRoom,
+    wants_gates: bool,
+) -> Result<Seen, Memory>
+    requires { AreStepsOf net.now walk.now.steps }
     ensures { IfOk result (λ seen. (u : Rollout) (k : ℕ) (class : ClassOf)
-        → Covers u k class.first class.entry walk.now
-        → IsSeen u k class seen.came seen.falls seen.may_drop) }
+        → Covers u k class.first class.entry walk.now → IsSeen u k class seen) }
 {
     let falls = have_falling(alloc, net.switches(), walk.steps())?;
+    let gates = gates_on(alloc, net, walk, falls && wants_gates)?;
     Ok(Seen {
         came: switches_on(walk),
         falls,
         may_drop: !walk.dropping().is_empty(),
+        may_leave: !walk.leaving().is_empty(),
+        gates,
     })
 }
 
-/// Whether a class of which this was seen keeps its duties. Not told of a class with waypoints.
-pub(crate) fn keeps_duties(seen: &Seen, duties: &Duties, number: u32) -> bool
-    requires { number < class_count duties.now.classes }
-    ensures { (u : Rollout) (k : ℕ) (class : ClassOf) → IsClass duties.now.classes number class
-        → IsSeen u k class seen.now.came seen.now.falls seen.now.may_drop
-        → result ≡ true → KeepsDuties u duties.now.demands k class }
+/// Whether a packet of a class of which this was seen may be discarded, though it must arrive.
+fn may_lose(seen: &Seen, duties: &Duties, numbered: NumberedClass) -> bool
+    requires number { numbered.number < class_count duties.now.classes }
+    requires class { IsNumbered duties.now.classes numbered }
+    ensures { result ≡ false → (seen.now.may_drop ≡ false)
+        ⊎ ((duties_of duties.now.demands numbered.class.entry numbered.class.first).arrive
+        ≡ false) }
 {
-    if !seen.falls || duties.chains(number) > 0 {
+    seen.may_drop && duties.must_arrive(numbered.number)
+}
+
+/// Whether the gates show that packets of a class meet each of its chains before they leave.
+fn meets_chains(seen: &Seen, duties: &Duties, numbered: NumberedClass) -> bool
+    requires number { numbered.number < class_count duties.now.classes }
+    requires class { IsNumbered duties.now.classes numbered }
+    ensures { result ≡ true → (chain : List Switch)
+        → IsIn chain (duties_of duties.now.demands numbered.class.entry
+        numbered.class.first).chains
+        → IsMetFrom seen.now.gates.numbering seen.now.gates.set numbered.class.entry.switch
+        chain }
+{
+    let number = numbered.number;
+    for i in 0..duties.chains(number) {
+        if !is_met(
+            &seen.gates,
+            numbered.class.entry.switch,
+            duties.chain(number, i),
+        ) {
+            return false;
+        }
+    }
+    true
+}
+
+/// Whether a class of which this was seen keeps its duties. Not told where a chain isn't made of gates.
+pub(crate) fn keeps_duties(seen: &Seen, duties: &Duties, numbered: NumberedClass) -> bool
+    requires number { numbered.number < class_count duties.now.classes }
+    requires class { IsNumbered duties.now.classes numbered }
+    ensures { (u : Rollout) (k : ℕ) → IsSeen u k numbered.class seen.now
+        → result ≡ true → KeepsDuties u duties.now.demands k numbered.class }
+{
+    if !seen.falls || may_lose(seen, duties, numbered) {
         return false;
     }
-    !seen.may_drop || !duties.must_arrive(number)
+    !seen.may_leave || meets_chains(seen, duties, numbered)
 }

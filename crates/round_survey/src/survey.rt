@@ -4,7 +4,7 @@ ghost use Rattle.dest_classes.specs.Classes.{class_count};
 ghost use Rattle.round_survey.specs.Rounds.{update_of, IsPreparedRound};
 ghost use Rattle.round_survey.specs.Surveys.{AreGood, AreKnown, AreWalkedBelow, HasRoom, KeptBefore, WalksStand};
 
-use crate::members::{gather, settle_members, walk_members};
+use crate::members::{gather, have_chains, settle_members, walk_members};
 use crate::missed::mark_missed;
 use crate::round::PreparedRound;
 use crate::seen::{keeps_duties, see};
@@ -91,7 +91,8 @@ impl RoundSurvey {
             return Ok(());
         }
         walk_members(&mut self.walk, round, &self.members);
-        let seen = see(alloc, round.net, &self.walk)?;
+        let wants_gates = have_chains(&self.members, duties);
+        let seen = see(alloc, round.net, &self.walk, wants_gates)?;
         settle_members(&self.members, &seen, duties, &mut self.came, &mut self.good);
         Ok(())
     }
@@ -149,9 +150,11 @@ impl RoundSurvey {
     {
         round.net.keeps_rules();
         let place = number as usize;
-        self.walk.walk(round.net, round.mixes, self.classes[place]);
-        let seen = see(alloc, round.net, &self.walk)?;
-        self.good[place] = keeps_duties(&seen, duties, number);
+        let class = self.classes[place];
+        self.walk.walk(round.net, round.mixes, class);
+        let wants_gates = duties.chains(number) > 0;
+        let seen = see(alloc, round.net, &self.walk, wants_gates)?;
+        self.good[place] = keeps_duties(&seen, duties, NumberedClass { number, class });
         self.came[place] = seen.came;
         Ok(())
     }
@@ -218,8 +221,8 @@ impl RoundSurvey {
     /// Finds classes that keep their duties in a round: the rounds are surveyed in their order, each once, while each class
     /// kept them in the rounds before. Classes that no change of the round may be met by at a switch that their walks came to
     /// in the round before keep them. The others are walked, those of one address and VLAN together first: those keep them
-    /// that have no waypoints, on whose walks the switches have falling numbers, and no packet is discarded that must arrive.
-    /// Of another class it isn't told.
+    /// on whose walks the switches have falling numbers, no packet is discarded that must arrive, and the waypoints of each
+    /// chain are gates, or none leaves. Of another class it isn't told.
     ///
     /// Beside the walks a round takes time by the product of its changes and the classes.
     pub fn look(

@@ -12,6 +12,6 @@ invariant-loop-member l = record {
   came : length l.came ≡ length l.initial.came;
   good : length l.good ≡ length l.initial.good;
   each : (u : Rollout) (k : ℕ) (classes : List Class)
-      → ((m : NumberedClass) → IsIn m l.members → (slice_get classes m.number ≡ Some m.class) × IsSeen u k m.class l.seen.came l.seen.falls l.seen.may_drop)
+      → ((m : NumberedClass) → IsIn m l.members → (slice_get classes m.number ≡ Some m.class) × IsSeen u k m.class l.seen)
       → AreKnown u l.duties.demands k classes l.initial.came l.initial.good → AreKnown u l.duties.demands k classes l.came l.good;
 }

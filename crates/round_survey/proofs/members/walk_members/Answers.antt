@@ -30,6 +30,7 @@ loop-member-preserved c =
       together = λ m among.
           together_for u k member.class m.class c.walk_more.new.self (c.requires.alike member m here among)
           (c.walk_more.ensures.together u k c.requires.round.is (c.loop-member.invariant.together member here));
+      within = (c.walk_more.ensures.together u k c.requires.round.is (c.loop-member.invariant.together member here)).steps_within;
       entries = λ m among.
           elim (in_append_cases m (take i members) (member ∷ []) (subst (λ (xs : List NumberedClass). IsIn m xs) (take_more members i no_class c.loop-member-test.true) among)) [
             | inl before ↦ c.walk_more.ensures.kept m.class.entry (c.loop-member.invariant.entries m before)
@@ -40,7 +41,7 @@ loop-member-preserved c =
           ];
     }
 
-pub returns : goal.returns
-returns c = λ m i.
+pub returns-clause-covers : goal.returns-clause-covers
+returns-clause-covers c = λ m i.
     (c.loop-member.invariant.together m i).covers m.class.entry
     (c.loop-member.invariant.entries m (subst (λ (xs : List NumberedClass). IsIn m xs) (sym (take_all c.loop-member.member-index c.args.members.now c.loop-member-test.false)) i))

@@ -32,12 +32,12 @@ returns-clause-known c =
     let new_came = c.settle_members.new.came in
     let new_good = c.settle_members.new.good in
     let all : AreMembers classes c.deref-3.result.now = subst (AreMembers classes) (sym c.deref-3.ensures.value) (subst (λ (cs : List Class). AreMembers cs c.gather.new.members.items) c.deref.ensures.value c.in_ok-gather.ensures) in
-    let same : c.deref-4.result.now ≡ c.deref-3.result.now = c.deref-4.ensures.value ∙ sym c.deref-3.ensures.value in
-    let back = λ (m : NumberedClass) (i : IsIn m c.deref-4.result.now). subst (λ (xs : List NumberedClass). IsIn m xs) same i in
+    let same : c.deref-5.result.now ≡ c.deref-3.result.now = c.deref-5.ensures.value ∙ sym c.deref-3.ensures.value in
+    let back = λ (m : NumberedClass) (i : IsIn m c.deref-5.result.now). subst (λ (xs : List NumberedClass). IsIn m xs) same i in
     let was : AreKnown u demands k classes c.deref_mut.result.now c.deref_mut-2.result.now =
     subst (λ (xs : List ℕ). AreKnown u demands k classes xs c.deref_mut-2.result.now) (sym c.deref_mut.ensures.value)
     (subst (λ (bs : List Bool). AreKnown u demands k classes came.items bs) (sym c.deref_mut-2.ensures.value) c.requires.known) in
-    let known : AreKnown u demands k classes new_came new_good = c.settle_members.ensures.each u k classes (λ m i. (all.each m (back m i), c.in_ok-seen.ensures u k m.class (c.walk_members.ensures m (back m i)))) was in
+    let known : AreKnown u demands k classes new_came new_good = c.settle_members.ensures.each u k classes (λ m i. (all.each m (back m i), c.in_ok-seen.ensures u k m.class (c.walk_members.ensures.covers m (back m i)))) was in
     let came_is : (with_items came new_came).items ≡ new_came = with_items_is came new_came (c.settle_members.ensures.came ∙ c.deref_mut.ensures.len) in
     let good_is : (with_items good new_good).items ≡ new_good = with_items_is good new_good (c.settle_members.ensures.good ∙ c.deref_mut-2.ensures.len) in
     subst (λ (xs : List ℕ). AreKnown u demands k classes xs (with_items good new_good).items) (sym came_is) (subst (λ (bs : List Bool). AreKnown u demands k classes new_came bs) (sym good_is) known)

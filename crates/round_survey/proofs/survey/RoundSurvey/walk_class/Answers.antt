@@ -10,9 +10,18 @@ pub walk-requires-clause-entry : goal.walk-requires-clause-entry
 walk-requires-clause-entry c =
     let classes = c.args.self.now.classes.items in
     let n = c.args.number in
-    let class = c.index.result.now in
-    let at = read_at classes n class (let count = c.requires.room.classes_are.count in let less = c.requires.number in omega arith) c.index.ensures in
+    let class = c.index-class.result.now in
+    let at = read_at classes n class (let count = c.requires.room.classes_are.count in let less = c.requires.number in omega arith) c.index-class.ensures in
     host_within c.args.duties.now.classes c.args.round.net.now c.keeps_rules.ensures c.requires.hosts n class (c.requires.room.classes_are.each n class at)
+
+pub see-requires : goal.see-requires
+see-requires c = (c.walk.ensures (update_of c.args.round) c.args.round.number c.requires.round.is).steps_within
+
+pub keeps_duties-requires-clause-class : goal.keeps_duties-requires-clause-class
+keeps_duties-requires-clause-class c =
+    let n = c.args.number in
+    let class = c.index-class.result.now in
+    c.requires.room.classes_are.each n class (read_at c.args.self.now.classes.items n class (let count = c.requires.room.classes_are.count in let less = c.requires.number in omega arith) c.index-class.ensures)
 
 pub returns-clause-known : goal.returns-clause-known
 returns-clause-known c =
@@ -20,12 +29,12 @@ returns-clause-known c =
     let k = c.args.round.number in
     let classes = c.args.self.now.classes.items in
     let n = c.args.number in
-    let class = c.index.result.now in
-    let at = read_at classes n class (let count = c.requires.room.classes_are.count in let less = c.requires.number in omega arith) c.index.ensures in
+    let class = c.index-class.result.now in
+    let at = read_at classes n class (let count = c.requires.room.classes_are.count in let less = c.requires.number in omega arith) c.index-class.ensures in
     let is : IsClass c.args.duties.now.classes n class = c.requires.room.classes_are.each n class at in
     let seen = c.in_ok-seen.ensures u k class (covers_walked u k class.first class.entry c.walk.new.self (c.walk.ensures u k c.requires.round.is)) in
     known_put u c.args.duties.now.demands k classes c.args.self.now.came.items c.args.self.now.good.items n class at c.in_ok-seen.seen.came c.keeps_duties.result
-    (λ on. record { walks = seen.walks; keeps = c.keeps_duties.ensures u k class is seen on }) c.requires.known
+    (λ on. record { walks = seen.walks; keeps = c.keeps_duties.ensures u k seen on }) c.requires.known
 
 pub returns-clause-below : goal.returns-clause-below
 returns-clause-below c =
@@ -33,7 +42,7 @@ returns-clause-below c =
     let k = c.args.round.number in
     let classes = c.args.self.now.classes.items in
     let n = c.args.number in
-    let class = c.index.result.now in
-    let at = read_at classes n class (let count = c.requires.room.classes_are.count in let less = c.requires.number in omega arith) c.index.ensures in
+    let class = c.index-class.result.now in
+    let at = read_at classes n class (let count = c.requires.room.classes_are.count in let less = c.requires.number in omega arith) c.index-class.ensures in
     let seen = c.in_ok-seen.ensures u k class (covers_walked u k class.first class.entry c.walk.new.self (c.walk.ensures u k c.requires.round.is)) in
     walked_put u c.args.duties.now.demands k classes c.args.self.now.came.items c.args.self.now.good.items n class at c.in_ok-seen.seen.came c.keeps_duties.result seen.walks c.requires.below
