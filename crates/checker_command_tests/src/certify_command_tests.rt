@@ -1,5 +1,6 @@
 //! `certify` over files in memory.
 use crate::answers::{check_names, checked, held};
+use crate::empty_rounds;
 use certify_command::certify;
 use command_base::Status;
 use example_files::{
@@ -51,8 +52,35 @@ fn rounds_of_a_search_get_its_evidence(rt: HostRuntime) {
 }
 
 #[test]
+fn rounds_may_be_empty(rt: HostRuntime) {
+    let rows: [(UpdateTexts<'_>, &[u8], &[u8]); 3] = [
+        (
+            square::update(),
+            empty_rounds::rounds(),
+            empty_rounds::plan(),
+        ),
+        (
+            square::no_change(),
+            empty_rounds::none_but_empty(),
+            empty_rounds::none_but_empty_plan(),
+        ),
+        (
+            square::no_change(),
+            none::no_rounds_in_format_1(),
+            none::no_rounds(),
+        ),
+    ];
+    are_answered(&rt, rt.alloc(), &rows, Status::Done);
+}
+
+#[test]
 fn what_is_written_is_accepted(rt: HostRuntime) {
-    let rows: [(UpdateTexts<'_>, &[u8], &[u8]); 2] = [
+    let rows: [(UpdateTexts<'_>, &[u8], &[u8]); 3] = [
+        (
+            square::update(),
+            empty_rounds::rounds(),
+            b"accepted: ordered, 5 rounds, 12 classes\n",
+        ),
         (
             detour::chain_update(),
             detour_plans::chain_in_format_1(),
@@ -74,7 +102,7 @@ fn what_is_written_is_accepted(rt: HostRuntime) {
 
 #[test]
 fn rounds_without_evidence_are_refused(rt: HostRuntime) {
-    let rows: [(UpdateTexts<'_>, &[u8], &[u8]); 8] = [
+    let rows: [(UpdateTexts<'_>, &[u8], &[u8]); 9] = [
         (
             square::update(),
             square::both_at_once(),
@@ -88,6 +116,12 @@ fn rounds_without_evidence_are_refused(rt: HostRuntime) {
         (
             detour::update(),
             detour_plans::two_phases(),
+            b"no evidence: two-phase plan\n",
+        ),
+        // Without rounds it would end elsewhere too.
+        (
+            square::update(),
+            empty_rounds::two_phases(),
             b"no evidence: two-phase plan\n",
         ),
         // A configuration that isn't good comes before the rounds.
