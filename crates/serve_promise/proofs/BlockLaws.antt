@@ -118,7 +118,7 @@ pub line_behind : (w : DriverView) (line : List ℕ) → after_line (silent w) l
 unfolding after_line
 line_behind w line = read_behind w (line_in w.net line)
 
-given_net : (w : DriverView) (o : Option Call) → (given w o).net ≡ w.net
+pub given_net : (w : DriverView) (o : Option Call) → (given w o).net ≡ w.net
 given_net w None = refl
 given_net w (Some call.Start) = cond_both (is_none (start_fault (silent w))) (started (silent w)) (silent w) (λ (x : DriverView). x.net ≡ w.net) (λ b. refl) (λ b. refl)
 given_net w (Some call.Back) = cond_both (is_none (back_fault (silent w))) (turned (silent w)) (silent w) (λ (x : DriverView). x.net ≡ w.net) (λ b. refl) (λ b. refl)

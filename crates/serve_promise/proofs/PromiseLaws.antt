@@ -26,7 +26,7 @@ use Rattle.serve_command.specs.Stops.{EndsServing, IsFrontOf, AreAll, input_name
 use Rattle.serve_promise.specs.Promise.{ServePromise, StopsUnread, StopsWanting, StopsUnwritten}
 use Rattle.serve_promise.proofs.BlockLaws.{text_is, told_behind}
 use Rattle.serve_promise.proofs.FileLaws.{means_over, given_plan, one_meaning}
-use Rattle.serve_promise.proofs.RunningLaws.{tells_run, tells_phase, both_ways, greets, sends_as_asked, as_drive, cut_says}
+use Rattle.serve_promise.proofs.RunningLaws.{tells_run, tells_phase, both_ways, greets, sends_as_asked, as_drive, drive_takes, cut_says}
 
 none_front : (input : Option (List ℕ)) → IsFrontOf input []
 none_front None = tt
@@ -296,5 +296,6 @@ module _ (files : Files) (names : CheckNames) (old new : Option (List ℕ)) (sel
     greets = λ c s less. greets files names c.meaning c.mean s less;
     sends = λ c lines line. sends_as_asked files names c.meaning c.mean lines line;
     as_drive = λ c lines inputs one are same driven. as_drive files names c.meaning c.mean c.certified lines inputs one are same driven;
+    drive_takes = λ c lines inputs are same taken. drive_takes files names c.meaning c.mean c.certified lines inputs are same taken;
     cut_anywhere = λ c lines front rest all cut. cut_says files names c.meaning c.mean lines front rest all cut;
   }

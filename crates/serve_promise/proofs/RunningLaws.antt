@@ -26,7 +26,6 @@ use Rattle.two_way_driver.specs.Sending.{texts_to, Sends}
 use Rattle.two_way_driver.specs.declared.Said.{Said}
 use Rattle.two_way_driver.specs.declared.Stage.{Stage}
 use Rattle.two_way_driver.specs.declared.faults.CallFault.{CallFault}
-use Rattle.two_way_driver.specs.declared.faults.CallFault.TheVariants as fault
 use Rattle.two_way_driver.proofs.RunLaws.{says_run, begins_answered}
 use Rattle.two_way_driver.proofs.SendingLaws.{each_call, all_calls}
 use Rattle.two_way_driver.proofs.ServingLaws.{fed-append}
@@ -41,23 +40,16 @@ use Rattle.serve_lines.specs.declared.fault.LineFault.{LineFault}
 use Rattle.serve_lines.specs.declared.line.ServeLine.{ServeLine}
 use Rattle.serve_lines.specs.declared.line.ServeLine.TheVariants.{Comment, Start, Back, Reopen, Feed}
 use Rattle.serve_lines.specs.declared.blocks.Outcome.TheVariants.{Went}
-use Rattle.serve_command.specs.Served.{ended, refusal_of, after_read, outcome_read, after_line}
+use Rattle.serve_command.specs.Served.{ended, after_read, outcome_read, after_line}
 use Rattle.check_base.specs.Checks.{CheckMeaning, task_in, FilesMeanPlan}
 use Rattle.check_base.specs.Names.{CheckNames}
 use Rattle.serve_promise.specs.Told.{told_first, told_line, driver_of, driver_behind, call_read, call_in, calls_in}
-use Rattle.serve_promise.specs.Running.{state_on, TellsRun, TellsPhase, SendsBy, GoesOnBy, SendsAsAsked, AreCut, SaysTheSame, TellsAs}
+use Rattle.serve_promise.specs.Running.{state_on, TellsRun, TellsPhase, SendsBy, GoesOnBy, SendsAsAsked, AreCut, SaysTheSame, AreTaken, TellsAs}
 use Rattle.serve_promise.proofs.BlockLaws.{keeps_lines, behind-append, given, line_behind, words_are, driver_is, calls_within}
+use Rattle.serve_promise.proofs.DriveLaws.{refused_goes, takes_inputs}
 use Rattle.serve_promise.proofs.FileLaws.{net_keeps, old_user, new_user, good_rounds, turnable, drivable}
 
 -- ---- how a line ended
-
--- a refusal is no way on
-refused_goes : (f : CallFault) (stage : Stage) → refusal_of f ≡ Went stage → ⊥
-refused_goes fault.Running stage e = absurd (cc)
-refused_goes fault.Finished stage e = absurd (cc)
-refused_goes fault.NotBegun stage e = absurd (cc)
-refused_goes (fault.NotOpen s) stage e = absurd (cc)
-refused_goes fault.Memory stage e = absurd (cc)
 
 went_ended : (o : Option CallFault) (v : DriverView) (stage : Stage) → ended o v ≡ Went stage → v.state.stage ≡ stage
 went_ended None v stage e = let f : Went v.state.stage ≡ Went stage = e in cc
@@ -171,6 +163,14 @@ module _ (files : Files) (names : CheckNames) (m : CheckMeaning) (mean : FilesMe
           events = ap events_in (words_are m lines) ∙ agree.events;
           phase = ap (λ (w : List Said). (state_after_two_way u (events_in w)).phase) (words_are m lines) ∙ (says lines).phase ∙ agree.phase;
         }
+
+    -- lines that are taken are inputs that `drive` takes
+    pub drive_takes : (lines : List (List ℕ)) (inputs : List InputLine) → AreInputs net inputs → calls_in net lines ≡ map two_way_call (calls_of inputs) → AreTaken m lines
+        → (one : OnwardState) × (driven_by net m.plan.rounds inputs ≡ Ok one)
+    drive_takes lines inputs are same taken =
+        let rounds = m.plan.rounds in
+        let agree = both_agree net rounds inverses (net_keeps files names m mean).few (drivable files names m mean) in
+        (onward.driver_after net rounds (calls_of inputs), takes_inputs net rounds (driver_of m []) lines inputs refl agree are same taken)
 
   -- ---- messages
 

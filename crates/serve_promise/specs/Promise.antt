@@ -25,7 +25,7 @@ use Rattle.drive_command.specs.Driving.{driven_by, calls_of}
 use Rattle.serve_command.specs.Serving.{text_on}
 use Rattle.serve_command.specs.Stops.{input_name, IsFrontOf}
 use Rattle.serve_promise.specs.Told.{told_first, told_lines, told_on, block_of, driver_of, driver_behind, calls_in}
-use Rattle.serve_promise.specs.Running.{TellsRun, TellsPhase, SendsAsAsked, AreCut, SaysTheSame, TellsAs}
+use Rattle.serve_promise.specs.Running.{TellsRun, TellsPhase, SendsAsAsked, AreCut, SaysTheSame, AreTaken, TellsAs}
 
 -- reading failed, when so many bytes of the standard input were taken: all lines that these end are answered, and no others
 pub record StopsUnread (m : CheckMeaning) (input : Option (List ℕ)) (counted : ℕ) (old new : Option (List ℕ)) : Type 0 where
@@ -83,5 +83,9 @@ pub record ServePromise (files : Files) (names : CheckNames) (old new : Option (
   -- Lines that ask for the same as inputs of `drive` send and log what it says of these.
   pub as_drive : (c : FilesAreCertified files names) (lines : List (List ℕ)) (inputs : List InputLine) (one : OnwardState) → AreInputs c.meaning.update.net inputs
       → calls_in c.meaning.update.net lines ≡ map two_way_call (calls_of inputs) → driven_by c.meaning.update.net c.meaning.plan.rounds inputs ≡ Ok one → TellsAs c.meaning lines one
+  -- Where none of these lines is answered by `no ..` or `bad line`, `drive` takes the inputs.
+  pub drive_takes : (c : FilesAreCertified files names) (lines : List (List ℕ)) (inputs : List InputLine) → AreInputs c.meaning.update.net inputs
+      → calls_in c.meaning.update.net lines ≡ map two_way_call (calls_of inputs) → AreTaken c.meaning lines
+      → (one : OnwardState) × (driven_by c.meaning.update.net c.meaning.plan.rounds inputs ≡ Ok one)
   -- Bytes of a switch may be cut anywhere.
   pub cut_anywhere : (c : FilesAreCertified files names) (lines : List (List ℕ)) (front rest whole : List ℕ) → AreCut c.meaning front rest whole → SaysTheSame c.meaning lines front rest whole

@@ -1,6 +1,6 @@
 -- What the blocks that answer lines say of the update.
 use Rattle.std.specs.Prelude.{◌≡◌, ◌<◌, ℕ, List, [], ◌∷◌, ◌++◌, map, Option, None, Some, Ok}
-use Rattle.std.specs.List.{concat}
+use Rattle.std.specs.List.{AllByRecursion, concat}
 use Rattle.net_base.specs.declared.ids.SwitchId.{SwitchId}
 use Rattle.topology.specs.Networks.{switch_count}
 use Rattle.certificates.specs.Updates.{rollout}
@@ -17,7 +17,7 @@ use Rattle.serve_lines.specs.Lines.{line_in}
 use Rattle.serve_lines.specs.declared.line.ServeLine.TheVariants.{Feed}
 use Rattle.serve_lines.specs.declared.blocks.Outcome.TheVariants.{Went}
 use Rattle.check_base.specs.Checks.{CheckMeaning, task_in}
-use Rattle.serve_promise.specs.Told.{told_line, told_on, said_in, driver_behind, call_in}
+use Rattle.serve_promise.specs.Told.{Told, told_line, told_lines, told_on, said_in, driver_behind, call_in}
 
 -- ---- events
 
@@ -76,6 +76,14 @@ pub record SaysTheSame (m : CheckMeaning) (lines : List (List ℕ)) (front rest 
   pub said : (told_line (driver_behind m lines) whole).said
       ≡ (told_line (driver_behind m lines) front).said ++ (told_line (driver_behind m (lines ++ front ∷ [])) rest).said
   pub driver : driver_behind m (lines ++ whole ∷ []) ≡ driver_behind m (lines ++ front ∷ rest ∷ [])
+
+-- a block ends with `ok`, so that its line wasn't refused and isn't bad
+abbrev pub EndsOk : Told → Type 0
+EndsOk told = (stage : Stage) × (told.outcome ≡ Went stage)
+
+-- each block that answers one of these lines ends with `ok`
+abbrev pub AreTaken : CheckMeaning → List (List ℕ) → Type 0
+AreTaken m lines = AllByRecursion EndsOk (told_lines (driver_behind m []) lines)
 
 -- the blocks of lines send to each switch the bytes, and log the events, of a driver that can't turn back, and lead to its phase
 pub record TellsAs (m : CheckMeaning) (lines : List (List ℕ)) (one : OnwardState) : Type 0 where
