@@ -25,10 +25,8 @@ use Rattle.command_base.specs.Judgements.{SaysTooMany, SaysWhyNot, most_classes}
 use Rattle.command_base.specs.Lines.{FaultWords}
 use Rattle.command_base.specs.Meanings.{IsReadAs}
 use Rattle.command_base.specs.Readings.{reading}
-use Rattle.command_base.specs.Updates.{meaning_of}
 use Rattle.check_base.specs.Checks.{CheckMeaning, FilesMeanPlan, IsRefusedLine, check_count, check_dialogue, task_in}
 use Rattle.replay_command.specs.Replayed.{not_a_run_line}
-use Rattle.drive_command.specs.declared.readings.CheckFiles.{CheckFiles}
 use Rattle.drive_command.specs.declared.driving.DriveFault.{DriveFault}
 use Rattle.drive_command.specs.declared.driving.DriveFault.TheVariants.{NotARun}
 use Rattle.drive_command.specs.Driving.{driven_by, IsStep, calls_of}
@@ -39,10 +37,6 @@ use Rattle.drive_command.specs.Reports.{first_line, report_text}
 pub record DriveMeaning : Type 0 where
   pub check : CheckMeaning
   pub inputs : List InputLine
-
--- the meaning of an update and a plan that were read
-abbrev pub check_meaning_of : CheckFiles → CheckMeaning
-check_meaning_of files = record { update = meaning_of files.update; plan = files.plan }
 
 -- what is printed of a fault of inputs
 abbrev pub input_words : InputFault → FaultWords

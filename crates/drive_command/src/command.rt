@@ -6,12 +6,14 @@ ghost use Rattle.certificates.specs.Valid.{IsValidPlan};
 ghost use Rattle.driver_input.specs.Inputs.{AreInputs};
 ghost use Rattle.command_base.specs.Dialogues.{FileRead, LeadsTo};
 ghost use Rattle.command_base.specs.Replies.{answer_of, EndsEarly, Meets};
+ghost use Rattle.check_base.specs.Checks.{check_meaning_of};
 ghost use Rattle.drive_command.specs.Names.{names_seen};
-ghost use Rattle.drive_command.specs.Driven.{check_meaning_of, drive_dialogue, reading_inputs_for, IsDriveAnswer};
+ghost use Rattle.drive_command.specs.Driven.{drive_dialogue, reading_inputs_for, IsDriveAnswer};
 
 use crate::names::DriveNames;
-use crate::readings::{CheckFiles, read_check_files, read_input_file};
+use crate::readings::read_input_file;
 use crate::verdict::drive_verdict;
+use check_base::{CheckFiles, read_check_files};
 use command_base::{Exit, Reply};
 use driver_input::Inputs;
 use file_access::Source;
