@@ -37,7 +37,7 @@ use Rattle.round_planner.proofs.ClassKept.{class_kept, same_classes_back}
 use Rattle.round_planner.proofs.SameRound.{IsSameRound, same_back, held_same, need_same, safe_same}
 use Rattle.table_difference.specs.SameClasses.{HasSameClasses, MakeNoClasses}
 use Rattle.plan_command.specs.Planned.{BothEndsAreGood}
-use Rattle.plan_command.proofs.PlannedLaws.{count_same}
+use Rattle.plan_command.proofs.UpdateAnswers.{count_same}
 use Rattle.pack_command.specs.Chosen.{update_target}
 use Rattle.pack_command.proofs.StandLaws.{IsStanding, tables_of_user, keeps_round, standing_at, ends_at_new, changes_few, remaining_few, ranges, no_prefix}
 

@@ -1,6 +1,5 @@
 //! What is said of an update that is to be packed.
 ghost use Rattle.std.specs.Prelude.{◌≡◌, ◌≤◌, ◌⊎◌, IfOk};
-ghost use Rattle.topology.specs.Networks.{switch_count};
 ghost use Rattle.flow_rules.specs.Tables.{rules_of_all};
 ghost use Rattle.path_walk.specs.UserConfigs.{IsUserConfig};
 ghost use Rattle.round_planner.specs.Updates.{update_classes, update_count};
@@ -8,17 +7,15 @@ ghost use Rattle.command_base.specs.Judgements.{most_classes};
 ghost use Rattle.command_base.specs.Updates.{meaning_of};
 ghost use Rattle.command_base.specs.Replies.{answer_of};
 ghost use Rattle.plan_command.specs.Planned.{BothEndsAreGood};
-ghost use Rattle.pack_command.specs.Packed.{SaysPackPlan, SaysNoPlan, IsPacked};
+ghost use Rattle.pack_command.specs.Packed.{SaysPackPlan, SaysNoPlan, SaysPacked, IsPacked};
 
 use crate::ordering::find_in_order;
 use crate::phasing::{ordered_reply, stuck_reply};
 use command_base::{Reply, UpdateFiles, too_many_reply};
-use config_check::check_config;
 use demands::Duties;
 use dest_classes::{ClassFault, ClassMap, class_map};
 use net_base::Memory;
 use packed_trees::laws::{trees_are_never_stuck, trees_take_few_rounds};
-use path_walk::PathRoom;
 use plan_command::end_reply;
 use round_planner::{Ordered, update_prefixes};
 use std::alloc::Global;
@@ -45,32 +42,45 @@ fn found_reply(
     }
 }
 
-/// The reply over few enough classes, with their duties, by way of a room for paths.
-fn judged_reply(
+/// The reply where both ends are good.
+fn good_reply(
     alloc: Global,
     files: &UpdateFiles,
     duties: &Duties,
     classes: &ClassMap,
-    room: &mut PathRoom,
 ) -> Result<Reply, Memory>
     requires old { IsUserConfig files.now.net (rules_of_all files.now.old) }
     requires new { IsUserConfig files.now.net (rules_of_all files.now.new) }
     requires classes { classes.now ≡ update_classes (meaning_of files.now) }
     requires duties { duties.now ≡ record { demands = files.now.demands; classes = classes.now } }
     requires few { update_count (meaning_of files.now) ≤ most_classes }
-    requires room { room.old.switches ≡ switch_count files.now.net }
-    ensures { IfOk result (λ r. IsPacked (meaning_of files.now) (answer_of r)) }
+    requires good { BothEndsAreGood (meaning_of files.now) }
+    ensures { IfOk result (λ r. SaysPacked (meaning_of files.now) (answer_of r)) }
 {
-    if let Err(breaks) = check_config(&files.net, &files.old, duties, classes, room) {
-        return end_reply(alloc, files, classes, false, breaks);
-    }
-    if let Err(breaks) = check_config(&files.net, &files.new, duties, classes, room) {
-        return end_reply(alloc, files, classes, true, breaks);
-    }
     files.net.keeps_rules();
     trees_are_never_stuck();
     trees_take_few_rounds();
     found_reply(alloc, files, duties, classes)
+}
+
+/// The reply over few enough classes, with their duties.
+fn judged_reply(
+    alloc: Global,
+    files: &UpdateFiles,
+    duties: &Duties,
+    classes: &ClassMap,
+) -> Result<Reply, Memory>
+    requires old { IsUserConfig files.now.net (rules_of_all files.now.old) }
+    requires new { IsUserConfig files.now.net (rules_of_all files.now.new) }
+    requires classes { classes.now ≡ update_classes (meaning_of files.now) }
+    requires duties { duties.now ≡ record { demands = files.now.demands; classes = classes.now } }
+    requires few { update_count (meaning_of files.now) ≤ most_classes }
+    ensures { IfOk result (λ r. IsPacked (meaning_of files.now) (answer_of r)) }
+{
+    match end_reply(alloc, files, duties, classes)? {
+        Some(reply) => Ok(reply),
+        None => good_reply(alloc, files, duties, classes),
+    }
 }
 
 /// The reply over few enough classes.
@@ -82,9 +92,7 @@ fn classed_reply(alloc: Global, files: &UpdateFiles, classes: &ClassMap) -> Resu
     ensures { IfOk result (λ r. IsPacked (meaning_of files.now) (answer_of r)) }
 {
     let duties = Duties::make(alloc, &files.net, &files.demands, classes)?;
-    let mut room = PathRoom::make(alloc, &files.net)?;
-    let reply = judged_reply(alloc, files, &duties, classes, &mut room);
-    drop(room);
+    let reply = judged_reply(alloc, files, &duties, classes);
     drop(duties);
     reply
 }

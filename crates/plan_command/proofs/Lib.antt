@@ -1,2 +1,3 @@
+pub mod UpdateAnswers
 pub mod PlannedLaws
 pub mod NewPlanLaws

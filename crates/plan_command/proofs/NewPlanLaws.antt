@@ -1,5 +1,5 @@
 -- What the answer on an update stands on.
-use Rattle.std.proofs.Common.{◌≡◌, ◌<◌, ◌≤◌, Bool, true, List, Some, Result, Ok, Err, IfOk, refl, sym, subst}
+use Rattle.std.proofs.Common.{◌≡◌, ◌<◌, ◌≤◌, Bool, true, false, List, Some, Result, Ok, Err, IfOk, refl, sym, subst}
 use Rattle.flow_rules.specs.declared.rules.Rule.{Rule}
 use Rattle.dest_classes.specs.Classes.{ClassList, IsClass, class_count}
 use Rattle.dest_classes.proofs.MapLaws.{number_fits}
@@ -60,6 +60,12 @@ module _ (u : Update) where
     new_break b old_good first = record {
       first = subst (λ c. IsFirstBreak u.net u.new u.demands c b) are (subst (λ d. IsFirstBreak u.net u.new d.demands classes b) made first);
       old_good = λ holds. good_as u.old old_good;
+    }
+
+    pub old_break : (b : Breaks) → IsFirstBreak u.net u.old duties.demands classes b → IsFirstEndBreak u false b
+    old_break b first = record {
+      first = subst (λ c. IsFirstBreak u.net u.old u.demands c b) are (subst (λ d. IsFirstBreak u.net u.old d.demands classes b) made first);
+      old_good = λ holds. absurd (let e : false ≡ true = holds in cc);
     }
 
     pub old_not_good : ¬ HasGoodPaths u.net u.old duties.demands classes → ¬ BothEndsAreGood u

@@ -2,9 +2,11 @@
 #![tactic(auto)]
 
 mod command;
+mod ends;
 pub mod laws;
 mod no_plan_lines;
 mod planning;
 
 pub use crate::command::plan;
-pub use crate::planning::{end_reply, too_few_reply, too_small_reply};
+pub use crate::ends::end_reply;
+pub use crate::planning::{too_few_reply, too_small_reply};

@@ -1,6 +1,5 @@
 //! What is said of an update that is to be planned.
-ghost use Rattle.std.specs.Prelude.{◌≡◌, ◌≤◌, Bool, IfOk};
-ghost use Rattle.topology.specs.Networks.{switch_count};
+ghost use Rattle.std.specs.Prelude.{◌≡◌, ◌≤◌, IfOk};
 ghost use Rattle.flow_rules.specs.Tables.{rules_of_all};
 ghost use Rattle.path_walk.specs.UserConfigs.{IsUserConfig};
 ghost use Rattle.certificates.specs.Certified.{IsCertified, classes_for};
@@ -11,55 +10,26 @@ ghost use Rattle.table_difference.specs.Tried.{AreTried};
 ghost use Rattle.round_planner.specs.Ends.{AreStuck};
 ghost use Rattle.round_planner.specs.Updates.{update_classes, update_count, update_aim, bare_task};
 ghost use Rattle.two_phase.specs.Plans.{AreTooFew, IsFirstTooSmall};
-ghost use Rattle.command_base.specs.Judgements.{SaysWhyNot, most_classes};
+ghost use Rattle.command_base.specs.Judgements.{most_classes};
 ghost use Rattle.certificates.specs.Updates.{task_for};
 ghost use Rattle.command_base.specs.Updates.{meaning_of};
 ghost use Rattle.command_base.specs.Replies.{answer_of};
 ghost use Rattle.upgrade_command.specs.Texts.{SaysPlan};
-ghost use Rattle.plan_command.specs.Planned.{BothEndsAreGood, IsFirstEndBreak, IsEndLine, IsNewPlan, SaysNewPlan, SaysOrdered, SaysTooFew, SaysTooSmall, SaysSearched, IsPlanned};
+ghost use Rattle.plan_command.specs.Planned.{BothEndsAreGood, IsNewPlan, SaysNewPlan, SaysOrdered, SaysTooFew, SaysTooSmall, SaysSearched, IsPlanned};
 
+use crate::ends::end_reply;
 use crate::no_plan_lines::{too_few_lines, too_small_lines};
 use certificates::Plan;
 use certificates::laws::certified_consistent;
-use check_base::refused_reply;
-use check_reasons::Reason;
 use command_base::{Reply, Status, UpdateFiles, too_many_reply};
-use config_check::{Breaks, check_config};
 use demands::Duties;
 use dest_classes::{ClassFault, ClassMap, class_map};
 use net_base::{Memory, SwitchId};
-use path_walk::PathRoom;
 use round_planner::{Ordered, order, update_prefixes};
 use std::alloc::Global;
 use two_phase::{TwoFault, two_phase};
 use update_model::Rounds;
 use upgrade_command::plan_reply;
-
-/// The reply on an end that isn't good.
-pub fn end_reply(
-    alloc: Global,
-    files: &UpdateFiles,
-    classes: &ClassMap,
-    new: bool,
-    breaks: Breaks,
-) -> Result<Reply, Memory>
-    requires classes { classes.now ≡ update_classes (meaning_of files.now) }
-    requires few { update_count (meaning_of files.now) ≤ most_classes }
-    requires broken { ¬ BothEndsAreGood (meaning_of files.now) }
-    requires first { IsFirstEndBreak (meaning_of files.now) new breaks }
-    ensures { IfOk result
-        (λ r. SaysWhyNot (update_count (meaning_of files.now))
-        (BothEndsAreGood (meaning_of files.now))
-        (IsEndLine (meaning_of files.now)) (answer_of r)) }
-{
-    let class = classes.class(breaks.class);
-    refused_reply(
-        alloc,
-        &files.net,
-        Some(class),
-        Reason::EndBreaks { new, breaks },
-    )
-}
 
 /// The reply by a new plan.
 fn new_plan_reply(alloc: Global, files: &UpdateFiles, plan: &Plan) -> Result<Reply, Memory>
@@ -163,29 +133,24 @@ fn search_reply(
     }
 }
 
-/// The reply over few enough classes, with their duties, by way of a room for paths.
+/// The reply over few enough classes, with their duties.
 fn judged_reply(
     alloc: Global,
     files: &UpdateFiles,
     duties: &Duties,
     classes: &ClassMap,
-    room: &mut PathRoom,
 ) -> Result<Reply, Memory>
     requires old { IsUserConfig files.now.net (rules_of_all files.now.old) }
     requires new { IsUserConfig files.now.net (rules_of_all files.now.new) }
     requires classes { classes.now ≡ update_classes (meaning_of files.now) }
     requires duties { duties.now ≡ record { demands = files.now.demands; classes = classes.now } }
     requires few { update_count (meaning_of files.now) ≤ most_classes }
-    requires room { room.old.switches ≡ switch_count files.now.net }
     ensures { IfOk result (λ r. IsPlanned (meaning_of files.now) (answer_of r)) }
 {
-    if let Err(breaks) = check_config(&files.net, &files.old, duties, classes, room) {
-        return end_reply(alloc, files, classes, false, breaks);
+    match end_reply(alloc, files, duties, classes)? {
+        Some(reply) => Ok(reply),
+        None => search_reply(alloc, files, duties, classes),
     }
-    if let Err(breaks) = check_config(&files.net, &files.new, duties, classes, room) {
-        return end_reply(alloc, files, classes, true, breaks);
-    }
-    search_reply(alloc, files, duties, classes)
 }
 
 /// The reply over few enough classes.
@@ -197,9 +162,7 @@ fn classed_reply(alloc: Global, files: &UpdateFiles, classes: &ClassMap) -> Resu
     ensures { IfOk result (λ r. IsPlanned (meaning_of files.now) (answer_of r)) }
 {
     let duties = Duties::make(alloc, &files.net, &files.demands, classes)?;
-    let mut room = PathRoom::make(alloc, &files.net)?;
-    let reply = judged_reply(alloc, files, &duties, classes, &mut room);
-    drop(room);
+    let reply = judged_reply(alloc, files, &duties, classes);
     drop(duties);
     reply
 }

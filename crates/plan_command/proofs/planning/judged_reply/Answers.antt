@@ -1,30 +1,8 @@
-use Rattle.std.proofs.Common.{refl, inr}
-use Rattle.command_base.specs.Updates.{meaning_of}
-use Rattle.plan_command.proofs.NewPlanLaws.{old_not_good, new_not_good, new_break, both_good, both_ok}
+use Rattle.std.proofs.Common.{inr}
+use Rattle.plan_command.proofs.NewPlanLaws.{both_ok}
 use Rattle.plan_command.proofs.planning.judged_reply.Goals as goal
 
-pub end_reply-requires-clause-broken : goal.end_reply-requires-clause-broken
-end_reply-requires-clause-broken c =
-    old_not_good (meaning_of c.args.files.now) c.args.classes.now c.requires.classes c.args.duties.now c.requires.duties (λ good. let e = c.in-Err.ensures.ok.1 good in cc)
-
-pub end_reply-requires-in-Err-check_config-clause-broken :
-    goal.end_reply-requires-in-Err-check_config-clause-broken
-end_reply-requires-in-Err-check_config-clause-broken c =
-    new_not_good (meaning_of c.args.files.now) c.args.classes.now c.requires.classes c.args.duties.now c.requires.duties (λ good. let e = c.in-Err-check_config.ensures.ok.1 good in cc)
-
-pub end_reply-requires-in-Err-check_config-clause-first :
-    goal.end_reply-requires-in-Err-check_config-clause-first
-end_reply-requires-in-Err-check_config-clause-first c =
-    new_break (meaning_of c.args.files.now) c.args.classes.now c.requires.classes c.args.duties.now c.requires.duties c.in-Err-check_config.breaks
-    (c.in_default.ensures.ok.0 refl) c.in-Err-check_config.ensures.err
-
-pub search_reply-requires-clause-good : goal.search_reply-requires-clause-good
-search_reply-requires-clause-good c =
-    both_good (meaning_of c.args.files.now) c.args.classes.now c.requires.classes c.args.duties.now c.requires.duties
-    (c.in_default.ensures.ok.0 refl) (c.in_default-check_config.ensures.ok.0 refl)
-
-pub returns : goal.returns
-returns c =
-    let good = both_good (meaning_of c.args.files.now) c.args.classes.now c.requires.classes c.args.duties.now c.requires.duties
-    (c.in_default.ensures.ok.0 refl) (c.in_default-check_config.ensures.ok.0 refl) in
+pub returns-in-None : goal.returns-in-None
+returns-in-None c =
+    let good = rw c.in-None.is at c.in_ok-reply.ensures.good in
     both_ok c.search_reply.result _ _ _ _ (λ r said tree. inr (inr (record { few = c.requires.few; good = good; searched = said; tree = tree }))) c.search_reply.ensures.searched c.search_reply.ensures.tree
