@@ -14,6 +14,14 @@ use topology::{Net, is_vlan_id};
 
 const MAX_PRIORITY: u64 = 16383;
 
+/// Which rule is read: of a switch of a network, with its number in the file.
+#[derive(Clone, Copy)]
+struct RulePlace<'a> {
+    net: &'a Net,
+    switch: SwitchId,
+    place: u32,
+}
+
 /// Whether the value is this text.
 fn is_text(tree: &Tree<'_>, item: &Node, word: &str) -> bool
     ensures { result ≡ configuration.is_text word.now (data_of tree.now item.now) }
@@ -37,19 +45,20 @@ fn is_port(net: &Net, switch: SwitchId, number: u64) -> bool
 /// Reads the number of a port.
 #[tactic(auto, unfolding(crate::specs::Configuration::port_in))]
 fn read_port(
-    net: &Net,
+    rule: RulePlace,
     field: Field,
-    place: u32,
-    switch: SwitchId,
     tree: &Tree<'_>,
     item: &Node,
 ) -> Result<Port, ConfigFault>
     ensures { Gives Memory (λ p. p) result
-        (configuration.port_in field place net.now switch (data_of tree.now item.now)) }
+        (configuration.port_in field rule.entry.place rule.entry.net.now rule.entry.switch
+        (data_of tree.now item.now)) }
 {
-    let number = tree.whole(item).ok_or(ConfigFault::Shape(field, place))?;
-    if !is_port(net, switch, number) {
-        return Err(ConfigFault::BadPort(place));
+    let number = tree
+        .whole(item)
+        .ok_or(ConfigFault::Shape(field, rule.place))?;
+    if !is_port(rule.net, rule.switch, number) {
+        return Err(ConfigFault::BadPort(rule.place));
     }
     Ok(Port(number as u16))
 }
@@ -57,38 +66,35 @@ fn read_port(
 /// Reads a port, or the word for none.
 #[tactic(auto, unfolding(crate::specs::Configuration::some_port))]
 fn read_port_or(
-    net: &Net,
+    rule: RulePlace,
     word: &str,
     field: Field,
-    place: u32,
-    switch: SwitchId,
     tree: &Tree<'_>,
     item: &Node,
 ) -> Result<Option<Port>, ConfigFault>
     ensures { Gives Memory (λ p. p) result
-        (configuration.port_or word.now field place net.now switch (data_of tree.now item.now)) }
+        (configuration.port_or word.now field rule.entry.place rule.entry.net.now rule.entry.switch
+        (data_of tree.now item.now)) }
 {
     if is_text(tree, item, word) {
         return Ok(None);
     }
-    let port = read_port(net, field, place, switch, tree, item)?;
+    let port = read_port(rule, field, tree, item)?;
     Ok(Some(port))
 }
 
 /// Reads the ingress port.
 fn read_in_port(
-    net: &Net,
-    place: u32,
-    switch: SwitchId,
+    rule: RulePlace,
     tree: &Tree<'_>,
     member: Option<&Node>,
 ) -> Result<Option<Port>, ConfigFault>
     ensures { Gives Memory (λ p. p) result
-        (configuration.in_port_in place net.now switch
+        (configuration.in_port_in rule.entry.place rule.entry.net.now rule.entry.switch
         (option_map (λ v. data_of tree.now v.now) member.entry)) }
 {
     match member {
-        Some(item) => read_port_or(net, "any", Field::InPort, place, switch, tree, item),
+        Some(item) => read_port_or(rule, "any", Field::InPort, tree, item),
         None => Ok(None),
     }
 }
@@ -176,38 +182,28 @@ fn read_dst(place: u32, tree: &Tree<'_>, item: &Node) -> Result<Prefix, ConfigFa
 
 /// Reads the pattern of a rule.
 #[tactic(auto, unfolding(crate::specs::Configuration::pattern_in))]
-fn read_pattern(
-    net: &Net,
-    place: u32,
-    switch: SwitchId,
-    tree: &Tree<'_>,
-    item: &Node,
-) -> Result<Pattern, ConfigFault>
+fn read_pattern(rule: RulePlace, tree: &Tree<'_>, item: &Node) -> Result<Pattern, ConfigFault>
     ensures { Gives Memory (λ p. p) result
-        (configuration.pattern_in place net.now switch (data_of tree.now item.now)) }
+        (configuration.pattern_in rule.entry.place rule.entry.net.now rule.entry.switch
+        (data_of tree.now item.now)) }
 {
-    let in_port = read_in_port(net, place, switch, tree, tree.get(item, "in_port"))?;
-    let vlan = read_test(net, place, tree, tree.get(item, "vlan"))?;
-    let dst = read_dst(place, tree, item)?;
+    let in_port = read_in_port(rule, tree, tree.get(item, "in_port"))?;
+    let vlan = read_test(rule.net, rule.place, tree, tree.get(item, "vlan"))?;
+    let dst = read_dst(rule.place, tree, item)?;
     Ok(Pattern { in_port, vlan, dst })
 }
 
 /// Reads the action of a rule.
 #[tactic(auto, unfolding(crate::specs::Configuration::action_in))]
-fn read_action(
-    net: &Net,
-    place: u32,
-    switch: SwitchId,
-    tree: &Tree<'_>,
-    item: &Node,
-) -> Result<Action, ConfigFault>
+fn read_action(rule: RulePlace, tree: &Tree<'_>, item: &Node) -> Result<Action, ConfigFault>
     ensures { Gives Memory (λ a. a) result
-        (configuration.action_in place net.now switch (data_of tree.now item.now)) }
+        (configuration.action_in rule.entry.place rule.entry.net.now rule.entry.switch
+        (data_of tree.now item.now)) }
 {
     let out = tree
         .get(item, "out")
-        .ok_or(ConfigFault::Shape(Field::Out, place))?;
-    let port = read_port_or(net, "drop", Field::Out, place, switch, tree, out)?;
+        .ok_or(ConfigFault::Shape(Field::Out, rule.place))?;
+    let port = read_port_or(rule, "drop", Field::Out, tree, out)?;
     Ok(action_by(port))
 }
 
@@ -224,8 +220,9 @@ pub(crate) fn read_rule(
         (configuration.rule_in place net.now switch (data_of tree.now item.now)) }
 {
     let priority = read_priority(place, tree, item)?;
-    let pattern = read_pattern(net, place, switch, tree, item)?;
-    let action = read_action(net, place, switch, tree, item)?;
+    let rule = RulePlace { net, switch, place };
+    let pattern = read_pattern(rule, tree, item)?;
+    let action = read_action(rule, tree, item)?;
     Ok(Rule {
         key: Key { priority, pattern },
         action,

@@ -38,7 +38,7 @@ meets_self : (p : Pattern) → patterns_meet p p ≡ true
 meets_self p = and_from _ _ (and_from _ _ (ports_self p.in_port) (vlans_self p.vlan)) (or_left (in_block p.dst p.dst.base) (in_block p.dst p.dst.base) (base_in p.dst))
 
 -- rules of one key clash
-same_clash : (r q : Rule) → r.key ≡ q.key → IsClash r q
+pub same_clash : (r q : Rule) → r.key ≡ q.key → IsClash r q
 same_clash r q e =
     let (h, over, _) = meet_in r.key.pattern r.key.pattern (meets_self r.key.pattern) in
     record { priority = ap (λ (k : Key). k.priority) e; header = h; first = over; second = subst (λ (k : Key). covers k.pattern h ≡ true) e over }

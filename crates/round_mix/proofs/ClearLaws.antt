@@ -59,7 +59,7 @@ same_written a b (Delete s q) v w = absurd v
 same_written a b (Replace s q) v w = v ∙ sym w
 
 -- the keys of inserted rules
-inserted_key : (cs : List Change) (k : Key) → IsIn k (keys_of (inserted cs)) → (c : Change) × IsIn c cs × (r : Rule) × IsInsertOf c r × (key_named c ≡ k)
+pub inserted_key : (cs : List Change) (k : Key) → IsIn k (keys_of (inserted cs)) → (c : Change) × IsIn c cs × (r : Rule) × IsInsertOf c r × (key_named c ≡ k)
 inserted_key cs k i =
     let (r, j, e) = in_from_map (λ x. x.key) k (inserted cs) i in
     let (c, l, of) = in_from_inserted cs r j in

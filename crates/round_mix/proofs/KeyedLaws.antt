@@ -46,14 +46,14 @@ module _ (table : List Rule) (changes : List Change) (keys : IsDistinct (keys_of
             absurd (none q (subst (λ x. IsInsertOf x q) (sym e) of)))
       ]
 
-  applies : (c : Change) → IsIn c changes → IsNamed (all_rules table changes) c → AppliesTo table c
-  applies (Insert s r) i named = λ k.
+  pub applies_named : (c : Change) → IsIn c changes → IsNamed (all_rules table changes) c → AppliesTo table c
+  applies_named (Insert s r) i named = λ k.
       parts_apart (keys_of table) (keys_of (inserted changes)) r.key (subst IsDistinct (map-append (λ (x : Rule). x.key) table (inserted changes)) keys) k
       (in_map (λ (x : Rule). x.key) r (inserted changes) (in_inserted changes (Insert s r) r i refl))
-  applies (Delete s r) i (q, j, e) =
+  applies_named (Delete s r) i (q, j, e) =
       let same : r ≡ q = rule_eq-true r q e in
       subst (λ x. IsIn x table) (sym same) (stood (Delete s r) q i (ap (λ (x : Rule). x.key) same) (λ x n. n) j)
-  applies (Replace s r) i (q, j, e) =
+  applies_named (Replace s r) i (q, j, e) =
       let same : r.key ≡ q.key = key_eq-true r.key q.key e in
       subst (λ k. IsIn k (keys_of table)) (sym same) (in_map (λ (x : Rule). x.key) q table (stood (Replace s r) q i same (λ x n. n) j))
 
@@ -86,25 +86,36 @@ alone_by_rules table changes sorted moved apart m n i j clash =
     let same : p ≡ q = apart.alone p q p_in q_in (subst (λ z. IsClash p.rule z) two (subst (λ z. IsClash z n.rule) one clash)) in
     e ∙ ap (marked changes) (g ∙ ap (λ (z : MarkedRule). z.rule) same ∙ sym h) ∙ sym f
 
+-- the rules of sorted marked ones
+pub moved_rules : (rules : List Rule) (first sorted : List MarkedRule) → first ≡ map (marked []) rules → IsPermutation first sorted → IsPermutation rules (rules_of sorted)
+moved_rules rules first sorted is moved =
+    subst (λ (rs : List Rule). IsPermutation rs (rules_of sorted)) (ap rules_of is ∙ rules_of-marked [] rules) (IsPermutation-map (λ (m : MarkedRule). m.rule) first sorted moved)
+
+-- changes are good where no key stands twice among the rules and each has marked its rule
+pub good_by_keys : (table : List Rule) (changes : List Change) (sorted last : List MarkedRule) → IsPermutation (all_rules table changes) (rules_of sorted)
+    → IsDistinct (keys_of (rules_of sorted)) → AreMarked (rules_of sorted) changes last → AreGood table changes
+good_by_keys table changes sorted last moved distinct state =
+    let all = all_rules table changes in
+    let keys : IsDistinct (keys_of all) =
+    keys_moved (keys_of (rules_of sorted)) (keys_of all)
+    (IsPermutation-sym (keys_of all) (keys_of (rules_of sorted)) (IsPermutation-map (λ (r : Rule). r.key) all (rules_of sorted) moved)) distinct in
+    record {
+      applies = each_from_in (AppliesTo table) changes (λ c i.
+          let (r, j, e) = each_at (IsNamed (rules_of sorted)) changes c state.named i in
+          applies_named table changes keys state.distinct c i (r, in_permutation all (rules_of sorted) r moved j, e));
+      distinct = state.distinct;
+    }
+
 -- rules that don't clash are prepared once each change has marked its rule
 pub prepared_by_keys : (table : List Rule) (changes : List Change) (first sorted last : List MarkedRule) → IsTable table
     → first ≡ map (marked []) (all_rules table changes) → IsPermutation first sorted → IsFalling sorted → AreApart sorted
     → AreMarked (rules_of sorted) changes last → IsPrepared table changes last
 prepared_by_keys table changes first sorted last is_table is moved falling apart state =
     let all = all_rules table changes in
-    let rules_moved : IsPermutation all (rules_of sorted) =
-    subst (λ (rs : List Rule). IsPermutation rs (rules_of sorted)) (ap rules_of is ∙ rules_of-marked [] all) (IsPermutation-map (λ (m : MarkedRule). m.rule) first sorted moved) in
-    let keys : IsDistinct (keys_of all) =
-    keys_moved (keys_of (rules_of sorted)) (keys_of all)
-    (IsPermutation-sym (keys_of all) (keys_of (rules_of sorted)) (IsPermutation-map (λ (r : Rule). r.key) all (rules_of sorted) rules_moved)) apart.distinct in
+    let rules_moved : IsPermutation all (rules_of sorted) = moved_rules all first sorted is moved in
     let marks_moved : IsPermutation (marked_rules table changes) last =
     subst (IsPermutation (marked_rules table changes)) (sym state.marks_are) (IsPermutation-map (marked changes) all (rules_of sorted) rules_moved) in
-    let good : AreGood table changes = record {
-      applies = each_from_in (AppliesTo table) changes (λ c i.
-          let (r, j, e) = each_at (IsNamed (rules_of sorted)) changes c state.named i in
-          applies table changes keys state.distinct c i (r, in_permutation all (rules_of sorted) r rules_moved j, e));
-      distinct = state.distinct;
-    } in
+    let good : AreGood table changes = good_by_keys table changes sorted last rules_moved apart.distinct state in
     record {
       good = good;
       clear = clear_from_free table changes is_table good (alone_by_rules table changes sorted rules_moved apart);

@@ -7,11 +7,15 @@ pub mod ClashLaws
 pub mod NeedLaws
 pub mod NamedLaws
 pub mod KeyedLaws
+pub mod RiseLaws
+pub mod LeadingLaws
 pub mod KeyOrderLaws
 pub mod ApartLaws
 pub mod KindLaws
 pub mod PassLaws
 pub mod TriedLaws
+pub mod NextLaws
+pub mod MadeLaws
 pub mod PickedLaws
 pub mod AmongLaws
 pub mod NearestLaws

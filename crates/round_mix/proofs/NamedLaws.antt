@@ -1,5 +1,5 @@
 -- Rules that were sure, marked by one change after the other.
-use Rattle.std.proofs.Common.{◌≡◌, ℕ, zero, suc, true, false, cond, List, [], ◌∷◌, ◌++◌, map, refl, sym, ◌∙◌, subst, ap, inl, inr}
+use Rattle.std.proofs.Common.{◌≡◌, ℕ, zero, suc, ◌<◌, true, false, cond, List, [], ◌∷◌, ◌++◌, map, length, get_or, refl, sym, ◌∙◌, subst, ap, inl, inr, arith}
 use Rattle.std.specs.Prelude.{slice_get, slice_set, Option, Some, None}
 use Rattle.std.specs.Option.{option_map_or}
 use Rattle.std.specs.List.{AllByRecursion}
@@ -22,7 +22,7 @@ use Rattle.round_mix.specs.declared.Mark.TheVariants.{Sure, Possible, Replaced}
 use Rattle.round_mix.specs.declared.MarkedRule.{MarkedRule}
 
 -- a change behind others is found where none of those names the key
-found_last : (before : List Change) (c : Change) (r : Rule) → change_of before r ≡ None → key_eq (key_named c) r.key ≡ true → change_of (before ++ c ∷ []) r ≡ Some c
+pub found_last : (before : List Change) (c : Change) (r : Rule) → change_of before r ≡ None → key_eq (key_named c) r.key ≡ true → change_of (before ++ c ∷ []) r ≡ Some c
 found_last [] c r none named = cond-true (key_eq (key_named c) r.key) (Some c) None named
 found_last (d ∷ ds) c r none named =
     elim (key_eq (key_named d) r.key) as (λ b. cond b (Some d) (change_of ds r) ≡ None → cond b (Some d) (change_of (ds ++ c ∷ []) r) ≡ Some c) [
@@ -55,7 +55,7 @@ unmarked (Some (Insert s r)) e = absurd (let f : Possible ≡ Sure = e in cc)
 unmarked (Some (Delete s r)) e = absurd (let f : Possible ≡ Sure = e in cc)
 unmarked (Some (Replace s r)) e = absurd (let f : Replaced r.action ≡ Sure = e in cc)
 
-names_key : (c : Change) (r : Rule) → names c r ≡ true → key_named c ≡ r.key
+pub names_key : (c : Change) (r : Rule) → names c r ≡ true → key_named c ≡ r.key
 names_key (Insert s q) r e = key_eq-true q.key r.key e
 names_key (Delete s q) r e = key_eq-true q.key r.key (and_parts (key_eq q.key r.key) (action_eq q.action r.action) e).0
 names_key (Replace s q) r e = key_eq-true q.key r.key e
@@ -63,7 +63,7 @@ names_key (Replace s q) r e = key_eq-true q.key r.key e
 unchanged : (before : List Change) (c : Change) (r : Rule) → ¬ (key_named c ≡ r.key) → marked before r ≡ marked (before ++ c ∷ []) r
 unchanged before c r other = ap (λ (o : Option Change). with_mark r (option_map_or mark_by o Sure)) (sym (found_before before c r (key_ne (key_named c) r.key other)))
 
-all_unchanged : (before : List Change) (c : Change) (rs : List Rule) → ¬ IsIn (key_named c) (keys_of rs) → map (marked before) rs ≡ map (marked (before ++ c ∷ [])) rs
+pub all_unchanged : (before : List Change) (c : Change) (rs : List Rule) → ¬ IsIn (key_named c) (keys_of rs) → map (marked before) rs ≡ map (marked (before ++ c ∷ [])) rs
 all_unchanged before c [] other = refl
 all_unchanged before c (r ∷ rs) other =
     ap (λ (m : MarkedRule). m ∷ map (marked before) rs) (unchanged before c r (λ e. other (inl e)))
@@ -99,6 +99,12 @@ module _ (before : List Change) (r : Rule) where
       ap (λ (m : MarkedRule). m ∷ slice_set (map (marked before) rs) i (with_mark r (mark_by c)))
       (unchanged before c q (λ e. distinct.0 (subst (λ k. IsIn k (keys_of rs)) e behind)))
       ∙ ap (λ (ms : List MarkedRule). marked (before ++ c ∷ []) q ∷ ms) (mark_put c rs i distinct.1 named at)
+
+-- a member by its position
+pub mark_at : (ms : List MarkedRule) (i : ℕ) (m : MarkedRule) → i < length ms → m ≡ get_or ms i m → slice_get ms i ≡ Some m
+mark_at [] i m within is = absurd (omega arith)
+mark_at (n ∷ ms) zero m within is = ap Some (sym is)
+mark_at (n ∷ ms) (suc i) m within is = mark_at ms i m (omega arith) is
 
 -- sure rules are marked by no changes
 pub none_marked : (ms : List MarkedRule) → AllByRecursion (λ m. m.mark ≡ Sure) ms → AreMarked (rules_of ms) [] ms

@@ -1,4 +1,4 @@
--- One change over what is prepared for a table alone.
+-- One change over what is prepared for a table alone, and given up.
 use Rattle.std.proofs.Common.{◌≡◌, ℕ, ◌+◌, ◌≤◌, true, false, cond, not, List, [], ◌∷◌, ◌++◌, map, length, refl, sym, ◌∙◌, subst, ap, inl, inr, arith}
 use Rattle.std.specs.Prelude.{◌==◌, filter, nat_lt, Bool, Option, Some, None, IfSome, IsSomeAnd, IsPermutation}
 use Rattle.std.specs.Option.{option_map_or}
@@ -18,8 +18,8 @@ use Rattle.flow_rules.specs.declared.rules.Key.{Key}
 use Rattle.flow_rules.specs.declared.rules.Rule.{Rule}
 use Rattle.flow_rules.proofs.DistinctLaws.{keys_moved, flips}
 use Rattle.flow_rules.proofs.OverlapLaws.{meet_in, meet_out}
-use Rattle.flow_rules.proofs.KeyLaws.{key_eq-true, key_eq-refl, key_ne}
-use Rattle.update_model.specs.Changes.{AppliesTo, rules_after_change, rules_after}
+use Rattle.flow_rules.proofs.KeyLaws.{key_eq-refl, key_ne}
+use Rattle.update_model.specs.Changes.{AppliesTo, rules_after}
 use Rattle.update_model.specs.Mixtures.{is_insert, is_delete}
 use Rattle.update_model.specs.declared.Change.{Change}
 use Rattle.update_model.specs.declared.Change.TheVariants.{Insert, Delete, Replace}
@@ -29,7 +29,7 @@ use Rattle.update_model.proofs.MatchLaws.{some_filter}
 use Rattle.round_mix.specs.Marks.{mark_by, marked, all_rules, marked_rules, rules_of}
 use Rattle.round_mix.specs.Named.{with_mark}
 use Rattle.round_mix.specs.Prepared.{AreGood, AreClear, IsFalling, IsPrepared}
-use Rattle.round_mix.specs.Tried.{settled, rule_after, put_in, marked_where, without, is_refused, tried, given_up, kept}
+use Rattle.round_mix.specs.Tried.{settled, rule_after, put_in, marked_where, without, is_refused, tried, given_up, settled_where, kept}
 use Rattle.round_mix.specs.Nearest.{patterns_in}
 use Rattle.round_mix.specs.declared.Mark.{Mark}
 use Rattle.round_mix.specs.declared.Mark.TheVariants.{Sure, Possible, Replaced}
@@ -77,7 +77,7 @@ module _ {A : Type 0} where
       subst (IsPermutation (x ∷ xs)) (sym e) (IsPermutation-trans (x ∷ xs) (x ∷ (front ++ back)) (front ++ x ∷ back) (IsPermutation-cons x xs (front ++ back) rest)
       (IsPermutation-sym (front ++ x ∷ back) (x ∷ (front ++ back)) (IsPermutation-middle front x back)))
 
-filter_moved : (p : Rule → Bool) (xs ys : List Rule) → IsDistinct (keys_of xs) → IsPermutation xs ys → IsPermutation (filter p xs) (filter p ys)
+pub filter_moved : (p : Rule → Bool) (xs ys : List Rule) → IsDistinct (keys_of xs) → IsPermutation xs ys → IsPermutation (filter p xs) (filter p ys)
 filter_moved p xs ys distinct moved =
     let both = same_filter p xs ys (λ z. (λ i. in_permutation ys xs z (IsPermutation-sym xs ys moved) i, λ i. in_permutation xs ys z moved i)) in
     same_moved (filter p xs) (filter p ys) (one xs distinct) (one ys (keys_moved (keys_of xs) (keys_of ys) (IsPermutation-map (λ (r : Rule). r.key) xs ys moved) distinct))
@@ -87,7 +87,7 @@ filter_moved p xs ys distinct moved =
     one rs d = distinct_members (λ (r : Rule). r.key) (filter p rs) (distinct_some (λ (r : Rule). r.key) (filter p rs) rs (some_filter p rs) d)
 
 -- what is prepared, by the rules in their order
-marks_are : (table : List Rule) (cs : List Change) (marks : List MarkedRule) → IsPrepared table cs marks → marks ≡ map (marked cs) (rules_of marks)
+pub marks_are : (table : List Rule) (cs : List Change) (marks : List MarkedRule) → IsPrepared table cs marks → marks ≡ map (marked cs) (rules_of marks)
 marks_are table cs marks prepared =
     go marks (each_from_in (λ m. m ≡ marked cs m.rule) marks (λ m i.
     (marked_from table cs prepared.good.applies prepared.good.distinct m (in_permutation (marked_rules table cs) marks m prepared.rules i)).0))
@@ -96,25 +96,25 @@ marks_are table cs marks prepared =
     go [] h = refl
     go (m ∷ ms) h = ap (λ (n : MarkedRule). n ∷ ms) h.0 ∙ ap (λ (ns : List MarkedRule). marked cs m.rule ∷ ns) (go ms h.1)
 
-rules_moved : (table : List Rule) (cs : List Change) (marks : List MarkedRule) → IsPrepared table cs marks → IsPermutation (all_rules table cs) (rules_of marks)
+pub rules_moved : (table : List Rule) (cs : List Change) (marks : List MarkedRule) → IsPrepared table cs marks → IsPermutation (all_rules table cs) (rules_of marks)
 rules_moved table cs marks prepared =
     subst (λ (rs : List Rule). IsPermutation rs (rules_of marks)) (rules_of-marked cs (all_rules table cs))
     (IsPermutation-map (λ (m : MarkedRule). m.rule) (marked_rules table cs) marks prepared.rules)
 
-prepared_of : (table : List Rule) (cs : List Change) (rs : List Rule) → AreGood table cs → AreClear table cs → IsPermutation (all_rules table cs) rs
+pub prepared_of : (table : List Rule) (cs : List Change) (rs : List Rule) → AreGood table cs → AreClear table cs → IsPermutation (all_rules table cs) rs
     → IsFalling (map (marked cs) rs) → IsPrepared table cs (map (marked cs) rs)
 prepared_of table cs rs good clear moved falling =
     record { good = good; clear = clear; rules = IsPermutation-map (marked cs) (all_rules table cs) rs moved; falling = falling }
 
 -- all mixtures are clear where the table's rules and the inserted ones are
-clear_all : (table : List Rule) (cs : List Change) → IsTable table → AreGood table cs → IsClear (all_rules table cs) → AreClear table cs
+pub clear_all : (table : List Rule) (cs : List Change) → IsTable table → AreGood table cs → IsClear (all_rules table cs) → AreClear table cs
 clear_all table cs is_table good clear =
     clear_from_free table cs is_table good (λ m n i j clash.
     let (e, k) = marked_from table cs good.applies good.distinct m i in
     let (f, l) = marked_from table cs good.applies good.distinct n j in
     e ∙ ap (marked cs) (clear clash.header m.rule n.rule k l clash.first clash.second clash.priority) ∙ sym f)
 
-clear_of : (table : List Rule) (cs : List Change) → AreClear table cs → IsClear (all_rules table cs)
+pub clear_of : (table : List Rule) (cs : List Change) → AreClear table cs → IsClear (all_rules table cs)
 clear_of table cs clear = clear (all_rules table cs) (all_mixed table cs)
 
 pub clear_none : (table : List Rule) → IsClear table → AreClear table []
@@ -134,7 +134,7 @@ alone_of table rs clear moved falling =
     (subst (λ (xs : List Rule). IsPermutation xs rs) (sym (append-nil table)) moved) falling
 
 -- priorities alone decide the order
-falling_by : (f g : Rule → MarkedRule) → ((q : Rule) → (g q).rule.key.priority ≡ (f q).rule.key.priority) → (rs : List Rule) → IsFalling (map f rs) → IsFalling (map g rs)
+pub falling_by : (f g : Rule → MarkedRule) → ((q : Rule) → (g q).rule.key.priority ≡ (f q).rule.key.priority) → (rs : List Rule) → IsFalling (map f rs) → IsFalling (map g rs)
 falling_by f g same [] h = tt
 falling_by f g same (q ∷ rs) h = (
   each_map g (λ n. n.rule.key.priority ≤ (g q).rule.key.priority) rs
@@ -144,7 +144,7 @@ falling_by f g same (q ∷ rs) h = (
   falling_by f g same rs h.1,
 )
 
-falling_filter : (p : MarkedRule → Bool) (ms : List MarkedRule) → IsFalling ms → IsFalling (filter p ms)
+pub falling_filter : (p : MarkedRule → Bool) (ms : List MarkedRule) → IsFalling ms → IsFalling (filter p ms)
 falling_filter p [] h = tt
 falling_filter p (m ∷ ms) h =
     elim (p m) as (λ b. IsFalling (cond b (m ∷ filter p ms) (filter p ms))) [
@@ -152,7 +152,7 @@ falling_filter p (m ∷ ms) h =
       | false ↦ falling_filter p ms h.1
     ]
 
-remap : {A B C : Type 0} (f : A → B) (t : B → C) (g : A → C) → ((x : A) → t (f x) ≡ g x) → (xs : List A) → map t (map f xs) ≡ map g xs
+pub remap : {A B C : Type 0} (f : A → B) (t : B → C) (g : A → C) → ((x : A) → t (f x) ≡ g x) → (xs : List A) → map t (map f xs) ≡ map g xs
 remap f t g same [] = refl
 remap f t g same (x ∷ xs) = ap (λ y. y ∷ map t (map f xs)) (same x) ∙ ap (λ ys. g x ∷ ys) (remap f t g same xs)
 
@@ -195,7 +195,7 @@ module _ (table : List Rule) (c : Change) (none : all_rules table (c ∷ []) ≡
       here_at q false e = by_one c q false e
 
 -- the rule that a replace puts in the place of that with its key
-abbrev replaced : Rule → Rule → Rule
+abbrev pub replaced : Rule → Rule → Rule
 replaced r q = cond (key_eq q.key r.key) r q
 
 -- the rule of the change's key is taken out
@@ -226,7 +226,7 @@ out table after c marks is_table left clear prepared =
     (subst IsFalling is (falling_filter (λ m. not (key_eq m.rule.key (key_named c))) marks prepared.falling)))
 
 -- a rule of a new key stays alone
-others_stay : (k : Key) (rs : List Rule) → ¬ IsIn k (keys_of rs) → filter (λ q. not (key_eq q.key k)) rs ≡ rs
+pub others_stay : (k : Key) (rs : List Rule) → ¬ IsIn k (keys_of rs) → filter (λ q. not (key_eq q.key k)) rs ≡ rs
 others_stay k [] absent = refl
 others_stay k (q ∷ rs) absent =
     cond-true (not (key_eq q.key k)) (q ∷ filter (λ x. not (key_eq x.key k)) rs) (filter (λ x. not (key_eq x.key k)) rs)
@@ -234,7 +234,7 @@ others_stay k (q ∷ rs) absent =
     ∙ ap (λ (xs : List Rule). q ∷ xs) (others_stay k rs (λ i. absent (inr i)))
 
 -- a marked rule put among others
-put_moved : (m : MarkedRule) (ms : List MarkedRule) → IsPermutation (m ∷ ms) (put_in m ms)
+pub put_moved : (m : MarkedRule) (ms : List MarkedRule) → IsPermutation (m ∷ ms) (put_in m ms)
 put_moved m [] = IsPermutation-refl (m ∷ [])
 put_moved m (n ∷ ns) =
     elim (nat_lt n.rule.key.priority m.rule.key.priority) as (λ b. IsPermutation (m ∷ n ∷ ns) (cond b (m ∷ n ∷ ns) (n ∷ put_in m ns))) [
@@ -251,7 +251,7 @@ each_put P m (n ∷ ns) this h =
       | false ↦ (h.0, each_put P m ns this h.1)
     ]
 
-put_falling : (m : MarkedRule) (ms : List MarkedRule) → IsFalling ms → IsFalling (put_in m ms)
+pub put_falling : (m : MarkedRule) (ms : List MarkedRule) → IsFalling ms → IsFalling (put_in m ms)
 put_falling m [] h = (tt, tt)
 put_falling m (n ∷ ns) h =
     elim (nat_lt n.rule.key.priority m.rule.key.priority) as (λ b. nat_lt n.rule.key.priority m.rule.key.priority ≡ b → IsFalling (cond b (m ∷ n ∷ ns) (n ∷ put_in m ns))) [
@@ -275,13 +275,13 @@ marked_insert c r (q ∷ table) named mark absent =
     ∙ ap (λ (ms : List MarkedRule). with_mark q Sure ∷ ms) (marked_insert c r table named mark (λ i. absent (inr i)))
 
 -- keys clash exactly where the rules do
-clash_from : (a b : Rule) → keys_clash a.key b.key ≡ true → IsClash a b
+pub clash_from : (a b : Rule) → keys_clash a.key b.key ≡ true → IsClash a b
 clash_from a b e =
     let (same, meet) = and_parts (a.key.priority == b.key.priority) (patterns_meet a.key.pattern b.key.pattern) e in
     let (h, first, second) = meet_in a.key.pattern b.key.pattern meet in
     record { priority = eqb-true a.key.priority b.key.priority same; header = h; first = first; second = second }
 
-clash_to : (a b : Rule) → IsClash a b → keys_clash a.key b.key ≡ true
+pub clash_to : (a b : Rule) → IsClash a b → keys_clash a.key b.key ≡ true
 clash_to a b clash =
     and_from (a.key.priority == b.key.priority) (patterns_meet a.key.pattern b.key.pattern) (eq-eqb a.key.priority b.key.priority clash.priority)
     (meet_out a.key.pattern b.key.pattern clash.header clash.first clash.second)
@@ -302,7 +302,7 @@ module _ (table : List Rule) (marks : List MarkedRule) where
   alone_clear prepared = subst IsClear (append-nil table) (clear_of table [] prepared.clear)
 
   -- with a rule that clashes with none of a clear table it is clear
-  clear_more : (r : Rule) → IsClear table → ((q : Rule) → IsIn q table → ¬ IsClash q r) → IsClear (table ++ r ∷ [])
+  pub clear_more : (r : Rule) → IsClear table → ((q : Rule) → IsIn q table → ¬ IsClash q r) → IsClear (table ++ r ∷ [])
   clear_more r clear apart h a b i j over_a over_b same =
       elim (in_append_cases a table (r ∷ []) i) [
         | inl k ↦ elim (in_append_cases b table (r ∷ []) j) [
@@ -360,50 +360,6 @@ module _ (table : List Rule) (marks : List MarkedRule) where
   returned (Delete s r) is_table prepared = back table (Delete s r) refl is_table marks prepared
   returned (Replace s r) is_table prepared = back table (Replace s r) refl is_table marks prepared
 
-  after_clear : (c : Change) → AreClear table (c ∷ []) → IsClear (rules_after_change c table)
-  after_clear c clear = clear (rules_after_change c table) (record { made = c ∷ []; some = inl (refl, tt); same = λ x. (λ i. i, λ i. i) })
-
-  -- what is kept is prepared for the table after the change
-  pub made : (c : Change) → IsTable table → IsPrepared table (c ∷ []) marks → IsPrepared (rules_after_change c table) [] (kept c marks)
-  made (Insert s r) is_table prepared =
-      let c = Insert s r in
-      let rs = rules_of marks in
-      let same = marks_are table (c ∷ []) marks prepared in
-      let is : map settled marks ≡ map (marked []) rs = ap (map settled) same ∙ remap (marked (c ∷ [])) settled (marked []) (λ q. here q (key_eq r.key q.key) refl) rs in
-      subst (IsPrepared (table ++ r ∷ []) []) (sym is)
-      (alone_of (table ++ r ∷ []) rs (after_clear c prepared.clear) (rules_moved table (c ∷ []) marks prepared)
-      (falling_by (marked (c ∷ [])) (marked []) (λ q. refl) rs (subst IsFalling same prepared.falling)))
-    where
-      here : (q : Rule) (b : Bool) → key_eq r.key q.key ≡ b → settled (marked (Insert s r ∷ []) q) ≡ with_mark q Sure
-      here q true e = ap settled (by_one (Insert s r) q true e)
-      here q false e = ap settled (by_one (Insert s r) q false e)
-  made (Delete s r) is_table prepared =
-      let p = λ (q : Rule). not (key_eq q.key r.key) in
-      out table (filter p table) (Delete s r) marks is_table (ap (filter p) (append-nil table)) (after_clear (Delete s r) prepared.clear) prepared
-  made (Replace s r) is_table prepared =
-      let c = Replace s r in
-      let rs = rules_of marks in
-      let same = marks_are table (c ∷ []) marks prepared in
-      let moved : IsPermutation table rs = subst (λ (xs : List Rule). IsPermutation xs rs) (append-nil table) (rules_moved table (c ∷ []) marks prepared) in
-      let twice : map (marked []) (map (replaced r) rs) ≡ map (λ q. with_mark (replaced r q) Sure) rs = remap (replaced r) (marked []) (λ q. with_mark (replaced r q) Sure) (λ q. refl) rs in
-      let is : map settled marks ≡ map (marked []) (map (replaced r) rs) =
-      ap (map settled) same ∙ remap (marked (c ∷ [])) settled (λ q. with_mark (replaced r q) Sure) (λ q. here q (key_eq r.key q.key) refl) rs ∙ sym twice in
-      subst (IsPrepared (map (replaced r) table) []) (sym is)
-      (alone_of (map (replaced r) table) (map (replaced r) rs) (after_clear c prepared.clear) (IsPermutation-map (replaced r) table rs moved)
-      (subst IsFalling (sym twice) (falling_by (marked (c ∷ [])) (λ q. with_mark (replaced r q) Sure) (λ q. order q (key_eq q.key r.key) refl) rs (subst IsFalling same prepared.falling))))
-    where
-      here : (q : Rule) (b : Bool) → key_eq r.key q.key ≡ b → settled (marked (Replace s r ∷ []) q) ≡ with_mark (replaced r q) Sure
-      here q true e =
-          ap settled (by_one (Replace s r) q true e)
-          ∙ ap (λ (k : Key). with_mark (record { key = k; action = r.action }) Sure) (sym (key_eq-true r.key q.key e))
-          ∙ ap (λ (x : Rule). with_mark x Sure) (sym (cond-true (key_eq q.key r.key) r q (flips q.key r.key ∙ e)))
-      here q false e =
-          ap settled (by_one (Replace s r) q false e) ∙ ap (λ (x : Rule). with_mark x Sure) (sym (cond-false (key_eq q.key r.key) r q (flips q.key r.key ∙ e)))
-
-      order : (q : Rule) (b : Bool) → key_eq q.key r.key ≡ b → (cond b r q).key.priority ≡ q.key.priority
-      order q true e = ap (λ (k : Key). k.priority) (sym (key_eq-true q.key r.key e))
-      order q false e = refl
-
 -- so few entries are needed
 without_few : (k : Key) (ms : List MarkedRule) → length (without k ms) ≤ length ms
 without_few k ms = let both = length-filter_both (λ (m : MarkedRule). not (key_eq m.rule.key k)) (λ m. not (not (key_eq m.rule.key k))) (λ m. refl) ms in omega arith
@@ -423,9 +379,9 @@ given_few (Delete s r) ms = let e = length-map ms (λ (m : MarkedRule). cond (ke
 given_few (Replace s r) ms = let e = length-map ms (λ (m : MarkedRule). cond (key_eq r.key m.rule.key) (with_mark m.rule Sure) m) in omega arith
 
 pub kept_few : (c : Change) (ms : List MarkedRule) → length (kept c ms) ≤ length ms
-kept_few (Insert s r) ms = let e = length-map ms settled in omega arith
+kept_few (Insert s r) ms = let e = length-map ms (λ (m : MarkedRule). cond (key_eq r.key m.rule.key) (settled m) m) in omega arith
 kept_few (Delete s r) ms = without_few r.key ms
-kept_few (Replace s r) ms = let e = length-map ms settled in omega arith
+kept_few (Replace s r) ms = let e = length-map ms (λ (m : MarkedRule). cond (key_eq r.key m.rule.key) (settled m) m) in omega arith
 
 -- what is prepared stays prepared while its marked rules change
 pub carried : (ready : Bool) (old new : List MarkedRule) (P Q : List MarkedRule → Type 0) → IsSomeAnd (cond ready (Some old) None) P → (P old → Q new)
@@ -461,6 +417,13 @@ settled_pattern (Replaced a) r = refl
 settled_pattern Sure r = refl
 settled_pattern Possible r = refl
 
+settled_patterns : (k : Key) (ms : List MarkedRule) → patterns_in (settled_where k ms) ≡ patterns_in ms
+settled_patterns k ms = map_patterns (λ m. cond (key_eq k m.rule.key) (settled m) m) (λ m. by (key_eq k m.rule.key) m) ms
+  where
+    by : (b : Bool) (m : MarkedRule) → (cond b (settled m) m).rule.key.pattern ≡ m.rule.key.pattern
+    by true m = settled_pattern m.mark m.rule
+    by false m = refl
+
 pub tried_patterns : (c : Change) (ms : List MarkedRule) → is_insert c ≡ false → patterns_in (tried c ms) ≡ patterns_in ms
 tried_patterns (Insert s r) ms off = absurd (both_ways true off refl)
 tried_patterns (Delete s r) ms off = marked_patterns r.key Possible ms
@@ -473,9 +436,9 @@ given_patterns (Replace s r) ms off = marked_patterns r.key Sure ms
 
 -- and one that isn't a delete once it is made
 pub kept_patterns : (c : Change) (ms : List MarkedRule) → is_delete c ≡ false → patterns_in (kept c ms) ≡ patterns_in ms
-kept_patterns (Insert s r) ms off = map_patterns settled (λ m. settled_pattern m.mark m.rule) ms
+kept_patterns (Insert s r) ms off = settled_patterns r.key ms
 kept_patterns (Delete s r) ms off = absurd (both_ways true off refl)
-kept_patterns (Replace s r) ms off = map_patterns settled (λ m. settled_pattern m.mark m.rule) ms
+kept_patterns (Replace s r) ms off = settled_patterns r.key ms
 
 pub begun_patterns : (c : Change) (old new : List MarkedRule) (b : Bool) → (b ≡ true → new ≡ tried c old) → (b ≡ false → new ≡ old) → is_insert c ≡ false → patterns_in new ≡ patterns_in old
 begun_patterns c old new true on off stays = ap patterns_in (on refl) ∙ tried_patterns c old stays

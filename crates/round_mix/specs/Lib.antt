@@ -7,6 +7,7 @@ pub mod Among
 pub mod Nearest
 pub mod Order
 pub mod Named
+pub mod Sorted
 pub mod Apart
 pub mod Tried
 pub mod Kinds

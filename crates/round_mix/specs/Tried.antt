@@ -1,5 +1,5 @@
--- One change over what is prepared for a table alone: what becomes of the marked rules.
-use Rattle.std.specs.Prelude.{Bool, false, cond, not, nat_lt, List, [], ◌∷◌, map, filter}
+-- Changes over what is prepared, one by one: what becomes of the marked rules.
+use Rattle.std.specs.Prelude.{◌≡◌, Bool, false, cond, not, nat_lt, List, [], ◌∷◌, map, filter}
 use Rattle.std.specs.List.{list_any}
 use Rattle.flow_rules.specs.Patterns.{key_eq}
 use Rattle.flow_rules.specs.Overlaps.{keys_clash}
@@ -7,7 +7,7 @@ use Rattle.flow_rules.specs.declared.rules.Key.{Key}
 use Rattle.flow_rules.specs.declared.rules.Rule.{Rule}
 use Rattle.update_model.specs.declared.Change.{Change}
 use Rattle.update_model.specs.declared.Change.TheVariants.{Insert, Delete, Replace}
-use Rattle.round_mix.specs.Named.{with_mark}
+use Rattle.round_mix.specs.Named.{with_mark, IsMarkedBy}
 use Rattle.round_mix.specs.declared.Mark.{Mark}
 use Rattle.round_mix.specs.declared.Mark.TheVariants.{Sure, Possible, Replaced}
 use Rattle.round_mix.specs.declared.MarkedRule.{MarkedRule}
@@ -57,8 +57,18 @@ given_up (Insert s r) marks = without r.key marks
 given_up (Delete s r) marks = marked_where r.key Sure marks
 given_up (Replace s r) marks = marked_where r.key Sure marks
 
+-- the marked rules with the change made that the mark of the rule of a key tells of
+abbrev pub settled_where : Key → List MarkedRule → List MarkedRule
+settled_where k marks = map (λ m. cond (key_eq k m.rule.key) (settled m) m) marks
+
 -- or made
 abbrev pub kept : Change → List MarkedRule → List MarkedRule
-kept (Insert s r) marks = map settled marks
+kept (Insert s r) marks = settled_where r.key marks
 kept (Delete s r) marks = without r.key marks
-kept (Replace s r) marks = map settled marks
+kept (Replace s r) marks = settled_where r.key marks
+
+-- one change more is marked: an insert is put where it clashes with none, and of another the rule that it names was sure and has its mark now
+abbrev pub IsTriedNext : Change → List MarkedRule → List MarkedRule → Type 0
+IsTriedNext (Insert s r) old new = (clashes_with r.key old ≡ false) × (new ≡ put_in (with_mark r Possible) old)
+IsTriedNext (Delete s r) old new = IsMarkedBy (Delete s r) old new
+IsTriedNext (Replace s r) old new = IsMarkedBy (Replace s r) old new

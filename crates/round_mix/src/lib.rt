@@ -6,7 +6,7 @@ ghost use Rattle.std.specs.Option.{ForSome};
 ghost use Rattle.path_walk.specs.Outcomes.{acted, header_at};
 ghost use Rattle.flow_rules.specs.Tables.{IsTable};
 ghost use Rattle.round_mix.specs.Faults.{IsFault};
-ghost use Rattle.update_model.specs.Changes.{AppliesTo, rules_after_change};
+ghost use Rattle.update_model.specs.Changes.{AppliesTo, rules_after, rules_after_change};
 ghost use Rattle.update_model.specs.Mixtures.{entries_needed, is_insert, is_delete};
 ghost use Rattle.round_mix.specs.Marks.{all_rules};
 ghost use Rattle.round_mix.specs.Found.{AreAllOutcomes};
@@ -20,6 +20,7 @@ mod apart;
 mod changes;
 mod clashes;
 mod kinds;
+mod leading;
 mod marking;
 mod named;
 mod nearest;
@@ -27,7 +28,7 @@ mod sorting;
 mod tried;
 
 use apart::sort_apart;
-use changes::first_bad;
+use changes::{MANY_CHANGES, first_bad};
 use clashes::least_clash;
 use flow_rules::{Action, Rule, Table, TupleSpace};
 use marking::fill;
@@ -41,7 +42,7 @@ use std::alloc::Global;
 use std::marker::Model;
 use table_index::Index;
 use topology::Net;
-use tried::{make, take_back, try_change};
+use tried::{make, take_back, try_change, try_next};
 use update_model::Change;
 
 /// In which mixtures a rule stands: in all, in some, or in all with its action or another.
@@ -309,7 +310,7 @@ fn mix(table: &Table, changes: &[Change], marks: &mut Vec<MarkedRule>) -> Result
     ensures err { IfErr result (λ fault. IsFault table.now.rules changes.now fault) }
     ensures room { vec_capacity marks.old ≤ vec_capacity marks.new }
 {
-    if let Some(i) = first_bad(table, changes) {
+    if let Some(i) = first_bad(table, changes, marks) {
         return Err(MixFault::BadChange(i));
     }
     let rules = table.rules();
@@ -324,9 +325,6 @@ fn mix(table: &Table, changes: &[Change], marks: &mut Vec<MarkedRule>) -> Result
     sort_by_key(marks);
     Ok(())
 }
-
-/// From so many changes on their keys are looked up. Fewer are compared with each rule, which is faster.
-const MANY_CHANGES: usize = 16;
 
 /// Marks and sorts the rules of a table and the inserted ones, or says why not: many changes by their keys.
 fn prepare(table: &Table, changes: &[Change], marks: &mut Vec<MarkedRule>) -> Result<(), MixFault>
@@ -375,8 +373,9 @@ impl Mixed {
     ///
     /// It sorts the rules by their keys; where those of one priority don't all test the same beside the address, it sorts
     /// them three times more at most, by what two kinds of them both test. So it takes n log n for n rules. 16 changes and
-    /// more are looked up among the sorted rules. Fewer, and those of a round that it refuses, are each compared with all
-    /// rules and all changes; and where it answers that a mixture is unclear, it compares each two rules.
+    /// more are looked up among the sorted rules, and so is the first bad one of them, for which it may sort log n times.
+    /// Fewer are each compared with all rules and all changes. Where it answers that a mixture is unclear, each change is
+    /// compared with each rule, and each two rules.
     pub fn load(&mut self, table: &Table, changes: &[Change]) -> Result<(), MixFault>
         requires { entries_needed table.now.rules changes.now ≤ self.old.room }
         ensures ok { OnOk result (IsSomeAnd self.new.prepared
@@ -429,11 +428,16 @@ impl Mixed {
         take_back(&mut self.rules, change);
     }
 
-    /// Prepares a switch that is prepared for one change of a table for the table after it.
+    /// Prepares a switch that is prepared for one change of a table, and maybe others, for the table after it.
     pub fn keep(&mut self, change: &Change)
         ensures after { (table : List Rule) → IsTable table
             → IsSomeAnd self.old.prepared (IsPrepared table (change.now ∷ []))
             → IsSomeAnd self.new.prepared (IsPrepared (rules_after_change change.now table) []) }
+        // Where it is prepared for other changes besides, it stays so.
+        ensures first { (table : List Rule) (changes : List Change) → IsTable table
+            → IsSomeAnd self.old.prepared (IsPrepared table (change.now ∷ changes))
+            → IsSomeAnd self.new.prepared
+            (IsPrepared (rules_after_change change.now table) changes) }
         ensures few { IfSome self.old.prepared
             (λ old. IsSomeAnd self.new.prepared (λ marks. length marks ≤ length old)) }
         ensures room { self.old.room ≤ self.new.room }
@@ -441,6 +445,60 @@ impl Mixed {
         self.aimed = None;
         self.is_indexed = stays_indexed(self.is_indexed, change.is_delete());
         make(&mut self.rules, change);
+    }
+
+    /// Prepares a switch for one change more than those of a table for which it is prepared, if that is good behind them and
+    /// every mixture is clear. If it isn't, what is prepared stays.
+    fn begin_next(&mut self, change: &Change) -> bool
+        requires { IsSomeAnd self.old.prepared (λ marks. length marks + 1 ≤ self.old.room) }
+        ensures yes { (table : List Rule) (changes : List Change) → IsTable table
+            → IsSomeAnd self.old.prepared (IsPrepared table changes)
+            → result ≡ true
+            → IsSomeAnd self.new.prepared (IsPrepared table (changes ++ change.now ∷ [])) }
+        ensures few { IfSome self.old.prepared
+            (λ old. IsSomeAnd self.new.prepared (λ marks. length marks ≤ length old + 1)) }
+        ensures room { self.old.room ≤ self.new.room }
+    {
+        self.aimed = None;
+        self.is_indexed = stays_indexed(self.is_indexed, change.is_insert());
+        try_next(&mut self.rules, change)
+    }
+
+    /// Prepares a switch that is prepared for a table alone for changes of it, if they are good and every mixture is clear. If
+    /// they aren't, nothing is prepared then. It looks at each prepared rule twice at most for each change, sorts nothing, and
+    /// takes no memory.
+    pub fn begin_all(&mut self, changes: &[Change]) -> bool
+        requires { IsSomeAnd self.old.prepared
+            (λ marks. length marks + length changes.now ≤ self.old.room) }
+        ensures yes { (table : List Rule) → IsTable table
+            → IsSomeAnd self.old.prepared (IsPrepared table [])
+            → result ≡ true → IsSomeAnd self.new.prepared (IsPrepared table changes.now) }
+        ensures few { result ≡ true → IfSome self.old.prepared (λ old. IsSomeAnd self.new.prepared
+            (λ marks. length marks ≤ length old + length changes.now)) }
+        ensures room { self.old.room ≤ self.new.room }
+    {
+        for change in changes {
+            if !self.begin_next(change) {
+                self.is_prepared = false;
+                return false;
+            }
+        }
+        true
+    }
+
+    /// Prepares a switch that is prepared for changes of a table for the table after them. It looks at each prepared rule once
+    /// for each change.
+    pub fn keep_all(&mut self, changes: &[Change])
+        ensures after { (table : List Rule) → IsTable table
+            → IsSomeAnd self.old.prepared (IsPrepared table changes.now)
+            → IsSomeAnd self.new.prepared (IsPrepared (rules_after changes.now table) []) }
+        ensures few { IfSome self.old.prepared
+            (λ old. IsSomeAnd self.new.prepared (λ marks. length marks ≤ length old)) }
+        ensures room { self.old.room ≤ self.new.room }
+    {
+        for change in changes {
+            self.keep(change);
+        }
     }
 
     /// The need of the round at the switch: the entries before it and its inserts.

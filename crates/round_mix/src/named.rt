@@ -1,5 +1,5 @@
 //! Many changes of one switch: each marks the rule that it names, which is looked up among the sorted ones.
-ghost use Rattle.std.specs.Prelude.{◌≡◌, ◌<◌, ◌≤◌, [], IsTrue, IfSome, length, slice_get, slice_set, vec_len, vec_capacity};
+ghost use Rattle.std.specs.Prelude.{◌≡◌, ◌<◌, ◌≤◌, [], true, false, IsTrue, IfSome, length, slice_get, slice_set, vec_len, vec_capacity};
 ghost use Rattle.std.specs.List.{AllByRecursion};
 ghost use Rattle.std.specs.Option.{option_map_or};
 ghost use Rattle.net_base.specs.Members.{IsDistinct};
@@ -42,6 +42,26 @@ fn place_of(marks: &[MarkedRule], change: &Change) -> Option<usize>
     }
 }
 
+/// Whether a marked rule is sure and named by a change.
+fn is_named(marked: &MarkedRule, change: &Change) -> bool
+    ensures sure { IsTrue result → marked.now.mark ≡ Mark.Sure }
+    ensures named { IsTrue result → names change.now marked.now.rule ≡ true }
+{
+    matches!(marked.mark, Mark::Sure) && names(change, &marked.rule)
+}
+
+/// Where the rule stands that a change names, if it is sure, by a look at each.
+fn seek(marks: &[MarkedRule], change: &Change) -> Option<usize>
+    ensures { IfSome result (IsPlaceOf change.now marks.now) }
+{
+    for i in 0..marks.len() {
+        if is_named(&marks[i], change) {
+            return Some(i);
+        }
+    }
+    None
+}
+
 /// Gives the rule at a position another mark.
 fn set_mark(marks: &mut Vec<MarkedRule>, i: usize, mark: Mark)
     requires { i < vec_len marks.old }
@@ -65,9 +85,22 @@ fn put_mark(marks: &mut Vec<MarkedRule>, change: &Change) -> bool
     true
 }
 
+/// Marks the rule that a change names, if it stands in whatever order and is sure.
+pub fn mark_named(marks: &mut Vec<MarkedRule>, change: &Change) -> bool
+    ensures marked { IsTrue result → IsMarkedBy change.now marks.old.items marks.new.items }
+    ensures no { result ≡ false → marks.new.items ≡ marks.old.items }
+    ensures room { vec_capacity marks.new ≡ vec_capacity marks.old }
+{
+    let Some(i) = seek(marks, change) else {
+        return false;
+    };
+    set_mark(marks, i, mark_by(change));
+    true
+}
+
 /// Marks sorted rules, all of them sure before, by changes. It stops at a change that names none of them, or one that an
 /// earlier change names.
-fn put_marks(marks: &mut Vec<MarkedRule>, changes: &[Change]) -> bool
+pub fn put_marks(marks: &mut Vec<MarkedRule>, changes: &[Change]) -> bool
     requires sure { AllByRecursion (λ m. m.mark ≡ Mark.Sure) marks.old.items }
     requires distinct { IsDistinct (keys_of (rules_of marks.old.items)) }
     ensures marked { IsTrue result → AreMarked (rules_of marks.old.items) changes.now
@@ -80,6 +113,19 @@ fn put_marks(marks: &mut Vec<MarkedRule>, changes: &[Change]) -> bool
         }
     }
     true
+}
+
+/// How many of the first changes name, one after the other, a rule among the sorted ones that no earlier one names. It marks these.
+pub fn count_marked(marks: &mut Vec<MarkedRule>, changes: &[Change]) -> usize
+    ensures within { result ≤ length changes.now }
+    ensures room { vec_capacity marks.new ≡ vec_capacity marks.old }
+{
+    for i in 0..changes.len() {
+        if !put_mark(marks, &changes[i]) {
+            return i;
+        }
+    }
+    changes.len()
 }
 
 /// Prepares a table and changes by looking up each change's key among the sorted rules, in time n log n. It answers false where the changes aren't good or some mixture isn't clear, without a reason.

@@ -1,10 +1,11 @@
-//! One change over what is prepared for a table alone: without memory, and without sorting.
-ghost use Rattle.std.specs.Prelude.{◌≡◌, ◌<◌, ◌≤◌, true, false, cond, map, not, length, insert, vec_len, vec_capacity};
+//! Changes over what is prepared, one by one: without memory, and without sorting.
+ghost use Rattle.std.specs.Prelude.{◌≡◌, ◌<◌, ◌≤◌, true, false, cond, not, length, insert, vec_len, vec_capacity};
 ghost use Rattle.flow_rules.specs.Patterns.{key_eq};
 ghost use Rattle.round_mix.specs.Named.{with_mark};
-ghost use Rattle.round_mix.specs.Tried.{settled, put_in, marked_where, without, is_refused, tried, given_up, kept, clashes_with};
+ghost use Rattle.round_mix.specs.Tried.{settled, put_in, marked_where, settled_where, without, is_refused, tried, given_up, kept, clashes_with, IsTriedNext};
 ghost use Rattle.round_mix.specs.declared.MarkedRule.{MarkedRule as MarkedRuleOf};
 
+use crate::named::mark_named;
 use crate::{Mark, MarkedRule};
 use flow_rules::{Key, Rule};
 use update_model::Change;
@@ -29,6 +30,15 @@ impl MarkedRule {
         }
         self.mark = Mark::Sure;
     }
+
+    /// Makes the change that the mark tells of, if it has the key.
+    fn settle_where(&mut self, key: &Key)
+        ensures { self.new ≡ cond (key_eq key.now self.old.rule.key) (settled self.old) self.old }
+    {
+        if key.is_same(&self.rule.key) {
+            self.settle();
+        }
+    }
 }
 
 /// Gives the rule of a key another mark.
@@ -40,12 +50,12 @@ fn mark_key(marks: &mut [MarkedRule], key: &Key, mark: Mark)
     }
 }
 
-/// Makes the changes that the marks tell of.
-fn settle_all(marks: &mut [MarkedRule])
-    ensures { marks.new ≡ map settled marks.old }
+/// Makes the change that the mark of the rule of a key tells of.
+fn settle_key(marks: &mut [MarkedRule], key: &Key)
+    ensures { marks.new ≡ settled_where key.now marks.old }
 {
     for marked in marks.iter_mut() {
-        marked.settle();
+        marked.settle_where(key);
     }
 }
 
@@ -131,6 +141,20 @@ pub fn try_change(marks: &mut Vec<MarkedRule>, change: &Change) -> bool
     }
 }
 
+/// Marks the rule that a change more names, if it is sure, or puts the one that it inserts, unless that clashes with another.
+pub fn try_next(marks: &mut Vec<MarkedRule>, change: &Change) -> bool
+    requires { vec_len marks.old < vec_capacity marks.old }
+    ensures yes { result ≡ true → IsTriedNext change.now marks.old.items marks.new.items }
+    ensures no { result ≡ false → marks.new.items ≡ marks.old.items }
+    ensures room { vec_capacity marks.old ≤ vec_capacity marks.new }
+{
+    match change {
+        Change::Insert(_, rule) => put_free(marks, rule),
+        Change::Delete(_, _) => mark_named(marks, change),
+        Change::Replace(_, _) => mark_named(marks, change),
+    }
+}
+
 /// Takes back what was marked or put for a change.
 pub fn take_back(marks: &mut Vec<MarkedRule>, change: &Change)
     ensures items { marks.new.items ≡ given_up change.now marks.old.items }
@@ -150,7 +174,7 @@ pub fn make(marks: &mut Vec<MarkedRule>, change: &Change)
 {
     match change {
         Change::Delete(_, rule) => take_out(marks, &rule.key),
-        Change::Insert(_, _) => settle_all(marks),
-        Change::Replace(_, _) => settle_all(marks),
+        Change::Insert(_, rule) => settle_key(marks, &rule.key),
+        Change::Replace(_, rule) => settle_key(marks, &rule.key),
     }
 }

@@ -15,10 +15,11 @@ use Rattle.round_tables.specs.PreparedTables.{IsMixed}
 use Rattle.round_tables.proofs.TrialLaws.{changes_here, changes_there}
 
 -- what is prepared for a table alone has room for one entry more
-pub room_for_one : (rules : List Rule) (mixed : MixedState) → IsMixed rules [] mixed → length rules + 1 ≤ mixed.room → IsSomeAnd mixed.prepared (λ marks. length marks < mixed.room)
-room_for_one rules mixed held room = go mixed.prepared held
+pub room_for_all : (rules : List Rule) (mixed : MixedState) (count : ℕ) → IsMixed rules [] mixed → length rules + count ≤ mixed.room
+    → IsSomeAnd mixed.prepared (λ marks. length marks + count ≤ mixed.room)
+room_for_all rules mixed count held room = go mixed.prepared held
   where
-    go : (o : Option (List MarkedRule)) → IsSomeAnd o (IsPrepared rules []) → IsSomeAnd o (λ marks. length marks < mixed.room)
+    go : (o : Option (List MarkedRule)) → IsSomeAnd o (IsPrepared rules []) → IsSomeAnd o (λ marks. length marks + count ≤ mixed.room)
     go None h = absurd h
     go (Some marks) h = let needed = prepared_needed rules [] marks h in omega arith
 

@@ -69,31 +69,26 @@ module _ (tables : List TableState) (lists : List ChangesState) (s : SwitchId) (
       ]
 
   -- the next switch is prepared
-  pub loaded_next : (unclear : Option SwitchId) → ((t : SwitchId) → t.0 ≢ s.0 → is_touched next t ≡ is_touched touched t) → IsLoadedTo tables lists s.0 touched mixes unclear
-      → IsMixed (rules_there tables s) (list_at lists s).changes (mix_at new s) → (is_touched next s ≡ false → length (list_at lists s).changes ≤ 1)
-      → IsLoadedTo tables lists (s.0 + 1) next new unclear
-  loaded_next unclear flags so_far here few =
+  pub loaded_next : (unclear : Option SwitchId) → IsLoadedTo tables lists s.0 mixes unclear
+      → IsMixed (rules_there tables s) (list_at lists s).changes (mix_at new s) → IsLoadedTo tables lists (s.0 + 1) new unclear
+  loaded_next unclear so_far here =
       record { good = good_next so_far.good (good_mixed (rules_there tables s) (list_at lists s).changes (mix_at new s) here); rest = rest unclear so_far.rest }
     where
-      rest : (unclear : Option SwitchId) → MatchOption unclear (AreMet tables lists s.0 touched mixes) (λ a. (a.0 < s.0) × IsUnclearAt tables lists a)
-          → MatchOption unclear (AreMet tables lists (s.0 + 1) next new) (λ a. (a.0 < s.0 + 1) × IsUnclearAt tables lists a)
+      rest : (unclear : Option SwitchId) → MatchOption unclear (AreMet tables lists s.0 mixes) (λ a. (a.0 < s.0) × IsUnclearAt tables lists a)
+          → MatchOption unclear (AreMet tables lists (s.0 + 1) new) (λ a. (a.0 < s.0 + 1) × IsUnclearAt tables lists a)
       rest None all = λ t less. elim (cases_lt t.0 s.0) [
-        | inl below ↦ (let had = all t below in (
-          subst (λ (m : MixedState). IsMixed (rules_there tables t) (list_at lists t).changes m) (sym (others t (omega arith))) had.0,
-          λ off. had.1 (sym (flags t (omega arith)) ∙ off),
-        ))
+        | inl below ↦ subst (λ (m : MixedState). IsMixed (rules_there tables t) (list_at lists t).changes m) (sym (others t (omega arith))) (all t below)
         | inr more ↦ (let e : s.0 ≡ t.0 = omega arith in
-            subst (λ (n : ℕ). IsMixed (rules_there tables (switch_n n)) (list_at lists (switch_n n)).changes (mix_at new (switch_n n))
-            × (is_touched next (switch_n n) ≡ false → length (list_at lists (switch_n n)).changes ≤ 1)) e (here, few))
+            subst (λ (n : ℕ). IsMixed (rules_there tables (switch_n n)) (list_at lists (switch_n n)).changes (mix_at new (switch_n n))) e here)
       ]
       rest (Some a) h = (omega (arith, h.0), h.1)
 
   -- the next switch is unclear
-  pub loaded_unclear : (unclear : Option SwitchId) (i j : ℕ) → IsLoadedTo tables lists s.0 touched mixes unclear → IsTable (rules_there tables s)
-      → IsAmbiguous (rules_there tables s) (list_at lists s).changes i j → IsLoadedTo tables lists (s.0 + 1) next new (Some (unwrap_or unclear s))
+  pub loaded_unclear : (unclear : Option SwitchId) (i j : ℕ) → IsLoadedTo tables lists s.0 mixes unclear → IsTable (rules_there tables s)
+      → IsAmbiguous (rules_there tables s) (list_at lists s).changes i j → IsLoadedTo tables lists (s.0 + 1) new (Some (unwrap_or unclear s))
   loaded_unclear unclear i j so_far table ambiguous = record { good = good_next so_far.good ambiguous.good; rest = rest unclear so_far.rest }
     where
-      rest : (unclear : Option SwitchId) → MatchOption unclear (AreMet tables lists s.0 touched mixes) (λ a. (a.0 < s.0) × IsUnclearAt tables lists a)
+      rest : (unclear : Option SwitchId) → MatchOption unclear (AreMet tables lists s.0 mixes) (λ a. (a.0 < s.0) × IsUnclearAt tables lists a)
           → ((unwrap_or unclear s).0 < s.0 + 1) × IsUnclearAt tables lists (unwrap_or unclear s)
       rest None all = (
         omega arith,
@@ -102,7 +97,7 @@ module _ (tables : List TableState) (lists : List ChangesState) (s : SwitchId) (
           j = j;
           table = table;
           ambiguous = ambiguous;
-          below = λ t less. clear_mixed (rules_there tables t) (list_at lists t).changes (mix_at mixes t) (all t less).0;
+          below = λ t less. clear_mixed (rules_there tables t) (list_at lists t).changes (mix_at mixes t) (all t less);
         },
       )
       rest (Some a) h = (omega (arith, h.0), h.1)

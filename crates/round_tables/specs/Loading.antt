@@ -18,11 +18,9 @@ use Rattle.round_tables.specs.declared.loading.RoundFault.TheVariants.{BadChange
 abbrev pub AreAlone : List TableState → ℕ → List Bool → List MixedState → Type 0
 AreAlone tables n touched mixes = (s : SwitchId) → n ≤ s.0 → is_touched touched s ≡ false → IsMixed (rules_there tables s) [] (mix_at mixes s)
 
--- each of the first n switches is prepared for its changes, and those that have more than one are to be prepared anew
-abbrev pub AreMet : List TableState → List ChangesState → ℕ → List Bool → List MixedState → Type 0
-AreMet tables lists n touched mixes =
-    (s : SwitchId) → s.0 < n → IsMixed (rules_there tables s) (list_at lists s).changes (mix_at mixes s)
-    × (is_touched touched s ≡ false → length (list_at lists s).changes ≤ 1)
+-- each of the first n switches is prepared for its changes
+abbrev pub AreMet : List TableState → List ChangesState → ℕ → List MixedState → Type 0
+AreMet tables lists n mixes = (s : SwitchId) → s.0 < n → IsMixed (rules_there tables s) (list_at lists s).changes (mix_at mixes s)
 
 -- a switch with a mixture that isn't clear, and none before it
 pub record IsUnclearAt (tables : List TableState) (lists : List ChangesState) (s : SwitchId) : Type 0 where
@@ -33,9 +31,9 @@ pub record IsUnclearAt (tables : List TableState) (lists : List ChangesState) (s
   pub below : (t : SwitchId) → t.0 < s.0 → AreClear (rules_there tables t) (list_at lists t).changes
 
 -- the changes are good at the first n switches, and each of these is prepared, or one is the first that is unclear
-pub record IsLoadedTo (tables : List TableState) (lists : List ChangesState) (n : ℕ) (touched : List Bool) (mixes : List MixedState) (unclear : Option SwitchId) : Type 0 where
+pub record IsLoadedTo (tables : List TableState) (lists : List ChangesState) (n : ℕ) (mixes : List MixedState) (unclear : Option SwitchId) : Type 0 where
   pub good : (s : SwitchId) → s.0 < n → AreGood (rules_there tables s) (list_at lists s).changes
-  pub rest : MatchOption unclear (AreMet tables lists n touched mixes) (λ s. (s.0 < n) × IsUnclearAt tables lists s)
+  pub rest : MatchOption unclear (AreMet tables lists n mixes) (λ s. (s.0 < n) × IsUnclearAt tables lists s)
 
 -- at the switch the change of that position among its changes is the first bad one, and at none before it is there a bad one
 pub record IsBadAt (tables : List TableState) (lists : List ChangesState) (s : SwitchId) (nth : ℕ) : Type 0 where
@@ -47,12 +45,11 @@ abbrev pub AreCounted : List ℕ → ℕ → List (List Change) → Type 0
 AreCounted counts n rounds =
     (s : SwitchId) (k : ℕ) → s.0 < length counts → k < n → length (changes_at s (round_after k rounds)) ≤ slice_index_or counts s.0 0
 
--- each switch is prepared for round k, and those that the round changes more than once are to be prepared anew
+-- each switch is prepared for round k
 pub record ArePrepared (u : Rollout) (k : ℕ) (p : PreparedState) : Type 0 where
   pub tables : rules_of_all p.tables ≡ tables_before u k
   pub lists : (s : SwitchId) → s.0 < switch_count u.net → (list_at p.changes s).changes ≡ changes_at s (round_after k u.rounds)
   pub each : (s : SwitchId) → s.0 < switch_count u.net → IsMixed (rules_at (tables_before u k) s) (changes_at s (round_after k u.rounds)) (mix_at p.mixes s)
-  pub few : (s : SwitchId) → is_touched p.touched s ≡ false → length (changes_at s (round_after k u.rounds)) ≤ 1
 
 -- the first bad change of round k: by switch, and then by its number
 pub record IsFirstBadChange (u : Rollout) (k : ℕ) (s : SwitchId) (i : ℕ) : Type 0 where

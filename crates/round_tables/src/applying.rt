@@ -9,7 +9,7 @@ ghost use Rattle.round_tables.specs.PreparedTables.{HoldsRounds, StandsBefore, I
 ghost use Rattle.round_tables.specs.Loading.{ArePrepared, AreWithin, insert_count};
 ghost use Rattle.round_tables.specs.ByKind.{deleted, replacing, inserts};
 
-use crate::changed::keep_at;
+use crate::changed::keep_all_at;
 use crate::gathering::SwitchChanges;
 use crate::loading::keeps_keys;
 use crate::prepared::PreparedTables;
@@ -132,22 +132,19 @@ fn change_all(tables: &mut Config, lists: &[SwitchChanges], rules: &mut Vec<Rule
     }
 }
 
-/// Prepares one of the switches, which is prepared for at most one change of its table, for the table after it.
-fn keep_few(mixes: &mut [Mixed], switch: SwitchId, table: &Table, changes: &[Change])
+/// Prepares one of the switches, which is prepared for changes of its table, for the table after them.
+fn keep_changes(mixes: &mut [Mixed], switch: SwitchId, table: &Table, changes: &[Change])
     requires within { switch.0 < length mixes.old }
-    requires few { length changes.now ≤ 1 }
     requires prepared { IsMixed table.now.rules changes.now (mix_at mixes.old switch) }
     ensures after { IsMixed (rules_after changes.now table.now.rules) [] (mix_at mixes.new switch) }
     ensures others { (t : Switch) → t.0 ≢ switch.0 → mix_at mixes.new t ≡ mix_at mixes.old t }
     ensures room { (mix_at mixes.old switch).room ≤ (mix_at mixes.new switch).room }
 {
     keeps_keys(table);
-    if let [change] = changes {
-        keep_at(mixes, switch, change);
-    }
+    keep_all_at(mixes, switch, changes);
 }
 
-/// Prepares a switch, if it isn't touched and so is prepared for at most one change of its table, for the table after it.
+/// Prepares a switch, if it isn't touched, for the table after its changes.
 fn keep_switch(
     mixes: &mut [Mixed],
     touched: &[bool],
@@ -159,8 +156,6 @@ fn keep_switch(
     requires mixes { length mixes.old ≡ length tables.now }
     requires touched { length touched.now ≡ length tables.now }
     requires lists { length lists.now ≡ length tables.now }
-    requires few { is_touched touched.now switch ≡ false
-        → length (list_at lists.now switch).changes ≤ 1 }
     requires prepared { IsMixed (rules_there tables.now switch) (list_at lists.now switch).changes
         (mix_at mixes.old switch) }
     ensures after { is_touched touched.now switch ≡ false
@@ -173,7 +168,7 @@ fn keep_switch(
         return;
     }
     let changes = lists[switch.0 as usize].list();
-    keep_few(mixes, switch, tables.table(switch), changes);
+    keep_changes(mixes, switch, tables.table(switch), changes);
 }
 
 /// Prepares each switch that isn't touched for its table after its changes.
@@ -182,8 +177,6 @@ fn keep_all(mixes: &mut [Mixed], touched: &[bool], tables: &Config, lists: &[Swi
     requires mixes { length mixes.old ≡ length tables.now }
     requires touched { length touched.now ≡ length tables.now }
     requires lists { length lists.now ≡ length tables.now }
-    requires once { (s : Switch) → is_touched touched.now s ≡ false
-        → length (list_at lists.now s).changes ≤ 1 }
     requires prepared { (s : Switch) → s.0 < length tables.now
         → IsMixed (rules_there tables.now s) (list_at lists.now s).changes (mix_at mixes.old s) }
     ensures after { (s : Switch) → s.0 < length tables.now → is_touched touched.now s ≡ false
@@ -197,8 +190,8 @@ fn keep_all(mixes: &mut [Mixed], touched: &[bool], tables: &Config, lists: &[Swi
 }
 
 impl PreparedTables {
-    /// Makes the changes of round k, for which all switches are prepared. Each switch that it changes more than once is to
-    /// be prepared anew. The changes at a switch take time n log n together.
+    /// Makes the changes of round k, for which all switches are prepared. Each switch that it changes more than 16 times is
+    /// to be prepared anew. The changes at a switch take time n log n together.
     pub fn apply_round(&mut self, update: &Rollout<'_>, k: usize)
         requires round { k < length update.now.rounds }
         requires within { AreWithin (switch_count update.now.net)

@@ -1,9 +1,9 @@
-//! Single changes at one of the switches: it is prepared for the change, for its table alone again, or for the table after it.
-ghost use Rattle.std.specs.Prelude.{◌≡◌, ◌≢◌, ◌<◌, ◌≤◌, [], ◌∷◌, List, true, false, length, IsSomeAnd};
+//! Changes at one of the switches: it is prepared for them, for its table alone again, or for the table after them.
+ghost use Rattle.std.specs.Prelude.{◌≡◌, ◌≢◌, ◌+◌, ◌<◌, ◌≤◌, [], ◌∷◌, List, true, false, length, IsSomeAnd};
 ghost use Rattle.net_base.specs.declared.ids.SwitchId.{SwitchId as Switch};
 ghost use Rattle.flow_rules.specs.Tables.{IsTable};
 ghost use Rattle.flow_rules.specs.declared.rules.Rule.{Rule};
-ghost use Rattle.update_model.specs.Changes.{AppliesTo, rules_after_change};
+ghost use Rattle.update_model.specs.Changes.{AppliesTo, rules_after, rules_after_change};
 ghost use Rattle.round_mix.specs.Prepared.{AreClear};
 ghost use Rattle.round_tables.specs.PreparedTables.{mix_at, IsMixed};
 
@@ -52,4 +52,36 @@ pub(crate) fn keep_at(mixes: &mut [Mixed], switch: SwitchId, change: &Change)
     ensures room { (mix_at mixes.old switch).room ≤ (mix_at mixes.new switch).room }
 {
     mixes[switch.0 as usize].keep(change);
+}
+
+/// Prepares one of the switches, which is prepared for its table alone, for changes of it, if they are good and each mixture
+/// is clear.
+pub(crate) fn begin_all_at(mixes: &mut [Mixed], switch: SwitchId, changes: &[Change]) -> bool
+    requires within { switch.0 < length mixes.old }
+    requires room { IsSomeAnd (mix_at mixes.old switch).prepared
+        (λ marks. length marks + length changes.now ≤ (mix_at mixes.old switch).room) }
+    ensures yes { (rules : List Rule) → IsTable rules
+        → IsMixed rules [] (mix_at mixes.old switch)
+        → result ≡ true → IsMixed rules changes.now (mix_at mixes.new switch) }
+    ensures others { (o : Switch) → o.0 ≢ switch.0 → mix_at mixes.new o ≡ mix_at mixes.old o }
+    ensures room { (mix_at mixes.old switch).room ≤ (mix_at mixes.new switch).room }
+{
+    let mixed = &mut mixes[switch.0 as usize];
+    if !mixed.begin_all(changes) {
+        return false;
+    }
+    mixed.index();
+    true
+}
+
+/// Prepares one of the switches, which is prepared for changes of its table, for the table after them.
+pub(crate) fn keep_all_at(mixes: &mut [Mixed], switch: SwitchId, changes: &[Change])
+    requires { switch.0 < length mixes.old }
+    ensures after { (rules : List Rule) → IsTable rules
+        → IsMixed rules changes.now (mix_at mixes.old switch)
+        → IsMixed (rules_after changes.now rules) [] (mix_at mixes.new switch) }
+    ensures others { (o : Switch) → o.0 ≢ switch.0 → mix_at mixes.new o ≡ mix_at mixes.old o }
+    ensures room { (mix_at mixes.old switch).room ≤ (mix_at mixes.new switch).room }
+{
+    mixes[switch.0 as usize].keep_all(changes);
 }

@@ -8,7 +8,7 @@ ghost use Rattle.round_mix.specs.Faults.{IsFault};
 ghost use Rattle.round_tables.specs.PreparedTables.{HoldsRounds, StandsBefore, IsMixed, is_touched, list_at, mix_at, rules_there};
 ghost use Rattle.round_tables.specs.Loading.{AreAlone, ArePrepared, AreWithin, IsBadAt, IsFirstRoundFault, IsLoadedTo};
 
-use crate::changed::begin_at;
+use crate::changed::begin_all_at;
 use crate::gathering::{SwitchChanges, gather};
 use crate::prepared::PreparedTables;
 use crate::rollout::Rollout;
@@ -73,43 +73,27 @@ fn load_into(
     Ok(())
 }
 
-/// Prepares one of the switches, which is prepared for its table alone, for a change of it, if this applies and each
-/// mixture is clear.
-fn begin_good(mixes: &mut [Mixed], switch: SwitchId, table: &Table, change: &Change) -> bool
-    requires within { switch.0 < length mixes.old }
-    requires alone { IsMixed table.now.rules [] (mix_at mixes.old switch) }
-    requires room { length table.now.rules + 1 ≤ (mix_at mixes.old switch).room }
-    ensures yes { result ≡ true
-        → IsMixed table.now.rules (change.now ∷ []) (mix_at mixes.new switch) }
-    ensures others { (t : Switch) → t.0 ≢ switch.0 → mix_at mixes.new t ≡ mix_at mixes.old t }
-    ensures room { (mix_at mixes.old switch).room ≤ (mix_at mixes.new switch).room }
-{
-    keeps_keys(table);
-    if !change.applies_to(table) {
-        return false;
-    }
-    begin_at(mixes, switch, change)
-}
+/// So many changes of a switch are marked one after the other at most. More are faster sorted with its table anew.
+const MOST_MARKED: usize = 16;
 
-/// Prepares one of the switches, which is prepared for its table alone, for its changes, where there is none, or one that
-/// applies and whose mixtures are clear: so it needs no sorting.
+/// Prepares one of the switches, which is prepared for its table alone, for its changes, where they are few and good and
+/// their mixtures clear: so it needs no sorting.
 fn begin_few(mixes: &mut [Mixed], switch: SwitchId, table: &Table, changes: &[Change]) -> bool
     requires within { switch.0 < length mixes.old }
     requires alone { IsMixed table.now.rules [] (mix_at mixes.old switch) }
     requires room { length table.now.rules + length changes.now ≤ (mix_at mixes.old switch).room }
     ensures yes { result ≡ true → IsMixed table.now.rules changes.now (mix_at mixes.new switch) }
-    ensures few { result ≡ true → length changes.now ≤ 1 }
     ensures others { (t : Switch) → t.0 ≢ switch.0 → mix_at mixes.new t ≡ mix_at mixes.old t }
     ensures room { (mix_at mixes.old switch).room ≤ (mix_at mixes.new switch).room }
 {
+    keeps_keys(table);
     match changes {
         [] => true,
-        [change] => begin_good(mixes, switch, table, change),
-        _ => false,
+        _ => changes.len() <= MOST_MARKED && begin_all_at(mixes, switch, changes),
     }
 }
 
-/// Prepares one of the switches for its changes. It is touched where they are more than one.
+/// Prepares one of the switches for its changes. It is touched where they are many.
 fn load_at(
     mixes: &mut [Mixed],
     touched: &mut [bool],
@@ -123,7 +107,6 @@ fn load_at(
         → IsMixed table.now.rules [] (mix_at mixes.old switch) }
     requires room { length table.now.rules + length changes.now ≤ (mix_at mixes.old switch).room }
     ensures ok { OnOk result (IsMixed table.now.rules changes.now (mix_at mixes.new switch)) }
-    ensures few { OnOk result (is_touched touched.new switch ≡ false → length changes.now ≤ 1) }
     ensures table { IsTable table.now.rules }
     ensures err { IfErr result (λ fault. IsFault table.now.rules changes.now fault) }
     ensures others { (t : Switch) → t.0 ≢ switch.0 → mix_at mixes.new t ≡ mix_at mixes.old t }
@@ -136,7 +119,7 @@ fn load_at(
     if !touched[i] && begin_few(mixes, switch, table, changes) {
         return Ok(());
     }
-    touched[i] = changes.len() > 1;
+    touched[i] = changes.len() > MOST_MARKED;
     load_into(mixes, switch, table, changes)
 }
 
@@ -158,9 +141,9 @@ fn load_next(
     requires room { length (rules_there tables.now switch) + length
         (list_at lists.now switch).changes
         ≤ (mix_at mixes.old switch).room }
-    requires so_far { IsLoadedTo tables.now lists.now switch.0 touched.old mixes.old unclear }
+    requires so_far { IsLoadedTo tables.now lists.now switch.0 mixes.old unclear }
     ensures ok { IfOk result
-        (λ next. IsLoadedTo tables.now lists.now (switch.0 + 1) touched.new mixes.new next) }
+        (λ next. IsLoadedTo tables.now lists.now (switch.0 + 1) mixes.new next) }
     ensures err { IfErr result
         (λ bad. (bad.0.0 < length tables.now) × IsBadAt tables.now lists.now bad.0 bad.1) }
     ensures others { (t : Switch) → t.0 ≢ switch.0 → mix_at mixes.new t ≡ mix_at mixes.old t }
@@ -193,8 +176,7 @@ fn load_all(
         → length (rules_there tables.now s) + length
         (list_at lists.now s).changes ≤ (mix_at mixes.old s).room }
     ensures ok { IfOk result
-        (λ unclear. IsLoadedTo tables.now lists.now (length tables.now) touched.new mixes.new
-        unclear) }
+        (λ unclear. IsLoadedTo tables.now lists.now (length tables.now) mixes.new unclear) }
     ensures err { IfErr result
         (λ bad. (bad.0.0 < length tables.now) × IsBadAt tables.now lists.now bad.0 bad.1) }
     ensures room { (s : Switch) → (mix_at mixes.old s).room ≤ (mix_at mixes.new s).room }
@@ -209,7 +191,7 @@ fn load_all(
 
 impl PreparedTables {
     /// Prepares each switch for round k, or finds the first bad change, or else the first unclear switch. A switch is
-    /// sorted only where this round or the one before changes it more than once.
+    /// sorted only where this round or the one before changes it more than 16 times, or the round is refused.
     pub fn load_round(&mut self, update: &Rollout<'_>, k: usize) -> Result<(), RoundFault>
         requires round { k < length update.now.rounds }
         requires within { AreWithin (switch_count update.now.net)

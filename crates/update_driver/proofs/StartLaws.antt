@@ -1,20 +1,24 @@
 -- The steps of a start.
 use Rattle.std.proofs.Common.{◌≡◌, ◌≢◌, ℕ, zero, suc, ◌+◌, ◌-◌, ◌<◌, ◌≤◌, Bool, true, false, cond, eqb, not, ◌&&◌, List, [], ◌∷◌, ◌++◌, length, map, take, replicate, set, get_or, get_or-set_same, get_or-set_other, refl, sym, ap, ◌∙◌, subst, inl, inr, length-set, arith}
-use Rattle.std.specs.Prelude.{flat_map, filter, find, Option, Some, None, is_some, is_none}
-use Rattle.std.specs.List.{list_all, range_with_len}
+use Rattle.std.specs.Prelude.{◌||◌, IsTrue, flat_map, filter, find, Option, Some, None, is_some, is_none}
+use Rattle.std.specs.List.{list_all, list_any, range_with_len}
 use Rattle.std.specs.Option.{option_map, option_map_or}
-use Rattle.std.proofs.lemmas.Bool.{cases_Bool, cases_eq, cond-true, cond-false, ne_eqb}
+use Rattle.std.proofs.lemmas.Bool.{cases_Bool, cases_eq, cond-true, cond-false, eq-eqb, ne_eqb, or_left, or_right}
+use Rattle.std.proofs.lemmas.List.Folds.{list_any-append}
+use Rattle.std.proofs.Math.Bool.{or-false}
 use Rattle.std.proofs.lemmas.List.{map-append, map-set, replicate_more, length-map, get_or_default, take_all}
 use Rattle.net_base.specs.declared.ids.SwitchId.{SwitchId}
+use Rattle.net_base.specs.Switches.{has}
+use Rattle.net_base.proofs.NameLaws.{same_switch}
 use Rattle.topology.specs.Networks.{Network, switch_count}
-use Rattle.update_model.specs.Changes.{round_after}
+use Rattle.update_model.specs.Changes.{round_after, switch_of}
 use Rattle.update_model.specs.declared.Change.{Change}
 use Rattle.update_model.specs.declared.Event.{Event}
 use Rattle.update_model.specs.declared.Phase.{Phase}
 use Rattle.update_model.specs.declared.Phase.TheVariants.{Settled}
 use Rattle.openflow10.specs.Messages.{wire_text}
 use Rattle.openflow10.specs.declared.Message.{Message}
-use Rattle.round_messages.proofs.Marking.{AreMarks, same_passed}
+use Rattle.round_messages.proofs.Marking.{same_passed}
 use Rattle.round_messages.specs.Requests.{is_changed, switches_changed, switch_numbered, first_xid, round_requests, sent_from, sent_in}
 use Rattle.round_messages.specs.ToSwitch.{messages_to}
 use Rattle.round_messages.proofs.BySwitch.{round_alone}
@@ -48,6 +52,28 @@ states_kept (x ∷ vs) (suc i) v d e = ap (λ l. x.state ∷ l) (states_kept vs 
 
 pub length-states : (vs : List ChannelView) → length (states_of vs) ≡ length vs
 length-states vs = length-map vs (λ (x : ChannelView). x.state)
+
+-- ---- which switches have a change
+
+-- the set of the switches that have a change among these
+abbrev pub HasChanged : ℕ → List Change → Type 0
+HasChanged set changes = (s : SwitchId) → has set s ≡ is_changed changes s
+
+-- and one change more
+pub changed_more : (old new : ℕ) (changes : List Change) (c : Change) → IsTrue (has new (switch_of c)) → ((s : SwitchId) → s.0 ≢ (switch_of c).0 → has new s ≡ has old s)
+    → HasChanged old changes → HasChanged new (changes ++ c ∷ [])
+changed_more old new changes c there others is s =
+    let at : Change → Bool = λ x. eqb (switch_of x).0 s.0 in
+    let more = list_any-append at changes (c ∷ []) in
+    elim (cases_eq s.0 (switch_of c).0) [
+      | inl e ↦ (
+          let same = same_switch s (switch_of c) e in
+          let here : at c ≡ true = eq-eqb (switch_of c).0 s.0 (sym e) in
+          subst (λ (t : SwitchId). has new t ≡ true) (sym same) there ∙ sym (more ∙ or_right (list_any at changes) (list_any at (c ∷ [])) (or_left (at c) false here)))
+      | inr ne ↦ (
+          let off : at c ≡ false = ne_eqb (switch_of c).0 s.0 (λ e. ne (sym e)) in
+          others s ne ∙ is s ∙ sym (more ∙ ap (λ b. list_any at changes || (b || false)) off ∙ or-false (list_any at changes)))
+    ]
 
 -- ---- the first switch that isn't open
 
@@ -237,18 +263,18 @@ not_waited a b e = ap (λ x. x && b) e
 -- ---- whether a round may start
 
 module _ (net : Network) (rounds : List (List Change)) (channels : List ChannelView) (phase : Phase) (k : ℕ) (settled : phase ≡ Settled k) (differs : k ≡ length rounds → ⊥) (round : List Change) (round_is : round ≡ round_after k rounds)
-    (marks : List Bool) (are : AreMarks 128 marks round) (count : length channels ≡ switch_count net) (few : switch_count net ≤ 128) (log : List Event) where
+    (changed : ℕ) (are : HasChanged changed round) (count : length channels ≡ switch_count net) (log : List Event) where
   abbrev driver : DriverState
   driver = record { phase = phase; log = log; channels = states_of channels }
 
   abbrev missing : SwitchId → Bool
   missing s = not (is_open (get_or (states_of channels) s.0 first_channel).session)
 
-  pub start_is : (found : Option SwitchId) → found ≡ found_from missing (λ s. get_or marks s.0 false) 0 (length channels) → start_fault_in net rounds driver phase ≡ option_map fault.NotOpen found
+  pub start_is : (found : Option SwitchId) → found ≡ found_from missing (has changed) 0 (length channels) → start_fault_in net rounds driver phase ≡ option_map fault.NotOpen found
   start_is found is =
-      let passed : filter (λ s. get_or marks s.0 false) (map switch_numbered (range_with_len 0 (length channels))) ≡ switches_changed net round =
-      ap (λ (n : ℕ). filter (λ s. get_or marks s.0 false) (map switch_numbered (range_with_len 0 n))) count
-      ∙ same_passed (λ s. get_or marks s.0 false) (is_changed round) 0 (switch_count net) (λ s ge lt. are s (omega arith)) in
+      let passed : filter (has changed) (map switch_numbered (range_with_len 0 (length channels))) ≡ switches_changed net round =
+      ap (λ (n : ℕ). filter (has changed) (map switch_numbered (range_with_len 0 n))) count
+      ∙ same_passed (has changed) (is_changed round) 0 (switch_count net) (λ s ge lt. are (switch_numbered s)) in
       let found_is : first_not_open driver (switches_changed net (round_after k rounds)) ≡ found = ap (λ r. find missing (switches_changed net r)) (sym round_is) ∙ ap (find missing) (sym passed) ∙ sym is in
       ap (start_fault_in net rounds driver) settled
       ∙ cond-false (eqb k (length rounds)) (Some fault.Finished) (option_map fault.NotOpen (first_not_open driver (switches_changed net (round_after k rounds)))) (ne_eqb k (length rounds) differs)

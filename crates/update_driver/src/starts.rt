@@ -6,6 +6,8 @@ ghost use Rattle.update_model.specs.Changes.{switch_of};
 ghost use Rattle.update_model.specs.Ranges.{IsPlanChange};
 ghost use Rattle.update_model.specs.States.{settled, settled_count};
 ghost use Rattle.update_driver.specs.Laws.{begun_count};
+ghost use Rattle.net_base.specs.declared.ids.SwitchId.{SwitchId as Switch};
+ghost use Rattle.net_base.specs.Switches.{has};
 ghost use Rattle.round_messages.specs.Requests.{is_changed, switch_numbered};
 ghost use Rattle.switch_session.specs.Channels.{first_channel, is_open};
 ghost use Rattle.update_driver.specs.Drivers.{none_outstanding, settled_if_answered, started};
@@ -13,14 +15,11 @@ ghost use Rattle.update_driver.specs.Inside.{states_of, with_states, HasRoomFrom
 
 use crate::StartFault;
 use crate::turns::Turn;
-use net_base::{Memory, SwitchId};
+use net_base::{Memory, SwitchId, SwitchSet};
 use std::alloc::Global;
 use switch_session::Channel;
 use topology::Net;
 use update_model::{Change, Event, Phase, Rounds};
-
-/// The most switches that a network has.
-const MOST_SWITCHES: usize = 128;
 
 /// Appends events for which there is room.
 fn extend_reserved(log: &mut Vec<Event>, events: &[Event])
@@ -118,40 +117,37 @@ fn settle_if_answered(phase: &mut Phase, log: &mut Vec<Event>, channels: &[Chann
     }
 }
 
-/// Which switches have a change among these.
-fn changed_switches(changes: &[Change]) -> [bool; 128]
+/// The switches that have a change among these.
+fn changed_switches(changes: &[Change]) -> SwitchSet
     requires { AllByRecursion (λ c. (switch_of c).0 < 128) changes.now }
-    ensures { (s : ℕ) → s < 128 → slice_index_or result s false
-        ≡ is_changed changes.now (switch_numbered s) }
+    ensures { (s : Switch) → has result s ≡ is_changed changes.now s }
 {
-    let mut marks = [false; MOST_SWITCHES];
+    let mut changed = SwitchSet::none();
     for change in changes {
-        let switch = change.switch();
-        marks[switch.0 as usize] = true;
+        changed.put(change.switch());
     }
-    marks
+    changed
 }
 
-/// Whether a switch that is marked has no open session.
-fn is_missing(channel: &Channel, marked: bool) -> bool
-    ensures { result ≡ (marked && not (is_open channel.now.state.session)) }
+/// Whether a switch has a change and no open session.
+fn is_missing(channel: &Channel, is_changed: bool) -> bool
+    ensures { result ≡ (is_changed && not (is_open channel.now.state.session)) }
 {
-    marked && !channel.is_open()
+    is_changed && !channel.is_open()
 }
 
-/// The first switch that is marked and has no open session.
-fn first_not_open(channels: &[Channel], marks: &[bool]) -> Option<SwitchId>
-    requires marked { length channels.now ≤ length marks.now }
-    requires few { length channels.now ≤ 128 }
+/// The first of these switches that has no open session.
+fn first_not_open(channels: &[Channel], changed: SwitchSet) -> Option<SwitchId>
+    requires { length channels.now ≤ 128 }
     ensures { result
         ≡ find
         (λ s. not (is_open (slice_index_or (states_of channels.now) s.0 first_channel).session))
-        (filter (λ s. slice_index_or marks.now s.0 false)
-        (map switch_numbered (range_with_len 0 (length channels.now)))) }
+        (filter (has changed) (map switch_numbered (range_with_len 0 (length channels.now)))) }
 {
     for number in 0..channels.len() {
-        if is_missing(&channels[number], marks[number]) {
-            return Some(SwitchId(number as u32));
+        let switch = SwitchId(number as u32);
+        if is_missing(&channels[number], changed.has(switch)) {
+            return Some(switch);
         }
     }
     None
@@ -181,8 +177,7 @@ pub(crate) fn next_round<'a>(
         return Err(StartFault::Finished);
     }
     let round = rounds.round(k);
-    let marks = changed_switches(round);
-    match first_not_open(channels, &marks) {
+    match first_not_open(channels, changed_switches(round)) {
         Some(switch) => Err(StartFault::NotOpen(switch)),
         None => Ok(round),
     }

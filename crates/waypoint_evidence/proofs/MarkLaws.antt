@@ -1,10 +1,12 @@
--- 128 marks as the bits of a number.
-use Rattle.std.proofs.Common.{◌≡◌, ◌≢◌, ◌==◌, ◌<◌, ℕ, ◌+◌, Bool, true, false, List, length, length-set, get_or, set, replicate, refl, sym, ap, ◌∙◌, subst, inl, inr, arith}
+-- A set of switches as 128 marks.
+use Rattle.std.proofs.Common.{◌≡◌, ◌≢◌, ◌==◌, ◌<◌, ℕ, ◌+◌, Bool, true, false, IsTrue, List, [], length, length-set, get_or, set, replicate, refl, sym, ap, ◌∙◌, subst, inl, inr, arith}
 use Rattle.std.proofs.lemmas.Bool.{cases_eq}
-use Rattle.std.proofs.lemmas.List.{ext_get_or, get_or-set_same, get_or-set_other}
+use Rattle.std.proofs.lemmas.List.{ext_get_or, get_or-set_same, get_or-set_other, get_or-replicate}
 use Rattle.std.proofs.lemmas.List.FromFn.{length-map-range_with_len, get_or-map-range_with_len}
 use Rattle.std.specs.Int.{bit_at}
-use Rattle.waypoint_evidence.specs.Befores.{marks_in}
+use Rattle.net_base.specs.declared.ids.SwitchId.{SwitchId}
+use Rattle.net_base.specs.Switches.{has}
+use Rattle.waypoint_evidence.specs.Befores.{marks_in, marked_from}
 
 pub length_marks : (bits : ℕ) → length (marks_in bits) ≡ 128
 unfolding marks_in
@@ -19,18 +21,20 @@ pub marks_are : (bits : ℕ) (marks : List Bool) → length marks ≡ 128 → ((
 marks_are bits marks len each =
     ext_get_or false (marks_in bits) marks (length_marks bits ∙ sym len) (λ n less. let within : n < 128 = subst (λ l. n < l) (length_marks bits) less in mark_at bits n within ∙ each n within)
 
--- no bit is set
-pub none_are : marks_in 0 ≡ replicate 128 false
-unfolding marks_in
-none_are = refl
+-- no switch has a mark
+pub none_marked : (bits : ℕ) → ((s : SwitchId) → has bits s ≡ false) → marked_from 0 (marks_in bits) ≡ []
+none_marked bits none =
+    ap (λ (marks : List Bool). marked_from 0 marks)
+    (marks_are bits (replicate 128 false) refl (λ n less. none (record { 0 = n }) ∙ sym (get_or-replicate 128 n false false less)))
 
--- one more bit is set
-pub more_are : (bits new m : ℕ) → m < 128 → bit_at new m ≡ 1 → ((n : ℕ) → n ≢ m → bit_at new n ≡ bit_at bits n) → marks_in new ≡ set (marks_in bits) m true
-more_are bits new m within there others =
-    marks_are new (set (marks_in bits) m true) (length-set (marks_in bits) m true ∙ length_marks bits) (λ n less. elim (cases_eq n m) [
-      | inl e ↦ subst (λ k. (bit_at new k == 1) ≡ get_or (set (marks_in bits) m true) k false) (sym e)
-          (ap (λ (b : ℕ). b == 1) there ∙ sym (get_or-set_same (marks_in bits) m true false (subst (λ l. m < l) (sym (length_marks bits)) within)))
-      | inr ne ↦ ap (λ (b : ℕ). b == 1) (others n ne) ∙ sym (mark_at bits n less) ∙ sym (get_or-set_other (marks_in bits) m n true false ne)
+-- one more switch has a mark
+pub one_more : (old new : ℕ) (s : SwitchId) → s.0 < 128 → IsTrue (has new s) → ((t : SwitchId) → t.0 ≢ s.0 → has new t ≡ has old t) → marks_in new ≡ set (marks_in old) s.0 true
+one_more old new s within there others =
+    let m = s.0 in
+    marks_are new (set (marks_in old) m true) (length-set (marks_in old) m true ∙ length_marks old) (λ n less. elim (cases_eq n m) [
+      | inl e ↦ subst (λ k. (bit_at new k == 1) ≡ get_or (set (marks_in old) m true) k false) (sym e)
+          (there ∙ sym (get_or-set_same (marks_in old) m true false (subst (λ l. m < l) (sym (length_marks old)) within)))
+      | inr ne ↦ others (record { 0 = n }) ne ∙ sym (mark_at old n less) ∙ sym (get_or-set_other (marks_in old) m n true false ne)
     ])
 
 -- the marks that were read so far are those of the bits

@@ -13,24 +13,24 @@ ghost use Rattle.acyclic_numbering.specs.Heights.{IsEdge};
 mod marks;
 
 use acyclic_numbering::{Edge, SwitchList};
-use marks::Marks;
-use net_base::{Memory, SwitchId};
+use marks::marks_of;
+use net_base::{Memory, SwitchId, SwitchSet};
 use std::alloc::Global;
 use std::marker::Model;
 
 /// A set of switches below 128. It takes 16 bytes.
 #[derive(Drop)]
 pub struct Before {
-    marks: Marks,
+    switches: SwitchSet,
 }
 
 impl Model for Before {
     ghost use Rattle.std.specs.Prelude.{List, ℕ};
-    ghost use Rattle.waypoint_evidence.specs.Befores.{marked_from};
+    ghost use Rattle.waypoint_evidence.specs.Befores.{marked_from, marks_in};
 
     ghost Value = { List ℕ };
 
-    ghost view = { λ b. marked_from 0 b.marks };
+    ghost view = { λ b. marked_from 0 (marks_in b.switches) };
 }
 
 /// The least before set, or a walk of edges that misses the waypoint.
@@ -46,7 +46,7 @@ impl Before {
         ensures { result ≡ [] }
     {
         Before {
-            marks: Marks::none(),
+            switches: SwitchSet::none(),
         }
     }
 
@@ -58,7 +58,7 @@ impl Before {
         ensures most { length self.new ≤ 128 }
         ensures last { AllByRecursion (λ t. t < s.0) self.old → self.new ≡ self.old ++ s.0 ∷ [] }
     {
-        self.marks.put(s.0);
+        self.switches.put(s);
     }
 
     /// The same set once more.
@@ -66,7 +66,7 @@ impl Before {
         ensures { result ≡ self.now }
     {
         Before {
-            marks: self.marks.copy(),
+            switches: self.switches,
         }
     }
 
@@ -75,7 +75,7 @@ impl Before {
         ensures value { marked_from 0 result ≡ self.now }
         ensures len { length result ≡ 128 }
     {
-        self.marks.list()
+        marks_of(self.switches)
     }
 
     /// Whether the set holds a switch.
@@ -83,7 +83,7 @@ impl Before {
         requires { s.0 < 128 }
         ensures { IsTrue result ↔ Holds self.now s }
     {
-        self.marks.has(s.0)
+        self.switches.has(s)
     }
 }
 

@@ -4,7 +4,8 @@ use Rattle.update_model.specs.Changes.{rules_after_change}
 use Rattle.round_mix.specs.Nearest.{patterns_in}
 use Rattle.round_mix.specs.Prepared.{MixedState, IsPrepared}
 use Rattle.round_mix.specs.declared.MarkedRule.{MarkedRule}
-use Rattle.round_mix.proofs.TriedLaws.{made, kept_few, kept_patterns, carried, carried_few}
+use Rattle.round_mix.proofs.MadeLaws.{made_first}
+use Rattle.round_mix.proofs.TriedLaws.{kept_few, kept_patterns, carried, carried_few}
 use Rattle.round_mix.proofs.Mixed.keep.Goals as goal
 
 pub returns-clause-after : goal.returns-clause-after
@@ -13,7 +14,15 @@ returns-clause-after c table is_table prepared =
     let marks = c.self.inside.rules.items in
     carried c.self.inside.is_prepared marks c.make.new.marks.items (IsPrepared table (change ∷ [])) (IsPrepared (rules_after_change change table) [])
     (subst (λ (v : MixedState). IsSomeAnd v.prepared (IsPrepared table (change ∷ []))) (sym c.self.view_is) prepared)
-    (λ p. subst (IsPrepared (rules_after_change change table) []) (sym c.make.ensures.items) (made table marks change is_table p))
+    (λ p. subst (IsPrepared (rules_after_change change table) []) (sym c.make.ensures.items) (made_first table [] marks is_table change p))
+
+pub returns-clause-first : goal.returns-clause-first
+returns-clause-first c table changes is_table prepared =
+    let change = c.args.change.now in
+    let marks = c.self.inside.rules.items in
+    carried c.self.inside.is_prepared marks c.make.new.marks.items (IsPrepared table (change ∷ changes)) (IsPrepared (rules_after_change change table) changes)
+    (subst (λ (v : MixedState). IsSomeAnd v.prepared (IsPrepared table (change ∷ changes))) (sym c.self.view_is) prepared)
+    (λ p. subst (IsPrepared (rules_after_change change table) changes) (sym c.make.ensures.items) (made_first table changes marks is_table change p))
 
 pub returns-clause-few : goal.returns-clause-few
 returns-clause-few c =

@@ -9,6 +9,6 @@ invariant-loop-i l = record {
   mixes : length l.mixes ≡ length l.initial.mixes;
   touched : length l.touched ≡ length l.initial.touched;
   alone : AreAlone l.tables l.i l.touched l.mixes;
-  so_far : IsLoadedTo l.tables l.lists l.i l.touched l.mixes l.unclear;
+  so_far : IsLoadedTo l.tables l.lists l.i l.mixes l.unclear;
   room : (s : SwitchId) → (mix_at l.initial.mixes s).room ≤ (mix_at l.mixes s).room;
 }

@@ -30,8 +30,8 @@ returns-in-Ok-clause-ok c =
     let next = c.load_at.new.touched in
     let said = there tables lists s c.table.result.now c.index-lists-switch.result c.list-changes.result.now c.table.ensures c.list-changes.ensures c.index-lists-switch.is
     (omega (arith, c.requires.within, c.requires.lists)) in
-    loaded_next tables lists s c.args.touched.now next c.args.mixes.now new c.in-Ok.ensures.others c.args.unclear c.in-Ok.ensures.flags c.requires.so_far
-    (said (λ rs cs. IsMixed rs cs (mix_at new s)) c.in-Ok.ensures.ok) (said (λ rs cs. is_touched next s ≡ false → length cs ≤ 1) c.in-Ok.ensures.few)
+    loaded_next tables lists s c.args.touched.now next c.args.mixes.now new c.in-Ok.ensures.others c.args.unclear c.requires.so_far
+    (said (λ rs cs. IsMixed rs cs (mix_at new s)) c.in-Ok.ensures.ok)
 
 pub returns-in-Err-Ambiguous-clause-ok : goal.returns-in-Err-Ambiguous-clause-ok
 returns-in-Err-Ambiguous-clause-ok c =
@@ -47,7 +47,7 @@ returns-in-Err-Ambiguous-clause-ok c =
     let ambiguous : IsAmbiguous (rules_there tables s) (list_at lists s).changes i j =
     subst (λ (f : MixFault). IsFault (rules_there tables s) (list_at lists s).changes f) c.in-Err-Ambiguous.field-0-is
     (said (λ rs cs. IsFault rs cs c.in-Err-Ambiguous.field-0) c.in-Err-Ambiguous.ensures.err) in
-    subst (λ (w : SwitchId). IsLoadedTo tables lists (s.0 + 1) next new (Some w)) (sym c.unwrap_or.ensures)
+    subst (λ (w : SwitchId). IsLoadedTo tables lists (s.0 + 1) new (Some w)) (sym c.unwrap_or.ensures)
     (loaded_unclear tables lists s c.args.touched.now next c.args.mixes.now new c.in-Err-Ambiguous.ensures.others c.args.unclear i j c.requires.so_far
     (said (λ rs _. IsTable rs) c.in-Err-Ambiguous.ensures.table) ambiguous)
 

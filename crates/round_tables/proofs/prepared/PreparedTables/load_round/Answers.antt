@@ -36,8 +36,8 @@ returns-clause-err c =
       | in-Ok-None w ↦ subst (λ (r : Result (Unit {0}) RoundFault). IfErr r (IsFirstRoundFault u k)) (sym w.result-is) tt
       | in-Ok-Some w ↦ (
           let s = w.in-Ok-Some.switch in
-          let loaded : IsLoadedTo inside.tables lists (length inside.tables) c.load_all.new.touched c.load_all.new.mixes (Some s) =
-          subst (λ (o : Option SwitchId). IsLoadedTo inside.tables lists (length inside.tables) c.load_all.new.touched c.load_all.new.mixes o) w.in-Ok-Some.field-0-is w.in-Ok-Some.ensures.ok in
+          let loaded : IsLoadedTo inside.tables lists (length inside.tables) c.load_all.new.mixes (Some s) =
+          subst (λ (o : Option SwitchId). IsLoadedTo inside.tables lists (length inside.tables) c.load_all.new.mixes o) w.in-Ok-Some.field-0-is w.in-Ok-Some.ensures.ok in
           subst (λ (r : Result (Unit {0}) RoundFault). IfErr r (IsFirstRoundFault u k)) (sym w.result-is)
           (subst (λ (x : SwitchId). IsFirstUnclear u k x) (sym w.in-Ok-Some.switch-is)
           (unclear_found u k inside.tables lists same count c.requires.within gathered s (omega (arith, loaded.rest.0, in_tables))

@@ -1,6 +1,0 @@
-use Rattle.std.proofs.Common.{◌≡◌, ◌==◌, ◌<◌, ℕ, length, get_or, false}
-use Rattle.std.specs.Int.{bit_at}
-use Rattle.waypoint_evidence.proofs.marks.list_of.Given as goal
-
-abbrev pub invariant-loop-n : goal.invariant-loop-n
-invariant-loop-n l = (length l.marks ≡ 128) × ((k : ℕ) → k < l.n → get_or l.marks k false ≡ (bit_at l.bits k == 1))
