@@ -1,59 +1,29 @@
 //! The command that checks a plan.
-ghost use Rattle.std.specs.Prelude.{◌≡◌, ◌≤◌, IfOk, IfErr, Option};
+ghost use Rattle.std.specs.Prelude.{◌≡◌, ◌≤◌, IfOk, IfErr};
 ghost use Rattle.flow_rules.specs.Tables.{rules_of_all};
 ghost use Rattle.path_walk.specs.UserConfigs.{IsUserConfig};
 ghost use Rattle.certificates.specs.Valid.{IsValidPlan};
-ghost use Rattle.command_base.specs.Dialogues.{FileRead, LeadsTo};
-ghost use Rattle.command_base.specs.Replies.{answer_of, EndsEarly, Meets};
-ghost use Rattle.command_base.specs.Updates.{meaning_of};
+ghost use Rattle.command_base.specs.Replies.{answer_of, Meets};
 ghost use Rattle.check_base.specs.Names.{names_seen};
-ghost use Rattle.check_base.specs.Checks.{check_dialogue, reading_plan_of};
+ghost use Rattle.check_base.specs.Checks.{check_dialogue, check_meaning_of};
 ghost use Rattle.check_command.specs.Checks.{IsCheckAnswer};
 
 use crate::verdict::verdict_reply;
-use certificates::Plan;
-use check_base::CheckNames;
-use command_base::{Exit, Reply, UpdateFiles, read_plan_file, read_update};
+use check_base::{CheckFiles, CheckNames, read_check_files};
+use command_base::{Exit, Reply};
 use file_access::Source;
 use std::alloc::Global;
 
 /// The verdict on a plan as the end of the command.
-fn say_verdict(alloc: Global, files: &UpdateFiles, plan: &Plan) -> Result<Reply, Exit>
-    requires old { IsUserConfig files.now.net (rules_of_all files.now.old) }
-    requires new { IsUserConfig files.now.net (rules_of_all files.now.new) }
-    requires valid { IsValidPlan files.now.net plan.now }
+fn say_verdict(alloc: Global, files: &CheckFiles) -> Result<Reply, Exit>
+    requires old { IsUserConfig files.now.update.net (rules_of_all files.now.update.old) }
+    requires new { IsUserConfig files.now.update.net (rules_of_all files.now.update.new) }
+    requires valid { IsValidPlan files.now.update.net files.now.plan }
     ensures said { IfOk result
-        (λ r. IsCheckAnswer (record { update = meaning_of files.now; plan = plan.now })
-        (answer_of r)) }
+        (λ r. IsCheckAnswer (check_meaning_of files.now) (answer_of r)) }
     ensures stops { IfErr result (λ e. e ≡ Exit.Memory) }
 {
-    Ok(verdict_reply(alloc, files, plan)?)
-}
-
-/// Fetches the plan of the update, and says whether it is certified.
-fn check_plan<S: Source>(
-    alloc: Global,
-    source: &mut S,
-    files: &UpdateFiles,
-    name: &str,
-) -> Result<Reply, Exit>
-    requires old { IsUserConfig files.now.net (rules_of_all files.now.old) }
-    requires new { IsUserConfig files.now.net (rules_of_all files.now.new) }
-    ensures leads { IfOk result (λ r. (last : Option FileRead)
-        → LeadsTo IsCheckAnswer (S.held source.old) last
-        (reading_plan_of (meaning_of files.now) name.now) (answer_of r) (S.selected source.new)
-        (S.taken source.new)) }
-    ensures stops { IfErr result (λ e. (last : Option FileRead)
-        → EndsEarly (S.held source.old) last (reading_plan_of (meaning_of files.now) name.now)
-        (S.faults source.old) (S.faults source.new) e (S.selected source.new)
-        (S.taken source.new)) }
-    ensures held { S.held source.new ≡ S.held source.old }
-    ensures later { S.faults source.old ≤ S.faults source.new }
-{
-    let plan = read_plan_file(alloc, source, &files.net, name)?;
-    let reply = say_verdict(alloc, files, &plan);
-    drop(plan);
-    reply
+    Ok(verdict_reply(alloc, &files.update, &files.plan)?)
 }
 
 /// Says whether the plan of an update is certified.
@@ -68,8 +38,8 @@ pub fn check<S: Source>(
     ensures held { S.held source.new ≡ S.held source.old }
     ensures later { S.faults source.old ≤ S.faults source.new }
 {
-    let files = read_update(alloc, source, &names.update)?;
-    let reply = check_plan(alloc, source, &files, names.plan);
+    let files = read_check_files(alloc, source, names)?;
+    let reply = say_verdict(alloc, &files);
     drop(files);
     reply
 }

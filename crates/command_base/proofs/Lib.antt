@@ -2,3 +2,4 @@ pub mod DialogueLaws
 pub mod MeaningLaws
 pub mod RunLaws
 pub mod JudgementLaws
+pub mod WholeLaws

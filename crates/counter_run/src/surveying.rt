@@ -62,7 +62,7 @@ fn survey_round(
         number: k,
         mixes: tables.mixes(),
     };
-    survey.look(alloc, round, update.duties)?;
+    survey.look(alloc, round, update.duties, update.classes)?;
     let stage = Stage {
         net: update.net,
         old: update.old,

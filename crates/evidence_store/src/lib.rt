@@ -76,14 +76,20 @@ fn no_uses(alloc: Global, classes: u32) -> Result<Vec<Option<u32>>, Memory>
     Ok(vec![in alloc; None; classes as usize]?)
 }
 
+/// The class that a pick is for, and the round from which on it is in force.
+#[derive(Clone, Copy)]
+struct PickPlace {
+    round: u32,
+    class: u32,
+}
+
 /// Adds a pick of a numbering and before sets behind all others. The result is the number of its use. The keys are those of the
 /// evidence so far.
 fn add_pick_of(
     alloc: Global,
     keys: &mut Keys,
     evidence: &mut OrderedEvidence,
-    round: u32,
-    class: u32,
+    at: PickPlace,
     numbering: Numbering,
     befores: &Befores,
 ) -> Result<u32, Memory>
@@ -92,13 +98,13 @@ fn add_pick_of(
     requires few_uses { length evidence.old.uses < 2 ^ 32 }
     ensures pick { IfOk result
         (λ shared. IsPicked evidence.old numbering befores.now
-        (record { round = round; class = class; shared = shared }) evidence.new) }
+        (record { round = at.round; class = at.class; shared = shared }) evidence.new) }
     ensures keys { OnOk result (AreKeysOf keys.new evidence.new) }
 {
     let shared = add_use(alloc, keys, evidence, numbering, befores)?;
     evidence.picks.add(OrderedPick {
-        round,
-        class,
+        round: at.round,
+        class: at.class,
         shared,
     })?;
     Ok(shared)
@@ -109,8 +115,7 @@ fn add_pick(
     alloc: Global,
     keys: &mut Keys,
     evidence: &mut OrderedEvidence,
-    round: u32,
-    class: u32,
+    at: PickPlace,
     numbering: Numbering,
     befores: Befores,
 ) -> Result<u32, Memory>
@@ -119,10 +124,10 @@ fn add_pick(
     requires few_uses { length evidence.old.uses < 2 ^ 32 }
     ensures pick { IfOk result
         (λ shared. IsPicked evidence.old numbering befores
-        (record { round = round; class = class; shared = shared }) evidence.new) }
+        (record { round = at.round; class = at.class; shared = shared }) evidence.new) }
     ensures keys { OnOk result (AreKeysOf keys.new evidence.new) }
 {
-    add_pick_of(alloc, keys, evidence, round, class, numbering, &befores)
+    add_pick_of(alloc, keys, evidence, at, numbering, &befores)
 }
 
 impl EvidenceStore {
@@ -191,8 +196,7 @@ impl EvidenceStore {
             store.alloc,
             &mut store.keys,
             &mut store.evidence,
-            round,
-            class,
+            PickPlace { round, class },
             numbering,
             befores,
         );

@@ -75,12 +75,14 @@ pub enum Spelling {
     Numbers(PlanRules),
 }
 
-/// A member of a plan that lists changes: the network that they are for, how they are spelled, and the member's name.
+/// A member of a plan that lists changes: the network that they are for, how they are spelled, the member's name, and the
+/// number of its first change.
 #[derive(Clone, Copy)]
 pub(crate) struct ChangeList<'a> {
     pub(crate) net: &'a Net,
     pub(crate) spelling: &'a Spelling,
     pub(crate) name: Field,
+    pub(crate) first: usize,
 }
 
 /// Rounds, and how many changes they have.
@@ -309,22 +311,21 @@ fn read_round(
 fn read_next_round(
     alloc: Global,
     list: ChangeList,
-    first: usize,
     rounds: &mut CountedRounds,
     place: u32,
     tree: &Tree<'_>,
     item: &Node,
 ) -> Result<(), PlanFault>
-    requires { first ≤ 2200000 }
+    requires { list.entry.first ≤ 2200000 }
     ensures value { MatchResult result
-        (λ _. plan.round_at list.entry.net.now list.entry.spelling.now list.entry.name first place
-        rounds.old (data_of tree.now item.now) ≡ Ok rounds.new)
+        (λ _. plan.round_at list.entry.net.now list.entry.spelling.now list.entry.name
+        list.entry.first place rounds.old (data_of tree.now item.now) ≡ Ok rounds.new)
         (λ e. Fails Memory e
-        (plan.round_at list.entry.net.now list.entry.spelling.now list.entry.name first place
-        rounds.old (data_of tree.now item.now))) }
+        (plan.round_at list.entry.net.now list.entry.spelling.now list.entry.name
+        list.entry.first place rounds.old (data_of tree.now item.now))) }
     ensures one { OnOk result (length rounds.new ≡ length rounds.old + 1) }
 {
-    let number = first + rounds.changes();
+    let number = list.first + rounds.changes();
     let round = read_round(alloc, list, place, number, tree, item)?;
     rounds.push(round)?;
     Ok(())
@@ -333,37 +334,35 @@ fn read_next_round(
 fn read_each_round(
     alloc: Global,
     list: ChangeList,
-    first: usize,
     tree: &Tree<'_>,
     items: &[Node],
 ) -> Result<CountedRounds, PlanFault>
-    requires { first ≤ 2200000 }
+    requires { list.entry.first ≤ 2200000 }
     ensures value { Gives Memory (λ r. r) result
-        (in_turn (plan.round_at list.entry.net.now list.entry.spelling.now list.entry.name first) 0
-        [] (map (data_of tree.now) items.now)) }
+        (in_turn (plan.round_at list.entry.net.now list.entry.spelling.now list.entry.name
+        list.entry.first) 0 [] (map (data_of tree.now) items.now)) }
     ensures count { IfOk result (λ r. length r ≡ length items.now) }
 {
     let mut rounds = CountedRounds::make(alloc)?;
     for (i, item) in items.iter().enumerate() {
-        read_next_round(alloc, list, first, &mut rounds, place_of(i), tree, item)?;
+        read_next_round(alloc, list, &mut rounds, place_of(i), tree, item)?;
     }
     Ok(rounds)
 }
 
-/// Reads the member with this name: at most so many rounds, whose first change has this number.
+/// Reads the member with this name: at most so many rounds.
 #[tactic(auto, unfolding(crate::specs::Changes::rounds_in))]
 pub(crate) fn read_rounds(
     alloc: Global,
     list: ChangeList,
     most: usize,
-    first: usize,
     tree: &Tree<'_>,
     top: &Node,
 ) -> Result<CountedRounds, PlanFault>
-    requires { first ≤ 2200000 }
+    requires { list.entry.first ≤ 2200000 }
     ensures value { Gives Memory (λ r. r) result
-        (plan.rounds_in list.entry.net.now list.entry.spelling.now list.entry.name most first
-        (data_of tree.now top.now)) }
+        (plan.rounds_in list.entry.net.now list.entry.spelling.now list.entry.name most
+        list.entry.first (data_of tree.now top.now)) }
     ensures few { IfOk result (λ r. length r ≤ most) }
 {
     let items = tree
@@ -372,7 +371,7 @@ pub(crate) fn read_rounds(
     if items.len() > most {
         return Err(PlanFault::TooMany(list.name));
     }
-    read_each_round(alloc, list, first, tree, items)
+    read_each_round(alloc, list, tree, items)
 }
 
 /// Reads one more rule.

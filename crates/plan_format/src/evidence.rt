@@ -6,7 +6,7 @@ ghost use Rattle.plan_format.specs.declared.fault.PlanFault.TheVariants.{Memory}
 ghost use Rattle.plan_format.specs.Evidence as plan;
 
 use crate::fault::PlanFault;
-use crate::lists::{Counts, are_below, ascends, is_index, read_numbers};
+use crate::lists::{Counts, ItemPlace, are_below, ascends, is_index, read_numbers};
 use acyclic_numbering::Numbering;
 use certificates::{Befores, IndexList, Numberings, Shared};
 use flat_json::{Node, Tree};
@@ -212,23 +212,22 @@ pub(crate) fn read_befores(
 #[tactic(auto, unfolding(crate::specs::Evidence::shared_in))]
 pub(crate) fn read_shared(
     alloc: Global,
-    field: Field,
-    place: u32,
+    at: ItemPlace,
     counts: Counts,
     numbering: u64,
     tree: &Tree<'_>,
     item: &Node,
 ) -> Result<Shared, PlanFault>
     ensures { Gives Memory (λ s. s) result
-        (plan.shared_in field place counts.numberings counts.befores numbering
+        (plan.shared_in at.field at.place counts.numberings counts.befores numbering
         (data_of tree.now item.now)) }
 {
-    let numbers = read_numbers(alloc, field, place, tree, item)?;
+    let numbers = read_numbers(alloc, at.field, at.place, tree, item)?;
     if !is_index(counts.numberings, numbering) {
-        return Err(PlanFault::BadIndex(place));
+        return Err(PlanFault::BadIndex(at.place));
     }
     if !are_below(&numbers, counts.befores) {
-        return Err(PlanFault::BadIndex(place));
+        return Err(PlanFault::BadIndex(at.place));
     }
     Ok(Shared {
         numbering: numbering as u32,

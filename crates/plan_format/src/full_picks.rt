@@ -12,7 +12,7 @@ ghost use Rattle.std.specs.List.{list_any};
 
 use crate::evidence::read_shared;
 use crate::fault::PlanFault;
-use crate::lists::{Counts, three_numbers};
+use crate::lists::{Counts, ItemPlace, three_numbers};
 use crate::picks::{PickTable, add_pick, is_round_and_class};
 use certificates::{IndexList, OrderedPick, OrderedPicks, Shared, SharedKey, Uses};
 use flat_json::{Node, Tree};
@@ -121,7 +121,6 @@ fn numbers_and_list<'t>(tree: &'t Tree<'_>, item: &Node) -> Option<((u64, u64, u
 /// Reads one more pick: a round, a class, and its evidence.
 #[tactic(auto, unfolding(crate::specs::Evidence::full_pick_at))]
 fn read_full_pick(
-    alloc: Global,
     counts: Counts,
     keys: &mut SharedKeys,
     table: &mut PickTable,
@@ -145,7 +144,11 @@ fn read_full_pick(
         Field::Picks,
         place,
     ))?;
-    let shared = read_shared(alloc, Field::Picks, place, counts, numbering, tree, list)?;
+    let at = ItemPlace {
+        field: Field::Picks,
+        place,
+    };
+    let shared = read_shared(keys.alloc, at, counts, numbering, tree, list)?;
     if !is_round_and_class(counts.rounds, round, class) {
         return Err(PlanFault::BadIndex(place));
     }
@@ -166,15 +169,7 @@ fn read_each_full_pick(
     let mut keys = SharedKeys::empty(alloc);
     let mut table = PickTable::empty(alloc)?;
     for (i, item) in items.iter().enumerate() {
-        read_full_pick(
-            alloc,
-            counts,
-            &mut keys,
-            &mut table,
-            place_of(i),
-            tree,
-            item,
-        )?;
+        read_full_pick(counts, &mut keys, &mut table, place_of(i), tree, item)?;
     }
     Ok(table)
 }

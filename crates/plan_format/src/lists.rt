@@ -19,6 +19,13 @@ pub(crate) struct Counts {
     pub(crate) befores: usize,
 }
 
+/// Which item is read: the member that it stands in, and its number there.
+#[derive(Clone, Copy)]
+pub(crate) struct ItemPlace {
+    pub(crate) field: Field,
+    pub(crate) place: u32,
+}
+
 /// Reads one more number.
 #[tactic(auto, unfolding(crate::specs::Evidence::number_at))]
 fn read_number(

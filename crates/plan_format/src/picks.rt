@@ -9,7 +9,7 @@ ghost use Rattle.plan_format.specs.Evidence as plan;
 
 use crate::evidence::read_shared;
 use crate::fault::PlanFault;
-use crate::lists::{Counts, is_index, is_round, three_numbers};
+use crate::lists::{Counts, ItemPlace, is_index, is_round, three_numbers};
 use certificates::{OrderedPick, OrderedPicks, Uses};
 use flat_json::{Node, Tree};
 use net_base::{Field, place_of};
@@ -69,7 +69,11 @@ fn read_use(
         Field::Uses,
         place,
     ))?;
-    let shared = read_shared(alloc, Field::Uses, place, counts, numbering, tree, list)?;
+    let at = ItemPlace {
+        field: Field::Uses,
+        place,
+    };
+    let shared = read_shared(alloc, at, counts, numbering, tree, list)?;
     uses.add(shared)?;
     Ok(())
 }

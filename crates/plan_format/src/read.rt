@@ -45,6 +45,16 @@ struct Head {
     kind: PlanKind,
 }
 
+/// What stands in a plan before its evidence: what it says of itself, how its changes are spelled, and its rounds, for a
+/// network.
+#[derive(Clone, Copy)]
+struct PlanStart<'a> {
+    net: &'a Net,
+    head: Head,
+    spelling: &'a Spelling,
+    rounds: &'a CountedRounds,
+}
+
 /// The format of this number.
 fn format_of(number: u64) -> Option<Format>
     ensures { result ≡ plan.format_of number }
@@ -143,24 +153,25 @@ fn read_ordered(
 #[tactic(auto, unfolding(crate::specs::Plans::two_phase_in))]
 fn read_two_phase(
     alloc: Global,
-    net: &Net,
-    spelling: &Spelling,
-    rounds: &CountedRounds,
+    start: PlanStart,
     tree: &Tree<'_>,
     top: &Node,
 ) -> Result<TwoPhaseEvidence, PlanFault>
-    requires { length rounds.now ≤ 4200 }
+    requires { length start.entry.rounds.now ≤ 4200 }
     ensures { Gives Memory (λ e. e) result
-        (plan.two_phase_in net.now spelling.now rounds.now (data_of tree.now top.now)) }
+        (plan.two_phase_in start.entry.net.now start.entry.spelling.now start.entry.rounds.now
+        (data_of tree.now top.now)) }
 {
+    let rounds = start.rounds;
     let labels = read_labels(alloc, tree, top)?;
     let picks = read_label_picks(alloc, rounds.count(), labels.list().len(), tree, top)?;
     let list = ChangeList {
-        net,
-        spelling,
+        net: start.net,
+        spelling: start.spelling,
         name: Field::Tried,
+        first: rounds.changes(),
     };
-    let tried = read_rounds(alloc, list, MAX_TRIED, rounds.changes(), tree, top)?;
+    let tried = read_rounds(alloc, list, MAX_TRIED, tree, top)?;
     Ok(TwoPhaseEvidence {
         labels,
         picks,
@@ -172,25 +183,23 @@ fn read_two_phase(
 #[tactic(auto, unfolding(crate::specs::Plans::evidence_in))]
 fn read_evidence(
     alloc: Global,
-    net: &Net,
-    head: Head,
-    spelling: &Spelling,
-    rounds: &CountedRounds,
+    start: PlanStart,
     tree: &Tree<'_>,
     top: &Node,
 ) -> Result<Evidence, PlanFault>
-    requires { length rounds.now ≤ 4200 }
+    requires { length start.entry.rounds.now ≤ 4200 }
     ensures { Gives Memory (λ e. e) result
-        (plan.evidence_in net.now head.format head.kind spelling.now rounds.now
-        (data_of tree.now top.now)) }
+        (plan.evidence_in start.entry.net.now start.entry.head.format start.entry.head.kind
+        start.entry.spelling.now start.entry.rounds.now (data_of tree.now top.now)) }
 {
-    match head.kind {
+    match start.head.kind {
         PlanKind::Ordered => {
-            let evidence = read_ordered(alloc, net, head.format, rounds.count(), tree, top)?;
+            let rounds = start.rounds.count();
+            let evidence = read_ordered(alloc, start.net, start.head.format, rounds, tree, top)?;
             Ok(Evidence::Ordered(evidence))
         }
         PlanKind::TwoPhase => {
-            let evidence = read_two_phase(alloc, net, spelling, rounds, tree, top)?;
+            let evidence = read_two_phase(alloc, start, tree, top)?;
             Ok(Evidence::TwoPhase(evidence))
         }
     }
@@ -217,10 +226,16 @@ fn read_top(alloc: Global, net: &Net, tree: &Tree<'_>, top: &Node) -> Result<Pla
         net,
         spelling: &spelling,
         name: Field::Rounds,
+        first: 0,
     };
-    let rounds = read_rounds(alloc, list, MAX_ROUNDS, 0, tree, top)?;
-    let head = Head { format, kind };
-    let evidence = read_evidence(alloc, net, head, &spelling, &rounds, tree, top)?;
+    let rounds = read_rounds(alloc, list, MAX_ROUNDS, tree, top)?;
+    let start = PlanStart {
+        net,
+        head: Head { format, kind },
+        spelling: &spelling,
+        rounds: &rounds,
+    };
+    let evidence = read_evidence(alloc, start, tree, top)?;
     Ok(Plan {
         rounds: rounds.rounds(),
         evidence,

@@ -1,2 +1,1 @@
 pub mod ReplayLaws
-pub mod WholeLaws

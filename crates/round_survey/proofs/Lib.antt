@@ -1,4 +1,5 @@
 pub mod MemberLaws
 pub mod GateLaws
+pub mod MissLaws
 pub mod SeenLaws
 pub mod MarkLaws

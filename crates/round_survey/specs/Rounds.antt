@@ -1,9 +1,11 @@
 -- A round of an update, prepared.
-use Rattle.std.specs.Prelude.{◌≡◌, ℕ, ◌<◌, false, length}
+use Rattle.std.specs.Prelude.{◌≡◌, ℕ, ◌<◌, ◌%◌, Bool, false, List, length, slice_get, Some}
 use Rattle.flow_rules.specs.Tables.{rules_of_all}
 use Rattle.dest_classes.specs.declared.Class.{Class}
 use Rattle.update_model.specs.Changes.{round_after}
 use Rattle.update_model.specs.Mixtures.{Rollout, AreGoodRounds, AreClearRounds}
+use Rattle.check_reasons.specs.AtomMarks.{is_marked}
+use Rattle.check_reasons.specs.Touched.{touches}
 use Rattle.mixed_walks.specs.Walks.{IsRoundOf}
 use Rattle.class_watch.specs.Walks.{meets_any}
 use Rattle.round_survey.specs.declared.round.PreparedRound.{PreparedRound}
@@ -23,3 +25,9 @@ pub record IsPreparedRound (round : PreparedRound) : Type 0 where
 pub record IsMissed (round : PreparedRound) (class : Class) (set : ℕ) : Type 0 where
   pub later : 0 < round.number
   pub missed : meets_any (round_after round.number round.rounds.now) class set ≡ false
+
+-- of the classes whose atom isn't looked at no change of the round covers the address, and the round isn't the first
+abbrev pub PassesOver : PreparedRound → List Class → List Bool → Type 0
+PassesOver round classes looked =
+    (n : ℕ) (class : Class) → slice_get classes n ≡ Some class → is_marked looked (n % length looked) ≡ false
+    → (0 < round.number) × (touches (round_after round.number round.rounds.now) class.first ≡ false)

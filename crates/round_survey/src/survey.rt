@@ -5,10 +5,10 @@ ghost use Rattle.round_survey.specs.Rounds.{update_of, IsPreparedRound};
 ghost use Rattle.round_survey.specs.Surveys.{AreGood, AreKnown, AreWalkedBelow, HasRoom, KeptBefore, WalksStand};
 
 use crate::members::{gather, have_chains, settle_members, walk_members};
-use crate::missed::mark_missed;
+use crate::missed::{atoms_to_look_at, mark_missed};
 use crate::round::PreparedRound;
 use crate::seen::{keeps_duties, see};
-use class_watch::all_classes;
+use class_watch::{LookedAtoms, all_classes};
 use demands::Duties;
 use dest_classes::{Class, ClassMap, NumberedClass};
 use mixed_walks::WalkRoom;
@@ -98,11 +98,13 @@ impl RoundSurvey {
     }
 
     /// Walks the classes together that aren't marked, those of one address and VLAN, and marks which of them keep their duties.
+    /// Only classes whose atom is looked at are taken.
     fn settle(
         &mut self,
         alloc: Global,
         round: PreparedRound<'_>,
         duties: &Duties,
+        looked: &LookedAtoms,
     ) -> Result<(), Memory>
         requires round { IsPreparedRound round }
         requires hosts { duties.now.classes.hosts ≡ round.net.now.hosts }
@@ -117,8 +119,10 @@ impl RoundSurvey {
             self.new.good.items) }
     {
         let step = self.classes_of_host(round);
-        for first in 0..step {
+        let mut first = looked.next_number(0, step);
+        'settling: while first < step {
             self.settle_group(alloc, round, duties, first, step)?;
+            first = looked.next_number(first + 1, step);
         }
         Ok(())
     }
@@ -224,14 +228,17 @@ impl RoundSurvey {
     /// on whose walks the switches have falling numbers, no packet is discarded that must arrive, and the waypoints of each
     /// chain are gates, or none leaves. Of another class it isn't told.
     ///
-    /// Beside the walks a round takes time by the product of its changes and the classes.
+    /// Beside the walks a round of one change takes time by the classes whose address the change covers, and little for the
+    /// others; a longer one by the product of its changes and the classes.
     pub fn look(
         &mut self,
         alloc: Global,
         round: PreparedRound<'_>,
         duties: &Duties,
+        map: &ClassMap,
     ) -> Result<(), Memory>
         requires round { IsPreparedRound round }
+        requires map { duties.now.classes ≡ map.now }
         requires hosts { duties.now.classes.hosts ≡ round.net.now.hosts }
         requires room { HasRoom duties.now.classes self.old.classes.items self.old.came.items
             self.old.good.items }
@@ -246,8 +253,9 @@ impl RoundSurvey {
         ensures good { OnOk result (AreGood (update_of round.entry) duties.now.demands
             round.entry.number duties.now.classes self.new.good.items) }
     {
-        mark_missed(&mut self.good, round, &self.classes, &self.came);
-        self.settle(alloc, round, duties)?;
+        let looked = atoms_to_look_at(alloc, round, map, &self.classes)?;
+        mark_missed(&mut self.good, round, &self.classes, &self.came, &looked);
+        self.settle(alloc, round, duties, &looked)?;
         self.look_at_rest(alloc, round, duties)
     }
 }

@@ -1,2 +1,1 @@
 pub mod UpgradeLaws
-pub mod WholeLaws

@@ -1,5 +1,5 @@
 use Rattle.std.proofs.lemmas.Result.{err_from_is_err_and}
-use Rattle.replay_command.proofs.WholeLaws.{meets_whole}
+use Rattle.command_base.proofs.WholeLaws.{meets_whole}
 use Rattle.replay_command.proofs.command.replay.Goals as goal
 
 pub returns-in_err-files-clause-meets : goal.returns-in_err-files-clause-meets
