@@ -316,7 +316,7 @@ fn read_next_round(
     tree: &Tree<'_>,
     item: &Node,
 ) -> Result<(), PlanFault>
-    requires { list.entry.first ≤ 2200000 }
+    requires { list.first ≤ 2200000 }
     ensures value { MatchResult result
         (λ _. plan.round_at list.entry.net.now list.entry.spelling.now list.entry.name
         list.entry.first place rounds.old (data_of tree.now item.now) ≡ Ok rounds.new)
@@ -337,7 +337,7 @@ fn read_each_round(
     tree: &Tree<'_>,
     items: &[Node],
 ) -> Result<CountedRounds, PlanFault>
-    requires { list.entry.first ≤ 2200000 }
+    requires { list.first ≤ 2200000 }
     ensures value { Gives Memory (λ r. r) result
         (in_turn (plan.round_at list.entry.net.now list.entry.spelling.now list.entry.name
         list.entry.first) 0 [] (map (data_of tree.now) items.now)) }
@@ -359,7 +359,7 @@ pub(crate) fn read_rounds(
     tree: &Tree<'_>,
     top: &Node,
 ) -> Result<CountedRounds, PlanFault>
-    requires { list.entry.first ≤ 2200000 }
+    requires { list.first ≤ 2200000 }
     ensures value { Gives Memory (λ r. r) result
         (plan.rounds_in list.entry.net.now list.entry.spelling.now list.entry.name most
         list.entry.first (data_of tree.now top.now)) }

@@ -157,7 +157,7 @@ fn read_two_phase(
     tree: &Tree<'_>,
     top: &Node,
 ) -> Result<TwoPhaseEvidence, PlanFault>
-    requires { length start.entry.rounds.now ≤ 4200 }
+    requires { length start.rounds.now ≤ 4200 }
     ensures { Gives Memory (λ e. e) result
         (plan.two_phase_in start.entry.net.now start.entry.spelling.now start.entry.rounds.now
         (data_of tree.now top.now)) }
@@ -187,7 +187,7 @@ fn read_evidence(
     tree: &Tree<'_>,
     top: &Node,
 ) -> Result<Evidence, PlanFault>
-    requires { length start.entry.rounds.now ≤ 4200 }
+    requires { length start.rounds.now ≤ 4200 }
     ensures { Gives Memory (λ e. e) result
         (plan.evidence_in start.entry.net.now start.entry.head.format start.entry.head.kind
         start.entry.spelling.now start.entry.rounds.now (data_of tree.now top.now)) }
