@@ -38,7 +38,7 @@ module _ {A B : Type 0} (f : A → B) where
   one_by (z ∷ zs) x y distinct (inr i) (inr j) e = one_by zs x y distinct.1 i j e
 
 -- where no member stands twice, no two positions have the same
-one_place : {A B : Type 0} (f : A → B) (xs : List A) (i j : ℕ) (x : A) → IsDistinct (map f xs) → i < j → slice_get xs i ≡ Some x → slice_get xs j ≡ Some x → ⊥
+pub one_place : {A B : Type 0} (f : A → B) (xs : List A) (i j : ℕ) (x : A) → IsDistinct (map f xs) → i < j → slice_get xs i ≡ Some x → slice_get xs j ≡ Some x → ⊥
 one_place f [] i j x distinct less e g = let h : None ≡ Some x = e in cc
 one_place f (y ∷ xs) zero zero x distinct less e g = omega arith
 one_place f (y ∷ xs) zero (suc j) x distinct less e g =

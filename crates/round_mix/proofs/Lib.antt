@@ -20,3 +20,4 @@ pub mod PickedLaws
 pub mod AmongLaws
 pub mod NearestLaws
 pub mod SweepLaws
+pub mod UnclearLaws

@@ -9,6 +9,8 @@ use Rattle.round_mix.specs.Marks.{all_rules}
 use Rattle.round_mix.specs.Prepared.{AreGood, AreClear}
 use Rattle.round_mix.specs.declared.MixFault.{MixFault}
 use Rattle.round_mix.specs.declared.MixFault.TheVariants.{BadChange, Ambiguous}
+use Rattle.round_mix.specs.declared.MixRefusal.{MixRefusal}
+use Rattle.round_mix.specs.declared.MixRefusal.TheVariants as refusal
 
 -- the change applies to the table and names a key that none of those before it names
 pub record IsGoodAfter (table : List Rule) (before : List Change) (c : Change) : Type 0 where
@@ -32,3 +34,13 @@ pub record IsAmbiguous (table : List Rule) (changes : List Change) (i j : ℕ) :
 abbrev pub IsFault : List Rule → List Change → MixFault → Type 0
 IsFault table changes (BadChange i) = IsFirstBad table changes i
 IsFault table changes (Ambiguous i j) = IsAmbiguous table changes i j
+
+-- all changes are good and some mixture isn't clear
+pub record AreUnclear (table : List Rule) (changes : List Change) : Type 0 where
+  pub good : AreGood table changes
+  pub unclear : ¬ AreClear table changes
+
+-- what a refusal says
+abbrev pub IsRefusal : List Rule → List Change → MixRefusal → Type 0
+IsRefusal table changes (refusal.BadChange i) = IsFirstBad table changes i
+IsRefusal table changes refusal.Unclear = AreUnclear table changes

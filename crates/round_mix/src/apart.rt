@@ -1,5 +1,5 @@
 //! Whether no two marked rules clash.
-ghost use Rattle.std.specs.Prelude.{◌≡◌, IsTrue, IsPermutation, vec_capacity};
+ghost use Rattle.std.specs.Prelude.{◌≡◌, ◌↔◌, IsTrue, IsPermutation, vec_capacity};
 ghost use Rattle.round_mix.specs.Apart.{AreApart, is_apart};
 ghost use Rattle.round_mix.specs.Order.{AreInKeyOrder};
 
@@ -47,7 +47,7 @@ fn are_apart_by_key(marks: &mut Vec<MarkedRule>) -> bool
 pub fn sort_apart(marks: &mut Vec<MarkedRule>) -> bool
     ensures permutation { IsPermutation marks.old.items marks.new.items }
     ensures order { AreInKeyOrder marks.new.items }
-    ensures apart { IsTrue result → AreApart marks.new.items }
+    ensures apart { IsTrue result ↔ AreApart marks.new.items }
     ensures room { vec_capacity marks.new ≡ vec_capacity marks.old }
 {
     if are_apart_by_key(marks) {

@@ -1,5 +1,5 @@
 //! Whether rules clash, by kinds: rules of one kind test the same things beside the address.
-ghost use Rattle.std.specs.Prelude.{◌≡◌, IsTrue, IsPermutation, IsSortedBy, vec_capacity};
+ghost use Rattle.std.specs.Prelude.{◌≡◌, ◌≢◌, ◌<◌, ◌↔◌, length, IsTrue, IsPermutation, IsSortedBy, vec_capacity};
 ghost use Rattle.net_base.specs.Members.{IsIn};
 ghost use Rattle.net_base.specs.Blocks.{block_size};
 ghost use Rattle.flow_rules.specs.Order.{port_rank, vlan_rank};
@@ -8,6 +8,7 @@ ghost use Rattle.round_mix.specs.Kinds.{has_port, has_vlan, kind_of, tests_port,
 ghost use Rattle.round_mix.specs.declared.kinds.Pair.{Pair as PairModel};
 
 use crate::MarkedRule;
+use crate::clashes::least_clash;
 use flow_rules::VlanTest;
 use net_base::{Port, Prefix};
 use std::cmp::Ordering;
@@ -27,6 +28,17 @@ enum Kind {
 struct Pair {
     one: Kind,
     two: Kind,
+}
+
+/// What sweeps tell of rules.
+#[derive(Clone, Copy)]
+enum Told {
+    /// Of the kinds that were swept no two rules clash.
+    Apart,
+    /// Two of the rules clash.
+    Clash,
+    /// Neither, since the rules don't stand as the sweep goes.
+    Nothing,
 }
 
 /// Where a sweep over the rules of two kinds is. Those of one priority that test the same, as far as both kinds do, follow
@@ -241,26 +253,51 @@ fn reach_with(pair: Pair, reach: &Spot, marked: &MarkedRule) -> Spot
     }
 }
 
-/// Whether no rule of the first kind clashes with one of the second behind it: the sweep meets none of the second kind before
-/// it has left all of the first kind that it met. It answers false, too, where the rules don't stand as it goes.
-fn are_swept(rules: &[MarkedRule], pair: Pair) -> bool
-    ensures { IsTrue result → AreSwept pair rules.now }
+/// What a sweep tells that hasn't left the rule at one position when it meets that at another: whether these two clash.
+fn tell_met(rules: &[MarkedRule], left: usize, met: usize) -> Told
+    requires { met < length rules.now }
+    ensures some { result ≢ Told.Apart }
+    ensures clash { result ≡ Told.Clash → ¬ AreApart rules.now }
 {
-    let mut reach = START;
-    for i in 0..rules.len() {
-        if !begins_past(pair, &reach, &rules[i]) {
-            return false;
-        }
-        reach = reach_with(pair, &reach, &rules[i]);
+    if left < met && rules[left].rule.clashes(&rules[met].rule) {
+        Told::Clash
+    } else {
+        Told::Nothing
     }
-    true
 }
 
-/// Whether no rule of the one kind clashes with one of the other, as far as two sweeps tell.
-fn are_kinds_apart(rules: &[MarkedRule], pair: Pair) -> bool
-    ensures { IsTrue result → AreKindsApart pair rules.now }
+/// Whether a rule of the first kind clashes with one of the second behind it: none does where the sweep meets none of the
+/// second kind before it has left all of the first kind that it met. Where it does meet one, that clashes with the rule
+/// which the sweep leaves last, if the rules stand as it goes.
+fn sweep(rules: &[MarkedRule], pair: Pair) -> Told
+    ensures apart { result ≡ Told.Apart → AreSwept pair rules.now }
+    ensures clash { result ≡ Told.Clash → ¬ AreApart rules.now }
 {
-    are_swept(rules, pair) && are_swept(rules, pair.turned())
+    let mut reach = START;
+    let mut furthest = 0;
+    for i in 0..rules.len() {
+        if !begins_past(pair, &reach, &rules[i]) {
+            return tell_met(rules, furthest, i);
+        }
+        let next = reach_with(pair, &reach, &rules[i]);
+        if reach.is_sooner(&next) {
+            furthest = i;
+        }
+        reach = next;
+    }
+    Told::Apart
+}
+
+/// Whether a rule of the one kind clashes with one of the other, as far as two sweeps tell.
+fn sweep_both(rules: &[MarkedRule], pair: Pair) -> Told
+    ensures apart { result ≡ Told.Apart → AreKindsApart pair rules.now }
+    ensures clash { result ≡ Told.Clash → ¬ AreApart rules.now }
+{
+    match sweep(rules, pair) {
+        Told::Apart => sweep(rules, pair.turned()),
+        Told::Clash => Told::Clash,
+        Told::Nothing => Told::Nothing,
+    }
 }
 
 /// Sorts marked rules as a sweep over two kinds goes.
@@ -273,33 +310,38 @@ fn sort_for(marks: &mut Vec<MarkedRule>, pair: Pair)
     marks.sort_unstable_by(|a, b| pair.begin_of(a).compare(&pair.begin_of(b)));
 }
 
-/// Whether no rule of the one kind clashes with one of the other. The rules are sorted only where they don't stand as the
+/// Whether a rule of the one kind clashes with one of the other. The rules are sorted only where they don't stand as the
 /// sweep goes: they do where one of the kinds has none.
-fn is_pair_apart(marks: &mut Vec<MarkedRule>, pair: &Pair) -> bool
+fn tell_pair(marks: &mut Vec<MarkedRule>, pair: &Pair) -> Told
     ensures permutation { IsPermutation marks.old.items marks.new.items }
-    ensures apart { IsTrue result → AreKindsApart pair.now marks.new.items }
+    ensures apart { result ≡ Told.Apart → AreKindsApart pair.now marks.new.items }
+    ensures clash { result ≡ Told.Clash → ¬ AreApart marks.new.items }
     ensures room { vec_capacity marks.new ≡ vec_capacity marks.old }
 {
-    if are_kinds_apart(marks, *pair) {
-        return true;
+    let told = sweep_both(marks, *pair);
+    if !matches!(told, Told::Nothing) {
+        return told;
     }
     sort_for(marks, *pair);
-    are_kinds_apart(marks, *pair)
+    sweep_both(marks, *pair)
 }
 
-/// Whether each two kinds are apart.
-fn are_pairs_apart(marks: &mut Vec<MarkedRule>, pairs: &[Pair]) -> bool
+/// Whether rules of two of the kinds clash.
+fn tell_pairs(marks: &mut Vec<MarkedRule>, pairs: &[Pair]) -> Told
     ensures permutation { IsPermutation marks.old.items marks.new.items }
-    ensures apart { (pair : PairModel) → IsTrue result → IsIn pair pairs.now
+    ensures apart { (pair : PairModel) → result ≡ Told.Apart → IsIn pair pairs.now
         → AreKindsApart pair marks.new.items }
+    ensures clash { result ≡ Told.Clash → ¬ AreApart marks.new.items }
     ensures room { vec_capacity marks.new ≡ vec_capacity marks.old }
 {
     for pair in pairs {
-        if !is_pair_apart(marks, pair) {
-            return false;
+        match tell_pair(marks, pair) {
+            Told::Apart => {}
+            Told::Clash => return Told::Clash,
+            Told::Nothing => return Told::Nothing,
         }
     }
-    true
+    Told::Apart
 }
 
 /// Two kinds.
@@ -309,11 +351,11 @@ fn pair_of(one: Kind, two: Kind) -> Pair
     Pair { one, two }
 }
 
-/// Whether no two marked rules clash, by kinds. Rules of one kind are apart from each other as they stand where they stand by
-/// their keys; for kinds that both have rules these are sorted three times at most. So it takes n log n.
-pub fn are_apart_by_kind(marks: &mut Vec<MarkedRule>) -> bool
+/// Whether two marked rules clash, by kinds.
+fn tell(marks: &mut Vec<MarkedRule>) -> Told
     ensures permutation { IsPermutation marks.old.items marks.new.items }
-    ensures apart { IsTrue result → AreApart marks.new.items }
+    ensures apart { result ≡ Told.Apart → AreApart marks.new.items }
+    ensures clash { result ≡ Told.Clash → ¬ AreApart marks.new.items }
     ensures room { vec_capacity marks.new ≡ vec_capacity marks.old }
 {
     let pairs = [
@@ -328,5 +370,20 @@ pub fn are_apart_by_kind(marks: &mut Vec<MarkedRule>) -> bool
         pair_of(Kind::Address, Kind::Both),
         pair_of(Kind::Port, Kind::Vlan),
     ];
-    are_pairs_apart(marks, &pairs)
+    tell_pairs(marks, &pairs)
+}
+
+/// Whether no two marked rules clash, by kinds. Rules of one kind are apart from each other as they stand where they stand by
+/// their keys; for kinds that both have rules these are sorted three times at most. So it takes n log n: a sweep over rules
+/// sorted for it always tells, and it is only where none did that each two rules would be compared.
+pub fn are_apart_by_kind(marks: &mut Vec<MarkedRule>) -> bool
+    ensures permutation { IsPermutation marks.old.items marks.new.items }
+    ensures apart { IsTrue result ↔ AreApart marks.new.items }
+    ensures room { vec_capacity marks.new ≡ vec_capacity marks.old }
+{
+    match tell(marks) {
+        Told::Apart => true,
+        Told::Clash => false,
+        Told::Nothing => least_clash(marks).is_none(),
+    }
 }

@@ -5,12 +5,12 @@ ghost use Rattle.std.specs.Prelude.{ℕ, ◌≡◌, ◌+◌, ◌^◌, ◌≤◌,
 ghost use Rattle.std.specs.Option.{ForSome};
 ghost use Rattle.path_walk.specs.Outcomes.{acted, header_at};
 ghost use Rattle.flow_rules.specs.Tables.{IsTable};
-ghost use Rattle.round_mix.specs.Faults.{IsFault};
+ghost use Rattle.round_mix.specs.Faults.{AreUnclear, IsAmbiguous, IsFault, IsRefusal};
 ghost use Rattle.update_model.specs.Changes.{AppliesTo, rules_after, rules_after_change};
 ghost use Rattle.update_model.specs.Mixtures.{entries_needed, is_insert, is_delete};
 ghost use Rattle.round_mix.specs.Marks.{all_rules};
 ghost use Rattle.round_mix.specs.Found.{AreAllOutcomes};
-ghost use Rattle.round_mix.specs.Prepared.{AreClear, IsPrepared};
+ghost use Rattle.round_mix.specs.Prepared.{AreClear, AreGood, IsPrepared};
 ghost use Rattle.table_index.specs.Candidates.{AreCandidates, IsAscending};
 ghost use Rattle.round_mix.specs.Among.{AreOutcomesAmong, AreWithin, HoldCandidates, blocks_of, picked};
 ghost use Rattle.round_mix.specs.Nearest.{patterns_in};
@@ -68,6 +68,15 @@ pub enum MixFault {
     /// The least positions, from 0, of two rules that make a mixture unclear: among the table's rules and the inserted ones
     /// behind them.
     Ambiguous(usize, usize),
+}
+
+/// Why a switch and a round are not prepared, where no one asks which rules clash.
+#[derive(Clone, Copy, PartialEq, Eq)]
+pub enum MixRefusal {
+    /// The position, from 0, of the first change that doesn't apply or names a key that was named before.
+    BadChange(usize),
+    /// All changes are good, and some mixture isn't clear.
+    Unclear,
 }
 
 /// The marked rules of one switch and round, in descending priority.
@@ -303,40 +312,91 @@ fn find_candidates(index: &mut Index, rules: &[MarkedRule], dst: u32)
     }
 }
 
-/// Marks and sorts the rules of a table and the inserted ones, or says why not.
-fn mix(table: &Table, changes: &[Change], marks: &mut Vec<MarkedRule>) -> Result<(), MixFault>
-    requires { length (all_rules table.now.rules changes.now) ≤ vec_capacity marks.old }
-    ensures ok { OnOk result (IsPrepared table.now.rules changes.now marks.new.items) }
-    ensures err { IfErr result (λ fault. IsFault table.now.rules changes.now fault) }
+/// Whether many good changes of a table have a mixture that isn't clear. For few changes it doesn't look.
+fn are_unclear(table: &Table, changes: &[Change], marks: &mut Vec<MarkedRule>) -> bool
+    requires good { AreGood table.now.rules changes.now }
+    requires room { length (all_rules table.now.rules changes.now) ≤ vec_capacity marks.old }
+    ensures yes { result ≡ true → ¬ AreClear table.now.rules changes.now }
     ensures room { vec_capacity marks.old ≤ vec_capacity marks.new }
 {
-    if let Some(i) = first_bad(table, changes, marks) {
-        return Err(MixFault::BadChange(i));
+    if changes.len() < MANY_CHANGES {
+        return false;
     }
-    let rules = table.rules();
-    fill(changes, changes, rules, marks);
-    if sort_apart(marks) {
-        return Ok(());
+    let none = &changes[..0];
+    fill(none, changes, table.rules(), marks);
+    !sort_apart(marks)
+}
+
+/// Marks and sorts the rules of a table and those that good changes insert, and says whether all mixtures are clear.
+fn mix_good(table: &Table, changes: &[Change], marks: &mut Vec<MarkedRule>) -> bool
+    requires good { AreGood table.now.rules changes.now }
+    requires room { length (all_rules table.now.rules changes.now) ≤ vec_capacity marks.old }
+    ensures yes { result ≡ true → IsPrepared table.now.rules changes.now marks.new.items }
+    ensures no { result ≡ false → ¬ AreClear table.now.rules changes.now }
+    ensures room { vec_capacity marks.old ≤ vec_capacity marks.new }
+{
+    if are_unclear(table, changes, marks) {
+        return false;
     }
-    fill(changes, changes, rules, marks);
-    if let Some((i, j)) = least_clash(marks) {
-        return Err(MixFault::Ambiguous(i, j));
-    }
-    sort_by_key(marks);
-    Ok(())
+    fill(changes, changes, table.rules(), marks);
+    sort_apart(marks)
 }
 
 /// Marks and sorts the rules of a table and the inserted ones, or says why not: many changes by their keys.
-fn prepare(table: &Table, changes: &[Change], marks: &mut Vec<MarkedRule>) -> Result<(), MixFault>
+fn mix(table: &Table, changes: &[Change], marks: &mut Vec<MarkedRule>) -> Result<(), MixRefusal>
     requires { length (all_rules table.now.rules changes.now) ≤ vec_capacity marks.old }
     ensures ok { OnOk result (IsPrepared table.now.rules changes.now marks.new.items) }
-    ensures err { IfErr result (λ fault. IsFault table.now.rules changes.now fault) }
+    ensures err { IfErr result (λ refusal. IsRefusal table.now.rules changes.now refusal) }
     ensures room { vec_capacity marks.old ≤ vec_capacity marks.new }
 {
     if changes.len() >= MANY_CHANGES && mix_by_key(table, changes, marks) {
         return Ok(());
     }
-    mix(table, changes, marks)
+    if let Some(i) = first_bad(table, changes, marks) {
+        return Err(MixRefusal::BadChange(i));
+    }
+    if mix_good(table, changes, marks) {
+        Ok(())
+    } else {
+        Err(MixRefusal::Unclear)
+    }
+}
+
+/// The least positions of two rules that clash, among a table's rules and those inserted behind them, where changes are good
+/// and some mixture isn't clear. It compares each two rules.
+fn clash_of(table: &Table, changes: &[Change], marks: &mut Vec<MarkedRule>) -> (usize, usize)
+    requires unclear { AreUnclear table.now.rules changes.now }
+    requires room { length (all_rules table.now.rules changes.now) ≤ vec_capacity marks.old }
+    ensures least { IsAmbiguous table.now.rules changes.now result.0 result.1 }
+    ensures room { vec_capacity marks.old ≤ vec_capacity marks.new }
+{
+    let none = &changes[..0];
+    fill(none, changes, table.rules(), marks);
+    match least_clash(marks) {
+        Some(positions) => positions,
+        None => unreachable!(),
+    }
+}
+
+/// Marks and sorts the rules of a table and the inserted ones, or says why not and which rules clash.
+fn mix_or_clash(
+    table: &Table,
+    changes: &[Change],
+    marks: &mut Vec<MarkedRule>,
+) -> Result<(), MixFault>
+    requires { length (all_rules table.now.rules changes.now) ≤ vec_capacity marks.old }
+    ensures ok { OnOk result (IsPrepared table.now.rules changes.now marks.new.items) }
+    ensures err { IfErr result (λ fault. IsFault table.now.rules changes.now fault) }
+    ensures room { vec_capacity marks.old ≤ vec_capacity marks.new }
+{
+    match mix(table, changes, marks) {
+        Ok(()) => Ok(()),
+        Err(MixRefusal::BadChange(i)) => Err(MixFault::BadChange(i)),
+        Err(MixRefusal::Unclear) => {
+            let (i, j) = clash_of(table, changes, marks);
+            Err(MixFault::Ambiguous(i, j))
+        }
+    }
 }
 
 /// The fewest prepared rules that are worth a space.
@@ -373,9 +433,29 @@ impl Mixed {
     ///
     /// It sorts the rules by their keys; where those of one priority don't all test the same beside the address, it sorts
     /// them three times more at most, by what two kinds of them both test. So it takes n log n for n rules. 16 changes and
-    /// more are looked up among the sorted rules, and so is the first bad one of them, for which it may sort log n times.
-    /// Fewer are each compared with all rules and all changes. Where it answers that a mixture is unclear, each change is
-    /// compared with each rule, and each two rules.
+    /// more are looked up among the sorted rules. For the first bad one of them it may sort log n times more, and where some
+    /// mixture is unclear it sorts all twice. Fewer are each compared with all rules and all changes.
+    pub fn prepare(&mut self, table: &Table, changes: &[Change]) -> Result<(), MixRefusal>
+        requires { entries_needed table.now.rules changes.now ≤ self.old.room }
+        ensures ok { OnOk result (IsSomeAnd self.new.prepared
+            (IsPrepared table.now.rules changes.now)) }
+        ensures err { IfErr result
+            (λ refusal. IsRefusal table.now.rules changes.now refusal) }
+        ensures nothing { OnErr result (self.new.prepared ≡ None) }
+        ensures count { IfSome self.new.prepared
+            (λ marks. length marks ≡ entries_needed table.now.rules changes.now) }
+        ensures room { self.old.room ≤ self.new.room }
+    {
+        self.is_prepared = false;
+        self.aimed = None;
+        self.is_indexed = false;
+        mix(table, changes, &mut self.rules)?;
+        self.is_prepared = true;
+        Ok(())
+    }
+
+    /// Prepares one switch as `prepare` does, and says which rules make a mixture unclear: for that it compares each two of
+    /// them.
     pub fn load(&mut self, table: &Table, changes: &[Change]) -> Result<(), MixFault>
         requires { entries_needed table.now.rules changes.now ≤ self.old.room }
         ensures ok { OnOk result (IsSomeAnd self.new.prepared
@@ -389,7 +469,7 @@ impl Mixed {
         self.is_prepared = false;
         self.aimed = None;
         self.is_indexed = false;
-        prepare(table, changes, &mut self.rules)?;
+        mix_or_clash(table, changes, &mut self.rules)?;
         self.is_prepared = true;
         Ok(())
     }

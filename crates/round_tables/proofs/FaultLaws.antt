@@ -16,7 +16,7 @@ use Rattle.update_model.specs.Mixtures.{Rollout, tables_before}
 use Rattle.update_model.specs.declared.Change.{Change}
 use Rattle.update_model.proofs.ChangeLaws.{key_named}
 use Rattle.update_model.proofs.MadeLaws.{same_entry}
-use Rattle.round_mix.specs.Faults.{IsAmbiguous, IsFirstBad, IsGoodAfter}
+use Rattle.round_mix.specs.Faults.{AreUnclear, IsFirstBad, IsGoodAfter}
 use Rattle.round_mix.specs.Marks.{all_rules, marked}
 use Rattle.round_mix.specs.Prepared.{AreGood, AreClear}
 use Rattle.round_mix.specs.declared.MarkedRule.{MarkedRule}
@@ -152,16 +152,16 @@ module _ (u : Rollout) (k : ℕ) (within : AreWithin (length (tables_before u k)
       first = none_before;
     }
 
--- all rules together aren't clear where changes of a table are ambiguous
-unclear_there : (u : Rollout) (k : ℕ) (s : SwitchId) (i j : ℕ) → IsTable (rules_at (tables_before u k) s)
-    → IsAmbiguous (rules_at (tables_before u k) s) (changes_at s (round_after k u.rounds)) i j → IsUnclear u k s
-unclear_there u k s i j table ambiguous =
+-- all rules together aren't clear where changes of a table are unclear
+unclear_there : (u : Rollout) (k : ℕ) (s : SwitchId) → IsTable (rules_at (tables_before u k) s)
+    → AreUnclear (rules_at (tables_before u k) s) (changes_at s (round_after k u.rounds)) → IsUnclear u k s
+unclear_there u k s table here =
     let rules = rules_at (tables_before u k) s in
     let changes = changes_at s (round_after k u.rounds) in
     record {
       mixed = all_rules rules changes;
       held = all_mixed rules changes;
-      unclear = λ clear. ambiguous.unclear (clear_from_free rules changes table ambiguous.good (λ m n in_m in_n clash.
+      unclear = λ clear. here.unclear (clear_from_free rules changes table here.good (λ m n in_m in_n clash.
           let (q, at_q, is_q) = in_from_map (marked changes) m (all_rules rules changes) in_m in
           let (r, at_r, is_r) = in_from_map (marked changes) n (all_rules rules changes) in_n in
           let one : m.rule ≡ q = ap (λ (x : MarkedRule). x.rule) is_q in
@@ -196,7 +196,6 @@ module _ (u : Rollout) (k : ℕ) (tables : List TableState) (lists : List Change
       → IsUnclearAt tables lists s → IsFirstUnclear u k s
   unclear_found s less good unclear = record {
     good = all_good u k within_tables (λ o in_o. at_round AreGood o (omega arith) (good o (omega arith)));
-    unclear = unclear_there u k s unclear.i unclear.j (at_round (λ rs _. IsTable rs) s less unclear.table)
-        (at_round (λ rs cs. IsAmbiguous rs cs unclear.i unclear.j) s less unclear.ambiguous);
+    unclear = unclear_there u k s (at_round (λ rs _. IsTable rs) s less unclear.table) (at_round AreUnclear s less unclear.here);
     first = λ o below bad. bad.unclear (at_round AreClear o (omega arith) (unclear.below o below) bad.mixed bad.held);
   }

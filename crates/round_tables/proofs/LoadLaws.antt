@@ -7,7 +7,7 @@ use Rattle.flow_rules.specs.Tables.{IsTable, TableState}
 use Rattle.flow_rules.specs.declared.rules.Rule.{Rule}
 use Rattle.update_model.specs.Mixtures.{entries_needed, is_insert}
 use Rattle.update_model.specs.declared.Change.{Change}
-use Rattle.round_mix.specs.Faults.{IsAmbiguous}
+use Rattle.round_mix.specs.Faults.{AreUnclear}
 use Rattle.round_mix.specs.Prepared.{MixedState, AreGood, AreClear, IsPrepared}
 use Rattle.round_mix.specs.declared.MarkedRule.{MarkedRule}
 use Rattle.round_tables.specs.PreparedTables.{ChangesState, IsMixed, mix_at, list_at, is_touched, rules_there}
@@ -84,19 +84,17 @@ module _ (tables : List TableState) (lists : List ChangesState) (s : SwitchId) (
       rest (Some a) h = (omega (arith, h.0), h.1)
 
   -- the next switch is unclear
-  pub loaded_unclear : (unclear : Option SwitchId) (i j : ℕ) → IsLoadedTo tables lists s.0 mixes unclear → IsTable (rules_there tables s)
-      → IsAmbiguous (rules_there tables s) (list_at lists s).changes i j → IsLoadedTo tables lists (s.0 + 1) new (Some (unwrap_or unclear s))
-  loaded_unclear unclear i j so_far table ambiguous = record { good = good_next so_far.good ambiguous.good; rest = rest unclear so_far.rest }
+  pub loaded_unclear : (unclear : Option SwitchId) → IsLoadedTo tables lists s.0 mixes unclear → IsTable (rules_there tables s)
+      → AreUnclear (rules_there tables s) (list_at lists s).changes → IsLoadedTo tables lists (s.0 + 1) new (Some (unwrap_or unclear s))
+  loaded_unclear unclear so_far table here = record { good = good_next so_far.good here.good; rest = rest unclear so_far.rest }
     where
       rest : (unclear : Option SwitchId) → MatchOption unclear (AreMet tables lists s.0 mixes) (λ a. (a.0 < s.0) × IsUnclearAt tables lists a)
           → ((unwrap_or unclear s).0 < s.0 + 1) × IsUnclearAt tables lists (unwrap_or unclear s)
       rest None all = (
         omega arith,
         record {
-          i = i;
-          j = j;
           table = table;
-          ambiguous = ambiguous;
+          here = here;
           below = λ t less. clear_mixed (rules_there tables t) (list_at lists t).changes (mix_at mixes t) (all t less);
         },
       )

@@ -7,7 +7,7 @@ use Rattle.topology.specs.Networks.{switch_count, capacity_of}
 use Rattle.update_model.specs.Changes.{switch_of, changes_at, round_after}
 use Rattle.update_model.specs.Mixtures.{Rollout, tables_before, need_of, is_insert}
 use Rattle.update_model.specs.declared.Change.{Change}
-use Rattle.round_mix.specs.Faults.{IsFirstBad, IsAmbiguous}
+use Rattle.round_mix.specs.Faults.{IsFirstBad, AreUnclear}
 use Rattle.round_mix.specs.Prepared.{MixedState, AreGood, AreClear}
 use Rattle.check_reasons.specs.Reasons.{IsBadChange, IsUnclear}
 use Rattle.round_tables.specs.PreparedTables.{PreparedState, ChangesState, rules_there, mix_at, list_at, is_touched, IsMixed}
@@ -24,10 +24,8 @@ AreMet tables lists n mixes = (s : SwitchId) → s.0 < n → IsMixed (rules_ther
 
 -- a switch with a mixture that isn't clear, and none before it
 pub record IsUnclearAt (tables : List TableState) (lists : List ChangesState) (s : SwitchId) : Type 0 where
-  pub i : ℕ
-  pub j : ℕ
   pub table : IsTable (rules_there tables s)
-  pub ambiguous : IsAmbiguous (rules_there tables s) (list_at lists s).changes i j
+  pub here : AreUnclear (rules_there tables s) (list_at lists s).changes
   pub below : (t : SwitchId) → t.0 < s.0 → AreClear (rules_there tables t) (list_at lists t).changes
 
 -- the changes are good at the first n switches, and each of these is prepared, or one is the first that is unclear

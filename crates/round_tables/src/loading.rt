@@ -4,7 +4,7 @@ ghost use Rattle.net_base.specs.declared.ids.SwitchId.{SwitchId as Switch};
 ghost use Rattle.topology.specs.Networks.{switch_count};
 ghost use Rattle.flow_rules.specs.Tables.{IsTable};
 ghost use Rattle.update_model.specs.Changes.{changes_at, round_after};
-ghost use Rattle.round_mix.specs.Faults.{IsFault};
+ghost use Rattle.round_mix.specs.Faults.{IsRefusal};
 ghost use Rattle.round_tables.specs.PreparedTables.{HoldsRounds, StandsBefore, IsMixed, is_touched, list_at, mix_at, rules_there};
 ghost use Rattle.round_tables.specs.Loading.{AreAlone, ArePrepared, AreWithin, IsBadAt, IsFirstRoundFault, IsLoadedTo};
 
@@ -14,7 +14,7 @@ use crate::prepared::PreparedTables;
 use crate::rollout::Rollout;
 use flow_rules::{Config, Table};
 use net_base::SwitchId;
-use round_mix::{MixFault, Mixed};
+use round_mix::{MixRefusal, Mixed};
 use update_model::Change;
 
 /// Why a round can't be made in whatever order.
@@ -59,16 +59,16 @@ fn load_into(
     switch: SwitchId,
     table: &Table,
     changes: &[Change],
-) -> Result<(), MixFault>
+) -> Result<(), MixRefusal>
     requires within { switch.0 < length mixes.old }
     requires room { length table.now.rules + length changes.now ≤ (mix_at mixes.old switch).room }
     ensures ok { OnOk result (IsMixed table.now.rules changes.now (mix_at mixes.new switch)) }
-    ensures err { IfErr result (λ fault. IsFault table.now.rules changes.now fault) }
+    ensures err { IfErr result (λ refusal. IsRefusal table.now.rules changes.now refusal) }
     ensures others { (t : Switch) → t.0 ≢ switch.0 → mix_at mixes.new t ≡ mix_at mixes.old t }
     ensures room { (mix_at mixes.old switch).room ≤ (mix_at mixes.new switch).room }
 {
     let mixed = &mut mixes[switch.0 as usize];
-    mixed.load(table, changes)?;
+    mixed.prepare(table, changes)?;
     mixed.index();
     Ok(())
 }
@@ -100,7 +100,7 @@ fn load_at(
     switch: SwitchId,
     table: &Table,
     changes: &[Change],
-) -> Result<(), MixFault>
+) -> Result<(), MixRefusal>
     requires within { switch.0 < length mixes.old }
     requires touched { switch.0 < length touched.old }
     requires alone { is_touched touched.old switch ≡ false
@@ -108,7 +108,7 @@ fn load_at(
     requires room { length table.now.rules + length changes.now ≤ (mix_at mixes.old switch).room }
     ensures ok { OnOk result (IsMixed table.now.rules changes.now (mix_at mixes.new switch)) }
     ensures table { IsTable table.now.rules }
-    ensures err { IfErr result (λ fault. IsFault table.now.rules changes.now fault) }
+    ensures err { IfErr result (λ refusal. IsRefusal table.now.rules changes.now refusal) }
     ensures others { (t : Switch) → t.0 ≢ switch.0 → mix_at mixes.new t ≡ mix_at mixes.old t }
     ensures flags { (t : Switch) → t.0 ≢ switch.0 → is_touched touched.new t
         ≡ is_touched touched.old t }
@@ -154,8 +154,8 @@ fn load_next(
     let changes = lists[switch.0 as usize].list();
     match load_at(mixes, touched, switch, tables.table(switch), changes) {
         Ok(()) => Ok(unclear),
-        Err(MixFault::Ambiguous(_, _)) => Ok(Some(unclear.unwrap_or(switch))),
-        Err(MixFault::BadChange(nth)) => Err((switch, nth)),
+        Err(MixRefusal::Unclear) => Ok(Some(unclear.unwrap_or(switch))),
+        Err(MixRefusal::BadChange(nth)) => Err((switch, nth)),
     }
 }
 

@@ -11,7 +11,7 @@ put_marks-requires-clause-sure c =
     c.sort_apart.ensures.permutation
 
 pub put_marks-requires-clause-distinct : goal.put_marks-requires-clause-distinct
-put_marks-requires-clause-distinct c = (c.sort_apart.ensures.apart c.if-not-sort_apart.false).distinct
+put_marks-requires-clause-distinct c = (c.sort_apart.ensures.apart.0 c.if-not-sort_apart.false).distinct
 
 pub returns-clause-prepared : goal.returns-clause-prepared
 returns-clause-prepared c h =
@@ -19,5 +19,5 @@ returns-clause-prepared c h =
     (c.fill.ensures.items ∙ ap (λ (rs : List Rule). map (marked []) (all_rules rs c.args.changes.now)) c.rules.ensures.value)
     c.sort_apart.ensures.permutation
     (falling_from_key_order c.sort_apart.new.marks.items c.sort_apart.ensures.order)
-    (c.sort_apart.ensures.apart c.if-not-sort_apart.false)
+    (c.sort_apart.ensures.apart.0 c.if-not-sort_apart.false)
     (c.put_marks.ensures.marked h)

@@ -6,8 +6,8 @@ use Rattle.flow_rules.specs.Tables.{IsTable, TableState}
 use Rattle.flow_rules.specs.declared.rules.Rule.{Rule}
 use Rattle.flow_rules.proofs.TableLaws.{rules_get}
 use Rattle.update_model.specs.declared.Change.{Change}
-use Rattle.round_mix.specs.Faults.{IsFault, IsAmbiguous, IsFirstBad}
-use Rattle.round_mix.specs.declared.MixFault.{MixFault}
+use Rattle.round_mix.specs.Faults.{IsRefusal, AreUnclear, IsFirstBad}
+use Rattle.round_mix.specs.declared.MixRefusal.{MixRefusal}
 use Rattle.round_tables.specs.Loading.{IsLoadedTo}
 use Rattle.round_tables.specs.PreparedTables.{ChangesState, IsMixed, is_touched, list_at, mix_at, rules_there}
 use Rattle.round_tables.proofs.LoadLaws.{loaded_next, loaded_unclear}
@@ -33,23 +33,21 @@ returns-in-Ok-clause-ok c =
     loaded_next tables lists s c.args.touched.now next c.args.mixes.now new c.in-Ok.ensures.others c.args.unclear c.requires.so_far
     (said (λ rs cs. IsMixed rs cs (mix_at new s)) c.in-Ok.ensures.ok)
 
-pub returns-in-Err-Ambiguous-clause-ok : goal.returns-in-Err-Ambiguous-clause-ok
-returns-in-Err-Ambiguous-clause-ok c =
+pub returns-in-Err-Unclear-clause-ok : goal.returns-in-Err-Unclear-clause-ok
+returns-in-Err-Unclear-clause-ok c =
     let s = c.args.switch in
     let tables = c.args.tables.now in
     let lists = c.args.lists.now in
     let new = c.load_at.new.mixes in
     let next = c.load_at.new.touched in
-    let i = c.in-Err-Ambiguous.field-0-0 in
-    let j = c.in-Err-Ambiguous.field-0-1 in
     let said = there tables lists s c.table.result.now c.index-lists-switch.result c.list-changes.result.now c.table.ensures c.list-changes.ensures c.index-lists-switch.is
     (omega (arith, c.requires.within, c.requires.lists)) in
-    let ambiguous : IsAmbiguous (rules_there tables s) (list_at lists s).changes i j =
-    subst (λ (f : MixFault). IsFault (rules_there tables s) (list_at lists s).changes f) c.in-Err-Ambiguous.field-0-is
-    (said (λ rs cs. IsFault rs cs c.in-Err-Ambiguous.field-0) c.in-Err-Ambiguous.ensures.err) in
+    let here : AreUnclear (rules_there tables s) (list_at lists s).changes =
+    subst (λ (f : MixRefusal). IsRefusal (rules_there tables s) (list_at lists s).changes f) c.in-Err-Unclear.field-0-is
+    (said (λ rs cs. IsRefusal rs cs c.in-Err-Unclear.field-0) c.in-Err-Unclear.ensures.err) in
     subst (λ (w : SwitchId). IsLoadedTo tables lists (s.0 + 1) new (Some w)) (sym c.unwrap_or.ensures)
-    (loaded_unclear tables lists s c.args.touched.now next c.args.mixes.now new c.in-Err-Ambiguous.ensures.others c.args.unclear i j c.requires.so_far
-    (said (λ rs _. IsTable rs) c.in-Err-Ambiguous.ensures.table) ambiguous)
+    (loaded_unclear tables lists s c.args.touched.now next c.args.mixes.now new c.in-Err-Unclear.ensures.others c.args.unclear c.requires.so_far
+    (said (λ rs _. IsTable rs) c.in-Err-Unclear.ensures.table) here)
 
 pub returns-in-Err-BadChange-clause-err : goal.returns-in-Err-BadChange-clause-err
 returns-in-Err-BadChange-clause-err c =
@@ -59,6 +57,6 @@ returns-in-Err-BadChange-clause-err c =
     let said = there tables lists s c.table.result.now c.index-lists-switch.result c.list-changes.result.now c.table.ensures c.list-changes.ensures c.index-lists-switch.is
     (omega (arith, c.requires.within, c.requires.lists)) in
     let first : IsFirstBad (rules_there tables s) (list_at lists s).changes c.in-Err-BadChange.nth =
-    subst (λ (f : MixFault). IsFault (rules_there tables s) (list_at lists s).changes f) c.in-Err-BadChange.field-0-is
-    (said (λ rs cs. IsFault rs cs c.in-Err-BadChange.field-0) c.in-Err-BadChange.ensures.err) in
+    subst (λ (f : MixRefusal). IsRefusal (rules_there tables s) (list_at lists s).changes f) c.in-Err-BadChange.field-0-is
+    (said (λ rs cs. IsRefusal rs cs c.in-Err-BadChange.field-0) c.in-Err-BadChange.ensures.err) in
     (c.requires.within, record { first = first; below = c.requires.so_far.good })

@@ -5,7 +5,7 @@ use Rattle.round_mix.specs.Kinds.{clash_between, begins_past, reach_with}
 use Rattle.round_mix.specs.declared.MarkedRule.{MarkedRule}
 use Rattle.round_mix.specs.declared.kinds.Spot.{Spot}
 use Rattle.round_mix.proofs.SweepLaws.{IsLeft, left_kept, left_new, left_apart, swept_from_places}
-use Rattle.round_mix.proofs.kinds.are_swept.Goals as goal
+use Rattle.round_mix.proofs.kinds.sweep.Goals as goal
 
 pub loop-i-init : goal.loop-i-init
 loop-i-init c = (λ j d less. absurd (omega arith), λ j k d less within. absurd (omega arith))
@@ -19,7 +19,7 @@ loop-i-preserved c =
     let within : i < length marks = c.loop-i-test.true in
     let tested = c.index-rules-i.result in
     let item = c.index-rules-i-in-loop-i.result in
-    let moved : c.reach_with-reach.result ≡ reach_with pair reach item = c.reach_with-reach.ensures in
+    let moved : c.reach_with-next.result ≡ reach_with pair reach item = c.reach_with-next.ensures in
     let past : begins_past pair reach tested ≡ true = sym c.begins_past.ensures ∙ c.if-not-begins_past.false in
     let item_at : (d : MarkedRule) → item ≡ get_or marks i d = λ d. c.index-rules-i-in-loop-i.is ∙ get_or_default marks i item d within in
     let tested_at : (d : MarkedRule) → tested ≡ get_or marks i d = λ d. c.index-rules-i.is ∙ get_or_default marks i tested d within in (
@@ -39,5 +39,5 @@ loop-i-preserved c =
       ],
     )
 
-pub returns : goal.returns
-returns c h = swept_from_places c.args.pair c.args.rules.now (λ j k d less within. let end = c.loop-i-test.false in c.loop-i.invariant.1 j k d less (omega arith))
+pub returns-clause-apart : goal.returns-clause-apart
+returns-clause-apart c h = swept_from_places c.args.pair c.args.rules.now (λ j k d less within. let end = c.loop-i-test.false in c.loop-i.invariant.1 j k d less (omega arith))

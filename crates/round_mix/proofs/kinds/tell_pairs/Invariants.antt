@@ -1,7 +1,7 @@
 use Rattle.std.proofs.Common.{◌≡◌, ℕ, ◌<◌, get_or, vec_capacity, IsPermutation}
 use Rattle.round_mix.specs.Kinds.{AreKindsApart}
 use Rattle.round_mix.specs.declared.kinds.Pair.{Pair}
-use Rattle.round_mix.proofs.kinds.are_pairs_apart.Given as goal
+use Rattle.round_mix.proofs.kinds.tell_pairs.Given as goal
 
 abbrev pub invariant-loop-pair : goal.invariant-loop-pair
 invariant-loop-pair l =

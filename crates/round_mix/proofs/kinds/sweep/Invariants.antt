@@ -2,7 +2,7 @@ use Rattle.std.proofs.Common.{◌≡◌, ℕ, ◌<◌, false, get_or}
 use Rattle.round_mix.specs.Kinds.{clash_between}
 use Rattle.round_mix.specs.declared.MarkedRule.{MarkedRule}
 use Rattle.round_mix.proofs.SweepLaws.{IsLeft}
-use Rattle.round_mix.proofs.kinds.are_swept.Given as goal
+use Rattle.round_mix.proofs.kinds.sweep.Given as goal
 
 abbrev pub invariant-loop-i : goal.invariant-loop-i
 invariant-loop-i l =
