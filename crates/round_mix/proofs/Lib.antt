@@ -13,6 +13,7 @@ pub mod KeyOrderLaws
 pub mod ApartLaws
 pub mod KindLaws
 pub mod PassLaws
+pub mod PriorityLaws
 pub mod TriedLaws
 pub mod NextLaws
 pub mod MadeLaws

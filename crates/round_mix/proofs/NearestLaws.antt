@@ -1,9 +1,10 @@
 -- The nearest rule that covers a packet, among those of the slots of all kinds.
-use Rattle.std.proofs.Common.{◌≡◌, ℕ, zero, suc, ◌+◌, ◌<◌, ◌≤◌, true, false, cond, List, [], ◌∷◌, ◌++◌, drop, map, length, get_or, refl, sym, ◌∙◌, subst, ap, inl, inr, arith}
-use Rattle.std.specs.Prelude.{Option, Some, None, slice_get}
+use Rattle.std.proofs.Common.{◌≡◌, ℕ, zero, suc, ◌+◌, ◌-◌, ◌<◌, ◌≤◌, true, false, cond, List, [], ◌∷◌, ◌++◌, drop, map, length, get_or, refl, sym, ◌∙◌, subst, ap, inl, inr, arith, append_assoc}
+use Rattle.std.specs.Prelude.{Option, Some, None, reverse, slice_get}
 use Rattle.std.specs.Option.{option_map_or}
 use Rattle.std.proofs.lemmas.Bool.{cases_lt, cases_eq, cond-false, false≢true, false_from_ne_true}
-use Rattle.std.proofs.lemmas.List.{drop_more, drop_all}
+use Rattle.std.proofs.lemmas.List.{drop_more, drop_all, get_or-reverse, length-map, map-append, reverse-append}
+use Rattle.std.proofs.lemmas.List.Sorted.{IsPermutation-reverse, IsPermutation-sym}
 use Rattle.std.proofs.lemmas.Option.{slice_get_read}
 use Rattle.net_base.specs.Members.{IsIn}
 use Rattle.net_base.proofs.MemberLaws.{in_map}
@@ -13,9 +14,10 @@ use Rattle.flow_rules.specs.Tuples.{around, slot_of, link_number, IsLink}
 use Rattle.flow_rules.specs.declared.rules.Action.{Action}
 use Rattle.flow_rules.specs.declared.rules.Action.TheVariants.{Discard}
 use Rattle.flow_rules.specs.declared.rules.Pattern.{Pattern}
-use Rattle.round_mix.specs.Nearest.{patterns_in, covers_there, IsMet, IsNear}
+use Rattle.round_mix.specs.Nearest.{patterns_back, patterns_in, covers_there, IsMet, IsNear}
 use Rattle.round_mix.specs.Scan.{actions_by, is_kept, scan}
 use Rattle.round_mix.specs.declared.MarkedRule.{MarkedRule}
+use Rattle.round_mix.proofs.MarkLaws.{in_permutation}
 use Rattle.round_mix.proofs.PickedLaws.{put_kept, put_possible}
 
 -- a step along a slot passes none of its positions
@@ -61,19 +63,53 @@ slot_there f [] j m e = absurd (let g : None ≡ Some m = e in cc)
 slot_there f (n ∷ marks) zero m e = let g : n ≡ m = (let k : Some n ≡ Some m = e in cc) in ap (λ (x : MarkedRule). f x.rule.key.pattern) g
 slot_there f (n ∷ marks) (suc j) m e = slot_there f marks j m e
 
+-- and where it stands from the last to the first
+slot_back : (f : Pattern → ℕ) (marks : List MarkedRule) (j : ℕ) (m : MarkedRule) → slice_get marks j ≡ Some m → j < length marks
+    → get_or (map f (patterns_back marks)) (length marks - 1 - j) 0 ≡ f m.rule.key.pattern
+slot_back f marks j m at less =
+    let ps = patterns_in marks in
+    let count : length (map f ps) ≡ length marks = length-map ps f ∙ length-map marks (λ (x : MarkedRule). x.rule.key.pattern) in
+    let back : length (map f ps) - 1 - (length marks - 1 - j) ≡ j = omega arith in
+    ap (λ (xs : List ℕ). get_or xs (length marks - 1 - j) 0) (map_reverse f ps)
+    ∙ get_or-reverse (map f ps) (length marks - 1 - j) 0 (omega arith)
+    ∙ ap (λ (i : ℕ). get_or (map f ps) i 0) back
+    ∙ slot_there f marks j m at
+  where
+    map_reverse : (f : Pattern → ℕ) (xs : List Pattern) → map f (reverse xs) ≡ reverse (map f xs)
+    map_reverse f [] = refl
+    map_reverse f (x ∷ xs) =
+        ap (map f) (reverse-append (x ∷ []) xs) ∙ map-append f (reverse xs) (x ∷ []) ∙ ap (λ (ys : List ℕ). ys ++ f x ∷ []) (map_reverse f xs) ∙ sym (reverse-append (f x ∷ []) (map f xs))
+
+-- one pattern more from the back
+pub back_more : (start old new : List Pattern) (rules : List MarkedRule) (i : ℕ) (m : MarkedRule) → 0 < i → i ≤ length rules
+    → old ≡ start ++ patterns_back (drop i rules) → new ≡ old ++ (get_or rules (i - 1) m).rule.key.pattern ∷ [] → new ≡ start ++ patterns_back (drop (i - 1) rules)
+back_more start old new rules i m more within so_far then =
+    let x = get_or rules (i - 1) m in
+    let p = x.rule.key.pattern in
+    let one : i - 1 + 1 ≡ i = omega arith in
+    let split : drop (i - 1) rules ≡ x ∷ drop i rules = drop_more rules (i - 1) m (omega arith) ∙ ap (λ (n : ℕ). x ∷ drop n rules) one in
+    then ∙ ap (λ (ps : List Pattern). ps ++ p ∷ []) so_far ∙ append_assoc start (patterns_back (drop i rules)) (p ∷ [])
+    ∙ ap (λ (ps : List Pattern). start ++ ps) (sym (reverse-append (p ∷ []) (patterns_in (drop i rules))))
+    ∙ ap (λ (ms : List MarkedRule). start ++ patterns_back ms) (sym split)
+
 -- where the slots of all kinds are seen no covering rule is nearer
-pub all_near : (h : Header) (marks : List MarkedRule) (from : ℕ) (found : Option ℕ) (kinds patterns : List Pattern) (count : ℕ) → patterns ≡ patterns_in marks
+pub all_near : (h : Header) (marks : List MarkedRule) (from : ℕ) (found : Option ℕ) (kinds patterns : List Pattern) (count : ℕ) → patterns ≡ patterns_back marks
     → ((p : Pattern) (x : Header) → IsIn p patterns → covers p x ≡ true → (k : Pattern) × IsIn k kinds × (around k x ≡ p))
-    → ((k : Pattern) → IsIn k kinds → (j : ℕ) → get_or (map (slot_of count) patterns) j 0 ≡ slot_of count (around k h) → IsNear h marks from found j)
+    → ((k : Pattern) → IsIn k kinds → (i : ℕ) → i < length marks → get_or (map (slot_of count) patterns) i 0 ≡ slot_of count (around k h) → IsNear h marks from found (length marks - 1 - i))
     → (j : ℕ) → IsNear h marks from found j
 all_near h marks from found kinds patterns count is complete seen j le e =
     let (m, at, c) = place_there h marks j e in
+    let less = past_end marks j m at in
+    let i = length marks - 1 - j in
+    let ps = patterns_in marks in
     let here : IsIn m.rule.key.pattern patterns =
-    subst (λ ps. IsIn m.rule.key.pattern ps) (sym is) (in_map (λ (x : MarkedRule). x.rule.key.pattern) m marks (in_from_get marks j m at)) in
-    let (k, i, own) = complete m.rule.key.pattern h here c in
-    let slot : get_or (map (slot_of count) patterns) j 0 ≡ slot_of count (around k h) =
-    ap (λ ps. get_or (map (slot_of count) ps) j 0) is ∙ slot_there (slot_of count) marks j m at ∙ ap (slot_of count) (sym own) in
-    seen k i j slot le e
+    subst (λ xs. IsIn m.rule.key.pattern xs) (sym is)
+    (in_permutation (reverse ps) ps m.rule.key.pattern (IsPermutation-sym ps (reverse ps) (IsPermutation-reverse ps)) (in_map (λ (x : MarkedRule). x.rule.key.pattern) m marks (in_from_get marks j m at))) in
+    let (k, o, own) = complete m.rule.key.pattern h here c in
+    let slot : get_or (map (slot_of count) patterns) i 0 ≡ slot_of count (around k h) =
+    ap (λ xs. get_or (map (slot_of count) xs) i 0) is ∙ slot_back (slot_of count) marks j m at less ∙ ap (slot_of count) (sym own) in
+    let back : length marks - 1 - i ≡ j = omega arith in
+    subst (λ (x : ℕ). IsNear h marks from found x) back (seen k o i (omega arith) slot) le e
 
 -- the scan passes over rules that don't cover the packet
 scan_past : (h : Header) (marks : List MarkedRule) (n : ℕ) → ((j : ℕ) → j < n → covers_there h marks j ≡ true → ⊥) → n ≤ length marks → scan h marks ≡ scan h (drop n marks)

@@ -1,6 +1,7 @@
 -- One change more over what is prepared for others.
 use Rattle.std.proofs.Common.{◌≡◌, ℕ, zero, suc, ◌+◌, ◌≤◌, true, false, List, [], ◌∷◌, ◌++◌, map, length, refl, sym, ◌∙◌, subst, ap, arith, append_assoc}
 use Rattle.std.specs.Prelude.{Bool, slice_get, slice_set, Option, Some, None, IfSome, IsSomeAnd, IsPermutation}
+use Rattle.std.specs.List.{AllByRecursion}
 use Rattle.std.specs.Option.{option_map_or}
 use Rattle.std.proofs.lemmas.Bool.{both_ways}
 use Rattle.std.proofs.lemmas.List.{append-nil, length-map}
@@ -8,7 +9,8 @@ use Rattle.std.proofs.lemmas.List.Sorted.{IsPermutation-map, IsPermutation-sym, 
 use Rattle.net_base.specs.Members.{IsIn, IsDistinct}
 use Rattle.net_base.specs.declared.ids.SwitchId.{SwitchId}
 use Rattle.net_base.proofs.ListLaws.{any_in}
-use Rattle.net_base.proofs.MemberLaws.{in_append_left, in_append_right, in_map, in_from_map, each_at, each_from_in, map-push}
+use Rattle.net_base.proofs.MemberLaws.{in_append_left, in_append_right, in_map, in_from_map, each_at, each_from_in, each_weaker, map-push}
+use Rattle.net_base.proofs.ItemLaws.{in_from_get}
 use Rattle.flow_rules.specs.Overlaps.{IsClash, keys_clash}
 use Rattle.flow_rules.specs.Patterns.{key_eq}
 use Rattle.flow_rules.specs.Tables.{keys_of, IsTable, IsClear}
@@ -193,6 +195,31 @@ begun_next_few c old new false on off = let same = ap length (off refl) in omega
 pub begun_next_still : (c : Change) (old new : List MarkedRule) (b : Bool) → (b ≡ true → IsTriedNext c old new) → (b ≡ false → new ≡ old) → is_insert c ≡ false → patterns_in new ≡ patterns_in old
 begun_next_still c old new true on off stays = next_still c old new stays (on refl)
 begun_next_still c old new false on off stays = ap patterns_in (off refl)
+
+-- the marked rules stay in descending priority
+each_set : (P : MarkedRule → Type 0) (ms : List MarkedRule) (i : ℕ) (n : MarkedRule) → P n → AllByRecursion P ms → AllByRecursion P (slice_set ms i n)
+each_set P [] i n this h = tt
+each_set P (x ∷ ms) zero n this h = (this, h.1)
+each_set P (x ∷ ms) (suc i) n this h = (h.0, each_set P ms i n this h.1)
+
+falling_set : (ms : List MarkedRule) (i : ℕ) (m n : MarkedRule) → slice_get ms i ≡ Some m → n.rule.key.priority ≡ m.rule.key.priority → IsFalling ms → IsFalling (slice_set ms i n)
+falling_set [] i m n at same h = absurd (let f : None ≡ Some m = at in cc)
+falling_set (x ∷ ms) zero m n at same h =
+    let e : x ≡ m = cc in
+    let p = same ∙ ap (λ (y : MarkedRule). y.rule.key.priority) (sym e) in
+    (each_weaker (λ y. y.rule.key.priority ≤ x.rule.key.priority) (λ y. y.rule.key.priority ≤ n.rule.key.priority) (λ y le. omega arith) ms h.0, h.1)
+falling_set (x ∷ ms) (suc i) m n at same h =
+    let le = each_at (λ y. y.rule.key.priority ≤ x.rule.key.priority) ms m h.0 (in_from_get ms i m at) in
+    (each_set (λ y. y.rule.key.priority ≤ x.rule.key.priority) ms i n (omega arith) h.0, falling_set ms i m n at same h.1)
+
+next_falling : (c : Change) (old new : List MarkedRule) → IsTriedNext c old new → IsFalling old → IsFalling new
+next_falling (Insert s r) old new (free, is) h = subst IsFalling (sym is) (put_falling (with_mark r Possible) old h)
+next_falling (Delete s r) old new by h = subst IsFalling (sym by.is) (falling_set old by.place (with_mark by.rule Sure) (with_mark by.rule (mark_by (Delete s r))) by.at refl h)
+next_falling (Replace s r) old new by h = subst IsFalling (sym by.is) (falling_set old by.place (with_mark by.rule Sure) (with_mark by.rule (mark_by (Replace s r))) by.at refl h)
+
+pub begun_next_falling : (c : Change) (old new : List MarkedRule) (b : Bool) → (b ≡ true → IsTriedNext c old new) → (b ≡ false → new ≡ old) → IsFalling old → IsFalling new
+begun_next_falling c old new true on off h = next_falling c old new (on refl) h
+begun_next_falling c old new false on off h = subst IsFalling (sym (off refl)) h
 
 -- with one entry more at most for each change there is room for the next one
 pub few_start : (o : Option (List MarkedRule)) (n : ℕ) → IfSome o (λ a. IsSomeAnd o (λ b. length b ≤ length a + n))

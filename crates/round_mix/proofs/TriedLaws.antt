@@ -443,3 +443,52 @@ kept_patterns (Replace s r) ms off = settled_patterns r.key ms
 pub begun_patterns : (c : Change) (old new : List MarkedRule) (b : Bool) → (b ≡ true → new ≡ tried c old) → (b ≡ false → new ≡ old) → is_insert c ≡ false → patterns_in new ≡ patterns_in old
 begun_patterns c old new true on off stays = ap patterns_in (on refl) ∙ tried_patterns c old stays
 begun_patterns c old new false on off stays = ap patterns_in (off refl)
+
+-- the marked rules stay in descending priority while a change is tried, once it is given up and once it is made
+module _ (f : MarkedRule → MarkedRule) (same : (m : MarkedRule) → (f m).rule.key.priority ≡ m.rule.key.priority) where
+  falling_map : (ms : List MarkedRule) → IsFalling ms → IsFalling (map f ms)
+  falling_map [] h = tt
+  falling_map (m ∷ ms) h = (
+    each_map f (λ n. n.rule.key.priority ≤ (f m).rule.key.priority) ms
+        (each_weaker (λ n. n.rule.key.priority ≤ m.rule.key.priority) (λ n. (f n).rule.key.priority ≤ (f m).rule.key.priority)
+        (λ n le. let d = same n in let e = same m in omega arith) ms h.0),
+    falling_map ms h.1,
+  )
+
+marked_falling : (k : Key) (mark : Mark) (ms : List MarkedRule) → IsFalling ms → IsFalling (marked_where k mark ms)
+marked_falling k mark ms h = falling_map (λ m. cond (key_eq k m.rule.key) (with_mark m.rule mark) m) (λ m. by (key_eq k m.rule.key) m) ms h
+  where
+    by : (b : Bool) (m : MarkedRule) → (cond b (with_mark m.rule mark) m).rule.key.priority ≡ m.rule.key.priority
+    by true m = refl
+    by false m = refl
+
+settled_priority : (mark : Mark) (r : Rule) → (rule_after mark r).key.priority ≡ r.key.priority
+settled_priority (Replaced a) r = refl
+settled_priority Sure r = refl
+settled_priority Possible r = refl
+
+settled_falling : (k : Key) (ms : List MarkedRule) → IsFalling ms → IsFalling (settled_where k ms)
+settled_falling k ms h = falling_map (λ m. cond (key_eq k m.rule.key) (settled m) m) (λ m. by (key_eq k m.rule.key) m) ms h
+  where
+    by : (b : Bool) (m : MarkedRule) → (cond b (settled m) m).rule.key.priority ≡ m.rule.key.priority
+    by true m = settled_priority m.mark m.rule
+    by false m = refl
+
+tried_falling : (c : Change) (ms : List MarkedRule) → IsFalling ms → IsFalling (tried c ms)
+tried_falling (Insert s r) ms h = put_falling (with_mark r Possible) ms h
+tried_falling (Delete s r) ms h = marked_falling r.key Possible ms h
+tried_falling (Replace s r) ms h = marked_falling r.key (Replaced r.action) ms h
+
+pub begun_falling : (c : Change) (old new : List MarkedRule) (b : Bool) → (b ≡ true → new ≡ tried c old) → (b ≡ false → new ≡ old) → IsFalling old → IsFalling new
+begun_falling c old new true on off h = subst IsFalling (sym (on refl)) (tried_falling c old h)
+begun_falling c old new false on off h = subst IsFalling (sym (off refl)) h
+
+pub given_falling : (c : Change) (ms : List MarkedRule) → IsFalling ms → IsFalling (given_up c ms)
+given_falling (Insert s r) ms h = falling_filter (λ m. not (key_eq m.rule.key r.key)) ms h
+given_falling (Delete s r) ms h = marked_falling r.key Sure ms h
+given_falling (Replace s r) ms h = marked_falling r.key Sure ms h
+
+pub kept_falling : (c : Change) (ms : List MarkedRule) → IsFalling ms → IsFalling (kept c ms)
+kept_falling (Insert s r) ms h = settled_falling r.key ms h
+kept_falling (Delete s r) ms h = falling_filter (λ m. not (key_eq m.rule.key r.key)) ms h
+kept_falling (Replace s r) ms h = settled_falling r.key ms h

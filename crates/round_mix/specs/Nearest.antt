@@ -1,5 +1,5 @@
 -- The nearest rule that covers a packet, at a position or behind it.
-use Rattle.std.specs.Prelude.{◌≡◌, ℕ, ◌≤◌, Bool, true, false, List, map, slice_get, Option, Some, IfSome}
+use Rattle.std.specs.Prelude.{◌≡◌, ℕ, ◌≤◌, Bool, true, false, List, map, reverse, slice_get, Option, Some, IfSome}
 use Rattle.std.specs.Option.{option_map_or}
 use Rattle.flow_rules.specs.Patterns.{Header, covers}
 use Rattle.flow_rules.specs.declared.rules.Pattern.{Pattern}
@@ -8,6 +8,10 @@ use Rattle.round_mix.specs.declared.MarkedRule.{MarkedRule}
 -- the patterns of marked rules
 abbrev pub patterns_in : List MarkedRule → List Pattern
 patterns_in marks = map (λ m. m.rule.key.pattern) marks
+
+-- from the last to the first
+abbrev pub patterns_back : List MarkedRule → List Pattern
+patterns_back marks = reverse (patterns_in marks)
 
 -- whether the marked rule at the position covers the packet; there is none past the end
 abbrev pub covers_there : Header → List MarkedRule → ℕ → Bool

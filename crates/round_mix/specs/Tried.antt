@@ -1,5 +1,5 @@
 -- Changes over what is prepared, one by one: what becomes of the marked rules.
-use Rattle.std.specs.Prelude.{◌≡◌, Bool, false, cond, not, nat_lt, List, [], ◌∷◌, map, filter}
+use Rattle.std.specs.Prelude.{◌≡◌, ◌==◌, ℕ, Bool, false, cond, not, nat_lt, List, [], ◌∷◌, map, filter}
 use Rattle.std.specs.List.{list_any}
 use Rattle.flow_rules.specs.Patterns.{key_eq}
 use Rattle.flow_rules.specs.Overlaps.{keys_clash}
@@ -29,6 +29,10 @@ marked_where k mark marks = map (λ m. cond (key_eq k m.rule.key) (with_mark m.r
 -- the marked rules of other keys
 abbrev pub without : Key → List MarkedRule → List MarkedRule
 without k marks = filter (λ m. not (key_eq m.rule.key k)) marks
+
+-- the marked rules of a priority
+abbrev pub of_priority : ℕ → List MarkedRule → List MarkedRule
+of_priority p marks = filter (λ m. m.rule.key.priority == p) marks
 
 -- a marked rule behind those of at least its priority
 abbrev pub put_in : MarkedRule → List MarkedRule → List MarkedRule

@@ -1,7 +1,7 @@
 //! What a packet may meet at a switch while the changes of a round are made.
 #![tactic(auto)]
 
-ghost use Rattle.std.specs.Prelude.{ℕ, ◌≡◌, ◌+◌, ◌^◌, ◌≤◌, ◌<◌, ◌∷◌, [], ◌++◌, List, true, false, Some, None, length, map, drop, vec_len, vec_capacity, IfOk, IfErr, OnOk, OnErr, IfSome, IsSome, IsSomeAnd};
+ghost use Rattle.std.specs.Prelude.{ℕ, ◌≡◌, ◌+◌, ◌^◌, ◌≤◌, ◌<◌, ◌∷◌, [], ◌++◌, List, true, false, Some, None, length, map, drop, vec_len, vec_capacity, IfOk, IfErr, IsTrue, OnOk, OnErr, IfSome, IsSome, IsSomeAnd};
 ghost use Rattle.std.specs.Option.{ForSome};
 ghost use Rattle.path_walk.specs.Outcomes.{acted, header_at};
 ghost use Rattle.flow_rules.specs.Tables.{IsTable};
@@ -13,7 +13,7 @@ ghost use Rattle.round_mix.specs.Found.{AreAllOutcomes};
 ghost use Rattle.round_mix.specs.Prepared.{AreClear, AreGood, IsPrepared};
 ghost use Rattle.table_index.specs.Candidates.{AreCandidates, IsAscending};
 ghost use Rattle.round_mix.specs.Among.{AreOutcomesAmong, AreWithin, HoldCandidates, blocks_of, picked};
-ghost use Rattle.round_mix.specs.Nearest.{patterns_in};
+ghost use Rattle.round_mix.specs.Nearest.{patterns_back};
 ghost use Rattle.round_mix.specs.Scan.{actions_by, is_kept, scan};
 
 mod apart;
@@ -24,13 +24,14 @@ mod leading;
 mod marking;
 mod named;
 mod nearest;
+mod priorities;
 mod sorting;
 mod tried;
 
 use apart::sort_apart;
 use changes::{MANY_CHANGES, first_bad};
 use clashes::least_clash;
-use flow_rules::{Action, Rule, Table, TupleSpace};
+use flow_rules::{Action, Rule, Table, TupleSpace, VlanTest};
 use marking::fill;
 use named::mix_by_key;
 use nearest::{Packet, fill_space, nearest};
@@ -99,8 +100,8 @@ impl Model for Mixed {
     ghost use Rattle.std.specs.Prelude.{vec_capacity, vec_len, cond, Some, None, true, ◌≡◌, ◌≤◌, IfSome};
     ghost use Rattle.table_index.specs.Candidates.{AreCandidates};
     ghost use Rattle.round_mix.specs.Among.{blocks_of};
-    ghost use Rattle.round_mix.specs.Nearest.{patterns_in};
-    ghost use Rattle.round_mix.specs.Prepared.{MixedState};
+    ghost use Rattle.round_mix.specs.Nearest.{patterns_back};
+    ghost use Rattle.round_mix.specs.Prepared.{IsFalling, MixedState};
 
     ghost Value = { MixedState };
 
@@ -108,7 +109,8 @@ impl Model for Mixed {
 
     ghost invariant = { λ m. (m.room ≤ vec_capacity m.rules) × (m.room ≤ m.index.room) × (m.is_prepared ≡ true → vec_len m.rules ≤ m.room)
         × IfSome m.aimed (λ dst. AreCandidates (blocks_of m.rules.items) dst m.index.candidates)
-        × (m.is_indexed ≡ true → m.space.patterns ≡ patterns_in m.rules.items) };
+        × (m.is_indexed ≡ true → m.space.patterns ≡ patterns_back m.rules.items)
+        × IsFalling m.rules.items };
 }
 
 /// Outcomes of a place.
@@ -209,7 +211,7 @@ fn put_nearest(
     from: usize,
     outcomes: &mut Vec<Outcome>,
 ) -> Option<usize>
-    requires fresh { space.now.patterns ≡ patterns_in rules.now }
+    requires fresh { space.now.patterns ≡ patterns_back rules.now }
     requires within { from ≤ length rules.now }
     requires room { vec_len outcomes.old + length rules.now < vec_capacity outcomes.old + from }
     ensures ends { result ≡ None → outcomes.new.items
@@ -253,7 +255,7 @@ fn put_found(
     space: &TupleSpace,
     outcomes: &mut Vec<Outcome>,
 )
-    requires fresh { space.now.patterns ≡ patterns_in rules.now }
+    requires fresh { space.now.patterns ≡ patterns_back rules.now }
     requires room { vec_len outcomes.old + length rules.now < vec_capacity outcomes.old }
     ensures items { outcomes.new.items
         ≡ outcomes.old.items ++ map (acted net.now packet.place)
@@ -405,6 +407,32 @@ const LEAST_INDEXED: usize = 16;
 /// How many times the number of rules the room may be. A space is emptied in time by its room.
 const MOST_ROOM: usize = 64;
 
+impl MarkedRule {
+    /// Whether each look-up ends at the rule that comes to it: it stands in every mixture, and tests nothing.
+    fn ends_all(&self) -> bool
+        ensures { IsTrue result → is_kept self.now.mark ≡ true }
+    {
+        let pattern = &self.rule.key.pattern;
+        let tests_nothing = pattern.in_port.is_none()
+            && matches!(pattern.vlan, VlanTest::Any)
+            && pattern.dst.len == 0;
+        tests_nothing && self.mark.is_kept()
+    }
+}
+
+/// Whether marked rules are worth a space: there are at least 16, the room isn't far more than they need, and not each look-up
+/// ends at one of the first 16.
+fn are_worth_a_space(rules: &[MarkedRule], room: usize) -> bool
+    ensures { IsTrue result → 16 ≤ length rules.now }
+{
+    if rules.len() < LEAST_INDEXED || room / MOST_ROOM > rules.len() {
+        return false;
+    }
+    !rules[..LEAST_INDEXED]
+        .iter()
+        .any(|marked| marked.ends_all())
+}
+
 /// Whether what was indexed still is, after a change that may move rules.
 fn stays_indexed(was_indexed: bool, is_moved: bool) -> bool
     ensures was { result ≡ true → was_indexed ≡ true }
@@ -449,7 +477,10 @@ impl Mixed {
         self.is_prepared = false;
         self.aimed = None;
         self.is_indexed = false;
-        mix(table, changes, &mut self.rules)?;
+        if let Err(refusal) = mix(table, changes, &mut self.rules) {
+            self.rules.clear();
+            return Err(refusal);
+        }
         self.is_prepared = true;
         Ok(())
     }
@@ -469,7 +500,10 @@ impl Mixed {
         self.is_prepared = false;
         self.aimed = None;
         self.is_indexed = false;
-        mix_or_clash(table, changes, &mut self.rules)?;
+        if let Err(fault) = mix_or_clash(table, changes, &mut self.rules) {
+            self.rules.clear();
+            return Err(fault);
+        }
         self.is_prepared = true;
         Ok(())
     }
@@ -592,16 +626,15 @@ impl Mixed {
     }
 
     /// Has `possible` search by the kinds of patterns, until rules come or go: where at least 16 are prepared, of at most
-    /// 16 kinds, and the room isn't far more than they need. The time is that of the rules, and it takes no memory. What is
-    /// indexed already stays so.
+    /// 16 kinds, the room isn't far more than they need, and no look-up would end among the first 16 in any case. The time is
+    /// that of the rules, and it takes no memory. What is indexed already stays so.
     pub fn index(&mut self)
         ensures { self.new ≡ self.old }
     {
         if self.is_indexed {
             return;
         }
-        let count = self.rules.len();
-        if count >= LEAST_INDEXED && self.room / MOST_ROOM <= count {
+        if are_worth_a_space(&self.rules, self.room) {
             self.is_indexed = fill_space(&mut self.space, &self.rules);
         }
     }

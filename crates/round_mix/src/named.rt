@@ -6,10 +6,11 @@ ghost use Rattle.net_base.specs.Members.{IsDistinct};
 ghost use Rattle.flow_rules.specs.Tables.{keys_of};
 ghost use Rattle.round_mix.specs.Marks.{all_rules, rules_of};
 ghost use Rattle.round_mix.specs.Named.{names, IsPlaceOf, IsMarkedBy, AreMarked};
-ghost use Rattle.round_mix.specs.Prepared.{IsPrepared};
+ghost use Rattle.round_mix.specs.Prepared.{IsFalling, IsPrepared};
 
 use crate::apart::sort_apart;
 use crate::marking::{fill, mark_by};
+use crate::priorities::{end_of, first_of};
 use crate::{Mark, MarkedRule};
 use flow_rules::{Rule, Table, key_order};
 use update_model::Change;
@@ -50,11 +51,14 @@ fn is_named(marked: &MarkedRule, change: &Change) -> bool
     matches!(marked.mark, Mark::Sure) && names(change, &marked.rule)
 }
 
-/// Where the rule stands that a change names, if it is sure, by a look at each.
+/// Where the rule stands that a change names, if it is sure, among those in descending priority: by a look at each of its
+/// priority.
 fn seek(marks: &[MarkedRule], change: &Change) -> Option<usize>
+    requires { IsFalling marks.now }
     ensures { IfSome result (IsPlaceOf change.now marks.now) }
 {
-    for i in 0..marks.len() {
+    let priority = change.rule().key.priority;
+    for i in first_of(marks, priority)..end_of(marks, priority) {
         if is_named(&marks[i], change) {
             return Some(i);
         }
@@ -85,8 +89,9 @@ fn put_mark(marks: &mut Vec<MarkedRule>, change: &Change) -> bool
     true
 }
 
-/// Marks the rule that a change names, if it stands in whatever order and is sure.
+/// Marks the rule that a change names, if it stands among those in descending priority and is sure.
 pub fn mark_named(marks: &mut Vec<MarkedRule>, change: &Change) -> bool
+    requires { IsFalling marks.old.items }
     ensures marked { IsTrue result → IsMarkedBy change.now marks.old.items marks.new.items }
     ensures no { result ≡ false → marks.new.items ≡ marks.old.items }
     ensures room { vec_capacity marks.new ≡ vec_capacity marks.old }

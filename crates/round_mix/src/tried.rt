@@ -1,11 +1,12 @@
 //! Changes over what is prepared, one by one: without memory, and without sorting.
-ghost use Rattle.std.specs.Prelude.{◌≡◌, ◌<◌, ◌≤◌, true, false, cond, not, length, insert, vec_len, vec_capacity};
+ghost use Rattle.std.specs.Prelude.{◌≡◌, ◌<◌, ◌≤◌, true, false, cond, not, vec_len, vec_capacity};
 ghost use Rattle.flow_rules.specs.Patterns.{key_eq};
 ghost use Rattle.round_mix.specs.Named.{with_mark};
+ghost use Rattle.round_mix.specs.Prepared.{IsFalling};
 ghost use Rattle.round_mix.specs.Tried.{settled, put_in, marked_where, settled_where, without, is_refused, tried, given_up, kept, clashes_with, IsTriedNext};
-ghost use Rattle.round_mix.specs.declared.MarkedRule.{MarkedRule as MarkedRuleOf};
 
 use crate::named::mark_named;
+use crate::priorities::{end_of, first_of, of_priority};
 use crate::{Mark, MarkedRule};
 use flow_rules::{Key, Rule};
 use update_model::Change;
@@ -41,8 +42,8 @@ impl MarkedRule {
     }
 }
 
-/// Gives the rule of a key another mark.
-fn mark_key(marks: &mut [MarkedRule], key: &Key, mark: Mark)
+/// Gives the rule of a key another mark, by a look at each.
+fn mark_among(marks: &mut [MarkedRule], key: &Key, mark: Mark)
     ensures { marks.new ≡ marked_where key.now mark marks.old }
 {
     for marked in marks.iter_mut() {
@@ -50,13 +51,33 @@ fn mark_key(marks: &mut [MarkedRule], key: &Key, mark: Mark)
     }
 }
 
-/// Makes the change that the mark of the rule of a key tells of.
-fn settle_key(marks: &mut [MarkedRule], key: &Key)
+/// Gives the rule of a key another mark, among those in descending priority.
+fn mark_key(marks: &mut [MarkedRule], key: &Key, mark: Mark)
+    requires { IsFalling marks.old }
+    ensures { marks.new ≡ marked_where key.now mark marks.old }
+{
+    let from = first_of(marks, key.priority);
+    let to = end_of(marks, key.priority);
+    mark_among(&mut marks[from..to], key, mark);
+}
+
+/// Makes the change that the mark of the rule of a key tells of, by a look at each.
+fn settle_among(marks: &mut [MarkedRule], key: &Key)
     ensures { marks.new ≡ settled_where key.now marks.old }
 {
     for marked in marks.iter_mut() {
         marked.settle_where(key);
     }
+}
+
+/// Makes the change that the mark of the rule of a key tells of, among those in descending priority.
+fn settle_key(marks: &mut [MarkedRule], key: &Key)
+    requires { IsFalling marks.old }
+    ensures { marks.new ≡ settled_where key.now marks.old }
+{
+    let from = first_of(marks, key.priority);
+    let to = end_of(marks, key.priority);
+    settle_among(&mut marks[from..to], key);
 }
 
 /// Takes out the rule of a key.
@@ -67,8 +88,8 @@ fn take_out(marks: &mut Vec<MarkedRule>, key: &Key)
     marks.retain(|marked| !marked.rule.key.is_same(key));
 }
 
-/// Whether a rule clashes with one of marked ones.
-fn has_clash(marks: &[MarkedRule], rule: &Rule) -> bool
+/// Whether a rule clashes with one of marked ones, by a look at each.
+fn clashes_among(marks: &[MarkedRule], rule: &Rule) -> bool
     ensures { result ≡ clashes_with rule.now.key marks.now }
 {
     marks
@@ -76,33 +97,29 @@ fn has_clash(marks: &[MarkedRule], rule: &Rule) -> bool
         .any(|marked| marked.rule.key.clashes(&rule.key))
 }
 
-/// The place behind the marked rules of at least a priority, in descending priority.
-fn place_of(marks: &[MarkedRule], priority: u16) -> usize
-    ensures within { result ≤ length marks.now }
-    ensures place { (m : MarkedRuleOf) → m.rule.key.priority ≡ priority
-        → insert marks.now result m ≡ put_in m marks.now }
+/// Whether a rule clashes with one of marked ones in descending priority.
+fn has_clash(marks: &[MarkedRule], rule: &Rule) -> bool
+    requires { IsFalling marks.now }
+    ensures { result ≡ clashes_with rule.now.key marks.now }
 {
-    for i in 0..marks.len() {
-        if marks[i].rule.key.priority < priority {
-            return i;
-        }
-    }
-    marks.len()
+    clashes_among(of_priority(marks, rule.key.priority), rule)
 }
 
 /// Puts a marked rule among others in descending priority.
 fn put_in(marks: &mut Vec<MarkedRule>, marked: MarkedRule)
-    requires { vec_len marks.old < vec_capacity marks.old }
+    requires falling { IsFalling marks.old.items }
+    requires room { vec_len marks.old < vec_capacity marks.old }
     ensures items { marks.new.items ≡ put_in marked marks.old.items }
     ensures room { vec_capacity marks.old ≤ vec_capacity marks.new }
 {
-    let place = place_of(marks, marked.rule.key.priority);
+    let place = end_of(marks, marked.rule.key.priority);
     let _ = marks.insert(place, marked);
 }
 
 /// Puts a rule that may stand among marked ones in descending priority, unless it clashes with one of them.
 fn put_free(marks: &mut Vec<MarkedRule>, rule: &Rule) -> bool
-    requires { vec_len marks.old < vec_capacity marks.old }
+    requires falling { IsFalling marks.old.items }
+    requires room { vec_len marks.old < vec_capacity marks.old }
     ensures yes { result ≡ true → marks.new.items
         ≡ put_in (with_mark rule.now Mark.Possible) marks.old.items }
     ensures no { result ≡ false → marks.new.items ≡ marks.old.items }
@@ -122,7 +139,8 @@ fn put_free(marks: &mut Vec<MarkedRule>, rule: &Rule) -> bool
 
 /// Marks the rule that a change names, or puts the one that it inserts, unless that clashes with another.
 pub fn try_change(marks: &mut Vec<MarkedRule>, change: &Change) -> bool
-    requires { vec_len marks.old < vec_capacity marks.old }
+    requires falling { IsFalling marks.old.items }
+    requires room { vec_len marks.old < vec_capacity marks.old }
     ensures yes { result ≡ true → marks.new.items ≡ tried change.now marks.old.items }
     ensures no { result ≡ false → marks.new.items ≡ marks.old.items }
     ensures is { result ≡ not (is_refused change.now marks.old.items) }
@@ -143,7 +161,8 @@ pub fn try_change(marks: &mut Vec<MarkedRule>, change: &Change) -> bool
 
 /// Marks the rule that a change more names, if it is sure, or puts the one that it inserts, unless that clashes with another.
 pub fn try_next(marks: &mut Vec<MarkedRule>, change: &Change) -> bool
-    requires { vec_len marks.old < vec_capacity marks.old }
+    requires falling { IsFalling marks.old.items }
+    requires room { vec_len marks.old < vec_capacity marks.old }
     ensures yes { result ≡ true → IsTriedNext change.now marks.old.items marks.new.items }
     ensures no { result ≡ false → marks.new.items ≡ marks.old.items }
     ensures room { vec_capacity marks.old ≤ vec_capacity marks.new }
@@ -157,6 +176,7 @@ pub fn try_next(marks: &mut Vec<MarkedRule>, change: &Change) -> bool
 
 /// Takes back what was marked or put for a change.
 pub fn take_back(marks: &mut Vec<MarkedRule>, change: &Change)
+    requires { IsFalling marks.old.items }
     ensures items { marks.new.items ≡ given_up change.now marks.old.items }
     ensures room { vec_capacity marks.new ≡ vec_capacity marks.old }
 {
@@ -169,6 +189,7 @@ pub fn take_back(marks: &mut Vec<MarkedRule>, change: &Change)
 
 /// Makes a change for which was marked or put what it names.
 pub fn make(marks: &mut Vec<MarkedRule>, change: &Change)
+    requires { IsFalling marks.old.items }
     ensures items { marks.new.items ≡ kept change.now marks.old.items }
     ensures room { vec_capacity marks.new ≡ vec_capacity marks.old }
 {

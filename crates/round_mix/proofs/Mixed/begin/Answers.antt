@@ -1,9 +1,9 @@
-use Rattle.std.proofs.Common.{◌≤◌, ◌<◌, ◌+◌, ◌∷◌, [], cond, length, sym, ◌∙◌, subst, arith}
-use Rattle.std.specs.Prelude.{Some, None, IfSome, IsSomeAnd}
+use Rattle.std.proofs.Common.{ap, ◌≤◌, ◌<◌, ◌+◌, ◌∷◌, [], cond, length, sym, ◌∙◌, subst, arith}
+use Rattle.std.specs.Prelude.{Some, None, reverse, IfSome, IsSomeAnd}
 use Rattle.std.proofs.lemmas.Bool.{not-true}
 use Rattle.round_mix.specs.Prepared.{MixedState, IsPrepared}
 use Rattle.round_mix.proofs.ScanLaws.{prepared_at}
-use Rattle.round_mix.proofs.TriedLaws.{begun, begun_few, begun_patterns, refused, carried, carried_few, not-false}
+use Rattle.round_mix.proofs.TriedLaws.{begun, begun_falling, begun_few, begun_patterns, refused, carried, carried_few, not-false}
 use Rattle.round_mix.proofs.Mixed.begin.Goals as goal
 
 pub returns-clause-yes : goal.returns-clause-yes
@@ -39,5 +39,6 @@ invariant_of-self c =
       λ _. omega (arith, few, free, c.try_change.new.marks.ok),
       tt,
       λ on. c.self.invariant.4 (c.stays_indexed-self-inside.ensures.was on)
-          ∙ sym (begun_patterns c.args.change.now marks c.try_change.new.marks.items c.try_change.result c.try_change.ensures.yes c.try_change.ensures.no (sym c.is_insert.ensures ∙ c.stays_indexed-self-inside.ensures.unmoved on)),
+          ∙ ap reverse (sym (begun_patterns c.args.change.now marks c.try_change.new.marks.items c.try_change.result c.try_change.ensures.yes c.try_change.ensures.no (sym c.is_insert.ensures ∙ c.stays_indexed-self-inside.ensures.unmoved on))),
+      begun_falling c.args.change.now marks c.try_change.new.marks.items c.try_change.result c.try_change.ensures.yes c.try_change.ensures.no c.self.invariant.5,
     )

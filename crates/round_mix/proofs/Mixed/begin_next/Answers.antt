@@ -1,8 +1,8 @@
-use Rattle.std.proofs.Common.{◌≤◌, ◌+◌, ◌∷◌, [], ◌++◌, cond, length, sym, ◌∙◌, subst, arith}
-use Rattle.std.specs.Prelude.{Some, None, IfSome, IsSomeAnd}
+use Rattle.std.proofs.Common.{ap, ◌≤◌, ◌+◌, ◌∷◌, [], ◌++◌, cond, length, sym, ◌∙◌, subst, arith}
+use Rattle.std.specs.Prelude.{Some, None, reverse, IfSome, IsSomeAnd}
 use Rattle.round_mix.specs.Prepared.{MixedState, IsPrepared}
 use Rattle.round_mix.proofs.ScanLaws.{prepared_at}
-use Rattle.round_mix.proofs.NextLaws.{next_prepared, begun_next_few, begun_next_still}
+use Rattle.round_mix.proofs.NextLaws.{next_prepared, begun_next_falling, begun_next_few, begun_next_still}
 use Rattle.round_mix.proofs.TriedLaws.{carried, carried_few}
 use Rattle.round_mix.proofs.Mixed.begin_next.Goals as goal
 
@@ -31,5 +31,6 @@ invariant_of-self c =
       λ _. omega (arith, few, free, c.try_next.new.marks.ok),
       tt,
       λ on. c.self.invariant.4 (c.stays_indexed-self-inside.ensures.was on)
-          ∙ sym (begun_next_still c.args.change.now marks c.try_next.new.marks.items c.try_next.result c.try_next.ensures.yes c.try_next.ensures.no (sym c.is_insert.ensures ∙ c.stays_indexed-self-inside.ensures.unmoved on)),
+          ∙ ap reverse (sym (begun_next_still c.args.change.now marks c.try_next.new.marks.items c.try_next.result c.try_next.ensures.yes c.try_next.ensures.no (sym c.is_insert.ensures ∙ c.stays_indexed-self-inside.ensures.unmoved on))),
+      begun_next_falling c.args.change.now marks c.try_next.new.marks.items c.try_next.result c.try_next.ensures.yes c.try_next.ensures.no c.self.invariant.5,
     )

@@ -1,9 +1,9 @@
 use Rattle.std.proofs.Common.{◌≤◌, ◌∷◌, [], cond, List, length, sym, ◌∙◌, ap, subst, arith}
-use Rattle.std.specs.Prelude.{Some, None, IfSome, IsSomeAnd}
+use Rattle.std.specs.Prelude.{Some, None, reverse, IfSome, IsSomeAnd}
 use Rattle.round_mix.specs.Nearest.{patterns_in}
-use Rattle.round_mix.specs.Prepared.{MixedState, IsPrepared}
+use Rattle.round_mix.specs.Prepared.{IsFalling, MixedState, IsPrepared}
 use Rattle.round_mix.specs.declared.MarkedRule.{MarkedRule}
-use Rattle.round_mix.proofs.TriedLaws.{returned, given_few, given_patterns, carried, carried_few}
+use Rattle.round_mix.proofs.TriedLaws.{returned, given_falling, given_few, given_patterns, carried, carried_few}
 use Rattle.round_mix.proofs.Mixed.give_up.Goals as goal
 
 pub returns-clause-alone : goal.returns-clause-alone
@@ -30,5 +30,6 @@ invariant_of-self c =
       c.self.invariant.1,
       λ on. let fits = c.self.invariant.2 on in omega (arith, fits, less, c.self.inside.rules.ok, c.take_back.new.marks.ok),
       tt,
-      λ on. c.self.invariant.4 (c.stays_indexed-self-inside.ensures.was on) ∙ sym (ap patterns_in c.take_back.ensures.items ∙ given_patterns c.args.change.now marks (sym c.is_insert.ensures ∙ c.stays_indexed-self-inside.ensures.unmoved on)),
+      λ on. c.self.invariant.4 (c.stays_indexed-self-inside.ensures.was on) ∙ ap reverse (sym (ap patterns_in c.take_back.ensures.items ∙ given_patterns c.args.change.now marks (sym c.is_insert.ensures ∙ c.stays_indexed-self-inside.ensures.unmoved on))),
+      subst IsFalling (sym c.take_back.ensures.items) (given_falling c.args.change.now marks c.self.invariant.5),
     )

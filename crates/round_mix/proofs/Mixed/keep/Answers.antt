@@ -1,11 +1,11 @@
 use Rattle.std.proofs.Common.{◌≤◌, ◌∷◌, [], cond, List, length, sym, ◌∙◌, ap, subst, arith}
-use Rattle.std.specs.Prelude.{Some, None, IfSome, IsSomeAnd}
+use Rattle.std.specs.Prelude.{Some, None, reverse, IfSome, IsSomeAnd}
 use Rattle.update_model.specs.Changes.{rules_after_change}
 use Rattle.round_mix.specs.Nearest.{patterns_in}
-use Rattle.round_mix.specs.Prepared.{MixedState, IsPrepared}
+use Rattle.round_mix.specs.Prepared.{IsFalling, MixedState, IsPrepared}
 use Rattle.round_mix.specs.declared.MarkedRule.{MarkedRule}
 use Rattle.round_mix.proofs.MadeLaws.{made_first}
-use Rattle.round_mix.proofs.TriedLaws.{kept_few, kept_patterns, carried, carried_few}
+use Rattle.round_mix.proofs.TriedLaws.{kept_falling, kept_few, kept_patterns, carried, carried_few}
 use Rattle.round_mix.proofs.Mixed.keep.Goals as goal
 
 pub returns-clause-after : goal.returns-clause-after
@@ -40,5 +40,6 @@ invariant_of-self c =
       c.self.invariant.1,
       λ on. let fits = c.self.invariant.2 on in omega (arith, fits, less, c.self.inside.rules.ok, c.make.new.marks.ok),
       tt,
-      λ on. c.self.invariant.4 (c.stays_indexed-self-inside.ensures.was on) ∙ sym (ap patterns_in c.make.ensures.items ∙ kept_patterns c.args.change.now marks (sym c.is_delete.ensures ∙ c.stays_indexed-self-inside.ensures.unmoved on)),
+      λ on. c.self.invariant.4 (c.stays_indexed-self-inside.ensures.was on) ∙ ap reverse (sym (ap patterns_in c.make.ensures.items ∙ kept_patterns c.args.change.now marks (sym c.is_delete.ensures ∙ c.stays_indexed-self-inside.ensures.unmoved on))),
+      subst IsFalling (sym c.make.ensures.items) (kept_falling c.args.change.now marks c.self.invariant.5),
     )

@@ -13,11 +13,11 @@ mix_or_clash-requires c =
     omega arith
 
 pub returns-clause-count : goal.returns-clause-count
-returns-clause-count c = prepared_needed c.args.table.now.rules c.args.changes.now c.mix_or_clash.new.marks.items c.in_ok-mix_or_clash.ensures.ok
+returns-clause-count c = prepared_needed c.args.table.now.rules c.args.changes.now c.mix_or_clash.new.marks.items c.in_default.ensures.ok
 
 pub invariant_of-self-2 : goal.invariant_of-self-2
 invariant_of-self-2 c =
-    let count = prepared_needed c.args.table.now.rules c.args.changes.now c.mix_or_clash.new.marks.items c.in_ok-mix_or_clash.ensures.ok in
+    let count = prepared_needed c.args.table.now.rules c.args.changes.now c.mix_or_clash.new.marks.items c.in_default.ensures.ok in
     let room = ap (λ (m : MixedState). m.room) c.self.view_is in
     let asked = c.requires in
-    (omega (arith, c.self.invariant.0, c.mix_or_clash.ensures.room), c.self.invariant.1, λ _. omega (arith, count, room, asked, c.mix_or_clash.new.marks.ok), tt, λ on. absurd (both_ways false refl on))
+    (omega (arith, c.self.invariant.0, c.mix_or_clash.ensures.room), c.self.invariant.1, λ _. omega (arith, count, room, asked, c.mix_or_clash.new.marks.ok), tt, λ on. absurd (both_ways false refl on), c.in_default.ensures.ok.falling)

@@ -1,4 +1,4 @@
-use Rattle.std.proofs.Common.{◌≡◌, ◌+◌, ◌++◌, ◌∷◌, [], List, take, sym, ◌∙◌, subst, ap, inl, inr}
+use Rattle.std.proofs.Common.{◌≡◌, ◌+◌, ◌-◌, ◌++◌, ◌∷◌, [], List, length, take, sym, ◌∙◌, subst, ap, inl, inr}
 use Rattle.std.proofs.lemmas.List.{take_more, take_all}
 use Rattle.net_base.specs.Members.{IsIn}
 use Rattle.net_base.proofs.MemberLaws.{in_append_cases}
@@ -19,9 +19,9 @@ loop-kind-preserved c =
     (take_more c.kinds-kind-items.result.now n k c.loop-kind-test.true ∙ ap (λ x. take n c.kinds-kind-items.result.now ++ x ∷ []) (sym c.kind-item.is)) in
     record {
       met = c.nearest_of_kind-best.ensures.met;
-      seen = λ q i j e. elim (in_append_cases q (take n kinds) (k ∷ []) (subst (λ qs. IsIn q qs) more i)) [
-        | inl l ↦ c.nearest_of_kind-best.ensures.kept j (c.loop-kind.invariant.seen q l j e)
-        | inr l ↦ elim l [ inl is ↦ c.nearest_of_kind-best.ensures.slot j (e ∙ ap (λ (x : Pattern). slot_of c.args.space.now.count (around x h)) is) | inr o ↦ absurd o ]
+      seen = λ q i j less e. elim (in_append_cases q (take n kinds) (k ∷ []) (subst (λ qs. IsIn q qs) more i)) [
+        | inl l ↦ c.nearest_of_kind-best.ensures.kept (length c.args.rules.now - 1 - j) (c.loop-kind.invariant.seen q l j less e)
+        | inr l ↦ elim l [ inl is ↦ c.nearest_of_kind-best.ensures.slot j less (e ∙ ap (λ (x : Pattern). slot_of c.args.space.now.count (around x h)) is) | inr o ↦ absurd o ]
       ];
     }
 
@@ -32,4 +32,4 @@ returns-clause-first c =
     let all : take c.loop-kind.kind-index space.kinds ≡ space.kinds =
     subst (λ (xs : List Pattern). take c.loop-kind.kind-index xs ≡ xs) c.kinds-kind-items.ensures.value (take_all c.loop-kind.kind-index c.kinds-kind-items.result.now c.loop-kind-test.false) in
     all_near h c.args.rules.now c.args.from c.loop-kind.best space.kinds space.patterns space.count c.requires c.kinds-kind-items.ensures.complete
-    (λ k l j e. c.loop-kind.invariant.seen k (subst (λ xs. IsIn k xs) (sym all) l) j e)
+    (λ k l i less e. c.loop-kind.invariant.seen k (subst (λ xs. IsIn k xs) (sym all) l) i less e)

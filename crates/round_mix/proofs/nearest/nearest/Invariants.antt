@@ -1,4 +1,4 @@
-use Rattle.std.proofs.Common.{◌≡◌, ℕ, get_or, take}
+use Rattle.std.proofs.Common.{◌≡◌, ◌-◌, ◌<◌, ℕ, get_or, length, take}
 use Rattle.net_base.specs.Members.{IsIn}
 use Rattle.path_walk.specs.Outcomes.{header_at}
 use Rattle.flow_rules.specs.Tuples.{around, slot_of, slots_of}
@@ -9,6 +9,6 @@ use Rattle.round_mix.proofs.nearest.nearest.Given as goal
 abbrev pub invariant-loop-kind : goal.invariant-loop-kind
 invariant-loop-kind l = record {
   met : IsMet (header_at l.packet.place l.packet.dst) l.rules l.from l.best;
-  seen : (k : Pattern) → IsIn k (take l.kind-index l.space.kinds) → (j : ℕ)
-      → get_or (slots_of l.space) j 0 ≡ slot_of l.space.count (around k (header_at l.packet.place l.packet.dst)) → IsNear (header_at l.packet.place l.packet.dst) l.rules l.from l.best j;
+  seen : (k : Pattern) → IsIn k (take l.kind-index l.space.kinds) → (i : ℕ) → i < length l.rules
+      → get_or (slots_of l.space) i 0 ≡ slot_of l.space.count (around k (header_at l.packet.place l.packet.dst)) → IsNear (header_at l.packet.place l.packet.dst) l.rules l.from l.best (length l.rules - 1 - i);
 }

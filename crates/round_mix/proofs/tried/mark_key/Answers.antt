@@ -1,19 +1,32 @@
-use Rattle.std.proofs.Common.{◌≡◌, cond, get_or, ◌∙◌, ap, arith}
+use Rattle.std.proofs.Common.{◌≡◌, ℕ, ◌+◌, ◌-◌, ◌++◌, cond, List, take, drop, sym, ◌∙◌, ap, arith}
+use Rattle.std.proofs.lemmas.Bool.{cond-false}
+use Rattle.std.proofs.lemmas.List.{drop-drop}
 use Rattle.flow_rules.specs.Patterns.{key_eq}
+use Rattle.flow_rules.specs.declared.rules.Key.{Key}
+use Rattle.flow_rules.proofs.KeyLaws.{key_ne}
 use Rattle.round_mix.specs.Named.{with_mark}
 use Rattle.round_mix.specs.declared.MarkedRule.{MarkedRule}
-use Rattle.round_mix.proofs.PassLaws.{map_step, map_end}
+use Rattle.round_mix.proofs.PriorityLaws.{rising, changed_between}
 use Rattle.round_mix.proofs.tried.mark_key.Goals as goal
-
-pub loop-marked-preserved : goal.loop-marked-preserved
-loop-marked-preserved c =
-    let marks = c.loop-marked.marks in
-    let i = c.loop-marked.marked-index in
-    let old : MarkedRule = get_or marks i c.marked-item.result in
-    let is : old ≡ get_or marks i old = ap (λ (m : MarkedRule). get_or marks i m) c.marked-item.is in
-    map_step (λ (m : MarkedRule). cond (key_eq c.args.key.now m.rule.key) (with_mark m.rule c.args.mark) m) marks i old c.mark_where.new.self (omega (arith, c.loop-marked-test.true, c.loop-marked.auto.marks)) is c.mark_where.ensures ∙ c.loop-marked.invariant
 
 pub returns : goal.returns
 returns c =
-    map_end (λ (m : MarkedRule). cond (key_eq c.args.key.now m.rule.key) (with_mark m.rule c.args.mark) m) c.loop-marked.marks c.loop-marked.marked-index (omega (arith, c.loop-marked-test.false, c.loop-marked.auto.marks))
-    ∙ c.loop-marked.invariant
+    let ms = c.args.marks.now in
+    let k = c.args.key.now in
+    let a = c.first_of-from.result in
+    let b = c.end_of-to.result in
+    let f = λ (m : MarkedRule). cond (key_eq k m.rule.key) (with_mark m.rule c.args.mark) m in
+    let low = rising ms k.priority a b c.first_of-from.ensures.within c.first_of-from.ensures.before c.first_of-from.ensures.behind c.end_of-to.ensures.before c.end_of-to.ensures.behind in
+    let whole : a + (b - a) ≡ b = omega arith in
+    ap (λ (xs : List MarkedRule). take a ms ++ (c.mark_among.new.marks ++ xs)) (drop-drop (b - a) a ms ∙ ap (λ (i : ℕ). drop i ms) whole)
+    ∙ ap (λ (xs : List MarkedRule). take a ms ++ (xs ++ drop b ms)) c.mark_among.ensures
+    ∙ changed_between ms k.priority a b c.first_of-from.ensures.within c.first_of-from.ensures.before c.first_of-from.ensures.behind c.end_of-to.ensures.before c.end_of-to.ensures.behind f
+    (λ m other. cond-false (key_eq k m.rule.key) (with_mark m.rule c.args.mark) m (key_ne k m.rule.key (λ e. other (sym (ap (λ (x : Key). x.priority) e)))))
+
+pub slice_bounds-mark_among-count : goal.slice_bounds-mark_among-count
+slice_bounds-mark_among-count c =
+    rising c.args.marks.now c.args.key.now.priority c.first_of-from.result c.end_of-to.result c.first_of-from.ensures.within c.first_of-from.ensures.before c.first_of-from.ensures.behind c.end_of-to.ensures.before c.end_of-to.ensures.behind
+
+pub slice_bounds-mark_among-start : goal.slice_bounds-mark_among-start
+slice_bounds-mark_among-start c =
+    rising c.args.marks.now c.args.key.now.priority c.first_of-from.result c.end_of-to.result c.first_of-from.ensures.within c.first_of-from.ensures.before c.first_of-from.ensures.behind c.end_of-to.ensures.before c.end_of-to.ensures.behind
