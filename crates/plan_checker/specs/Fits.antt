@@ -6,7 +6,7 @@ use Rattle.dest_classes.specs.Classes.{ClassList, class_count}
 use Rattle.dest_classes.specs.declared.ClassFault.{ClassFault}
 use Rattle.dest_classes.specs.declared.ClassFault.TheVariants as class
 use Rattle.demands.specs.Duties.{ClassDuties}
-use Rattle.certificates.specs.Updates.{Task}
+use Rattle.certificates.specs.Updates.{Task, rollout}
 use Rattle.certificates.specs.Certified.{classes_for}
 use Rattle.round_tables.specs.PreparedTables.{PreparedState, HasRoom}
 use Rattle.ordered_check.specs.Kept.{OrderedState, HasClassRoom}
@@ -27,7 +27,7 @@ pub record RoomView : Type 0 where
 pub record Fits (t : Task) (room : RoomView) : Type 0 where
   pub classes : room.classes ≡ classes_for t
   pub duties : room.duties ≡ record { demands = t.update.demands; classes = room.classes }
-  pub tables : HasRoom t.update.net t.rounds room.tables
+  pub tables : HasRoom (rollout t) room.tables
   pub ordered : HasClassRoom (classes_for t) room.ordered
   pub path : room.path.switches ≡ switch_count t.update.net
 

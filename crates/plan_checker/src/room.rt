@@ -16,7 +16,7 @@ use flow_rules::Config;
 use net_base::Memory;
 use ordered_check::OrderedRoom;
 use path_walk::PathRoom;
-use round_tables::PreparedTables;
+use round_tables::{PreparedTables, Rollout};
 use std::alloc::Global;
 use std::marker::Model;
 use topology::Net;
@@ -85,13 +85,14 @@ struct Rooms {
 }
 
 impl Rooms {
-    fn make(alloc: Global, net: &Net, plan: &Plan, classes: &ClassMap) -> Result<Rooms, Memory>
-        ensures tables { IfOk result (λ r. HasRoom net.now plan.now.rounds r.tables) }
+    fn make(alloc: Global, update: &Rollout<'_>, classes: &ClassMap) -> Result<Rooms, Memory>
+        requires { length update.now.old ≡ switch_count update.now.net }
+        ensures tables { IfOk result (λ r. HasRoom update.now r.tables) }
         ensures ordered { IfOk result (λ r. HasClassRoom classes.now r.ordered) }
-        ensures path { IfOk result (λ r. r.path.switches ≡ switch_count net.now) }
+        ensures path { IfOk result (λ r. r.path.switches ≡ switch_count update.now.net) }
     {
-        let path = PathRoom::make(alloc, net)?;
-        let tables = PreparedTables::make(alloc, net, &plan.rounds)?;
+        let path = PathRoom::make(alloc, update.net)?;
+        let tables = PreparedTables::make(alloc, update)?;
         let two_phase = TwoPhaseRoom::make(alloc)?;
         let ordered = OrderedRoom::make(alloc, classes)?;
         Ok(Rooms {
@@ -147,12 +148,17 @@ impl CheckRoom {
     {
         let classes = classes_of_plan(alloc, net, old, new, demands, plan)?;
         let duties = Duties::make(alloc, net, demands, &classes)?;
+        let update = Rollout {
+            net,
+            old,
+            rounds: &plan.rounds,
+        };
         let Rooms {
             tables,
             ordered,
             two_phase,
             path,
-        } = Rooms::make(alloc, net, plan, &classes)?;
+        } = Rooms::make(alloc, &update, &classes)?;
         Ok(CheckRoom {
             classes,
             duties,
