@@ -16,12 +16,12 @@ use Rattle.update_model.specs.Mixtures.{entries_needed, is_insert}
 use Rattle.update_model.specs.declared.Change.{Change}
 use Rattle.update_model.proofs.ChangeLaws.{key_named}
 use Rattle.update_model.proofs.MadeLaws.{keys_distinct, apply_there}
-use Rattle.round_mix.specs.Faults.{IsFault, IsGoodAfter}
+use Rattle.round_mix.specs.Faults.{IsRefusal, IsGoodAfter}
 use Rattle.round_mix.specs.Marks.{all_rules, marked}
 use Rattle.round_mix.specs.Prepared.{AreGood, AreClear, IsPrepared}
 use Rattle.round_mix.specs.declared.MarkedRule.{MarkedRule}
-use Rattle.round_mix.specs.declared.MixFault.{MixFault}
-use Rattle.round_mix.specs.declared.MixFault.TheVariants.{BadChange, Ambiguous}
+use Rattle.round_mix.specs.declared.MixRefusal.{MixRefusal}
+use Rattle.round_mix.specs.declared.MixRefusal.TheVariants.{BadChange, Unclear}
 use Rattle.round_mix.proofs.ClearLaws.{clear_from_free}
 use Rattle.round_mix.proofs.MarkLaws.{all_mixed}
 use Rattle.round_faults.specs.Finding.{IsUnclearMix}
@@ -45,12 +45,12 @@ good_after table cs i c good at = record {
 }
 
 -- where good changes aren't prepared, some mixture isn't clear
-pub unclear_from_fault : (rules : List Rule) (changes : List Change) (fault : MixFault) → IsTable rules → AreGood rules changes → IsFault rules changes fault → IsUnclearMix rules changes
-unclear_from_fault rules changes (BadChange i) table good first = absurd (first.bad (good_after rules changes i first.change good first.at))
-unclear_from_fault rules changes (Ambiguous i j) table good ambiguous = record {
+pub unclear_from_refusal : (rules : List Rule) (changes : List Change) (refusal : MixRefusal) → IsTable rules → AreGood rules changes → IsRefusal rules changes refusal → IsUnclearMix rules changes
+unclear_from_refusal rules changes (BadChange i) table good first = absurd (first.bad (good_after rules changes i first.change good first.at))
+unclear_from_refusal rules changes Unclear table good here = record {
   mixed = all_rules rules changes;
   held = all_mixed rules changes;
-  unclear = λ clear. ambiguous.unclear (clear_from_free rules changes table good (λ m n in_m in_n clash.
+  unclear = λ clear. here.unclear (clear_from_free rules changes table good (λ m n in_m in_n clash.
       let (q, at_q, is_q) = in_from_map (marked changes) m (all_rules rules changes) in_m in
       let (r, at_r, is_r) = in_from_map (marked changes) n (all_rules rules changes) in_n in
       let one : m.rule ≡ q = ap (λ (x : MarkedRule). x.rule) is_q in

@@ -37,7 +37,7 @@ fn is_clear(alloc: Global, table: &Table, changes: &[Change]) -> Result<bool, Me
 {
     keeps_keys(table);
     let mut mixed = room_for(alloc, table.rules().len(), changes.len())?;
-    match mixed.load(table, changes) {
+    match mixed.prepare(table, changes) {
         Ok(()) => Ok(true),
         Err(_) => Ok(false),
     }
