@@ -2,7 +2,7 @@
 use crate::subsets::{among_many, is_small};
 use flow_rules::{Action, Key, Pattern, Rewrite, Rule, Table, VlanTest};
 use net_base::{Port, Prefix, SwitchId};
-use round_mix::{MixFault, Mixed};
+use round_mix::{MixFault, MixRefusal, Mixed};
 use std::process::Abort;
 use update_model::Change;
 
@@ -57,6 +57,7 @@ fn rules_of_one_priority_for_a_common_packet_are_ambiguous(rt: HostRuntime) {
     assert!(rt; table.rules().len() == 1);
     let mut mixed = Mixed::with_room(rt.alloc(), 2).expect(&rt, "room");
     assert!(rt; mixed.load(&table, &round) == Err(MixFault::Ambiguous(0, 1)));
+    assert!(rt; mixed.prepare(&table, &round) == Err(MixRefusal::Unclear));
 }
 
 #[test]
@@ -73,6 +74,15 @@ fn the_first_change_that_does_not_apply_is_bad(rt: HostRuntime) {
     assert!(rt; mixed.load(&table, &other) == Err(MixFault::BadChange(0)));
 }
 
+/// The answer where no one asks which rules clash.
+fn without_pair(answer: &Result<(), MixFault>) -> Result<(), MixRefusal> {
+    match *answer {
+        Ok(()) => Ok(()),
+        Err(MixFault::BadChange(i)) => Err(MixRefusal::BadChange(i)),
+        Err(MixFault::Ambiguous(_, _)) => Err(MixRefusal::Unclear),
+    }
+}
+
 /// Whether a round is answered so at the table of the one rule.
 fn is_answered(
     rt: &(impl Abort + AllocGlobal),
@@ -82,7 +92,8 @@ fn is_answered(
     let table = old_table(rt);
     assert!(rt; is_small(&table, changes));
     let mut mixed = Mixed::with_room(rt.alloc(), 64).expect(rt, "room");
-    mixed.load(&table, changes) == *answer
+    let is_refused_so = mixed.prepare(&table, changes) == without_pair(answer);
+    is_refused_so && mixed.load(&table, changes) == *answer
 }
 
 /// A round of two changes, and the answer to it.

@@ -1,4 +1,4 @@
-//! One change tried over what is prepared for a table alone, beside a switch that is prepared anew.
+//! Changes tried over what is prepared for a table alone, beside a switch that is prepared anew.
 ghost use Rattle.std.specs.Prelude.{◌≤◌, length, IsSomeAnd};
 
 use crate::subsets::{
@@ -107,4 +107,59 @@ fn an_insert_that_clashes_is_refused_and_what_is_prepared_stays(rt: HostRuntime)
     let below = insert(rule(50, VlanTest::Id(10), TEN, out(3)));
     assert!(rt; is_refused(&rt, &net, &above));
     assert!(rt; is_refused(&rt, &net, &below));
+}
+
+/// Makes changes where they apply.
+fn make_all(rt: &impl Abort, table: &mut Table, changes: &[Change]) {
+    for change in changes {
+        make(rt, table, change);
+    }
+}
+
+/// Whether changes can be made together, and what is prepared is right while they are and once they are kept.
+fn are_kept(rt: &(impl Abort + AllocGlobal), net: &Net, changes: &[Change]) -> bool {
+    let mut table = some_rules(rt);
+    assert!(rt; is_small(&table, &[]) && changes.len() <= 32);
+    let mut mixed = Mixed::with_room(rt.alloc(), 97).expect(rt, "room");
+    assert!(rt; mixed.load(&table, &[]).is_ok());
+    mixed.index();
+    if !mixed.begin_all(changes) {
+        return false;
+    }
+    let is_begun = agrees(rt, net, &mixed, &table, changes);
+    mixed.keep_all(changes);
+    make_all(rt, &mut table, changes);
+    is_begun && agrees(rt, net, &mixed, &table, &[])
+}
+
+#[test]
+fn several_changes_are_begun_and_kept_as_if_prepared_anew(rt: HostRuntime) {
+    let net = network(&rt);
+    let any = VlanTest::Any;
+    let each = [
+        replace(rule(50, any, WIDE, out(4))),
+        insert(rule(60, any, TEN, out(3))),
+        delete(to_second()),
+        insert(rule(120, any, HALF, out(1))),
+    ];
+    assert!(rt; are_kept(&rt, &net, &[]));
+    assert!(rt; are_kept(&rt, &net, &each[..2]));
+    assert!(rt; are_kept(&rt, &net, &each));
+}
+
+#[test]
+fn several_changes_of_which_one_clashes_or_is_bad_are_refused(rt: HostRuntime) {
+    let net = network(&rt);
+    let any = VlanTest::Any;
+    let first = insert(rule(60, any, TEN, out(4)));
+    let second = insert(rule(60, VlanTest::Untagged, HALF, out(3)));
+    assert!(rt; !are_kept(&rt, &net, &[first, second]));
+    assert!(rt;
+        !are_kept(
+            &rt,
+            &net,
+            &[delete(to_second()), insert(rule(100, any, HALF, out(3)))]
+        )
+    );
+    assert!(rt; !are_kept(&rt, &net, &[delete(to_second()), replace(to_second())]));
 }

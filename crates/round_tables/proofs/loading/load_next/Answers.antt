@@ -1,4 +1,4 @@
-use Rattle.std.proofs.Common.{◌≡◌, ◌+◌, ◌<◌, ◌≤◌, [], false, List, length, get_or, sym, ◌∙◌, ap, subst, arith}
+use Rattle.std.proofs.Common.{◌≡◌, ◌+◌, ◌<◌, [], List, length, get_or, sym, ◌∙◌, ap, subst, arith}
 use Rattle.std.specs.Prelude.{Some, slice_get}
 use Rattle.std.proofs.lemmas.List.{get_or_default}
 use Rattle.net_base.specs.declared.ids.SwitchId.{SwitchId}
@@ -9,7 +9,7 @@ use Rattle.update_model.specs.declared.Change.{Change}
 use Rattle.round_mix.specs.Faults.{IsRefusal, AreUnclear, IsFirstBad}
 use Rattle.round_mix.specs.declared.MixRefusal.{MixRefusal}
 use Rattle.round_tables.specs.Loading.{IsLoadedTo}
-use Rattle.round_tables.specs.PreparedTables.{ChangesState, IsMixed, is_touched, list_at, mix_at, rules_there}
+use Rattle.round_tables.specs.PreparedTables.{ChangesState, IsMixed, list_at, mix_at, rules_there}
 use Rattle.round_tables.proofs.LoadLaws.{loaded_next, loaded_unclear}
 use Rattle.round_tables.proofs.loading.load_next.Goals as goal
 
