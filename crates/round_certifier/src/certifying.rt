@@ -37,7 +37,7 @@ fn certify_round(
     requires ordered { is_two_phase case.now.evidence ≡ false }
     requires goal { goal.now ≡ aim_for case.now.task }
     requires ends { EndsAreGood case.now.task }
-    requires room { HasRoom case.now.task.update.net case.now.task.rounds tables.old }
+    requires room { HasRoom (rollout case.now.task) tables.old }
     requires tables { StandsBefore (rollout case.now.task) k tables.old }
     requires so_far { IsCertifiedTo case.now k so_far.old.store so_far.old.watch.came.items
         so_far.old.looked }
@@ -47,7 +47,7 @@ fn certify_round(
     ensures tables { IfOk result (λ refusal. IfNone refusal
         (StandsBefore (rollout case.now.task) (suc k) tables.new)) }
     ensures some { IfOk result (λ refusal. IfSome refusal (IsFirstRefusal case.now)) }
-    ensures room { HasRoom case.now.task.update.net case.now.task.rounds tables.new }
+    ensures room { HasRoom (rollout case.now.task) tables.new }
 {
     case.keeps_rules();
     if let Some(reason) = load_round(case, k, tables) {
@@ -78,7 +78,7 @@ fn certify_all(
     requires ordered { is_two_phase case.now.evidence ≡ false }
     requires goal { goal.now ≡ aim_for case.now.task }
     requires ends { EndsAreGood case.now.task }
-    requires room { HasRoom case.now.task.update.net case.now.task.rounds tables.old }
+    requires room { HasRoom (rollout case.now.task) tables.old }
     requires so_far { IsCertifiedTo case.now 0 so_far.old.store so_far.old.watch.came.items
         so_far.old.looked }
     ensures none { IfOk result (λ refusal. IfNone refusal
@@ -86,7 +86,7 @@ fn certify_all(
         so_far.new.watch.came.items so_far.new.looked)) }
     ensures end { IfOk result (λ refusal. IfNone refusal (EndsAtNew case.now.task)) }
     ensures some { IfOk result (λ refusal. IfSome refusal (IsFirstRefusal case.now)) }
-    ensures room { HasRoom case.now.task.update.net case.now.task.rounds tables.new }
+    ensures room { HasRoom (rollout case.now.task) tables.new }
 {
     case.keeps_rules();
     start(case, tables);
