@@ -13,7 +13,6 @@ use Rattle.dest_classes.specs.Classes.{ClassList, IsClass, class_count}
 use Rattle.dest_classes.specs.declared.Class.{Class}
 use Rattle.demands.specs.Duties.{DemandView, PacketDuties, ClassDuties, first_of_each, chain_lt, with_chain, ascending_chains, duties_of, demands_on, demand_covers}
 use Rattle.demands.specs.OfClass.{AreCovered, AreStored, HasDutiesOfEachAddress}
-use Rattle.demands.specs.Sets.{set_of, members_of, duties_by}
 use Rattle.demands.proofs.DutyLaws.{duties_same}
 
 module _ (entry : Place) (dst : ℕ) where
@@ -95,16 +94,6 @@ pub get_still : {A : Type 0} (xs : List A) (x y : A) (k : ℕ) → slice_get xs 
 get_still [] x y k e = absurd (let f : None ≡ Some y = e in cc)
 get_still (z ∷ xs) x y zero e = e
 get_still (z ∷ xs) x y (suc k) e = get_still xs x y k e
-
-module _ (entry : Place) (dst : ℕ) where
-  members_are : (demands : List DemandView) → members_of demands (set_of demands entry dst) ≡ demands_on demands entry dst
-  members_are [] = refl
-  members_are (d ∷ demands) = ap (λ ds. cond (demand_covers d entry dst) (d ∷ ds) ds) (members_are demands)
-
-  -- the duties of an entry and an address are those of the set of the demands that cover it
-  pub duties_by_set : (demands : List DemandView) → duties_by demands (set_of demands entry dst) ≡ duties_of demands entry dst
-  duties_by_set demands =
-      ap (λ (ds : List DemandView). let x : PacketDuties = record { chains = ascending_chains (map (λ d. first_of_each d.through) ds); arrive = list_any (λ d. d.deliver) ds } in x) (members_are demands)
 
 pub length_push : {A : Type 0} (xs : List A) (x : A) → length (xs ++ x ∷ []) ≡ length xs + 1
 length_push [] x = refl

@@ -2,6 +2,7 @@
 #![tactic(auto)]
 
 mod chains;
+mod class_sets;
 mod fault;
 pub mod laws;
 mod policy;

@@ -1,5 +1,5 @@
 //! Policies as lists of demands, and what a demand covers.
-ghost use Rattle.std.specs.Prelude.{◌≡◌, ◌<◌, ◌≤◌, ◌++◌, ◌∷◌, [], Some, true, length, map, option_map, slice_get, IfOk, if◌then◌else◌, is_ok};
+ghost use Rattle.std.specs.Prelude.{◌≡◌, ◌<◌, ◌≤◌, ◌&&◌, ◌++◌, ◌∷◌, [], Some, true, length, map, option_map, slice_get, IfOk, if◌then◌else◌, is_ok};
 ghost use Rattle.std.specs.List.{AllByRecursion, list_any};
 ghost use Rattle.net_base.specs.Members.{IsIn};
 ghost use Rattle.demands.specs.Covers.{is_covered};
@@ -7,6 +7,7 @@ ghost use Rattle.demands.specs.Duties.{demand_covers};
 ghost use Rattle.std.specs.Option.{option_map_or};
 ghost use Rattle.topology.specs.Networks.{stop_eq};
 ghost use Rattle.net_base.specs.Places.{stop_of};
+ghost use Rattle.flow_rules.specs.Patterns.{admits_vlan};
 
 use crate::{Cover, Demand, Demands};
 use dest_classes::Class;
@@ -29,11 +30,20 @@ impl Cover {
     pub(crate) fn covers(&self, entry: Place, dst: u32) -> bool
         ensures { result ≡ is_covered self.now entry dst }
     {
+        self.speaks_of_entry(entry) && self.dst.has(dst)
+    }
+
+    /// Whether packets that enter there are spoken of, to some addresses.
+    pub(crate) fn speaks_of_entry(&self, entry: Place) -> bool
+        ensures { result
+            ≡ (option_map_or (λ s. stop_eq s (stop_of entry)) self.now.from true
+            && admits_vlan self.now.vlan entry.vlan) }
+    {
         let host = Stop {
             switch: entry.switch,
             port: entry.port,
         };
-        admits_host(self.from, host) && admits_vlan(self.vlan, entry.vlan) && self.dst.has(dst)
+        admits_host(self.from, host) && admits_vlan(self.vlan, entry.vlan)
     }
 }
 

@@ -1,13 +1,14 @@
 //! The duties of the classes of a map.
-ghost use Rattle.std.specs.Prelude.{◌≡◌, ◌<◌, ◌&&◌, ℕ, [], cond, true, length, map, slice_get, Some, IfOk, OnOk};
+ghost use Rattle.std.specs.Prelude.{◌≡◌, ◌<◌, ◌≤◌, ◌&&◌, ℕ, [], cond, true, length, map, slice_get, Some, IfOk, OnOk};
 ghost use Rattle.std.specs.List.{list_any};
-ghost use Rattle.dest_classes.specs.Classes.{class_count};
+ghost use Rattle.dest_classes.specs.Classes.{class_count, atom_count};
 ghost use Rattle.demands.specs.Duties.{PacketDuties, demand_covers, duties_of, with_chain, first_of_each};
 ghost use Rattle.demands.specs.OfClass.{AreCovered, OfClass, HaveSameDuties, HasDutiesOfEachAddress, AreInOrder};
-ghost use Rattle.demands.specs.Sets.{duties_by};
+ghost use Rattle.demands.specs.Sets.{IsSetOf, AreAtomSets, duties_by};
 
 use crate::chains::put_chain;
-use crate::sets::{DemandSets, set_of};
+use crate::class_sets::{EntrySet, atom_set, atom_sets};
+use crate::sets::{DemandSet, DemandSets};
 use crate::{Chain, Demand, Demands, Duties, Duty};
 use dest_classes::{Class, ClassMap};
 use net_base::{Memory, SwitchId};
@@ -75,22 +76,24 @@ fn duty_of(alloc: Global, demands: &Demands, class: Class) -> Result<Duty, Memor
     Ok(Duty { chains, arrive })
 }
 
-/// The number of the row of the class. A row is made where none of the same demands is there.
+/// The number of the row of the class, which has this set of demands. A row is made where none of the same demands is there.
 fn put_row(
     alloc: Global,
     demands: &Demands,
     class: Class,
+    set: DemandSet,
     sets: &mut DemandSets,
     rows: &mut Vec<Duty>,
 ) -> Result<usize, Memory>
-    requires { rows.old.items ≡ map (duties_by demands.now) sets.old }
+    requires few { length demands.now ≤ 512 }
+    requires set { IsSetOf demands.now (λ d. demand_covers d class.entry class.first) set.words }
+    requires rows { rows.old.items ≡ map (duties_by demands.now) sets.old }
     ensures rows { OnOk result (rows.new.items ≡ map (duties_by demands.now) sets.new) }
     ensures kept { OnOk result ((i : ℕ) (d : PacketDuties) → slice_get rows.old.items i ≡ Some d
         → slice_get rows.new.items i ≡ Some d) }
     ensures row { IfOk result (λ i. slice_get rows.new.items i
         ≡ Some (duties_of demands.now class.entry class.first)) }
 {
-    let set = set_of(alloc, demands.list(), class)?;
     let (number, is_new) = sets.number(set)?;
     if is_new {
         let row = duty_of(alloc, demands, class)?;
@@ -99,23 +102,34 @@ fn put_row(
     Ok(number)
 }
 
-/// Puts the row of each class, and its number, in the order of the classes.
+/// Puts the row of each class, and its number, in the order of the classes, where these are the sets of the atoms. The
+/// classes of an entry follow one another.
 fn put_rows(
-    alloc: Global,
     demands: &Demands,
     classes: &ClassMap,
+    atoms: &[DemandSet],
     sets: &mut DemandSets,
     rows: &mut Vec<Duty>,
     numbers: &mut Vec<usize>,
 ) -> Result<(), Memory>
+    requires some { 0 < class_count classes.now }
+    requires count { length atoms.now ≡ atom_count classes.now }
+    requires atoms { AreAtomSets demands.now classes.now atoms.now }
     requires sets { sets.old ≡ [] }
     requires rows { rows.old.items ≡ [] }
     requires numbers { numbers.old.items ≡ [] }
     ensures { OnOk result ((length numbers.new.items ≡ class_count classes.now)
         × AreInOrder demands.now classes.now rows.new.items numbers.new.items) }
 {
+    let alloc = *numbers.allocator();
+    let list = demands.list();
+    let mut begun = EntrySet::of(list, classes.class(0).entry);
     for n in 0..classes.count() {
-        let number = put_row(alloc, demands, classes.class(n), sets, rows)?;
+        let class = classes.class(n);
+        begun = begun.or_of(list, class.entry);
+        let of_atom = atom_set(atoms, n);
+        let set = begun.set.and(of_atom);
+        let number = put_row(alloc, demands, class, set, sets, rows)?;
         numbers.push(number)?;
     }
     Ok(())
@@ -127,15 +141,19 @@ fn all_duties(
     demands: &Demands,
     classes: &ClassMap,
 ) -> Result<(Vec<Duty>, Vec<usize>), Memory>
+    requires { AreCovered demands.now classes.now }
     ensures { IfOk result (λ v. (length v.1.items ≡ class_count classes.now)
         × AreInOrder demands.now classes.now v.0.items v.1.items) }
 {
-    let mut sets = DemandSets::make(alloc);
     let mut rows = Vec::new(alloc);
     let mut numbers = Vec::new(alloc);
-    let put = put_rows(alloc, demands, classes, &mut sets, &mut rows, &mut numbers);
-    drop(sets);
-    put?;
+    if classes.count() > 0 {
+        let atoms = atom_sets(alloc, demands.list(), classes)?;
+        let mut sets = DemandSets::make(alloc);
+        let put = put_rows(demands, classes, &atoms, &mut sets, &mut rows, &mut numbers);
+        drop(sets);
+        put?;
+    }
     Ok((rows, numbers))
 }
 
@@ -147,9 +165,11 @@ fn copy_both(demands: &Demands, classes: &ClassMap) -> Result<(Demands, ClassMap
 }
 
 impl Duties {
-    /// The duties of the classes of a map. The prefix of each demand is one of the map's. The network isn't looked at. It takes
-    /// time in the product of classes and demands. Classes that the same demands cover have their chains once: that takes time by the square of
-    /// the chains, and memory by their length.
+    /// The duties of the classes of a map. The prefix of each demand is one of the map's. The network isn't looked at. Which
+    /// demands speak of a class is found from two sets, those of its entry and of its atom: that takes time in the product of
+    /// entries and demands, by the atoms in the prefix of each demand, and the same for each class. Of classes that the same
+    /// demands cover the chains are made once: that takes time by the demands and the square of the chains, and memory by their
+    /// length.
     pub fn make(
         alloc: Global,
         net: &Net,

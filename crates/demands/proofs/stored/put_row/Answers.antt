@@ -1,10 +1,11 @@
-use Rattle.std.proofs.Common.{◌≡◌, Bool, List, ◌∷◌, ◌++◌, [], map, sym, ◌∙◌, ap, subst}
+use Rattle.std.proofs.Common.{◌≡◌, ℕ, Bool, List, ◌∷◌, ◌++◌, [], map, sym, ◌∙◌, ap, subst}
 use Rattle.std.specs.Prelude.{slice_get, Some, option_map, if◌then◌else◌}
 use Rattle.std.proofs.lemmas.Option.{slice_get-map}
 use Rattle.net_base.proofs.MemberLaws.{map-push}
-use Rattle.demands.specs.Duties.{DemandView, PacketDuties}
-use Rattle.demands.specs.Sets.{set_of, duties_by}
-use Rattle.demands.proofs.RowLaws.{get_still, duties_by_set}
+use Rattle.demands.specs.Duties.{PacketDuties, duties_of}
+use Rattle.demands.specs.Sets.{duties_by}
+use Rattle.demands.proofs.RowLaws.{get_still}
+use Rattle.demands.proofs.SetLaws.{duties_by_set}
 use Rattle.demands.proofs.stored.put_row.Goals as goal
 
 pub returns-in_ok-push-clause-rows : goal.returns-in_ok-push-clause-rows
@@ -12,12 +13,12 @@ returns-in_ok-push-clause-rows c =
     let demands = c.args.demands.now in
     let entry = c.args.class.entry in
     let dst = c.args.class.first in
-    let set : List Bool = c.in_ok-set.set.items in
+    let set : List ℕ = c.args.set.words in
     let old = c.args.sets.now in
-    let made : set ≡ set_of demands entry dst = c.in_ok-set.ensures ∙ ap (λ (ds : List DemandView). set_of ds entry dst) c.list.ensures.all in
-    let row : c.in_ok-row.row ≡ duties_by demands set = c.in_ok-row.ensures ∙ sym (duties_by_set entry dst demands) ∙ ap (duties_by demands) (sym made) in
+    let by : duties_by demands set ≡ duties_of demands entry dst = duties_by_set entry dst demands set c.requires.few c.requires.set in
+    let row : c.in_ok-row.row ≡ duties_by demands set = c.in_ok-row.ensures ∙ sym by in
     let sets : c.number.new.self ≡ old ++ set ∷ [] = c.in_ok-number.ensures.sets ∙ ap (λ (b : Bool). if b then old ++ set ∷ [] else old) c.if-is_new.true in
-    c.in_ok-push.ensures.items ∙ ap (λ (xs : List PacketDuties). xs ++ c.in_ok-row.row ∷ []) c.requires
+    c.in_ok-push.ensures.items ∙ ap (λ (xs : List PacketDuties). xs ++ c.in_ok-row.row ∷ []) c.requires.rows
     ∙ ap (λ (d : PacketDuties). map (duties_by demands) old ++ d ∷ []) row ∙ sym (map-push (duties_by demands) old set) ∙ ap (map (duties_by demands)) (sym sets)
 
 pub returns-in_ok-push-clause-kept : goal.returns-in_ok-push-clause-kept
@@ -29,24 +30,24 @@ returns-in_ok-push-clause-row c =
     let demands = c.args.demands.now in
     let entry = c.args.class.entry in
     let dst = c.args.class.first in
-    let set : List Bool = c.in_ok-set.set.items in
-    let made : set ≡ set_of demands entry dst = c.in_ok-set.ensures ∙ ap (λ (ds : List DemandView). set_of ds entry dst) c.list.ensures.all in
+    let set : List ℕ = c.args.set.words in
+    let by : duties_by demands set ≡ duties_of demands entry dst = duties_by_set entry dst demands set c.requires.few c.requires.set in
     let number = c.in_ok-number.number in
     ap (λ (xs : List PacketDuties). slice_get xs number) (returns-in_ok-push-clause-rows c)
     ∙ slice_get-map (duties_by demands) c.number.new.self number ∙ ap (option_map (duties_by demands)) c.in_ok-number.ensures.stands
-    ∙ ap (λ (x : List Bool). Some (duties_by demands x)) made ∙ ap (λ (d : PacketDuties). Some d) (duties_by_set entry dst demands)
+    ∙ ap (λ (d : PacketDuties). Some d) by
 
 pub returns-else-is_new-clause-row : goal.returns-else-is_new-clause-row
 returns-else-is_new-clause-row c =
     let demands = c.args.demands.now in
     let entry = c.args.class.entry in
     let dst = c.args.class.first in
-    let set : List Bool = c.in_ok-set.set.items in
+    let set : List ℕ = c.args.set.words in
     let old = c.args.sets.now in
-    let made : set ≡ set_of demands entry dst = c.in_ok-set.ensures ∙ ap (λ (ds : List DemandView). set_of ds entry dst) c.list.ensures.all in
+    let by : duties_by demands set ≡ duties_of demands entry dst = duties_by_set entry dst demands set c.requires.few c.requires.set in
     let number = c.in_ok-number.number in
     let sets : c.number.new.self ≡ old = c.in_ok-number.ensures.sets ∙ ap (λ (b : Bool). if b then old ++ set ∷ [] else old) c.if-is_new.false in
-    let stands : slice_get old number ≡ Some set = subst (λ (xs : List (List Bool)). slice_get xs number ≡ Some set) sets c.in_ok-number.ensures.stands in
-    ap (λ (xs : List PacketDuties). slice_get xs number) c.requires
+    let stands : slice_get old number ≡ Some set = subst (λ (xs : List (List ℕ)). slice_get xs number ≡ Some set) sets c.in_ok-number.ensures.stands in
+    ap (λ (xs : List PacketDuties). slice_get xs number) c.requires.rows
     ∙ slice_get-map (duties_by demands) old number ∙ ap (option_map (duties_by demands)) stands
-    ∙ ap (λ (x : List Bool). Some (duties_by demands x)) made ∙ ap (λ (d : PacketDuties). Some d) (duties_by_set entry dst demands)
+    ∙ ap (λ (d : PacketDuties). Some d) by
