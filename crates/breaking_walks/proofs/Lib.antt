@@ -7,3 +7,5 @@ pub mod WithinLaws
 pub mod BreakLaws
 pub mod CutLaws
 pub mod SurveyLaws
+pub mod PassLaws
+pub mod StepLaws

@@ -19,13 +19,13 @@ use Rattle.breaking_walks.specs.contracts.trail.NodePartialEq.TheImpl as node_im
 abbrev Found : Type 0
 Found = Node × ℕ
 
-abbrev vlan_same : Vlan → Vlan → Bool
+abbrev pub vlan_same : Vlan → Vlan → Bool
 vlan_same = vlan_impl.eq-value.it
 
 abbrev node_same : Node → Node → Bool
 node_same = node_impl.eq-value.it
 
-vlan_same-true : (a b : Vlan) → vlan_same a b ≡ true → a ≡ b
+pub vlan_same-true : (a b : Vlan) → vlan_same a b ≡ true → a ≡ b
 vlan_same-true vlan.Untagged vlan.Untagged e = refl
 vlan_same-true vlan.Untagged (vlan.Id n) e = absurd (false≢true e)
 vlan_same-true (vlan.Id m) vlan.Untagged e = absurd (false≢true e)
@@ -35,11 +35,11 @@ vlan_same-refl : (a : Vlan) → vlan_same a a ≡ true
 vlan_same-refl vlan.Untagged = refl
 vlan_same-refl (vlan.Id n) = eq-eqb n n refl
 
-and_first : (a b : Bool) → (a && b) ≡ true → a ≡ true
+pub and_first : (a b : Bool) → (a && b) ≡ true → a ≡ true
 and_first true b e = refl
 and_first false b e = absurd (false≢true e)
 
-and_second : (a b : Bool) → (a && b) ≡ true → b ≡ true
+pub and_second : (a b : Bool) → (a && b) ≡ true → b ≡ true
 and_second true b e = e
 and_second false b e = absurd (false≢true e)
 

@@ -23,7 +23,7 @@ Found = Node × ℕ
 pub some_is : {A : Type 0} (x y : A) → Some x ≡ Some y → x ≡ y
 some_is x y e = cc
 
-get_append_left : {A : Type 0} (xs ys : List A) (n : ℕ) (x : A) → slice_get xs n ≡ Some x → slice_get (xs ++ ys) n ≡ Some x
+pub get_append_left : {A : Type 0} (xs ys : List A) (n : ℕ) (x : A) → slice_get xs n ≡ Some x → slice_get (xs ++ ys) n ≡ Some x
 get_append_left [] ys n x e = absurd (let f : None ≡ Some x = e in cc)
 get_append_left (y ∷ xs) ys zero x e = e
 get_append_left (y ∷ xs) ys (suc n) x e = get_append_left xs ys n x e

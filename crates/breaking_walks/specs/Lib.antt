@@ -3,3 +3,4 @@ pub mod Searches
 pub mod Trails
 pub mod Broken
 pub mod Surveys
+pub mod PlaceSteps

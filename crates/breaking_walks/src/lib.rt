@@ -11,6 +11,8 @@ ghost use Rattle.breaking_walks.specs.Breaking.{HasBreakingWalk, IsBreakingWalk}
 
 mod breaking;
 mod cutting;
+mod passing;
+mod place_steps;
 mod search;
 mod surveying;
 mod trail;
@@ -20,7 +22,9 @@ use cutting::cut;
 use demands::Duties;
 use dest_classes::NumberedClass;
 use net_base::{ListOf, Memory, Place};
+pub use passing::NumberedPlace;
 use path_walk::Outcome;
+pub use place_steps::PlaceSteps;
 use round_outcomes::RoundOutcomes;
 use std::alloc::Global;
 pub use surveying::have_falling;

@@ -24,12 +24,12 @@ KeepsDuties u demands k class = ¬ HasBreakingWalk u k class.first class.entry (
 abbrev pub KeptBefore : Rollout → List DemandView → ClassList → ℕ → Type 0
 KeptBefore u demands classes k = (j : ℕ) → j < k → (n : ℕ) (class : Class) → IsClass classes n class → KeepsDuties u demands j class
 
--- what is seen of a class in round k: the set has each switch that its mixed walks come to; where the walks fall, on none of them
+-- what is seen of a class in round k: the set has each switch that its mixed walks come to; where they pass once, on none of them
 -- a switch stands twice; where they may not drop, on none of them a packet may be discarded, where they may not leave, none may
 -- leave; and the gates are gates on them
 pub record IsSeen (u : Rollout) (k : ℕ) (class : Class) (seen : Seen) : Type 0 where
   pub walks : HoldsWalks u k class seen.came
-  pub repeats : seen.falls ≡ true → NeverRepeats u k class.first class.entry
+  pub repeats : seen.pass_once ≡ true → NeverRepeats u k class.first class.entry
   pub drops : seen.may_drop ≡ false → NeverDrops u k class.first class.entry
   pub leaves : seen.may_leave ≡ false → (s : SwitchId) → ¬ MayLeave u k class.first class.entry s
   pub gates : (s : SwitchId) → IsTrue (has seen.gates.set s) → IsGateFor u k class seen.gates.numbering s

@@ -7,6 +7,7 @@ mod members;
 mod missed;
 mod round;
 mod seen;
+mod stepping;
 mod survey;
 
 pub use keeping::keep_vlans;

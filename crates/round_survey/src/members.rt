@@ -1,5 +1,5 @@
 //! Classes of one address and one VLAN that are walked together.
-ghost use Rattle.std.specs.Prelude.{◌≡◌, ℕ, ◌<◌, true, List, length, slice_get, Some, OnOk};
+ghost use Rattle.std.specs.Prelude.{◌≡◌, ℕ, ◌<◌, true, List, length, slice_get, Some, IfOk, OnOk};
 ghost use Rattle.net_base.specs.Members.{IsIn};
 ghost use Rattle.net_base.specs.Places.{stop_of};
 ghost use Rattle.topology.specs.Networks.{IsUsed};
@@ -14,11 +14,13 @@ ghost use Rattle.round_survey.specs.Gates.{AreStepsOf};
 ghost use Rattle.round_survey.specs.Surveys.{IsSeen, AreKnown, IsAlike, AreAlike, AreMembers};
 
 use crate::round::PreparedRound;
-use crate::seen::{Seen, keeps_duties};
+use crate::seen::{Seen, keeps_duties, see};
+use crate::stepping::never_repeat;
 use demands::Duties;
 use dest_classes::{Class, NumberedClass};
 use mixed_walks::WalkRoom;
 use net_base::{Memory, SwitchSet};
+use std::alloc::Global;
 
 /// Whether both classes have one address and one VLAN.
 fn is_alike(one: Class, other: Class) -> bool
@@ -107,6 +109,32 @@ pub(crate) fn have_chains(members: &[NumberedClass], duties: &Duties) -> bool
         }
     }
     false
+}
+
+/// What is seen of each of these classes, which were walked last: that their walks pass each switch once also by the steps
+/// between places, which are looked at only where there are cycles of switches.
+pub(crate) fn see_members(
+    alloc: Global,
+    round: PreparedRound<'_>,
+    walk: &WalkRoom,
+    members: &[NumberedClass],
+    wants_gates: bool,
+) -> Result<Seen, Memory>
+    requires round { IsPreparedRound round }
+    requires entries { (m : NumberedClassOf) → IsIn m members.now
+        → IsUsed round.net.now (stop_of m.class.entry) }
+    requires alike { AreAlike members.now }
+    requires covers { (m : NumberedClassOf) → IsIn m members.now
+        → Covers (update_of round) round.number m.class.first m.class.entry walk.now }
+    requires within { AreStepsOf round.net.now walk.now.steps }
+    ensures { IfOk result (λ seen. (m : NumberedClassOf) → IsIn m members.now
+        → IsSeen (update_of round.entry) round.entry.number m.class seen) }
+{
+    let mut seen = see(alloc, round.net, walk, wants_gates)?;
+    if !seen.pass_once {
+        seen.pass_once = never_repeat(alloc, round, members)?;
+    }
+    Ok(seen)
 }
 
 /// Marks a class, with the switches that its walks come to, where what was seen of it keeps its duties.

@@ -21,12 +21,12 @@ use net_base::{Memory, SwitchSet};
 use std::alloc::Global;
 use topology::Net;
 
-/// The switches that walks come to; whether there are numbers that fall along each of their steps, so that no switch stands
-/// twice on one; whether a packet may be discarded on them, or leave; and gates that it passes then.
+/// The switches that walks come to; whether it is shown that no switch stands twice on one; whether a packet may be discarded
+/// on them, or leave; and gates that it passes then.
 #[derive(Drop)]
 pub(crate) struct Seen {
     pub(crate) came: SwitchSet,
-    pub(crate) falls: bool,
+    pub(crate) pass_once: bool,
     pub(crate) may_drop: bool,
     pub(crate) may_leave: bool,
     pub(crate) gates: Gates,
@@ -43,7 +43,8 @@ fn gates_on(alloc: Global, net: &Net, walk: &WalkRoom, are_wanted: bool) -> Resu
     find_gates(alloc, net, walk)
 }
 
-/// What the walks that were walked last show of each class whose walks are among them; the gates only if they are wanted.
+/// What the walks that were walked last show of each class whose walks are among them: that they pass each switch once only
+/// where numbers fall along each of their steps; the gates only if they are wanted.
 pub(crate) fn see(
     alloc: Global,
     net: &Net,
@@ -58,7 +59,7 @@ pub(crate) fn see(
     let gates = gates_on(alloc, net, walk, falls && wants_gates)?;
     Ok(Seen {
         came: switches_on(walk),
-        falls,
+        pass_once: falls,
         may_drop: !walk.dropping().is_empty(),
         may_leave: !walk.leaving().is_empty(),
         gates,
@@ -106,7 +107,7 @@ pub(crate) fn keeps_duties(seen: &Seen, duties: &Duties, numbered: NumberedClass
     ensures { (u : Rollout) (k : ℕ) → IsSeen u k numbered.class seen.now
         → result ≡ true → KeepsDuties u duties.now.demands k numbered.class }
 {
-    if !seen.falls || may_lose(seen, duties, numbered) {
+    if !seen.pass_once || may_lose(seen, duties, numbered) {
         return false;
     }
     !seen.may_leave || meets_chains(seen, duties, numbered)

@@ -4,7 +4,7 @@ ghost use Rattle.dest_classes.specs.Classes.{class_count};
 ghost use Rattle.round_survey.specs.Rounds.{update_of, IsPreparedRound};
 ghost use Rattle.round_survey.specs.Surveys.{AreGood, AreKnown, AreWalkedBelow, HasRoom, KeptBefore, WalksStand};
 
-use crate::members::{gather, have_chains, settle_members, walk_members};
+use crate::members::{gather, have_chains, see_members, settle_members, walk_members};
 use crate::missed::{atoms_to_look_at, mark_missed};
 use crate::round::PreparedRound;
 use crate::seen::{keeps_duties, see};
@@ -92,7 +92,7 @@ impl RoundSurvey {
         }
         walk_members(&mut self.walk, round, &self.members);
         let wants_gates = have_chains(&self.members, duties);
-        let seen = see(alloc, round.net, &self.walk, wants_gates)?;
+        let seen = see_members(alloc, round, &self.walk, &self.members, wants_gates)?;
         settle_members(&self.members, &seen, duties, &mut self.came, &mut self.good);
         Ok(())
     }
@@ -225,11 +225,13 @@ impl RoundSurvey {
     /// Finds classes that keep their duties in a round: the rounds are surveyed in their order, each once, while each class
     /// kept them in the rounds before. Classes that no change of the round may be met by at a switch that their walks came to
     /// in the round before keep them. The others are walked, those of one address and VLAN together first: those keep them
-    /// on whose walks the switches have falling numbers, no packet is discarded that must arrive, and the waypoints of each
-    /// chain are gates, or none leaves. Of another class it isn't told.
+    /// on whose walks the switches have falling numbers, or the steps between places lead back to no switch, no packet is
+    /// discarded that must arrive, and the waypoints of each chain are gates, or none leaves. Of another class it isn't told.
     ///
-    /// Beside the walks a round of one change takes time by the classes whose address the change covers, and little for the
-    /// others; a longer one by the product of its changes and the classes.
+    /// Where walks that are walked together have no falling numbers, their places are walked once more, and it takes time by
+    /// the product of the switches and the steps between places. Beside the walks a round of one change takes time by the
+    /// classes whose address the change covers, and little for the others; a longer one by the product of its changes and the
+    /// classes.
     pub fn look(
         &mut self,
         alloc: Global,

@@ -1,8 +1,7 @@
-use Rattle.std.proofs.Common.{◌≡◌, ◌↔◌, ◌||◌, ℕ, ◌+◌, ◌-◌, ◌<◌, Bool, true, false, [], ◌∷◌, List, sym, ◌∙◌, subst, ap, arith}
+use Rattle.std.proofs.Common.{◌↔◌, ℕ, ◌+◌, ◌-◌, ◌<◌, false, [], List, sym, subst, arith}
 use Rattle.net_base.specs.Members.{IsIn}
 use Rattle.topology.specs.Networks.{Network, IsNetwork}
 use Rattle.path_walk.specs.declared.Outcome.{Outcome}
-use Rattle.path_walk.specs.declared.Outcome.TheVariants.{Discard}
 use Rattle.update_model.specs.Mixtures.{IsPossible}
 use Rattle.acyclic_numbering.specs.Heights.{IsEdge, Falls}
 use Rattle.acyclic_numbering.specs.declared.Edge.{Edge}
