@@ -10,20 +10,19 @@ use Rattle.net_base.specs.declared.ids.Port.{Port}
 use Rattle.net_base.specs.declared.ids.Stop.{Stop}
 use Rattle.net_base.specs.declared.ids.Vlan.{Vlan}
 use Rattle.net_base.specs.declared.ids.Vlan.TheVariants as vlan
-use Rattle.topology.specs.Networks.{Network, IsNetwork, TagRange, IsUsed, IsVlan, IsVlanId, IsPortNumber, used_ports, switch_count}
+use Rattle.topology.specs.Networks.{Network, IsNetwork, TagRange, IsVlan, IsVlanId, IsPortNumber, switch_count}
 use Rattle.topology.specs.declared.net.Link.{Link}
 use Rattle.flow_rules.specs.Tables.{rules_at}
-use Rattle.flow_rules.specs.declared.rules.VlanTest.{VlanTest}
-use Rattle.flow_rules.specs.declared.rules.VlanTest.TheVariants as test
-use Rattle.flow_rules.specs.declared.rules.Rewrite.{Rewrite}
-use Rattle.flow_rules.specs.declared.rules.Rewrite.TheVariants.{Keep, Set}
+use Rattle.flow_rules.specs.declared.rules.Rewrite.TheVariants.{Set}
 use Rattle.flow_rules.specs.declared.rules.Action.{Action}
 use Rattle.flow_rules.specs.declared.rules.Action.TheVariants.{Discard, Out}
 use Rattle.flow_rules.specs.declared.rules.Rule.{Rule}
-use Rattle.path_walk.specs.UserConfigs.{IsUserConfig, IsUserRule, IsUserPort, IsUserVlan, IsUserAction}
+use Rattle.path_walk.specs.UserConfigs.{IsUserConfig, IsUserRule, IsUserAction}
 use Rattle.update_model.specs.Changes.{rule_of}
-use Rattle.update_model.specs.Ranges.{IsPlanPort, IsPlanVlan, IsPlanRewrite, IsPlanAction, IsPlanChange}
+use Rattle.update_model.specs.Ranges.{IsPlanVlan, IsPlanRewrite, IsPlanAction, IsPlanChange}
 use Rattle.update_model.specs.declared.Change.{Change}
+use Rattle.plan_rules.specs.PlanRules.{IsPlanRule}
+use Rattle.plan_rules.proofs.UserRules.{keep_plan, change_plan, used_number, port_plan, rule_plan}
 use Rattle.tag_allocator.specs.Tags.{Tagged, tags_of, available_tags}
 use Rattle.tag_allocator.proofs.TagLaws.{tag_available}
 use Rattle.table_difference.specs.SameClasses.{every_address}
@@ -33,15 +32,6 @@ use Rattle.two_phase.proofs.TagLaws.{paired_user, paired_tag}
 use Rattle.two_phase.proofs.BandLaws.{tagged_cases, ingress_cases}
 use Rattle.two_phase.proofs.OwnChanges.{IsOfPlan, IsAmong, all_of_plan}
 
--- a rule whose numbers are in range
-pub record IsPlanRule (r : Rule) : Type 0 where
-  pub priority : 1 ≤ r.key.priority
-  pub priority_most : r.key.priority ≤ 65535
-  pub port : IsPlanPort r.key.pattern.in_port
-  pub vlan : IsPlanVlan r.key.pattern.vlan
-  pub dst : IsBlock r.key.pattern.dst
-  pub action : IsPlanAction r.action
-
 every_block : IsBlock every_address
 every_block = record { length = omega arith; base = omega arith; aligned = refl }
 
@@ -49,38 +39,19 @@ in_range_id : (tags : Option TagRange) (id : ℕ) → IfSome tags (λ t. IsVlanI
 in_range_id None id all within some = absurd (some refl)
 in_range_id (Some t) id all within some = let (first, last, order) = all in let (low, high) = within in (omega arith, omega arith)
 
-module _ (net : Network) (is : IsNetwork net) where
+module _ (net : Network) (is_net : IsNetwork net) where
   -- tags are ids, and declared VLANs are VLANs
   pub tag_id : (v : Tagged) → IsIn v (tags_of net) → IsVlanId v.tag
-  tag_id v i = let a = tag_available net v.tag (paired_tag net.vlans (available_tags net) v i) in in_range_id net.tags v.tag is.tags a.in_range a.some_range
+  tag_id v i = let a = tag_available net v.tag (paired_tag net.vlans (available_tags net) v i) in in_range_id net.tags v.tag is_net.tags a.in_range a.some_range
 
   pub user_vlan : (v : Tagged) → IsIn v (tags_of net) → IsVlan v.user
-  user_vlan v i = each_at IsVlan net.vlans v.user is.vlans (paired_user net.vlans (available_tags net) v i)
-
-  used_number : (stop : Stop) → IsUsed net stop → IsPortNumber stop.port.0
-  used_number stop i = (each_at (λ (x : Stop). (x.switch.0 < switch_count net) × IsPortNumber x.port.0) (used_ports net) stop is.ports i).1
+  user_vlan v i = each_at IsVlan net.vlans v.user is_net.vlans (paired_user net.vlans (available_tags net) v i)
 
   host_number : (s : SwitchId) (host : Port) → IsIn host (hosts_of net s) → IsPortNumber host.0
   host_number s host i =
       let (stop, j, e) = in_from_map (λ (h : Stop). h.port) host (filter (λ h. h.switch.0 == s.0) net.hosts) i in
       let k = (in_from_filter (λ (h : Stop). h.switch.0 == s.0) stop net.hosts j).0 in
-      subst (λ (p : Port). IsPortNumber p.0) (sym e) (used_number stop (in_append_left stop net.hosts (flat_map (λ (l : Link). l.one ∷ l.other ∷ []) net.links) k))
-
-  port_plan : (s : SwitchId) (port : Option Port) → IsUserPort net s port → IsPlanPort port
-  port_plan s None user = tt
-  port_plan s (Some p) user = used_number (record { switch = s; port = p }) user
-
-  vlan_plan : (v : VlanTest) → IsUserVlan net v → IsPlanVlan v
-  vlan_plan test.Any user = tt
-  vlan_plan test.Untagged user = tt
-  vlan_plan (test.Id id) user = user.0
-
-  keep_plan : (rewrite : Rewrite) → rewrite ≡ Keep → IsPlanRewrite rewrite
-  keep_plan rewrite e = subst IsPlanRewrite (sym e) tt
-
-  action_plan : (s : SwitchId) (action : Action) → IsUserAction net s action → IsPlanAction action
-  action_plan s Discard user = tt
-  action_plan s (Out port rewrite) user = (used_number (record { switch = s; port = port }) user.0, keep_plan rewrite user.1)
+      subst (λ (p : Port). IsPortNumber p.0) (sym e) (used_number net is_net stop (in_append_left stop net.hosts (flat_map (λ (l : Link). l.one ∷ l.other ∷ []) net.links) k))
 
   restore_plan : (v : Vlan) → IsVlan v → IsPlanRewrite (restore v)
   restore_plan vlan.Untagged is = tt
@@ -93,24 +64,14 @@ module _ (net : Network) (is : IsNetwork net) where
   tagged_action_plan : (s : SwitchId) (v : Vlan) (action : Action) → IsVlan v → IsUserAction net s action → IsPlanAction (tagged_action net s v action)
   tagged_action_plan s v Discard is user = tt
   tagged_action_plan s v (Out port rewrite) is user =
-      let number = used_number (record { switch = s; port = port }) user.0 in
+      let number = used_number net is_net (record { switch = s; port = port }) user.0 in
       elim (is_host net s port) as (λ b. IsPlanAction (cond b (Out port (restore v)) (Out port rewrite))) [ true ↦ (number, restore_plan v is) | false ↦ (number, keep_plan rewrite user.1) ]
 
   ingress_action_plan : (s : SwitchId) (tag : ℕ) (action : Action) → IsVlanId tag → IsUserAction net s action → IsPlanAction (ingress_action net s tag action)
   ingress_action_plan s tag Discard is user = tt
   ingress_action_plan s tag (Out port rewrite) is user =
-      let number = used_number (record { switch = s; port = port }) user.0 in
+      let number = used_number net is_net (record { switch = s; port = port }) user.0 in
       elim (is_link net s port) as (λ b. IsPlanAction (cond b (Out port (Set tag)) (Out port rewrite))) [ true ↦ (number, is) | false ↦ (number, keep_plan rewrite user.1) ]
-
-  user_plan : (s : SwitchId) (r : Rule) → IsUserRule net s r → IsPlanRule r
-  user_plan s r user = record {
-    priority = user.above;
-    priority_most = let h = user.below in omega arith;
-    port = port_plan s r.key.pattern.in_port user.port;
-    vlan = vlan_plan r.key.pattern.vlan user.vlan;
-    dst = user.dst;
-    action = action_plan s r.action user.action;
-  }
 
   module _ (s : SwitchId) (new : List Rule) (user : AllByRecursion (IsUserRule net s) new) where
     tagged_plan : (q : Rule) → IsIn q (tagged_rules net s new) → IsPlanRule q
@@ -122,7 +83,7 @@ module _ (net : Network) (is : IsNetwork net) where
               subst IsPlanRule (sym c.is) (record {
                 priority = omega arith;
                 priority_most = omega arith;
-                port = port_plan s c.of_rule.key.pattern.in_port of.port;
+                port = port_plan net is_net s c.of_rule.key.pattern.in_port of.port;
                 vlan = tag_id c.of_tag c.is_tag;
                 dst = of.dst;
                 action = tagged_action_plan s c.of_tag.user c.of_rule.action (user_vlan c.of_tag c.is_tag) of.action;
@@ -151,23 +112,13 @@ module _ (net : Network) (is : IsNetwork net) where
     among_plan : (s : SwitchId) (r : Rule) → IsAmong net old new s r → IsPlanRule r
     among_plan s r (inl (inl i)) = tagged_plan s (rules_at new s) (new_user.rules s) r i
     among_plan s r (inl (inr i)) = ingress_plan s (rules_at new s) (new_user.rules s) r i
-    among_plan s r (inr (inl i)) = user_plan s r (each_at (IsUserRule net s) (rules_at old s) r (old_user.rules s) i)
-    among_plan s r (inr (inr i)) = user_plan s r (each_at (IsUserRule net s) (rules_at new s) r (new_user.rules s) i)
+    among_plan s r (inr (inl i)) = rule_plan net is_net s r (each_at (IsUserRule net s) (rules_at old s) r (old_user.rules s) i)
+    among_plan s r (inr (inr i)) = rule_plan net is_net s r (each_at (IsUserRule net s) (rules_at new s) r (new_user.rules s) i)
 
-    change_plan : (c : Change) → IsOfPlan net old new c → IsPlanChange net c
-    change_plan c of =
-        let rule = among_plan of.at (rule_of c) of.among in
-        record {
-          switch = subst (λ (s : SwitchId). s.0 < switch_count net) (sym of.switch) of.inside;
-          priority = rule.priority;
-          priority_most = rule.priority_most;
-          port = rule.port;
-          vlan = rule.vlan;
-          dst = rule.dst;
-          action = rule.action;
-        }
+    own_change_plan : (c : Change) → IsOfPlan net old new c → IsPlanChange net c
+    own_change_plan c of = change_plan net c (subst (λ (s : SwitchId). s.0 < switch_count net) (sym of.switch) of.inside) (among_plan of.at (rule_of c) of.among)
 
     pub changes_plan : (mark : SwitchId → Rule → ℕ) (laid taken : List ℕ) → AllByRecursion (AllByRecursion (IsPlanChange net)) (layered_rounds net old new mark laid taken)
     changes_plan mark laid taken =
-        each_weaker (AllByRecursion (IsOfPlan net old new)) (AllByRecursion (IsPlanChange net)) (λ round h. each_weaker (IsOfPlan net old new) (IsPlanChange net) change_plan round h)
+        each_weaker (AllByRecursion (IsOfPlan net old new)) (AllByRecursion (IsPlanChange net)) (λ round h. each_weaker (IsOfPlan net old new) (IsPlanChange net) own_change_plan round h)
         (layered_rounds net old new mark laid taken) (all_of_plan net old new mark laid taken old_user.count)

@@ -28,6 +28,13 @@ use tag_allocator::TagMap;
 use topology::Net;
 use update_model::{Change, Rounds};
 
+/// The rules of both bands at all switches, in key order.
+#[derive(Clone, Copy)]
+struct Bands<'a> {
+    tagged: &'a SwitchRules,
+    ingress: &'a SwitchRules,
+}
+
 /// The numbers in the opposite order.
 fn reversed(alloc: Global, numbers: &[u16]) -> Result<Vec<u16>, Memory>
     ensures { IfOk result (λ v. v.items ≡ reverse numbers.now) }
@@ -122,21 +129,20 @@ fn add_laying(
     alloc: Global,
     rounds: &mut Rounds,
     net: &Net,
-    tagged: &SwitchRules,
-    ingress: &SwitchRules,
+    bands: &Bands,
     ranks: &[u16],
 ) -> Result<(), Memory>
-    requires tagged { length tagged.now ≡ switch_count net.now }
-    requires ingress { length ingress.now ≡ switch_count net.now }
-    ensures { (first rest : SwitchId → List Rule) → AreOrdered net.now first tagged.now
-        → AreOrdered net.now rest ingress.now
+    requires tagged { length bands.now.tagged.now ≡ switch_count net.now }
+    requires ingress { length bands.now.ingress.now ≡ switch_count net.now }
+    ensures { (first rest : SwitchId → List Rule) → AreOrdered net.now first bands.now.tagged.now
+        → AreOrdered net.now rest bands.now.ingress.now
         → OnOk result
         (rounds.new ≡ rounds.old ++ (by_switch net.now Insert first ∷ [])
         ++ map (by_rank net.now Insert rest) (reverse ranks.now)) }
 {
-    add_round(alloc, rounds, net, Step::Lay, tagged)?;
+    add_round(alloc, rounds, net, Step::Lay, bands.tagged)?;
     let falling = reversed(alloc, ranks)?;
-    let added = add_rank_rounds(alloc, rounds, net, Step::Lay, ingress, &falling);
+    let added = add_rank_rounds(alloc, rounds, net, Step::Lay, bands.ingress, &falling);
     drop(falling);
     added
 }
@@ -146,20 +152,19 @@ fn add_taking(
     alloc: Global,
     rounds: &mut Rounds,
     net: &Net,
-    tagged: &SwitchRules,
-    ingress: &SwitchRules,
+    bands: &Bands,
     ranks: &[u16],
 ) -> Result<(), Memory>
-    requires tagged { length tagged.now ≡ switch_count net.now }
-    requires ingress { length ingress.now ≡ switch_count net.now }
-    ensures { (first rest : SwitchId → List Rule) → AreOrdered net.now first tagged.now
-        → AreOrdered net.now rest ingress.now
+    requires tagged { length bands.now.tagged.now ≡ switch_count net.now }
+    requires ingress { length bands.now.ingress.now ≡ switch_count net.now }
+    ensures { (first rest : SwitchId → List Rule) → AreOrdered net.now first bands.now.tagged.now
+        → AreOrdered net.now rest bands.now.ingress.now
         → OnOk result
         (rounds.new ≡ rounds.old ++ map (by_rank net.now Delete rest) ranks.now
         ++ (by_switch net.now Delete first ∷ [])) }
 {
-    add_rank_rounds(alloc, rounds, net, Step::Take, ingress, ranks)?;
-    add_round(alloc, rounds, net, Step::Take, tagged)
+    add_rank_rounds(alloc, rounds, net, Step::Take, bands.ingress, ranks)?;
+    add_round(alloc, rounds, net, Step::Take, bands.tagged)
 }
 
 /// The rounds of the plan, from its rules in key order and its ranks.
@@ -168,25 +173,24 @@ fn rounds_from_ranks(
     net: &Net,
     old: &Config,
     new: &Config,
-    tagged: &SwitchRules,
-    ingress: &SwitchRules,
+    bands: &Bands,
     rising: &[u16],
 ) -> Result<Rounds, Memory>
     requires few { length old.now < 2 ^ 32 }
-    requires tagged_count { length tagged.now ≡ switch_count net.now }
-    requires ingress_count { length ingress.now ≡ switch_count net.now }
+    requires tagged_count { length bands.now.tagged.now ≡ switch_count net.now }
+    requires ingress_count { length bands.now.ingress.now ≡ switch_count net.now }
     requires tagged { AreOrdered net.now
-        (λ s. tagged_rules net.now s (rules_at (rules_of_all new.now) s)) tagged.now }
+        (λ s. tagged_rules net.now s (rules_at (rules_of_all new.now) s)) bands.now.tagged.now }
     requires ingress { AreOrdered net.now
-        (λ s. ingress_rules net.now s (rules_at (rules_of_all new.now) s)) ingress.now }
+        (λ s. ingress_rules net.now s (rules_at (rules_of_all new.now) s)) bands.now.ingress.now }
     requires ranks { rising.now ≡ ranks net.now (rules_of_all new.now) }
     ensures { IfOk result
         (λ r. r ≡ two_phase_rounds net.now (rules_of_all old.now) (rules_of_all new.now)) }
 {
     let mut rounds = Rounds::make(alloc)?;
-    add_laying(alloc, &mut rounds, net, tagged, ingress, rising)?;
+    add_laying(alloc, &mut rounds, net, bands, rising)?;
     add_exchange(alloc, &mut rounds, old, new)?;
-    add_taking(alloc, &mut rounds, net, tagged, ingress, rising)?;
+    add_taking(alloc, &mut rounds, net, bands, rising)?;
     Ok(rounds)
 }
 
@@ -196,23 +200,22 @@ fn rounds_from_bands(
     net: &Net,
     old: &Config,
     new: &Config,
-    tagged: &SwitchRules,
-    ingress: &SwitchRules,
+    bands: &Bands,
 ) -> Result<(Rounds, usize), Memory>
     requires few { length old.now < 2 ^ 32 }
-    requires tagged_count { length tagged.now ≡ switch_count net.now }
-    requires ingress_count { length ingress.now ≡ switch_count net.now }
+    requires tagged_count { length bands.now.tagged.now ≡ switch_count net.now }
+    requires ingress_count { length bands.now.ingress.now ≡ switch_count net.now }
     requires tagged { AreOrdered net.now
-        (λ s. tagged_rules net.now s (rules_at (rules_of_all new.now) s)) tagged.now }
+        (λ s. tagged_rules net.now s (rules_at (rules_of_all new.now) s)) bands.now.tagged.now }
     requires ingress { AreOrdered net.now
-        (λ s. ingress_rules net.now s (rules_at (rules_of_all new.now) s)) ingress.now }
+        (λ s. ingress_rules net.now s (rules_at (rules_of_all new.now) s)) bands.now.ingress.now }
     ensures rounds { IfOk result
         (λ r. r.0 ≡ two_phase_rounds net.now (rules_of_all old.now) (rules_of_all new.now)) }
     ensures ranks { IfOk result (λ r. r.1 ≡ length (ranks net.now (rules_of_all new.now))) }
 {
-    let rising = ranks_of(ingress)?;
+    let rising = ranks_of(bands.ingress)?;
     let count = rising.len();
-    let rounds = rounds_from_ranks(alloc, net, old, new, tagged, ingress, &rising);
+    let rounds = rounds_from_ranks(alloc, net, old, new, bands, &rising);
     drop(rising);
     Ok((rounds?, count))
 }
@@ -238,7 +241,11 @@ pub(crate) fn make_rounds(
     let tagged = make_band(alloc, net, &pairs, new, Band::Tagged)?;
     let ingress = make_band(alloc, net, &pairs, new, Band::Ingress)?;
     drop(pairs);
-    let rounds = rounds_from_bands(alloc, net, old, new, &tagged, &ingress);
+    let bands = Bands {
+        tagged: &tagged,
+        ingress: &ingress,
+    };
+    let rounds = rounds_from_bands(alloc, net, old, new, &bands);
     drop(ingress);
     drop(tagged);
     rounds
