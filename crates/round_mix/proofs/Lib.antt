@@ -14,6 +14,7 @@ pub mod ApartLaws
 pub mod KindLaws
 pub mod PassLaws
 pub mod PriorityLaws
+pub mod OutLaws
 pub mod TriedLaws
 pub mod NextLaws
 pub mod MadeLaws

@@ -80,12 +80,19 @@ fn settle_key(marks: &mut [MarkedRule], key: &Key)
     settle_among(&mut marks[from..to], key);
 }
 
-/// Takes out the rule of a key.
+/// Takes out the rule of a key, by a look at each of its priority among those in descending priority.
 fn take_out(marks: &mut Vec<MarkedRule>, key: &Key)
+    requires { IsFalling marks.old.items }
     ensures items { marks.new.items ≡ without key.now marks.old.items }
     ensures room { vec_capacity marks.new ≡ vec_capacity marks.old }
 {
-    marks.retain(|marked| !marked.rule.key.is_same(key));
+    let from = first_of(marks, key.priority);
+    let to = end_of(marks, key.priority);
+    for place in (from..to).rev() {
+        if marks[place].rule.key.is_same(key) {
+            let _ = marks.remove(place);
+        }
+    }
 }
 
 /// Whether a rule clashes with one of marked ones, by a look at each.
