@@ -7,3 +7,4 @@ pub mod WithinLaws
 pub mod BreakLaws
 pub mod CutLaws
 pub mod SurveyLaws
+pub mod RoundLaws

@@ -5,10 +5,8 @@ mod gates;
 mod keeping;
 mod members;
 mod missed;
-mod round;
 mod seen;
 mod survey;
 
 pub use keeping::keep_vlans;
-pub use round::PreparedRound;
 pub use survey::RoundSurvey;
