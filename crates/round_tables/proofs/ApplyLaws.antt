@@ -38,7 +38,7 @@ spare_step (Insert s r) cs spare room = omega arith
 spare_step (Delete s r) cs spare room = omega arith
 spare_step (Replace s r) cs spare room = room
 
-after_few : (c : Change) (rules : List Rule) (cs : List Change) → length (rules_after_change c rules) + insert_count cs ≤ length rules + insert_count (c ∷ cs)
+pub after_few : (c : Change) (rules : List Rule) (cs : List Change) → length (rules_after_change c rules) + insert_count cs ≤ length rules + insert_count (c ∷ cs)
 after_few (Insert s r) rules cs = let len = length-append rules (r ∷ []) in omega arith
 after_few (Delete s r) rules cs = let few = filter_less (λ q. not (key_eq q.key r.key)) rules in omega arith
   where

@@ -7,3 +7,4 @@ pub mod ApplyLaws
 pub mod AloneLaws
 pub mod TrialLaws
 pub mod ByKindLaws
+pub mod RoomLaws

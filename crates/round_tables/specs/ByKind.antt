@@ -1,5 +1,5 @@
 -- The changes of one table by their kinds: the deletes, the replaces and the inserts.
-use Rattle.std.specs.Prelude.{Bool, true, false, not, List, map, filter}
+use Rattle.std.specs.Prelude.{not, List, map, filter}
 use Rattle.std.specs.List.{list_any}
 use Rattle.flow_rules.specs.Patterns.{key_eq}
 use Rattle.flow_rules.specs.declared.rules.Rule.{Rule}

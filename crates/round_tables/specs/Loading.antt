@@ -1,5 +1,5 @@
 -- How far the switches are prepared for a round, and what the preparation finds.
-use Rattle.std.specs.Prelude.{◌≡◌, ◌⊎◌, ℕ, ◌<◌, ◌≤◌, false, Bool, List, [], length, filter, Option, MatchOption, slice_index_or}
+use Rattle.std.specs.Prelude.{◌≡◌, ◌⊎◌, ℕ, ◌<◌, ◌≤◌, false, Bool, List, [], length, filter, flat_map, Option, MatchOption, slice_index_or}
 use Rattle.net_base.specs.declared.ids.SwitchId.{SwitchId}
 use Rattle.flow_rules.specs.Tables.{TableState, IsTable, rules_at, rules_of_all}
 use Rattle.std.specs.List.{AllByRecursion}
@@ -81,3 +81,7 @@ pub record IsFirstOver (u : Rollout) (k : ℕ) (s : SwitchId) (need : ℕ) : Typ
 -- how many of the changes insert
 abbrev pub insert_count : List Change → ℕ
 insert_count changes = length (filter is_insert changes)
+
+-- how many inserts the rounds have at a switch
+abbrev pub inserts_over : List (List Change) → SwitchId → ℕ
+inserts_over rounds s = insert_count (flat_map (changes_at s) rounds)

@@ -1,11 +1,11 @@
 -- The tables of a network with each switch prepared for changes of it, and the room that the rounds of an update want.
-use Rattle.std.specs.Prelude.{◌≡◌, ℕ, ◌+◌, ◌<◌, ◌≤◌, Bool, true, false, List, [], length, None, slice_index_or, IsSomeAnd}
+use Rattle.std.specs.Prelude.{◌≡◌, ℕ, ◌+◌, ◌<◌, ◌≤◌, Bool, true, false, List, [], length, min, None, slice_index_or, IsSomeAnd}
 use Rattle.net_base.specs.declared.ids.SwitchId.{SwitchId}
-use Rattle.topology.specs.Networks.{Network, switch_count, capacity_of}
+use Rattle.topology.specs.Networks.{switch_count, capacity_of}
 use Rattle.flow_rules.specs.Tables.{TableState, rules_at, rules_of_all}
 use Rattle.flow_rules.specs.declared.rules.Rule.{Rule}
 use Rattle.update_model.specs.Changes.{changes_at, round_after}
-use Rattle.update_model.specs.Mixtures.{Rollout, tables_before}
+use Rattle.update_model.specs.Mixtures.{Rollout, tables_before, need_of}
 use Rattle.update_model.specs.declared.Change.{Change}
 use Rattle.round_mix.specs.Prepared.{MixedState, IsPrepared}
 
@@ -65,10 +65,17 @@ pub record HoldsRounds (n : ℕ) (rounds : List (List Change)) (p : PreparedStat
       → length (changes_at s (round_after k rounds)) ≤ (list_at p.changes s).room
   pub for_sorting : (k : ℕ) → length (round_after k rounds) ≤ p.room
 
--- there is room for each switch's capacity, and for its changes in each round
-pub record HasRoom (net : Network) (rounds : List (List Change)) (p : PreparedState) : Type 0 where
-  pub holds : HoldsRounds (switch_count net) rounds p
-  pub capacities : (s : SwitchId) → s.0 < switch_count net → capacity_of net s ≤ limit_at p.limits s
+-- of each switch there is room for its rules before the update and for what it needs in each round, both up to its capacity
+pub record HasRoom (u : Rollout) (p : PreparedState) : Type 0 where
+  pub holds : HoldsRounds (switch_count u.net) u.rounds p
+  pub for_old : (s : SwitchId) → s.0 < switch_count u.net → min (length (rules_at u.old s)) (capacity_of u.net s) ≤ limit_at p.limits s
+  pub for_rounds : (s : SwitchId) (k : ℕ) → s.0 < switch_count u.net → min (need_of u k s) (capacity_of u.net s) ≤ limit_at p.limits s
+
+-- of each switch there is room for its rules before the update and for what it needs in each round, whatever its capacity
+pub record HasRoomForAll (u : Rollout) (p : PreparedState) : Type 0 where
+  pub holds : HoldsRounds (switch_count u.net) u.rounds p
+  pub for_old : (s : SwitchId) → s.0 < switch_count u.net → length (rules_at u.old s) ≤ limit_at p.limits s
+  pub for_rounds : (s : SwitchId) (k : ℕ) → s.0 < switch_count u.net → need_of u k s ≤ limit_at p.limits s
 
 -- a switch is prepared for its table and these changes of it
 abbrev pub IsMixed : List Rule → List Change → MixedState → Type 0

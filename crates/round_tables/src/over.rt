@@ -1,5 +1,5 @@
 //! The entries that the switches need in a round.
-ghost use Rattle.std.specs.Prelude.{◌≡◌, ◌<◌, ◌≤◌, List, length, IsSome, IfNone, IfSome};
+ghost use Rattle.std.specs.Prelude.{◌≡◌, ◌<◌, ◌≤◌, ◌↔◌, List, length, IsSome, IsTrue, IfNone, IfSome};
 ghost use Rattle.net_base.specs.declared.ids.SwitchId.{SwitchId as Switch};
 ghost use Rattle.topology.specs.Networks.{switch_count, capacity_of};
 ghost use Rattle.flow_rules.specs.declared.rules.Rule.{Rule};
@@ -41,5 +41,21 @@ impl PreparedTables {
             }
         }
         None
+    }
+
+    /// Whether no switch needs more than so many entries in round k, for which all are prepared.
+    pub fn need_at_most(&self, update: &Rollout<'_>, k: usize, most: u64) -> bool
+        requires prepared { ArePrepared update.now k self.now }
+        requires count { length self.now.mixes ≡ switch_count update.now.net }
+        ensures { IsTrue result ↔ ((s : Switch) → s.0 < switch_count update.now.net
+            → need_of update.now k s ≤ most) }
+    {
+        let _ = k;
+        for i in 0..update.net.switches() {
+            if self.need(SwitchId(i)) > most {
+                return false;
+            }
+        }
+        true
     }
 }

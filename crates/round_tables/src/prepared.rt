@@ -4,18 +4,16 @@ ghost use Rattle.net_base.specs.declared.ids.SwitchId.{SwitchId as Switch};
 ghost use Rattle.topology.specs.Networks.{switch_count};
 ghost use Rattle.flow_rules.specs.Tables.{rules_at, rules_of_all};
 ghost use Rattle.path_walk.specs.UserConfigs.{IsUserConfig};
-ghost use Rattle.round_tables.specs.PreparedTables.{HasRoom, HoldsRounds, StandsBefore, limit_at, room_of, table_at};
+ghost use Rattle.round_tables.specs.PreparedTables.{HasRoom, HasRoomForAll, HoldsRounds, StandsBefore, limit_at, room_of, table_at};
 
 use crate::gathering::SwitchChanges;
 use crate::rollout::Rollout;
-use crate::room::{capacities, with_limits};
+use crate::room::{lower, most_needed, with_limits};
 use flow_rules::{Config, Rule, Table};
 use net_base::{Memory, SwitchId};
 use round_mix::Mixed;
 use std::alloc::Global;
 use std::marker::Model;
-use topology::Net;
-use update_model::Rounds;
 
 /// The tables of a network, and what is prepared of each switch: for its table alone, for its changes in a round, or for a
 /// single change that is tried. A switch is touched where it is to be prepared anew.
@@ -79,12 +77,25 @@ fn set_all(flags: &mut [bool])
 }
 
 impl PreparedTables {
-    /// Tables without rules and nothing prepared, with room for each switch's capacity and for the rounds.
-    pub fn make(alloc: Global, net: &Net, rounds: &Rounds) -> Result<PreparedTables, Memory>
-        ensures { IfOk result (HasRoom net.now rounds.now) }
+    /// Tables without rules and nothing prepared, with room for what each switch needs in the rounds, up to its capacity. It
+    /// takes memory by the rules of the tables and the changes of the rounds, and no more than by the capacities.
+    pub fn make(alloc: Global, update: &Rollout<'_>) -> Result<PreparedTables, Memory>
+        requires { length update.now.old ≡ switch_count update.now.net }
+        ensures { IfOk result (HasRoom update.now) }
     {
-        let limits = capacities(alloc, net)?;
-        with_limits(alloc, net, limits, rounds)
+        let mut limits = most_needed(alloc, update.net, update.old, update.rounds)?;
+        lower(&mut limits, update.net);
+        with_limits(alloc, update.net, limits, update.rounds)
+    }
+
+    /// Tables without rules and nothing prepared, with room for what each switch needs in the rounds, whatever its capacity.
+    /// It takes memory by the rules of the tables and the changes of the rounds.
+    pub fn make_for_all(alloc: Global, update: &Rollout<'_>) -> Result<PreparedTables, Memory>
+        requires { length update.now.old ≡ switch_count update.now.net }
+        ensures { IfOk result (HasRoomForAll update.now) }
+    {
+        let limits = most_needed(alloc, update.net, update.old, update.rounds)?;
+        with_limits(alloc, update.net, limits, update.rounds)
     }
 
     /// The tables before the update, of which no switch is prepared.

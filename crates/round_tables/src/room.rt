@@ -1,10 +1,11 @@
 //! Room for the tables of a network and the rounds of an update.
-ghost use Rattle.std.specs.Prelude.{◌≡◌, ℕ, ◌+◌, ◌<◌, ◌≤◌, ◌^◌, ◌∷◌, [], length, slice_index_or, max, IfOk};
+ghost use Rattle.std.specs.Prelude.{◌≡◌, ℕ, ◌+◌, ◌<◌, ◌≤◌, ◌^◌, ◌∷◌, [], length, slice_index_or, min, max, IfOk, OnOk};
 ghost use Rattle.net_base.specs.declared.ids.SwitchId.{SwitchId as Switch};
 ghost use Rattle.topology.specs.Networks.{switch_count, capacity_of};
+ghost use Rattle.flow_rules.specs.Tables.{rules_at, rules_of_all};
 ghost use Rattle.update_model.specs.Changes.{changes_at, round_after};
 ghost use Rattle.round_tables.specs.PreparedTables.{HoldsRounds, limit_at, list_at, mix_at, room_of, table_at};
-ghost use Rattle.round_tables.specs.Loading.{AreCounted};
+ghost use Rattle.round_tables.specs.Loading.{AreCounted, insert_count, inserts_over};
 
 use crate::gathering::SwitchChanges;
 use crate::prepared::PreparedTables;
@@ -81,17 +82,74 @@ fn longest(rounds: &Rounds) -> usize
     most
 }
 
-/// The capacity of each switch.
-pub(crate) fn capacities(alloc: Global, net: &Net) -> Result<Vec<usize>, Memory>
+/// For each switch how many rules its table has.
+fn sizes(alloc: Global, net: &Net, tables: &Config) -> Result<Vec<usize>, Memory>
+    requires { length tables.now ≡ switch_count net.now }
+    ensures len { IfOk result (λ sizes. length sizes.items ≡ switch_count net.now) }
+    ensures each { IfOk result (λ sizes. (s : Switch) → s.0 < switch_count net.now
+        → limit_at sizes.items s ≡ length (rules_at (rules_of_all tables.now) s)) }
+{
+    let mut sizes = Vec::new(alloc);
+    for i in 0..net.switches() {
+        sizes.push(tables.table(SwitchId(i)).rules().len())?;
+    }
+    Ok(sizes)
+}
+
+/// Counts a change of its switch, if it inserts.
+fn add_insert(counts: &mut [usize], change: &Change) -> Result<(), Memory>
+    ensures { OnOk result ((s : Switch) → s.0 < length counts.old
+        → limit_at counts.new s ≡ limit_at counts.old s + insert_count
+        (changes_at s (change.now ∷ []))) }
+{
+    let i = change.switch().0 as usize;
+    if change.is_insert() && i < counts.len() {
+        counts[i] = counts[i].checked_add(1).ok_or(Memory)?;
+    }
+    Ok(())
+}
+
+/// Counts the inserts of a round, each of its switch.
+fn add_inserts(counts: &mut [usize], round: &[Change]) -> Result<(), Memory>
+    ensures { OnOk result ((s : Switch) → s.0 < length counts.old
+        → limit_at counts.new s ≡ limit_at counts.old s + insert_count (changes_at s round.now)) }
+{
+    for change in round {
+        add_insert(counts, change)?;
+    }
+    Ok(())
+}
+
+/// For each switch how many rules its table has before the update, and inserts in all rounds. It never needs more entries.
+pub(crate) fn most_needed(
+    alloc: Global,
+    net: &Net,
+    old: &Config,
+    rounds: &Rounds,
+) -> Result<Vec<usize>, Memory>
+    requires { length old.now ≡ switch_count net.now }
     ensures len { IfOk result (λ limits. length limits.items ≡ switch_count net.now) }
     ensures each { IfOk result (λ limits. (s : Switch) → s.0 < switch_count net.now
-        → limit_at limits.items s ≡ capacity_of net.now s) }
+        → limit_at limits.items s
+        ≡ length (rules_at (rules_of_all old.now) s) + inserts_over rounds.now s) }
 {
-    let mut limits = Vec::new(alloc);
-    for i in 0..net.switches() {
-        limits.push(net.capacity(SwitchId(i)) as usize)?;
+    let mut limits = sizes(alloc, net, old)?;
+    for k in 0..rounds.count() {
+        add_inserts(&mut limits, rounds.round(k))?;
     }
     Ok(limits)
+}
+
+/// Lowers each limit to the capacity of its switch, where that is less.
+pub(crate) fn lower(limits: &mut [usize], net: &Net)
+    requires { length limits.old ≡ switch_count net.now }
+    ensures { (s : Switch) → s.0 < switch_count net.now
+        → limit_at limits.new s ≡ min (limit_at limits.old s) (capacity_of net.now s) }
+{
+    for i in 0..net.switches() {
+        let capacity = net.capacity(SwitchId(i)) as usize;
+        limits[i as usize] = limits[i as usize].min(capacity);
+    }
 }
 
 /// A table without rules for each switch, with room for so many rules.
