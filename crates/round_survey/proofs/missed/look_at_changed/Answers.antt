@@ -1,4 +1,4 @@
-use Rattle.std.proofs.Common.{◌≡◌, ◌<◌, ◌∷◌, [], true, List, length, replicate, sym, ◌∙◌, ap, subst, arith}
+use Rattle.std.proofs.Common.{◌≡◌, ◌<◌, ◌∷◌, [], List, sym, ◌∙◌, subst, arith}
 use Rattle.update_model.specs.Changes.{round_after}
 use Rattle.update_model.specs.declared.Change.{Change}
 use Rattle.check_reasons.specs.AtomMarks.{AreTouched}
@@ -9,7 +9,8 @@ pub returns : goal.returns
 returns c = λ map are count.
     let round = c.args.round in
     let changes = c.round-changes.result.now in
-    let one : changes ≡ c.index.result.now ∷ [] = one_item changes c.index.result.now (let single = c.if-changes-ne1.false in omega arith) c.index.ensures in
-    let is : c.index.result.now ∷ [] ≡ round_after round.number round.rounds.now = sym one ∙ c.round-changes.ensures in
-    passes_untouched round map c.args.classes.now are c.look_at_touched.new.self (λ some. c.look_at_touched.ensures.count ∙ count some) (let first = c.if-number-eq0.false in omega arith)
+    let read = c.index-changes-0.result in
+    let one : changes ≡ read ∷ [] = one_item changes read c.if-changes-ne1.false c.index-changes-0.is in
+    let is : read ∷ [] ≡ round_after round.number round.rounds.now = sym one ∙ c.round-changes.ensures in
+    passes_untouched round map c.args.classes.now are c.look_at_touched.new.self (λ some. c.look_at_touched.ensures.count ∙ count some) (let later = c.if-round-eq0.false in omega arith)
     (subst (λ (cs : List Change). AreTouched map cs c.look_at_touched.new.self) is (c.look_at_touched.ensures.touched map are count))

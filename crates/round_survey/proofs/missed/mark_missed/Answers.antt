@@ -1,4 +1,4 @@
-use Rattle.std.proofs.Common.{◌≡◌, true, get_or, set, sym, ◌∙◌, subst, ap, inl, inr, arith}
+use Rattle.std.proofs.Common.{◌≡◌, true, get_or, set, refl, sym, ◌∙◌, subst, ap, inl, inr, arith}
 use Rattle.std.specs.Prelude.{slice_get}
 use Rattle.std.proofs.lemmas.Bool.{cases_eq, cases_lt}
 use Rattle.std.proofs.lemmas.List.{length-set}
@@ -12,7 +12,7 @@ use Rattle.round_survey.proofs.missed.mark_missed.Goals as goal
 
 pub marking-init : goal.marking-init
 marking-init c = record {
-  count = c.mark_all.ensures;
+  count = refl;
   each = λ n class them less at came_at good_at. missed_over c.args.round c.args.classes.now c.args.looked.now c.requires.looked n class at (c.next_number-number.ensures.passed n (omega arith) less) them;
 }
 
