@@ -9,3 +9,4 @@ pub mod CutLaws
 pub mod SurveyLaws
 pub mod PassLaws
 pub mod StepLaws
+pub mod RoundLaws

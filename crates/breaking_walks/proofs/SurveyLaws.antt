@@ -1,86 +1,74 @@
--- What a survey of the places of mixed walks shows of the walks.
-use Rattle.std.proofs.Common.{◌≡◌, ◌⊎◌, ◌↔◌, ℕ, suc, ◌+◌, ◌≤◌, Bool, false, List, [], ◌∷◌, ◌++◌, length, take, refl, sym, ◌∙◌, subst, ap, inl, inr, arith, add-one}
-use Rattle.std.specs.Prelude.{slice_get, Some}
-use Rattle.std.proofs.lemmas.Bool.{cases_lt}
+-- What the steps from all places of mixed walks show of the walks.
+use Rattle.std.proofs.Common.{◌≡◌, ◌⊎◌, ◌↔◌, ◌||◌, ℕ, zero, suc, ◌+◌, ◌<◌, ◌≤◌, Bool, true, false, List, [], ◌∷◌, ◌++◌, map, length, take, get_or, refl, sym, ◌∙◌, subst, ap, inl, inr, arith, add-one}
+use Rattle.std.specs.Prelude.{slice_get, Some, None}
+use Rattle.std.proofs.lemmas.Bool.{cases_lt, cases_Bool, both_ways}
 use Rattle.net_base.specs.Members.{IsIn, IsDistinct}
-use Rattle.net_base.specs.Walks.{end_of}
+use Rattle.net_base.specs.Walks.{IsWalk, end_of}
 use Rattle.net_base.proofs.MemberLaws.{in_append_left, in_append_right}
 use Rattle.net_base.specs.declared.ids.SwitchId.{SwitchId}
 use Rattle.net_base.specs.declared.ids.Place.{Place}
 use Rattle.path_walk.specs.declared.Outcome.{Outcome}
-use Rattle.path_walk.specs.declared.Outcome.TheVariants.{Discard, Go}
+use Rattle.path_walk.specs.declared.Outcome.TheVariants.{Discard, Leave, Go}
 use Rattle.acyclic_numbering.specs.Heights.{IsEdge, Falls, number_of}
 use Rattle.acyclic_numbering.specs.declared.Edge.{Edge}
 use Rattle.update_model.specs.Mixtures.{Rollout, IsPossible, MayGo, IsMixedWalk}
-use Rattle.certificates.specs.Steps.{IsMixedStep}
+use Rattle.certificates.specs.Steps.{IsMixedStep, switches_along}
 use Rattle.certificates.proofs.Falling.{distinct_walk}
 use Rattle.breaking_walks.specs.Breaking.{switches_before}
 use Rattle.breaking_walks.specs.Surveys.{NeverDrops, NeverRepeats, AreAdded}
 use Rattle.breaking_walks.specs.Trails.{first_node, ArePut}
 use Rattle.breaking_walks.specs.declared.trail.Node.{Node}
 use Rattle.breaking_walks.proofs.BreakLaws.{along_split}
-use Rattle.breaking_walks.proofs.TrailLaws.{node_along, along_is, IsSearchedTo, searched_none, searched_next, none_along, in_take_more}
+use Rattle.breaking_walks.proofs.TrailLaws.{node_along, along_is, IsTrail, IsSearchedTo, searched_none, searched_next, none_along, in_take_more}
 
 -- nothing is looked for
 abbrev Never : Node → Type 0
 Never node = ⊥
 
--- the steps and the discards of the first places, so many, are noted
-pub record IsSurveyed (u : Rollout) (dst : ℕ) (entry : Place) (next : ℕ) (trail : List (Node × ℕ)) (edges : List Edge) (may_drop : Bool) : Type 0 where
-  pub so : IsSearchedTo (MayGo u 0 dst) [] entry Never next trail
-  pub steps : (f : Node × ℕ) (q : Place) → IsIn f (take next trail) → MayGo u 0 dst f.0.place q → IsEdge edges f.0.place.switch q.switch
-  pub drops : may_drop ≡ false → (f : Node × ℕ) → IsIn f (take next trail) → ¬ IsPossible u 0 dst f.0.place Discard
+-- the steps from the first places, so many, are noted
+pub record IsSurveyed (u : Rollout) (k dst : ℕ) (entry : Place) (next : ℕ) (trail : List (Node × ℕ)) (edges : List Edge) : Type 0 where
+  pub so : IsSearchedTo (MayGo u k dst) [] entry Never next trail
+  pub steps : (f : Node × ℕ) (q : Place) → IsIn f (take next trail) → MayGo u k dst f.0.place q → IsEdge edges f.0.place.switch q.switch
 
-module _ (u : Rollout) (dst : ℕ) (entry : Place) where
-  pub surveyed_none : IsSurveyed u dst entry 0 ((first_node [] entry, 0) ∷ []) [] false
+module _ (u : Rollout) (k dst : ℕ) (entry : Place) where
+  pub surveyed_none : IsSurveyed u k dst entry 0 ((first_node [] entry, 0) ∷ []) []
   surveyed_none = record {
-    so = searched_none (MayGo u 0 dst) [] entry Never;
+    so = searched_none (MayGo u k dst) [] entry Never;
     steps = λ f q i goes. absurd i;
-    drops = λ off f i drops. i;
   }
 
   -- one more place
-  pub surveyed_next : (next : ℕ) (old : List (Node × ℕ)) (edges : List Edge) (may_drop : Bool) → IsSurveyed u dst entry next old edges may_drop
-      → (here : Node × ℕ) → slice_get old next ≡ Some here → (found : List Outcome) → ((o : Outcome) → IsIn o found ↔ IsPossible u 0 dst here.0.place o)
+  pub surveyed_next : (next : ℕ) (old : List (Node × ℕ)) (edges : List Edge) → IsSurveyed u k dst entry next old edges
+      → (here : Node × ℕ) → slice_get old next ≡ Some here → (found : List Outcome) → ((o : Outcome) → IsIn o found ↔ IsPossible u k dst here.0.place o)
       → (new : List (Node × ℕ)) → ArePut old [] here.0 next found new → (more : List Edge) → AreAdded edges here.0.place.switch found more
-      → (still : Bool) → (still ≡ false → (may_drop ≡ false) × ¬ IsIn Discard found) → IsSurveyed u dst entry (next + 1) new more still
-  surveyed_next next old edges may_drop is here at found all new put more added still off = record {
-    so = searched_next (MayGo u 0 dst) [] entry Never next old is.so here at found (λ place. (all (Go place)).0) (λ place. (all (Go place)).1) (λ never. never) new put;
+      → IsSurveyed u k dst entry (next + 1) new more
+  surveyed_next next old edges is here at found all new put more added = record {
+    so = searched_next (MayGo u k dst) [] entry Never next old is.so here at found (λ place. (all (Go place)).0) (λ place. (all (Go place)).1) (λ never. never) new put;
     steps = λ f q i goes. elim (front f i) [
       | inl j ↦ added.kept f.0.place.switch q.switch (is.steps f q j goes)
       | inr e ↦ subst (λ (g : Node × ℕ). IsEdge more g.0.place.switch q.switch) (sym e)
-          (added.added q ((all (Go q)).1 (subst (λ (g : Node × ℕ). MayGo u 0 dst g.0.place q) e goes)))
-    ];
-    drops = λ no f i drops. elim (front f i) [
-      | inl j ↦ is.drops (off no).0 f j drops
-      | inr e ↦ (off no).1 ((all Discard).1 (subst (λ (g : Node × ℕ). IsPossible u 0 dst g.0.place Discard) e drops))
+          (added.added q ((all (Go q)).1 (subst (λ (g : Node × ℕ). MayGo u k dst g.0.place q) e goes)))
     ];
   }
     where
       front : (f : Node × ℕ) → IsIn f (take (next + 1) new) → IsIn f (take next old) ⊎ (f ≡ here)
       front f i = in_take_more old put.more next here f at (subst (λ (xs : List (Node × ℕ)). IsIn f (take (suc next) xs)) put.behind (subst (λ (n : ℕ). IsIn f (take n new)) (add-one next) i))
 
-  module _ (next : ℕ) (trail : List (Node × ℕ)) (edges : List Edge) (may_drop : Bool) (is : IsSurveyed u dst entry next trail edges may_drop) (none_left : length trail ≤ next) where
+  module _ (next : ℕ) (trail : List (Node × ℕ)) (edges : List Edge) (is : IsSurveyed u k dst entry next trail edges) (none_left : length trail ≤ next) where
     place_is : (rest : List Place) → (node_along [] (first_node [] entry) rest).place ≡ end_of entry rest
     place_is rest = ap (λ (n : Node). n.place) (along_is [] (first_node [] entry) rest)
 
-    pub surveyed_drops : may_drop ≡ false → NeverDrops u 0 dst entry
-    surveyed_drops off rest walk drops =
-        none_along (MayGo u 0 dst) [] entry (λ (n : Node). IsPossible u 0 dst n.place Discard) next trail
-        (record { is_trail = is.so.is_trail; goes = is.so.goes; none = λ f i bad. is.drops off f i bad }) none_left rest walk
-        (subst (λ (p : Place). IsPossible u 0 dst p Discard) (sym (place_is rest)) drops)
-
     -- no step is missing
-    none_missing : (rest : List Place) → IsMixedWalk u 0 dst entry rest → (q : Place) → MayGo u 0 dst (end_of entry rest) q → ¬ (¬ IsEdge edges (end_of entry rest).switch q.switch)
+    none_missing : (rest : List Place) → IsMixedWalk u k dst entry rest → (q : Place) → MayGo u k dst (end_of entry rest) q → ¬ (¬ IsEdge edges (end_of entry rest).switch q.switch)
     none_missing rest walk q goes missing =
-        none_along (MayGo u 0 dst) [] entry (λ (n : Node). MayGo u 0 dst n.place q × ¬ IsEdge edges n.place.switch q.switch) next trail
+        none_along (MayGo u k dst) [] entry (λ (n : Node). MayGo u k dst n.place q × ¬ IsEdge edges n.place.switch q.switch) next trail
         (record { is_trail = is.so.is_trail; goes = is.so.goes; none = λ f i bad. bad.1 (is.steps f q i bad.0) }) none_left rest walk
-        (subst (λ (p : Place). MayGo u 0 dst p q × ¬ IsEdge edges p.switch q.switch) (sym (place_is rest)) (goes, missing))
+        (subst (λ (p : Place). MayGo u k dst p q × ¬ IsEdge edges p.switch q.switch) (sym (place_is rest)) (goes, missing))
 
-    falls_along : (numbers : List ℕ) → Falls (IsEdge edges) numbers → Falls (IsMixedStep u 0 dst entry) numbers
+    falls_along : (numbers : List ℕ) → Falls (IsEdge edges) numbers → Falls (IsMixedStep u k dst entry) numbers
     falls_along numbers falls s t step =
         let (rest, walk, ends) = step.on_walk in
-        let goes : MayGo u 0 dst (end_of entry rest) step.next = subst (λ (p : Place). MayGo u 0 dst p step.next) (sym ends) step.goes in
+        let goes : MayGo u k dst (end_of entry rest) step.next = subst (λ (p : Place). MayGo u k dst p step.next) (sym ends) step.goes in
         let from : (end_of entry rest).switch ≡ s = ap (λ (p : Place). p.switch) ends ∙ step.from_is in
         elim (cases_lt (number_of numbers t) (number_of numbers s)) [
           | inl lower ↦ lower
@@ -90,8 +78,8 @@ module _ (u : Rollout) (dst : ℕ) (entry : Place) where
               omega arith))
         ]
 
-    pub surveyed_repeats : (numbers : List ℕ) → Falls (IsEdge edges) numbers → NeverRepeats u 0 dst entry
-    surveyed_repeats numbers falls = distinct_walk u 0 dst entry numbers (falls_along numbers falls)
+    pub surveyed_repeats : (numbers : List ℕ) → Falls (IsEdge edges) numbers → NeverRepeats u k dst entry
+    surveyed_repeats numbers falls = distinct_walk u k dst entry numbers (falls_along numbers falls)
 
 -- the last of distinct items isn't among those before it
 distinct_last : {A : Type 0} (xs : List A) (y : A) → IsDistinct (xs ++ y ∷ []) → ¬ IsIn y xs

@@ -1,3 +1,4 @@
+pub mod Rounds
 pub mod Breaking
 pub mod Searches
 pub mod Trails

@@ -1,5 +1,5 @@
 //! Mixed walks that break the duties of a class: by a discard, by a leave with a chain unmet, or by a switch that stands twice.
-ghost use Rattle.std.specs.Prelude.{◌≡◌, ◌<◌, true, false, IfOk, IfSome, IfNone};
+ghost use Rattle.std.specs.Prelude.{◌≡◌, ◌<◌, IfOk, IfSome, IfNone};
 ghost use Rattle.net_base.specs.Members.{IsIn};
 ghost use Rattle.net_base.specs.Walks.{end_of};
 ghost use Rattle.net_base.specs.declared.ids.Port.{Port as PortOf};
@@ -9,20 +9,19 @@ ghost use Rattle.dest_classes.specs.Classes.{class_count};
 ghost use Rattle.dest_classes.specs.Numbered.{IsNumbered};
 ghost use Rattle.demands.specs.Duties.{PacketDuties, duties_of};
 ghost use Rattle.update_model.specs.Mixtures.{IsPossible};
-ghost use Rattle.round_outcomes.specs.Rounds.{alone};
+ghost use Rattle.breaking_walks.specs.Rounds.{update_of, SwitchesArePrepared};
 ghost use Rattle.breaking_walks.specs.Searches.{MayLeaveAt, IsNoneFound};
 ghost use Rattle.breaking_walks.specs.Breaking.{HasBreakingWalk};
-ghost use Rattle.breaking_walks.specs.Surveys.{NeverDrops, NeverRepeats};
 ghost use Rattle.breaking_walks.specs.Broken.{IsBroken, IsNoneDropped, IsNoneUnmet, IsNoneTwice};
 
 use crate::BreakingWalk;
+use crate::falling::are_walks_falling;
+use crate::round::{PreparedRound, possible};
 use crate::search::{Aim, find};
-use crate::surveying::{Survey, look_over};
 use demands::Duties;
 use dest_classes::{Class, NumberedClass};
 use net_base::{Memory, Place, Port, SwitchId, Vlan};
 use path_walk::Outcome;
-use round_outcomes::RoundOutcomes;
 use std::alloc::Global;
 
 /// The last place of a walk.
@@ -52,16 +51,18 @@ fn first_leave(outcomes: &[Outcome]) -> Option<(Port, Vlan)>
 /// A port and a VLAN with which a packet may leave at a place where one may.
 fn leave_at(
     alloc: Global,
-    round: &RoundOutcomes<'_>,
+    round: PreparedRound<'_>,
     place: Place,
     dst: u32,
 ) -> Result<(Port, Vlan), Memory>
-    requires within { place.switch.0 < switch_count round.now.net }
-    requires leaves { MayLeaveAt (alone round.now) 0 dst place }
+    requires prepared { SwitchesArePrepared round }
+    requires within { place.switch.0 < switch_count round.net.now }
+    requires leaves { MayLeaveAt (update_of round) round.number dst place }
     ensures { IfOk result
-        (λ by. IsPossible (alone round.now) 0 dst place (Outcome.Leave by.0 by.1)) }
+        (λ by. IsPossible (update_of round.entry) round.entry.number dst place
+        (Outcome.Leave by.0 by.1)) }
 {
-    let outcomes = round.possible(alloc, place, dst)?;
+    let outcomes = possible(alloc, round, place, dst)?;
     match first_leave(outcomes.list()) {
         Some(by) => Ok(by),
         None => unreachable!(),
@@ -71,21 +72,24 @@ fn leave_at(
 /// A mixed walk to a place where a packet of the class may be discarded, if the packets must arrive.
 fn find_drop(
     alloc: Global,
-    round: &RoundOutcomes<'_>,
+    round: PreparedRound<'_>,
     duties: &Duties,
     numbered: NumberedClass,
 ) -> Result<Option<BreakingWalk>, Memory>
+    requires prepared { SwitchesArePrepared round }
     requires number { numbered.number < class_count duties.now.classes }
     requires class { IsNumbered duties.now.classes numbered }
-    requires entry { numbered.class.entry.switch.0 < switch_count round.now.net }
+    requires entry { numbered.class.entry.switch.0 < switch_count round.net.now }
     ensures some { IfOk result
         (λ found. IfSome found
-        (λ w. IsBroken (alone round.now) 0 numbered.class.first numbered.class.entry
+        (λ w. IsBroken (update_of round.entry) round.entry.number
+        numbered.class.first numbered.class.entry
         (duties_of duties.now.demands numbered.class.entry numbered.class.first) w.rest
         w.end)) }
     ensures none { IfOk result
         (λ found. IfNone found
-        (IsNoneDropped (alone round.now) 0 numbered.class.first numbered.class.entry
+        (IsNoneDropped (update_of round.entry) round.entry.number
+        numbered.class.first numbered.class.entry
         (duties_of duties.now.demands numbered.class.entry numbered.class.first))) }
 {
     if !duties.must_arrive(numbered.number) {
@@ -103,22 +107,25 @@ fn find_drop(
 /// A mixed walk to a place where a packet of the class may leave without having met the chain.
 fn find_unmet(
     alloc: Global,
-    round: &RoundOutcomes<'_>,
+    round: PreparedRound<'_>,
     class: Class,
     chain: &[SwitchId],
 ) -> Result<Option<BreakingWalk>, Memory>
-    requires { class.entry.switch.0 < switch_count round.now.net }
+    requires prepared { SwitchesArePrepared round }
+    requires entry { class.entry.switch.0 < switch_count round.net.now }
     ensures some { IfOk result
         (λ found. IfSome found
         (λ w. (d : PacketDuties) → IsIn chain.now d.chains
-        → IsBroken (alone round.now) 0 class.first class.entry d w.rest w.end)) }
+        → IsBroken (update_of round.entry) round.entry.number class.first class.entry d
+        w.rest w.end)) }
     ensures none { IfOk result
         (λ found. IfNone found
-        (IsNoneFound (alone round.now) 0 class.first class.entry chain.now Aim.LeaveUnmet)) }
+        (IsNoneFound (update_of round.entry) round.entry.number class.first class.entry
+        chain.now Aim.LeaveUnmet)) }
 {
     match find(alloc, round, class, chain, Aim::LeaveUnmet)? {
         Some(rest) => {
-            round.net().keeps_rules();
+            round.net.keeps_rules();
             let place = last_place(class.entry, rest.list());
             let (port, vlan) = leave_at(alloc, round, place, class.first)?;
             Ok(Some(BreakingWalk {
@@ -133,21 +140,24 @@ fn find_unmet(
 /// A mixed walk to a place where a packet of the class may leave with one of its chains unmet.
 fn find_miss(
     alloc: Global,
-    round: &RoundOutcomes<'_>,
+    round: PreparedRound<'_>,
     duties: &Duties,
     numbered: NumberedClass,
 ) -> Result<Option<BreakingWalk>, Memory>
+    requires prepared { SwitchesArePrepared round }
     requires number { numbered.number < class_count duties.now.classes }
     requires class { IsNumbered duties.now.classes numbered }
-    requires entry { numbered.class.entry.switch.0 < switch_count round.now.net }
+    requires entry { numbered.class.entry.switch.0 < switch_count round.net.now }
     ensures some { IfOk result
         (λ found. IfSome found
-        (λ w. IsBroken (alone round.now) 0 numbered.class.first numbered.class.entry
+        (λ w. IsBroken (update_of round.entry) round.entry.number
+        numbered.class.first numbered.class.entry
         (duties_of duties.now.demands numbered.class.entry numbered.class.first) w.rest
         w.end)) }
     ensures none { IfOk result
         (λ found. IfNone found
-        (IsNoneUnmet (alone round.now) 0 numbered.class.first numbered.class.entry
+        (IsNoneUnmet (update_of round.entry) round.entry.number
+        numbered.class.first numbered.class.entry
         (duties_of duties.now.demands numbered.class.entry numbered.class.first))) }
 {
     for i in 0..duties.chains(numbered.number) {
@@ -164,23 +174,29 @@ fn find_miss(
     Ok(None)
 }
 
-/// A mixed walk of the class on which a switch stands twice.
+/// A mixed walk of the class on which a switch stands twice. It isn't searched for where numbers fall along each step.
 fn find_repeat(
     alloc: Global,
-    round: &RoundOutcomes<'_>,
+    round: PreparedRound<'_>,
     class: Class,
 ) -> Result<Option<BreakingWalk>, Memory>
-    requires { class.entry.switch.0 < switch_count round.now.net }
+    requires prepared { SwitchesArePrepared round }
+    requires entry { class.entry.switch.0 < switch_count round.net.now }
     ensures some { IfOk result
         (λ found. IfSome found
         (λ w. (d : PacketDuties)
-        → IsBroken (alone round.now) 0 class.first class.entry d w.rest w.end)) }
+        → IsBroken (update_of round.entry) round.entry.number class.first class.entry d
+        w.rest w.end)) }
     ensures none { IfOk result
         (λ found. IfNone found
-        (IsNoneTwice (alone round.now) 0 class.first class.entry
-        (switch_count round.now.net))) }
+        (IsNoneTwice (update_of round.entry) round.entry.number class.first class.entry
+        (switch_count round.entry.net.now))) }
 {
-    for i in 0..round.net().switches() {
+    let are_falling = are_walks_falling(alloc, round, class)?;
+    if are_falling {
+        return Ok(None);
+    }
+    for i in 0..round.net.switches() {
         let switch = SwitchId(i);
         let found = find(alloc, round, class, &[switch, switch], Aim::Meet)?;
         if let Some(rest) = found {
@@ -190,83 +206,31 @@ fn find_repeat(
     Ok(None)
 }
 
-/// A mixed walk to a place where a packet of the class may be discarded, if the packets must arrive; there is none where a
-/// survey saw none.
-fn find_seen_drop(
-    alloc: Global,
-    round: &RoundOutcomes<'_>,
-    duties: &Duties,
-    numbered: NumberedClass,
-    seen: Survey,
-) -> Result<Option<BreakingWalk>, Memory>
-    requires number { numbered.number < class_count duties.now.classes }
-    requires class { IsNumbered duties.now.classes numbered }
-    requires entry { numbered.class.entry.switch.0 < switch_count round.now.net }
-    requires seen { seen.may_drop ≡ false
-        → NeverDrops (alone round.now) 0 numbered.class.first numbered.class.entry }
-    ensures some { IfOk result
-        (λ found. IfSome found
-        (λ w. IsBroken (alone round.now) 0 numbered.class.first numbered.class.entry
-        (duties_of duties.now.demands numbered.class.entry numbered.class.first) w.rest
-        w.end)) }
-    ensures none { IfOk result
-        (λ found. IfNone found
-        (IsNoneDropped (alone round.now) 0 numbered.class.first numbered.class.entry
-        (duties_of duties.now.demands numbered.class.entry numbered.class.first))) }
-{
-    if !seen.may_drop {
-        return Ok(None);
-    }
-    find_drop(alloc, round, duties, numbered)
-}
-
-/// A mixed walk of the class on which a switch stands twice; there is none where a survey saw numbers that fall along each step.
-fn find_seen_repeat(
-    alloc: Global,
-    round: &RoundOutcomes<'_>,
-    class: Class,
-    seen: Survey,
-) -> Result<Option<BreakingWalk>, Memory>
-    requires entry { class.entry.switch.0 < switch_count round.now.net }
-    requires seen { seen.falls ≡ true → NeverRepeats (alone round.now) 0 class.first class.entry }
-    ensures some { IfOk result
-        (λ found. IfSome found
-        (λ w. (d : PacketDuties)
-        → IsBroken (alone round.now) 0 class.first class.entry d w.rest w.end)) }
-    ensures none { IfOk result
-        (λ found. IfNone found
-        (IsNoneTwice (alone round.now) 0 class.first class.entry
-        (switch_count round.now.net))) }
-{
-    if seen.falls {
-        return Ok(None);
-    }
-    find_repeat(alloc, round, class)
-}
-
 /// A mixed walk that breaks the duties of the class, and the outcome at its last place by which it does so; none where a switch
 /// stands twice.
 pub(crate) fn find_breaking(
     alloc: Global,
-    round: &RoundOutcomes<'_>,
+    round: PreparedRound<'_>,
     duties: &Duties,
     numbered: NumberedClass,
 ) -> Result<Option<BreakingWalk>, Memory>
+    requires prepared { SwitchesArePrepared round }
     requires number { numbered.number < class_count duties.now.classes }
     requires class { IsNumbered duties.now.classes numbered }
-    requires entry { numbered.class.entry.switch.0 < switch_count round.now.net }
+    requires entry { numbered.class.entry.switch.0 < switch_count round.net.now }
     ensures some { IfOk result
         (λ found. IfSome found
-        (λ w. IsBroken (alone round.now) 0 numbered.class.first numbered.class.entry
+        (λ w. IsBroken (update_of round.entry) round.entry.number
+        numbered.class.first numbered.class.entry
         (duties_of duties.now.demands numbered.class.entry numbered.class.first) w.rest
         w.end)) }
     ensures none { IfOk result
         (λ found. IfNone found
-        (¬ HasBreakingWalk (alone round.now) 0 numbered.class.first numbered.class.entry
+        (¬ HasBreakingWalk (update_of round.entry) round.entry.number
+        numbered.class.first numbered.class.entry
         (duties_of duties.now.demands numbered.class.entry numbered.class.first))) }
 {
-    let seen = look_over(alloc, round, numbered.class)?;
-    let dropped = find_seen_drop(alloc, round, duties, numbered, seen)?;
+    let dropped = find_drop(alloc, round, duties, numbered)?;
     if let Some(walk) = dropped {
         return Ok(Some(walk));
     }
@@ -274,6 +238,6 @@ pub(crate) fn find_breaking(
     if let Some(walk) = missed {
         return Ok(Some(walk));
     }
-    round.net().keeps_rules();
-    find_seen_repeat(alloc, round, numbered.class, seen)
+    round.net.keeps_rules();
+    find_repeat(alloc, round, numbered.class)
 }

@@ -6,28 +6,29 @@ ghost use Rattle.topology.specs.Networks.{switch_count};
 ghost use Rattle.dest_classes.specs.Classes.{class_count};
 ghost use Rattle.dest_classes.specs.Numbered.{IsNumbered};
 ghost use Rattle.demands.specs.Duties.{duties_of};
-ghost use Rattle.round_outcomes.specs.Rounds.{alone};
+ghost use Rattle.breaking_walks.specs.Rounds.{update_of, SwitchesArePrepared};
 ghost use Rattle.breaking_walks.specs.Breaking.{HasBreakingWalk, IsBreakingWalk};
 
 mod breaking;
 mod cutting;
+mod falling;
 mod passing;
 mod place_steps;
+mod round;
 mod search;
-mod surveying;
 mod trail;
 
 use breaking::find_breaking;
 use cutting::cut;
 use demands::Duties;
 use dest_classes::NumberedClass;
+pub use falling::have_falling;
 use net_base::{ListOf, Memory, Place};
 pub use passing::NumberedPlace;
 use path_walk::Outcome;
 pub use place_steps::PlaceSteps;
-use round_outcomes::RoundOutcomes;
+pub use round::PreparedRound;
 use std::alloc::Global;
-pub use surveying::have_falling;
 
 /// A mixed walk that breaks its duties at its end: the places after the entry, and the outcome at the last place by which the
 /// packet leaves or is discarded. Where there is none, the switch of the last place stands earlier in the walk.
@@ -40,21 +41,24 @@ pub struct BreakingWalk {
 /// A mixed walk of the round that breaks the duties of a class, if there is one.
 pub fn breaking_walk(
     alloc: Global,
-    round: &RoundOutcomes<'_>,
+    round: PreparedRound<'_>,
     duties: &Duties,
     numbered: NumberedClass,
 ) -> Result<Option<BreakingWalk>, Memory>
+    requires prepared { SwitchesArePrepared round }
     requires number { numbered.number < class_count duties.now.classes }
     requires class { IsNumbered duties.now.classes numbered }
-    requires entry { numbered.class.entry.switch.0 < switch_count round.now.net }
+    requires entry { numbered.class.entry.switch.0 < switch_count round.net.now }
     ensures some { IfOk result
         (λ found. IfSome found
-        (λ w. IsBreakingWalk (alone round.now) 0 numbered.class.first numbered.class.entry
+        (λ w. IsBreakingWalk (update_of round.entry) round.entry.number
+        numbered.class.first numbered.class.entry
         (duties_of duties.now.demands numbered.class.entry numbered.class.first) w.rest
         w.end)) }
     ensures none { IfOk result
         (λ found. IfNone found
-        (¬ HasBreakingWalk (alone round.now) 0 numbered.class.first numbered.class.entry
+        (¬ HasBreakingWalk (update_of round.entry) round.entry.number
+        numbered.class.first numbered.class.entry
         (duties_of duties.now.demands numbered.class.entry numbered.class.first))) }
 {
     match find_breaking(alloc, round, duties, numbered)? {

@@ -3,15 +3,15 @@ ghost use Rattle.std.specs.Prelude.{◌≡◌, ◌↔◌, ◌<◌, length, IsTru
 ghost use Rattle.net_base.specs.Members.{IsIn};
 ghost use Rattle.topology.specs.Networks.{switch_count};
 ghost use Rattle.path_walk.specs.declared.Outcome.TheVariants.{Discard as Discarded};
-ghost use Rattle.round_outcomes.specs.Rounds.{alone};
+ghost use Rattle.breaking_walks.specs.Rounds.{update_of, SwitchesArePrepared};
 ghost use Rattle.breaking_walks.specs.Searches.{IsFound, IsNoneFound};
 ghost use Rattle.breaking_walks.specs.Trails.{met_after, HasLeave, IsAimedAt, ArePut};
 
+use crate::round::{PreparedRound, possible};
 use crate::trail::{Node, Trail};
 use dest_classes::Class;
 use net_base::{ListOf, Memory, Place, SwitchId};
 use path_walk::Outcome;
-use round_outcomes::RoundOutcomes;
 use std::alloc::Global;
 
 /// What a mixed walk is to do: meet a chain; come where a packet may leave with the chain unmet; or come where one may be
@@ -46,7 +46,7 @@ fn has_leave(found: &[Outcome]) -> bool
 }
 
 /// Whether a packet may be discarded by one of these outcomes.
-pub(crate) fn has_discard(found: &[Outcome]) -> bool
+fn has_discard(found: &[Outcome]) -> bool
     ensures { IsTrue result ↔ IsIn Discarded found.now }
 {
     for outcome in found {
@@ -92,27 +92,30 @@ pub(crate) fn put_next(
 /// each number of switches of the chain that may be met there.
 pub(crate) fn find(
     alloc: Global,
-    round: &RoundOutcomes<'_>,
+    round: PreparedRound<'_>,
     class: Class,
     chain: &[SwitchId],
     aim: Aim,
 ) -> Result<Option<ListOf<Place>>, Memory>
-    requires { class.entry.switch.0 < switch_count round.now.net }
+    requires prepared { SwitchesArePrepared round }
+    requires entry { class.entry.switch.0 < switch_count round.net.now }
     ensures some { IfOk result
         (λ found. IfSome found
-        (λ rest. IsFound (alone round.now) 0 class.first class.entry chain.now aim rest)) }
+        (λ rest. IsFound (update_of round.entry) round.entry.number class.first class.entry
+        chain.now aim rest)) }
     ensures none { IfOk result
         (λ found. IfNone found
-        (IsNoneFound (alone round.now) 0 class.first class.entry chain.now aim)) }
+        (IsNoneFound (update_of round.entry) round.entry.number class.first class.entry
+        chain.now aim)) }
 {
-    round.net().keeps_rules();
+    round.net.keeps_rules();
     let met = met_after(chain, 0, class.entry.switch);
     let place = class.entry;
     let mut trail = Trail::start(alloc, Node { place, met })?;
     let mut next = 0;
     'searching: while next < trail.count() {
         let (node, _) = trail.at(next);
-        let outcomes = round.possible(alloc, node.place, class.first)?;
+        let outcomes = possible(alloc, round, node.place, class.first)?;
         let found = outcomes.list();
         if is_aimed_at(aim, chain, node.met, found) {
             let rest = trail.way_to(alloc, next)?;

@@ -1,6 +1,5 @@
 -- Whether a class breaks in a round, by what is known of the round and of those before it.
 use Rattle.std.proofs.Common.{◌≡◌, ℕ, zero, suc, ◌+◌, ◌<◌, false, List, length, sym, ◌∙◌, subst, ap, inl, inr, arith}
-use Rattle.std.specs.Prelude.{Option}
 use Rattle.std.proofs.lemmas.Bool.{cases_lt}
 use Rattle.net_base.specs.declared.ids.Place.{Place}
 use Rattle.net_base.specs.declared.ids.Stop.{Stop}
@@ -14,15 +13,8 @@ use Rattle.demands.specs.Duties.{DemandView, duties_of}
 use Rattle.update_model.specs.Changes.{round_after}
 use Rattle.update_model.specs.Mixtures.{Rollout, AreGoodRounds, AreClearRounds}
 use Rattle.check_reasons.specs.Touched.{touches}
-use Rattle.breaking_walks.specs.Breaking.{IsBreakingWalk, HasBreakingWalk}
-use Rattle.round_outcomes.specs.Rounds.{RoundView, alone}
-use Rattle.counter_run.specs.Showing.{update_in}
 use Rattle.counter_run.specs.Explaining.{ClassBreaks, NoneBreaks}
-use Rattle.counter_run.specs.Stages.{view_of}
-use Rattle.counter_run.specs.Steps.{IsStage}
-use Rattle.counter_run.specs.declared.showing.Stage.{Stage}
 use Rattle.counter_run.proofs.TouchLaws.{has_before}
-use Rattle.counter_run.proofs.ViewLaws.{round_of, has_here, walk_there}
 
 -- a class whose address no change covers breaks only if it does in the round before
 pub class_unchanged : (u : Rollout) → AreGoodRounds u → AreClearRounds u → (demands : List DemandView) (k : ℕ) (class : Class) → k < length u.rounds → 0 < k
@@ -46,35 +38,14 @@ class_enters net classes hosts vlans n class is =
     same = ap (λ h. let c : ClassList = record { hosts = h; vlans = classes.vlans; prefixes = classes.prefixes } in c) hosts
         ∙ ap (λ v. let c : ClassList = record { hosts = net.hosts; vlans = v; prefixes = classes.prefixes } in c) vlans
 
-module _ (stage : Stage) (is : IsStage stage) (v : RoundView) (same : v ≡ view_of stage) where
-  -- the view of a stage is its round by itself
-  view_is : v ≡ round_of (update_in stage) stage.number
-  view_is = same ∙ ap (λ tables. let w : RoundView = record { net = stage.net.now; tables = tables; round = round_after stage.number stage.rounds.now } in w) is.before
-
-  pub walk_shown : (demands : List DemandView) (class : Class) (rest : List Place) (end : Option _)
-      → IsBreakingWalk (alone v) 0 class.first class.entry (duties_of demands class.entry class.first) rest end
-      → IsBreakingWalk (update_in stage) stage.number class.first class.entry (duties_of demands class.entry class.first) rest end
-  walk_shown demands class rest end h =
-      walk_there (update_in stage) stage.number class.first class.entry (duties_of demands class.entry class.first) rest end
-      (subst (λ (w : RoundView). IsBreakingWalk (alone w) 0 class.first class.entry (duties_of demands class.entry class.first) rest end) view_is h)
-
-  pub none_shown : (demands : List DemandView) (class : Class) → ¬ HasBreakingWalk (alone v) 0 class.first class.entry (duties_of demands class.entry class.first)
-      → ¬ ClassBreaks (update_in stage) demands stage.number class
-  none_shown demands class none breaks =
-      none (subst (λ (w : RoundView). HasBreakingWalk (alone w) 0 class.first class.entry (duties_of demands class.entry class.first)) (sym view_is)
-      (has_here (update_in stage) stage.number class.first class.entry (duties_of demands class.entry class.first) breaks))
-
 -- one more class that doesn't break
-pub classes_more : (u : Rollout) (classes : ClassList) (demands : List DemandView) (k number : ℕ) (class : Class) → ((other : Class) → IsClass classes number other → other ≡ class)
-    → ((n : ℕ) (other : Class) → n < number → IsClass classes n other → ¬ ClassBreaks u demands k other) → ¬ ClassBreaks u demands k class
-    → (n : ℕ) (other : Class) → n < number + 1 → IsClass classes n other → ¬ ClassBreaks u demands k other
-classes_more u classes demands k number class only before none n other less is =
+pub classes_more : (u : Rollout) (classes : ClassList) (demands : List DemandView) (k number : ℕ)
+    → ((n : ℕ) (class : Class) → n < number → IsClass classes n class → ¬ ClassBreaks u demands k class) → ((class : Class) → IsClass classes number class → ¬ ClassBreaks u demands k class)
+    → (n : ℕ) (class : Class) → n < number + 1 → IsClass classes n class → ¬ ClassBreaks u demands k class
+classes_more u classes demands k number before here n class less is =
     elim (cases_lt n number) [
-      | inl lower ↦ before n other lower is
-      | inr more ↦ (
-          let e : n ≡ number = omega arith in
-          let same : other ≡ class = only other (subst (λ (m : ℕ). IsClass classes m other) e is) in
-          subst (λ (c : Class). ¬ ClassBreaks u demands k c) (sym same) none)
+      | inl lower ↦ before n class lower is
+      | inr more ↦ (let e : n ≡ number = omega arith in here class (subst (λ (m : ℕ). IsClass classes m class) e is))
     ]
 
 -- one more round in which none breaks

@@ -6,7 +6,7 @@ pub mod ShownLaws
 pub mod FewLaws
 pub mod StageLaws
 pub mod AddLaws
-pub mod ViewLaws
+pub mod BreakLaws
 pub mod TouchLaws
 pub mod ClassLaws
 pub mod PrepareLaws

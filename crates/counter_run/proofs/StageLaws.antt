@@ -52,14 +52,14 @@ rules_of_one (x ∷ tables) (suc i) t at = rules_of_one tables i t at
 module _ (stage : Stage) (is : IsStage stage) where
   -- the tables before the round, and the round
   abbrev tables : List (List Rule)
-  tables = tables_before (update_in stage) stage.number
+  tables = tables_before (update_in stage) stage.round.number
 
   abbrev round : List Change
-  round = round_after stage.number stage.rounds.now
+  round = round_after stage.round.number stage.round.rounds.now
 
-  pub table_count : length stage.tables.now ≡ switch_count stage.net.now
+  pub table_count : length stage.tables.now ≡ switch_count stage.round.net.now
   table_count =
-      sym (length_all stage.tables.now) ∙ ap length is.before ∙ length_settled stage.rounds.now stage.number (rules_of_all stage.old.now) ∙ length_all stage.old.now ∙ is.tables
+      sym (length_all stage.tables.now) ∙ ap length is.before ∙ length_settled stage.round.rounds.now stage.round.number (rules_of_all stage.round.old.now) ∙ length_all stage.round.old.now ∙ is.tables
 
   pub rules_here : (s : SwitchId) (t : TableState) → slice_get stage.tables.now s.0 ≡ Some t → rules_at tables s ≡ t.rules
   rules_here s t at = ap (λ (all : List (List Rule)). get_or all s.0 []) (sym is.before) ∙ rules_of_one stage.tables.now s.0 t at
@@ -67,23 +67,23 @@ module _ (stage : Stage) (is : IsStage stage) where
   module _ (s : SwitchId) (t : TableState) (at : slice_get stage.tables.now s.0 ≡ Some t) where
     pub good_here : AreGood t.rules (changes_at s round)
     good_here =
-        let good = is.good stage.number is.within in
+        let good = is.good stage.round.number is.within in
         subst (λ rules. AreGood rules (changes_at s round)) (rules_here s t at)
         (record { applies = apply_there tables s round good.applies; distinct = keys_distinct s round good.distinct })
 
     pub clear_here : AreClear t.rules (changes_at s round)
-    clear_here = subst (λ rules. AreClear rules (changes_at s round)) (rules_here s t at) (is.clear stage.number is.within s)
+    clear_here = subst (λ rules. AreClear rules (changes_at s round)) (rules_here s t at) (is.clear stage.round.number is.within s)
 
   module _ (place : Place) (t : TableState) (at : slice_get stage.tables.now place.switch.0 ≡ Some t) (dst : ℕ) (wanted : Outcome) where
-    pub may_be_here : IsPossible (update_in stage) stage.number dst place wanted → MayBe stage.net.now t.rules (changes_at place.switch round) place dst wanted
-    may_be_here may = subst (λ rules. MayBe stage.net.now rules (changes_at place.switch round) place dst wanted) (rules_here place.switch t at) may
+    pub may_be_here : IsPossible (update_in stage) stage.round.number dst place wanted → MayBe stage.round.net.now t.rules (changes_at place.switch round) place dst wanted
+    may_be_here may = subst (λ rules. MayBe stage.round.net.now rules (changes_at place.switch round) place dst wanted) (rules_here place.switch t at) may
 
     -- the events of changes that give the outcome, and of a hop after them
-    pub hop_added : (numbers : List ℕ) (old new : List Event) → GiveOutcome stage.net.now t.rules round place dst wanted numbers
-        → new ≡ old ++ step_events (record { place = place; changes = numbers }) → GoOnBy (update_in stage) stage.number dst place wanted old new
+    pub hop_added : (numbers : List ℕ) (old new : List Event) → GiveOutcome stage.round.net.now t.rules round place dst wanted numbers
+        → new ≡ old ++ step_events (record { place = place; changes = numbers }) → GoOnBy (update_in stage) stage.round.number dst place wanted old new
     hop_added numbers old new gives added = record {
       step = record { place = place; changes = numbers };
-      is_step = record { place_is = refl; gives = subst (λ rules. GiveOutcome stage.net.now rules round place dst wanted numbers) (sym (rules_here place.switch t at)) gives };
+      is_step = record { place_is = refl; gives = subst (λ rules. GiveOutcome stage.round.net.now rules round place dst wanted numbers) (sym (rules_here place.switch t at)) gives };
       added = added;
     }
 

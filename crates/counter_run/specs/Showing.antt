@@ -5,7 +5,6 @@ use Rattle.net_base.specs.Members.{IsPrefix}
 use Rattle.net_base.specs.Places.{stop_of}
 use Rattle.net_base.specs.declared.ids.Place.{Place}
 use Rattle.topology.specs.Networks.{Network, switch_count}
-use Rattle.flow_rules.specs.Tables.{rules_of_all}
 use Rattle.dest_classes.specs.declared.Class.{Class}
 use Rattle.demands.specs.Duties.{DemandView, duties_of}
 use Rattle.demands.specs.Good.{IsGood}
@@ -19,6 +18,7 @@ use Rattle.update_model.specs.declared.Packet.{Packet}
 use Rattle.certificates.specs.Consistent.{trace_of}
 use Rattle.schedule_pilot.specs.Offered.{counted}
 use Rattle.outcome_changes.specs.Giving.{IsChangeAt}
+use Rattle.breaking_walks.specs.Rounds.{update_of}
 use Rattle.counter_run.specs.declared.showing.Stage.{Stage}
 
 -- a hop at a place, and the changes that are made before it, by their numbers
@@ -64,4 +64,4 @@ AreFewFor net rounds events = length events ≤ sum_by length rounds + 2 * lengt
 
 -- the update of a stage
 abbrev pub update_in : Stage → Rollout
-update_in stage = record { net = stage.net.now; old = rules_of_all stage.old.now; rounds = stage.rounds.now }
+update_in stage = update_of stage.round

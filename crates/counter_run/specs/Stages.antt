@@ -1,31 +1,24 @@
 -- The rounds as they are gone through, one after the other.
 use Rattle.std.specs.Prelude.{ℕ, ◌<◌, List}
-use Rattle.flow_rules.specs.Tables.{rules_of_all}
 use Rattle.dest_classes.specs.Classes.{ClassList}
 use Rattle.dest_classes.specs.declared.Class.{Class}
 use Rattle.demands.specs.Duties.{DemandView}
-use Rattle.update_model.specs.Changes.{round_after}
 use Rattle.update_model.specs.declared.Event.{Event}
-use Rattle.round_outcomes.specs.Rounds.{RoundView}
 use Rattle.counter_run.specs.Showing.{IsBreakingRun, AreFewFor, update_in}
 use Rattle.counter_run.specs.Explaining.{ClassBreaks, NoneBreaks, IsFirstBreakingRun}
 use Rattle.counter_run.specs.declared.showing.Stage.{Stage}
 
--- the round by itself
-abbrev pub view_of : Stage → RoundView
-view_of stage = record { net = stage.net.now; tables = rules_of_all stage.tables.now; round = round_after stage.number stage.rounds.now }
-
 -- the class breaks in the round, and a run of few events shows it
 pub record IsShownAt (stage : Stage) (demands : List DemandView) (class : Class) (events : List Event) : Type 0 where
-  pub breaks : ClassBreaks (update_in stage) demands stage.number class
-  pub shown : IsBreakingRun (update_in stage) demands stage.number class events
-  pub few : AreFewFor stage.net.now stage.rounds.now events
+  pub breaks : ClassBreaks (update_in stage) demands stage.round.number class
+  pub shown : IsBreakingRun (update_in stage) demands stage.round.number class events
+  pub few : AreFewFor stage.round.net.now stage.round.rounds.now events
 
 -- it is the first breaking run of the update, of few events
 pub record IsFirstAt (stage : Stage) (classes : ClassList) (demands : List DemandView) (events : List Event) : Type 0 where
   pub first : IsFirstBreakingRun (update_in stage) classes demands events
-  pub few : AreFewFor stage.net.now stage.rounds.now events
+  pub few : AreFewFor stage.round.net.now stage.round.rounds.now events
 
 -- no class breaks in an earlier round
 abbrev pub NoneBefore : Stage → ClassList → List DemandView → Type 0
-NoneBefore stage classes demands = (k : ℕ) → k < stage.number → NoneBreaks (update_in stage) classes demands k
+NoneBefore stage classes demands = (k : ℕ) → k < stage.round.number → NoneBreaks (update_in stage) classes demands k

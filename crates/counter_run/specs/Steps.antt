@@ -30,9 +30,9 @@ AreSteps u k dst place (next ∷ rest) end (s ∷ steps) = IsStep u k dst place 
 
 -- a round of an update, good and clear as all rounds are, and the tables before it
 pub record IsStage (stage : Stage) : Type 0 where
-  pub tables : length stage.old.now ≡ switch_count stage.net.now
-  pub within : stage.number < length stage.rounds.now
-  pub before : rules_of_all stage.tables.now ≡ tables_before (update_in stage) stage.number
+  pub tables : length stage.round.old.now ≡ switch_count stage.round.net.now
+  pub within : stage.round.number < length stage.round.rounds.now
+  pub before : rules_of_all stage.tables.now ≡ tables_before (update_in stage) stage.round.number
   pub good : AreGoodRounds (update_in stage)
   pub clear : AreClearRounds (update_in stage)
 

@@ -11,11 +11,9 @@ mod finding;
 mod preparing;
 mod searching;
 mod showing;
-mod surveying;
 mod update;
 
 use crate::searching::search_rounds;
-use crate::surveying::survey_rounds;
 use crate::update::ClassedUpdate;
 use demands::Duties;
 use dest_classes::ClassMap;
@@ -37,12 +35,12 @@ pub enum Explained {
 /// A run of the rounds in which a packet comes to a switch twice, leaves without its waypoints, or is discarded though it must
 /// arrive, if some mixed walk of some round does so; in the first such round, and for the first such class there.
 ///
-/// The rounds are good and clear. Where packets keep the VLANs with which they came and each switch has room for its entries, a
-/// round costs what it costs the checker: a sort of the tables that it changes more than once, and the walks of those classes
-/// that its changes meet where packets of them came to in the round before, those of one address and VLAN together. Only a
-/// class that may break by what these show is searched: its walks are looked through once more, and once more for each chain
-/// times the chain's length, after a sort of each table in such a round. Otherwise each round costs that sort, and each class
-/// whose address a change covers that search.
+/// The rounds are good and clear. A round costs what it costs the checker to prepare its switches. Where packets keep the VLANs
+/// with which they came and no switch has needed more than 8192 entries so far, it costs besides the walks of those classes that
+/// its changes meet where packets of them came to in the round before, those of one address and VLAN together. Only a class that
+/// may break by what these show is searched, otherwise each whose address a change covers: its walks are looked through once for
+/// discards, once for each chain times the chain's length, and once for steps; and where these have a cycle, once for each
+/// switch.
 pub fn explain(
     alloc: Global,
     net: &Net,
@@ -73,8 +71,5 @@ pub fn explain(
         duties,
         classes,
     };
-    if let Some(found) = survey_rounds(alloc, update)? {
-        return Ok(found);
-    }
     search_rounds(alloc, update)
 }

@@ -11,7 +11,7 @@ ghost use Rattle.breaking_walks.specs.Breaking.{IsBreakingWalk};
 ghost use Rattle.counter_run.specs.Showing.{IsBreakingRun, AreFewFor, update_in, whole_round, whole_rounds};
 ghost use Rattle.counter_run.specs.Steps.{IsStage, GoOnAlong, GoOnBy};
 
-use breaking_walks::BreakingWalk;
+use breaking_walks::{BreakingWalk, PreparedRound};
 use demands::Duties;
 use dest_classes::Class;
 use flow_rules::Config;
@@ -19,16 +19,12 @@ use net_base::{Memory, Place};
 use outcome_changes::{Search, changes_for};
 use path_walk::Outcome;
 use std::alloc::Global;
-use topology::Net;
 use update_model::{Change, Event, Events, Rounds};
 
-/// A round of an update, by its number from 0, with the tables before it.
+/// A round of an update, prepared, with the tables before it.
 #[derive(Clone, Copy)]
 pub(crate) struct Stage<'a> {
-    pub(crate) net: &'a Net,
-    pub(crate) old: &'a Config,
-    pub(crate) rounds: &'a Rounds,
-    pub(crate) number: usize,
+    pub(crate) round: PreparedRound<'a>,
     pub(crate) tables: &'a Config,
 }
 
@@ -95,15 +91,16 @@ fn add_hop(
     wanted: Outcome,
 ) -> Result<(), Memory>
     requires stage { IsStage stage }
-    requires inside { place.switch.0 < switch_count stage.net.now }
-    requires possible { IsPossible (update_in stage) stage.number dst place wanted }
+    requires inside { place.switch.0 < switch_count stage.round.net.now }
+    requires possible { IsPossible (update_in stage) stage.round.number dst place wanted }
     ensures { OnOk result
-        (GoOnBy (update_in stage.entry) stage.entry.number dst place wanted events.old events.new) }
+        (GoOnBy (update_in stage.entry) stage.entry.round.number dst place wanted events.old
+        events.new) }
 {
     let table = stage.tables.table(place.switch);
-    let round = stage.rounds.round(stage.number);
+    let round = stage.round.rounds.round(stage.round.number);
     let search = Search {
-        net: stage.net,
+        net: stage.round.net,
         table,
         round,
         wanted,
@@ -123,14 +120,15 @@ fn add_hops(
     rest: &[Place],
 ) -> Result<Place, Memory>
     requires stage { IsStage stage }
-    requires entry { IsEntry stage.net.now class.entry }
-    requires walk { IsMixedWalk (update_in stage) stage.number class.first class.entry rest.now }
+    requires entry { IsEntry stage.round.net.now class.entry }
+    requires walk { IsMixedWalk (update_in stage) stage.round.number class.first class.entry
+        rest.now }
     ensures last { IfOk result (λ place. place ≡ end_of class.entry rest.now) }
     ensures along { OnOk result
-        (GoOnAlong (update_in stage.entry) stage.entry.number class rest.now None events.old
-        events.new) }
+        (GoOnAlong (update_in stage.entry) stage.entry.round.number class rest.now None
+        events.old events.new) }
 {
-    stage.net.keeps_rules();
+    stage.round.net.keeps_rules();
     let mut place = class.entry;
     for next in rest {
         add_hop(alloc, events, stage, class.first, place, Outcome::Go(*next))?;
@@ -148,17 +146,17 @@ fn add_walk(
     walk: &BreakingWalk,
 ) -> Result<(), Memory>
     requires stage { IsStage stage }
-    requires entry { IsEntry stage.net.now class.entry }
-    requires walk { IsMixedWalk (update_in stage) stage.number class.first class.entry
+    requires entry { IsEntry stage.round.net.now class.entry }
+    requires walk { IsMixedWalk (update_in stage) stage.round.number class.first class.entry
         walk.now.rest }
     requires end { IfSome walk.now.end
-        (λ found. IsPossible (update_in stage) stage.number class.first
+        (λ found. IsPossible (update_in stage) stage.round.number class.first
         (end_of class.entry walk.now.rest) found) }
     ensures { OnOk result
-        (GoOnAlong (update_in stage.entry) stage.entry.number class walk.now.rest walk.now.end
-        events.old events.new) }
+        (GoOnAlong (update_in stage.entry) stage.entry.round.number class walk.now.rest
+        walk.now.end events.old events.new) }
 {
-    stage.net.keeps_rules();
+    stage.round.net.keeps_rules();
     let last = add_hops(alloc, events, stage, class, walk.rest.list())?;
     match walk.end {
         Some(end) => add_hop(alloc, events, stage, class.first, last, end),
@@ -175,24 +173,25 @@ pub(crate) fn breaking_run(
     class: Class,
     walk: &BreakingWalk,
 ) -> Result<Events, Memory>
-    requires tables { length stage.old.now ≡ switch_count stage.net.now }
-    requires within { stage.number < length stage.rounds.now }
-    requires before { rules_of_all stage.tables.now ≡ tables_before (update_in stage) stage.number }
+    requires tables { length stage.round.old.now ≡ switch_count stage.round.net.now }
+    requires within { stage.round.number < length stage.round.rounds.now }
+    requires before { rules_of_all stage.tables.now
+        ≡ tables_before (update_in stage) stage.round.number }
     requires good { AreGoodRounds (update_in stage) }
     requires clear { AreClearRounds (update_in stage) }
-    requires entry { IsEntry stage.net.now class.entry }
-    requires walk { IsBreakingWalk (update_in stage) stage.number class.first class.entry
+    requires entry { IsEntry stage.round.net.now class.entry }
+    requires walk { IsBreakingWalk (update_in stage) stage.round.number class.first class.entry
         (duties_of duties.now.demands class.entry class.first) walk.now.rest walk.now.end }
     ensures run { IfOk result
-        (λ events. IsBreakingRun (update_in stage.entry) duties.now.demands stage.entry.number class
-        events) }
+        (λ events. IsBreakingRun (update_in stage.entry) duties.now.demands
+        stage.entry.round.number class events) }
     ensures few { IfOk result
-        (λ events. AreFewFor stage.entry.net.now stage.entry.rounds.now events) }
+        (λ events. AreFewFor stage.entry.round.net.now stage.entry.round.rounds.now events) }
 {
     // A network keeps its links at its switches, so that the packet hops at no more switches than there are.
-    stage.net.keeps_rules();
+    stage.round.net.keeps_rules();
     let mut events = Events::make(alloc)?;
-    add_whole_rounds(&mut events, stage.rounds, stage.number)?;
+    add_whole_rounds(&mut events, stage.round.rounds, stage.round.number)?;
     add_entry(&mut events, class.entry, class.first)?;
     add_walk(alloc, &mut events, stage, class, walk)?;
     Ok(events)

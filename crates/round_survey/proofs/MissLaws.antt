@@ -13,7 +13,7 @@ use Rattle.check_reasons.specs.Touched.{touches}
 use Rattle.class_watch.specs.Classes.{AreClasses}
 use Rattle.class_watch.proofs.StandLaws.{untouched_walk}
 use Rattle.round_survey.specs.Rounds.{IsMissed, PassesOver}
-use Rattle.round_survey.specs.declared.round.PreparedRound.{PreparedRound}
+use Rattle.breaking_walks.specs.declared.round.PreparedRound.{PreparedRound}
 
 module _ (round : PreparedRound) (map : ClassList) (classes : List Class) (are : AreClasses map classes) (looked : List Bool) (count : 0 < class_count map → length looked ≡ atom_count map) where
   atoms_of : (n : ℕ) (class : Class) → slice_get classes n ≡ Some class → length looked ≡ atom_count map

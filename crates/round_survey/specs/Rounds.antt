@@ -1,18 +1,14 @@
--- A round of an update, prepared.
+-- A round of an update in which packets keep their VLANs, and the classes that it meets.
 use Rattle.std.specs.Prelude.{◌≡◌, ℕ, ◌<◌, ◌%◌, Bool, false, List, length, slice_get, Some}
-use Rattle.flow_rules.specs.Tables.{rules_of_all}
 use Rattle.dest_classes.specs.declared.Class.{Class}
 use Rattle.update_model.specs.Changes.{round_after}
-use Rattle.update_model.specs.Mixtures.{Rollout, AreGoodRounds, AreClearRounds}
+use Rattle.update_model.specs.Mixtures.{AreGoodRounds, AreClearRounds}
 use Rattle.check_reasons.specs.AtomMarks.{is_marked}
 use Rattle.check_reasons.specs.Touched.{touches}
 use Rattle.mixed_walks.specs.Walks.{IsRoundOf}
 use Rattle.class_watch.specs.Walks.{meets_any}
-use Rattle.round_survey.specs.declared.round.PreparedRound.{PreparedRound}
-
--- the update of a round
-abbrev pub update_of : PreparedRound → Rollout
-update_of round = record { net = round.net.now; old = rules_of_all round.old.now; rounds = round.rounds.now }
+use Rattle.breaking_walks.specs.declared.round.PreparedRound.{PreparedRound}
+pub use Rattle.breaking_walks.specs.Rounds.{update_of}
 
 -- the switches are prepared for the round, in which packets keep their VLANs; the rounds of the update are good and clear
 pub record IsPreparedRound (round : PreparedRound) : Type 0 where

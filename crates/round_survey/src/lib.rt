@@ -5,11 +5,9 @@ mod gates;
 mod keeping;
 mod members;
 mod missed;
-mod round;
 mod seen;
 mod stepping;
 mod survey;
 
 pub use keeping::keep_vlans;
-pub use round::PreparedRound;
 pub use survey::RoundSurvey;

@@ -13,9 +13,9 @@ ghost use Rattle.round_survey.specs.Rounds.{update_of, IsPreparedRound};
 ghost use Rattle.round_survey.specs.Gates.{AreStepsOf};
 ghost use Rattle.round_survey.specs.Surveys.{IsSeen, AreKnown, IsAlike, AreAlike, AreMembers};
 
-use crate::round::PreparedRound;
 use crate::seen::{Seen, keeps_duties, see};
 use crate::stepping::never_repeat;
+use breaking_walks::PreparedRound;
 use demands::Duties;
 use dest_classes::{Class, NumberedClass};
 use mixed_walks::WalkRoom;

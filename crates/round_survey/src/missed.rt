@@ -5,7 +5,7 @@ ghost use Rattle.dest_classes.specs.declared.Class.{Class as ClassOf};
 ghost use Rattle.class_watch.specs.Classes.{AreClasses};
 ghost use Rattle.round_survey.specs.Rounds.{IsMissed, PassesOver};
 
-use crate::round::PreparedRound;
+use breaking_walks::PreparedRound;
 use class_watch::{LookedAtoms, meets_any};
 use dest_classes::{Class, ClassMap};
 use net_base::{Memory, SwitchSet};

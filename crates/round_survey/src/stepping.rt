@@ -10,8 +10,7 @@ ghost use Rattle.breaking_walks.specs.PlaceSteps.{NotesSteps};
 ghost use Rattle.round_survey.specs.Rounds.{update_of, IsPreparedRound};
 ghost use Rattle.round_survey.specs.Surveys.{IsAlike, AreAlike};
 
-use crate::round::PreparedRound;
-use breaking_walks::PlaceSteps;
+use breaking_walks::{PlaceSteps, PreparedRound};
 use dest_classes::{Class, NumberedClass};
 use net_base::Memory;
 use round_mix::Outcomes;

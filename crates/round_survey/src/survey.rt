@@ -6,8 +6,8 @@ ghost use Rattle.round_survey.specs.Surveys.{AreGood, AreKnown, AreWalkedBelow, 
 
 use crate::members::{gather, have_chains, see_members, settle_members, walk_members};
 use crate::missed::{atoms_to_look_at, mark_missed};
-use crate::round::PreparedRound;
 use crate::seen::{keeps_duties, see};
+use breaking_walks::PreparedRound;
 use class_watch::{LookedAtoms, all_classes};
 use demands::Duties;
 use dest_classes::{Class, ClassMap, NumberedClass};

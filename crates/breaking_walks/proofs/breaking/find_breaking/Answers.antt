@@ -4,7 +4,7 @@ use Rattle.std.proofs.lemmas.Option.{IfSome_then}
 use Rattle.std.proofs.lemmas.Result.{IfOk-weaker}
 use Rattle.topology.specs.Networks.{IsNetwork, switch_count}
 use Rattle.demands.specs.Duties.{PacketDuties, duties_of}
-use Rattle.round_outcomes.specs.Rounds.{alone}
+use Rattle.breaking_walks.specs.Rounds.{update_of}
 use Rattle.breaking_walks.specs.Breaking.{HasBreakingWalk}
 use Rattle.breaking_walks.specs.Broken.{IsBroken, IsNoneDropped, IsNoneUnmet, IsNoneTwice}
 use Rattle.breaking_walks.specs.declared.BreakingWalk.{BreakingWalk}
@@ -14,23 +14,25 @@ use Rattle.breaking_walks.proofs.breaking.find_breaking.Goals as goal
 
 pub returns-clause-some : goal.returns-clause-some
 returns-clause-some c =
-    let u = alone c.args.round.now in
+    let u = update_of c.args.round in
+    let k = c.args.round.number in
     let entry = c.args.numbered.class.entry in
     let dst = c.args.numbered.class.first in
     let duties = duties_of c.args.duties.now.demands entry dst in
-    IfOk-weaker c.find_seen_repeat.result (λ (found : Option BreakingWalk). IfSome found (λ w. (d : PacketDuties) → IsBroken u 0 dst entry d w.rest w.end))
-    (λ (found : Option BreakingWalk). IfSome found (λ w. IsBroken u 0 dst entry duties w.rest w.end)) (λ found broken. IfSome_then found broken (λ w all. all duties)) c.find_seen_repeat.ensures.some
+    IfOk-weaker c.find_repeat.result (λ (found : Option BreakingWalk). IfSome found (λ w. (d : PacketDuties) → IsBroken u k dst entry d w.rest w.end))
+    (λ (found : Option BreakingWalk). IfSome found (λ w. IsBroken u k dst entry duties w.rest w.end)) (λ found broken. IfSome_then found broken (λ w all. all duties)) c.find_repeat.ensures.some
 
 pub returns-clause-none : goal.returns-clause-none
 returns-clause-none c =
-    let r = c.args.round.now in
-    let u = alone r in
+    let r = c.args.round in
+    let u = update_of r in
+    let k = r.number in
     let entry = c.args.numbered.class.entry in
     let dst = c.args.numbered.class.first in
     let duties = duties_of c.args.duties.now.demands entry dst in
-    let n = switch_count r.net in
-    let valid : IsNetwork r.net = subst IsNetwork c.net.ensures c.keeps_rules.ensures in
-    let dropped : IsNoneDropped u 0 dst entry duties = subst (λ (o : Option BreakingWalk). IfNone o (IsNoneDropped u 0 dst entry duties)) c.in_default.is c.in_ok-dropped.ensures.none in
-    let unmet : IsNoneUnmet u 0 dst entry duties = subst (λ (o : Option BreakingWalk). IfNone o (IsNoneUnmet u 0 dst entry duties)) c.in_default-missed.is c.in_ok-missed.ensures.none in
-    IfOk-weaker c.find_seen_repeat.result (λ (found : Option BreakingWalk). IfNone found (IsNoneTwice u 0 dst entry n)) (λ (found : Option BreakingWalk). IfNone found (¬ HasBreakingWalk u 0 dst entry duties))
-    (λ found none. none_then found (none_breaks u 0 dst entry duties n (λ rest walk. end_within u valid 0 dst entry rest c.requires.entry walk) dropped unmet) none) c.find_seen_repeat.ensures.none
+    let n = switch_count r.net.now in
+    let valid : IsNetwork r.net.now = c.keeps_rules.ensures in
+    let dropped : IsNoneDropped u k dst entry duties = subst (λ (o : Option BreakingWalk). IfNone o (IsNoneDropped u k dst entry duties)) c.in_default.is c.in_ok-dropped.ensures.none in
+    let unmet : IsNoneUnmet u k dst entry duties = subst (λ (o : Option BreakingWalk). IfNone o (IsNoneUnmet u k dst entry duties)) c.in_default-missed.is c.in_ok-missed.ensures.none in
+    IfOk-weaker c.find_repeat.result (λ (found : Option BreakingWalk). IfNone found (IsNoneTwice u k dst entry n)) (λ (found : Option BreakingWalk). IfNone found (¬ HasBreakingWalk u k dst entry duties))
+    (λ found none. none_then found (none_breaks u k dst entry duties n (λ rest walk. end_within u valid k dst entry rest c.requires.entry walk) dropped unmet) none) c.find_repeat.ensures.none

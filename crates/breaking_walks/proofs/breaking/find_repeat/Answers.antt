@@ -2,28 +2,35 @@ use Rattle.std.proofs.Common.{List, [], ◌∷◌, subst}
 use Rattle.std.specs.Prelude.{Option, IfSome, IfNone}
 use Rattle.net_base.specs.declared.ids.Place.{Place}
 use Rattle.net_base.specs.declared.ids.SwitchId.{SwitchId}
-use Rattle.round_outcomes.specs.Rounds.{alone}
+use Rattle.breaking_walks.specs.Rounds.{update_of}
 use Rattle.breaking_walks.specs.declared.search.Aim.TheVariants.{Meet}
 use Rattle.breaking_walks.specs.Searches.{IsFound, IsNoneFound}
 use Rattle.breaking_walks.proofs.BreakLaws.{twice_broken, none_twice_next}
+use Rattle.breaking_walks.proofs.SurveyLaws.{never_again}
 use Rattle.breaking_walks.proofs.breaking.find_repeat.Goals as goal
+
+pub returns-then-are_falling-clause-none : goal.returns-then-are_falling-clause-none
+returns-then-are_falling-clause-none c rest walk less =
+    never_again (update_of c.args.round) c.args.round.number c.args.class.first c.args.class.entry (c.in_ok-are_falling.ensures c.if-are_falling.true) rest walk
 
 pub returns-in-Some-clause-some : goal.returns-in-Some-clause-some
 returns-in-Some-clause-some c d =
-    let u = alone c.args.round.now in
+    let u = update_of c.args.round in
+    let k = c.args.round.number in
     let entry = c.args.class.entry in
     let dst = c.args.class.first in
     let s : SwitchId = record { 0 = c.loop-i.i } in
-    let found : IsFound u 0 dst entry (s ∷ s ∷ []) Meet c.in-Some.rest =
-    subst (λ (o : Option (List Place)). IfSome o (λ walk. IsFound u 0 dst entry (s ∷ s ∷ []) Meet walk)) c.in-Some.is c.in_ok-found.ensures.some in
-    twice_broken u 0 dst entry d s c.in-Some.rest found
+    let found : IsFound u k dst entry (s ∷ s ∷ []) Meet c.in-Some.rest =
+    subst (λ (o : Option (List Place)). IfSome o (λ walk. IsFound u k dst entry (s ∷ s ∷ []) Meet walk)) c.in-Some.is c.in_ok-found.ensures.some in
+    twice_broken u k dst entry d s c.in-Some.rest found
 
 pub loop-i-preserved : goal.loop-i-preserved
 loop-i-preserved c =
-    let u = alone c.args.round.now in
+    let u = update_of c.args.round in
+    let k = c.args.round.number in
     let entry = c.args.class.entry in
     let dst = c.args.class.first in
     let s : SwitchId = record { 0 = c.loop-i.i } in
-    let none : IsNoneFound u 0 dst entry (s ∷ s ∷ []) Meet =
-    subst (λ (o : Option (List Place)). IfNone o (IsNoneFound u 0 dst entry (s ∷ s ∷ []) Meet)) c.in_default.is c.in_ok-found.ensures.none in
-    none_twice_next u 0 dst entry s none c.loop-i.invariant
+    let none : IsNoneFound u k dst entry (s ∷ s ∷ []) Meet =
+    subst (λ (o : Option (List Place)). IfNone o (IsNoneFound u k dst entry (s ∷ s ∷ []) Meet)) c.in_default.is c.in_ok-found.ensures.none in
+    none_twice_next u k dst entry s none c.loop-i.invariant

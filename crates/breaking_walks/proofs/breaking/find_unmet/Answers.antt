@@ -3,7 +3,7 @@ use Rattle.std.specs.Prelude.{Option, IfSome}
 use Rattle.net_base.specs.Walks.{end_of}
 use Rattle.net_base.specs.declared.ids.Place.{Place}
 use Rattle.topology.specs.Networks.{IsNetwork, switch_count}
-use Rattle.round_outcomes.specs.Rounds.{alone}
+use Rattle.breaking_walks.specs.Rounds.{update_of}
 use Rattle.breaking_walks.specs.declared.search.Aim.TheVariants.{LeaveUnmet}
 use Rattle.breaking_walks.specs.Searches.{IsFound}
 use Rattle.breaking_walks.proofs.WithinLaws.{end_within}
@@ -11,13 +11,14 @@ use Rattle.breaking_walks.proofs.breaking.find_unmet.Goals as goal
 
 pub leave_at-requires-clause-within : goal.leave_at-requires-clause-within
 leave_at-requires-clause-within c =
-    let r = c.args.round.now in
-    let u = alone r in
+    let r = c.args.round in
+    let u = update_of r in
+    let k = r.number in
     let entry = c.args.class.entry in
     let dst = c.args.class.first in
     let chain = c.args.chain.now in
     let rest = c.in-Some.rest in
-    let found : IsFound u 0 dst entry chain LeaveUnmet rest = subst (λ (o : Option (List Place)). IfSome o (λ walk. IsFound u 0 dst entry chain LeaveUnmet walk)) c.in-Some.is c.in_ok-rest.ensures.some in
+    let found : IsFound u k dst entry chain LeaveUnmet rest = subst (λ (o : Option (List Place)). IfSome o (λ walk. IsFound u k dst entry chain LeaveUnmet walk)) c.in-Some.is c.in_ok-rest.ensures.some in
     let end : c.last_place-place.result ≡ end_of entry rest = c.last_place-place.ensures ∙ ap (λ (xs : List Place). end_of entry xs) c.list.ensures in
-    let valid : IsNetwork r.net = subst IsNetwork c.net.ensures c.keeps_rules.ensures in
-    subst (λ (p : Place). p.switch.0 < switch_count r.net) (sym end) (end_within u valid 0 dst entry rest c.requires found.walk)
+    let valid : IsNetwork r.net.now = c.keeps_rules.ensures in
+    subst (λ (p : Place). p.switch.0 < switch_count r.net.now) (sym end) (end_within u valid k dst entry rest c.requires.entry found.walk)

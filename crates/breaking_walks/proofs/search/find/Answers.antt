@@ -1,10 +1,10 @@
 use Rattle.std.proofs.Common.{◌↔◌, ℕ, ◌+◌, ◌-◌, ◌<◌, [], ◌∷◌, List, sym, ◌∙◌, subst, arith}
 use Rattle.std.proofs.lemmas.Bool.{false≢true}
 use Rattle.net_base.specs.Members.{IsIn}
-use Rattle.topology.specs.Networks.{Network, IsNetwork}
+use Rattle.topology.specs.Networks.{IsNetwork}
 use Rattle.path_walk.specs.declared.Outcome.{Outcome}
 use Rattle.update_model.specs.Mixtures.{MayGo, IsPossible}
-use Rattle.round_outcomes.specs.Rounds.{alone}
+use Rattle.breaking_walks.specs.Rounds.{update_of}
 use Rattle.breaking_walks.specs.declared.trail.Node.{Node}
 use Rattle.breaking_walks.proofs.SearchLaws.{IsAimedNode, IsSearched, node_within, way_found, searched_one, none_found}
 use Rattle.breaking_walks.proofs.TrailLaws.{node_at, searched_none}
@@ -12,34 +12,37 @@ use Rattle.breaking_walks.proofs.search.find.Goals as goal
 
 pub searching-init : goal.searching-init
 searching-init c =
-    let u = alone c.args.round.now in
+    let u = update_of c.args.round in
+    let k = c.args.round.number in
     let dst = c.args.class.first in
     let entry = c.args.class.entry in
     let chain = c.args.chain.now in
-    subst (λ (trail : List (Node × ℕ)). IsSearched u 0 dst entry chain c.args.aim 0 trail) (sym c.in_ok-trail.ensures)
-    (subst (λ (met : ℕ). IsSearched u 0 dst entry chain c.args.aim 0 ((node_at entry met, 0) ∷ [])) (sym c.met_after-met.ensures)
-    (searched_none (MayGo u 0 dst) chain entry (IsAimedNode u 0 dst chain c.args.aim)))
+    subst (λ (trail : List (Node × ℕ)). IsSearched u k dst entry chain c.args.aim 0 trail) (sym c.in_ok-trail.ensures)
+    (subst (λ (met : ℕ). IsSearched u k dst entry chain c.args.aim 0 ((node_at entry met, 0) ∷ [])) (sym c.met_after-met.ensures)
+    (searched_none (MayGo u k dst) chain entry (IsAimedNode u k dst chain c.args.aim)))
 
-pub possible-requires : goal.possible-requires
-possible-requires c =
-    let r = c.args.round.now in
-    let is_net : IsNetwork r.net = subst (λ (n : Network). IsNetwork n) c.net.ensures c.keeps_rules.ensures in
-    node_within (alone r) 0 c.args.class.first c.args.class.entry c.args.chain.now c.searching.trail c.searching.invariant.is_trail is_net c.requires c.searching.next c.at.result c.at.ensures.at
+pub possible-requires-clause-within : goal.possible-requires-clause-within
+possible-requires-clause-within c =
+    let r = c.args.round in
+    let is_net : IsNetwork r.net.now = c.keeps_rules.ensures in
+    node_within (update_of r) r.number c.args.class.first c.args.class.entry c.args.chain.now c.searching.trail c.searching.invariant.is_trail is_net c.requires.entry c.searching.next c.at.result c.at.ensures.at
 
 pub returns-then-is_aimed_at-clause-some : goal.returns-then-is_aimed_at-clause-some
 returns-then-is_aimed_at-clause-some c =
-    let u = alone c.args.round.now in
+    let u = update_of c.args.round in
+    let k = c.args.round.number in
     let dst = c.args.class.first in
-    let all = subst (λ (xs : List Outcome). (o : Outcome) → IsIn o xs ↔ IsPossible u 0 dst c.at.result.0.place o) (sym c.list-found.ensures) c.in_ok-outcomes.ensures in
-    way_found u 0 dst c.args.class.entry c.args.chain.now c.args.aim c.searching.trail c.searching.invariant.is_trail c.searching.next c.at.result c.at.ensures.at
+    let all = subst (λ (xs : List Outcome). (o : Outcome) → IsIn o xs ↔ IsPossible u k dst c.at.result.0.place o) (sym c.list-found.ensures) c.in_ok-outcomes.ensures in
+    way_found u k dst c.args.class.entry c.args.chain.now c.args.aim c.searching.trail c.searching.invariant.is_trail c.searching.next c.at.result c.at.ensures.at
     c.list-found.result.now all (c.is_aimed_at.ensures.0 c.if-is_aimed_at.true) c.in_ok-rest.rest c.in_ok-rest.ensures
 
 pub searching-preserved : goal.searching-preserved
 searching-preserved c =
-    let u = alone c.args.round.now in
+    let u = update_of c.args.round in
+    let k = c.args.round.number in
     let dst = c.args.class.first in
-    let all = subst (λ (xs : List Outcome). (o : Outcome) → IsIn o xs ↔ IsPossible u 0 dst c.at.result.0.place o) (sym c.list-found.ensures) c.in_ok-outcomes.ensures in
-    searched_one u 0 dst c.args.class.entry c.args.chain.now c.args.aim c.searching.next c.searching.trail c.searching.invariant c.at.result c.at.ensures.at
+    let all = subst (λ (xs : List Outcome). (o : Outcome) → IsIn o xs ↔ IsPossible u k dst c.at.result.0.place o) (sym c.list-found.ensures) c.in_ok-outcomes.ensures in
+    searched_one u k dst c.args.class.entry c.args.chain.now c.args.aim c.searching.next c.searching.trail c.searching.invariant c.at.result c.at.ensures.at
     c.list-found.result.now all (λ h. false≢true (sym c.if-is_aimed_at.false ∙ c.is_aimed_at.ensures.1 h)) c.put_next.new.trail c.in_ok-put_next.ensures
 
 pub searching-smaller : goal.searching-smaller
@@ -51,5 +54,5 @@ searching-smaller c =
 
 pub returns-clause-none : goal.returns-clause-none
 returns-clause-none c =
-    none_found (alone c.args.round.now) 0 c.args.class.first c.args.class.entry c.args.chain.now c.args.aim c.searching.next c.searching.trail c.searching.invariant
+    none_found (update_of c.args.round) c.args.round.number c.args.class.first c.args.class.entry c.args.chain.now c.args.aim c.searching.next c.searching.trail c.searching.invariant
     (let none = c.searching-test.false in let count = c.count.ensures.count in omega arith)

@@ -1,21 +1,11 @@
-use Rattle.std.proofs.Common.{◌≡◌, ◌<◌, ◌≤◌, not, length, ap, ◌∙◌, subst}
-use Rattle.net_base.specs.declared.ids.SwitchId.{SwitchId}
-use Rattle.topology.specs.Networks.{switch_count, capacity_of}
-use Rattle.update_model.specs.Mixtures.{Rollout, need_of}
-use Rattle.round_tables.specs.Loading.{ArePrepared}
-use Rattle.counter_run.specs.Updates.{rollout_of}
-use Rattle.counter_run.proofs.PrepareLaws.{are_loaded, where_none}
+use Rattle.std.proofs.Common.{subst}
+use Rattle.update_model.specs.Mixtures.{Rollout}
+use Rattle.round_tables.specs.Loading.{IsFirstRoundFault}
+use Rattle.counter_run.proofs.PrepareLaws.{no_fault}
 use Rattle.counter_run.proofs.preparing.load.Goals as goal
 
-pub returns-in-Ok-clause-loaded : goal.returns-in-Ok-clause-loaded
-returns-in-Ok-clause-loaded c on =
-    let u = rollout_of c.args.update in
-    let k = c.args.k in
-    let p = c.load_round.new.self in
-    let is = c.rollout-rollout.ensures in
-    let prepared : ArePrepared u k p = subst (λ (v : Rollout). ArePrepared v k p) is c.in-Ok.ensures.ok in
-    let count : length p.mixes ≡ switch_count u.net = subst (λ (v : Rollout). length p.mixes ≡ switch_count v.net) is c.load_round.ensures.room.mixes in
-    let none = where_none c.first_over.result (c.is_none.ensures ∙ ap not on) c.first_over.ensures.none in
-    let fits : (s : SwitchId) → s.0 < switch_count u.net → need_of u k s ≤ capacity_of u.net s =
-    subst (λ (v : Rollout). (s : SwitchId) → s.0 < switch_count v.net → need_of v k s ≤ capacity_of v.net s) is none in
-    are_loaded u k p prepared fits count c.keeps_capacities.ensures
+pub unreachable-requires : goal.unreachable-requires
+unreachable-requires c =
+    let update = c.args.update in
+    no_fault update c.requires.classed c.args.k c.requires.round c.in-Err.field-0
+    (subst (λ (v : Rollout). IsFirstRoundFault v c.args.k c.in-Err.field-0) c.rollout.ensures c.in-Err.ensures.err)

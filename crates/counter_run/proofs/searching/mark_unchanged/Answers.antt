@@ -30,8 +30,8 @@ loop-number-preserved c =
                 let marked : result ≡ true = get_set_same good i result true (ap (slice_get (set good i result)) (sym same) ∙ on) in
                 let off = c.is_unchanged.ensures marked in
                 let the_class : class ≡ found = c.class-class.ensures.only class (subst (λ (m : ℕ). IsClass c.args.classes.now m class) same is) in
-                subst (λ (x : Class). ¬ ClassBreaks u demands stage.number x) (sym the_class)
-                (class_unchanged u c.requires.stage.good c.requires.stage.clear demands stage.number found c.requires.stage.within off.0
+                subst (λ (x : Class). ¬ ClassBreaks u demands stage.round.number x) (sym the_class)
+                (class_unchanged u c.requires.stage.good c.requires.stage.clear demands stage.round.number found c.requires.stage.within off.0
                 (subst (λ (round : List Change). touches round found.first ≡ false) c.round-round.ensures off.1) (λ j below. c.requires.before j below i found c.class-class.ensures.is)))
             | inr ne ↦ c.loop-number.invariant.each n class (omega arith) is (sym (get_set_other good i n result ne) ∙ on)
           ];

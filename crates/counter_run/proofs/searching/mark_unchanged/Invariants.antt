@@ -9,5 +9,5 @@ use Rattle.counter_run.proofs.searching.mark_unchanged.Given as goal
 abbrev pub invariant-loop-number : goal.invariant-loop-number
 invariant-loop-number l = record {
   count : length l.good ≡ length l.initial.good;
-  each : (n : ℕ) (class : Class) → n < l.number → IsClass l.classes n class → slice_get l.good n ≡ Some true → ¬ ClassBreaks (update_in l.stage) l.duties.demands l.stage.number class;
+  each : (n : ℕ) (class : Class) → n < l.number → IsClass l.classes n class → slice_get l.good n ≡ Some true → ¬ ClassBreaks (update_in l.stage) l.duties.demands l.stage.round.number class;
 }

@@ -1,13 +1,17 @@
-use Rattle.std.proofs.Common.{◌≡◌, length}
-use Rattle.dest_classes.specs.Classes.{class_count}
+use Rattle.std.proofs.Common.{◌≡◌, true}
 use Rattle.flow_rules.specs.Tables.{rules_of_all}
-use Rattle.update_model.specs.Mixtures.{tables_before}
+use Rattle.round_tables.specs.PreparedTables.{HasRoomForAll, StandsBefore}
+use Rattle.round_survey.specs.Keeping.{KeepVlans}
+use Rattle.round_survey.specs.Surveys.{HasRoom, WalksStand}
 use Rattle.counter_run.specs.Updates.{NoneBreaksBefore, rollout_of}
 use Rattle.counter_run.proofs.searching.search_each.Given as goal
 
-abbrev pub invariant-loop-number : goal.invariant-loop-number
-invariant-loop-number l = record {
-  tables : rules_of_all l.tables ≡ tables_before (rollout_of l.update) l.number;
-  count : length l.good ≡ class_count l.update.classes.now;
-  none : NoneBreaksBefore l.update l.number;
+abbrev pub invariant-loop-k : goal.invariant-loop-k
+invariant-loop-k l = record {
+  stands : StandsBefore (rollout_of l.update) l.k l.tables;
+  tables : HasRoomForAll (rollout_of l.update) l.tables;
+  room : HasRoom l.update.classes.now l.survey.classes.items l.survey.came.items l.survey.good.items;
+  keeps : l.by_survey ≡ true → KeepVlans (rules_of_all l.update.old.now) l.update.rounds.now;
+  walks : l.by_survey ≡ true → WalksStand (rollout_of l.update) l.k l.survey.classes.items l.survey.came.items;
+  none : NoneBreaksBefore l.update l.k;
 }

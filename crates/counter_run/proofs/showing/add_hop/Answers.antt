@@ -23,7 +23,7 @@ changes_for-requires-clause-clear c =
 
 pub changes_for-requires-clause-possible : goal.changes_for-requires-clause-possible
 changes_for-requires-clause-possible c =
-    subst (λ r. MayBe c.args.stage.net.now c.table-table.result.now.rules (changes_at c.args.place.switch r) c.args.place c.args.dst c.args.wanted) (sym c.round-round.ensures)
+    subst (λ r. MayBe c.args.stage.round.net.now c.table-table.result.now.rules (changes_at c.args.place.switch r) c.args.place c.args.dst c.args.wanted) (sym c.round-round.ensures)
     (may_be_here c.args.stage c.requires.stage c.args.place c.table-table.result.now c.table-table.ensures c.args.dst c.args.wanted c.requires.possible)
 
 pub returns : goal.returns
@@ -31,6 +31,6 @@ returns c =
     let numbers = c.in_ok-changes.changes in
     let same : c.list.result.now ≡ numbers = c.list.ensures in
     hop_added c.args.stage c.requires.stage c.args.place c.table-table.result.now c.table-table.ensures c.args.dst c.args.wanted numbers c.args.events.now c.add.new.self
-    (subst (λ r. GiveOutcome c.args.stage.net.now c.table-table.result.now.rules r c.args.place c.args.dst c.args.wanted numbers) c.round-round.ensures c.in_ok-changes.ensures)
+    (subst (λ r. GiveOutcome c.args.stage.round.net.now c.table-table.result.now.rules r c.args.place c.args.dst c.args.wanted numbers) c.round-round.ensures c.in_ok-changes.ensures)
     (hop_after (record { place = c.args.place; changes = numbers }) c.args.events.now c.add_changes.new.events c.add.new.self
     (c.in_ok-add_changes.ensures ∙ ap (λ ns. c.args.events.now ++ map event.Change ns) same) c.in_ok-add.ensures.ok)

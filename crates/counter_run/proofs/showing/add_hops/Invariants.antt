@@ -8,5 +8,5 @@ use Rattle.counter_run.proofs.showing.add_hops.Given as goal
 abbrev pub invariant-loop-next : goal.invariant-loop-next
 invariant-loop-next l = record {
   place : l.place ≡ end_of l.class.entry (take l.next-index l.rest);
-  along : GoOnAlong (update_in l.stage) l.stage.number l.class (take l.next-index l.rest) None l.initial.events l.events;
+  along : GoOnAlong (update_in l.stage) l.stage.round.number l.class (take l.next-index l.rest) None l.initial.events l.events;
 }
