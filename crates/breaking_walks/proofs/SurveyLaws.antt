@@ -1,25 +1,25 @@
 -- What the steps from all places of mixed walks show of the walks.
-use Rattle.std.proofs.Common.{◌≡◌, ◌⊎◌, ◌↔◌, ◌||◌, ℕ, zero, suc, ◌+◌, ◌<◌, ◌≤◌, Bool, true, false, List, [], ◌∷◌, ◌++◌, map, length, take, get_or, refl, sym, ◌∙◌, subst, ap, inl, inr, arith, add-one}
-use Rattle.std.specs.Prelude.{slice_get, Some, None}
-use Rattle.std.proofs.lemmas.Bool.{cases_lt, cases_Bool, both_ways}
+use Rattle.std.proofs.Common.{◌≡◌, ◌⊎◌, ◌↔◌, ℕ, suc, ◌+◌, ◌≤◌, List, [], ◌∷◌, ◌++◌, length, take, refl, sym, ◌∙◌, subst, ap, inl, inr, arith, add-one}
+use Rattle.std.specs.Prelude.{slice_get, Some}
+use Rattle.std.proofs.lemmas.Bool.{cases_lt}
 use Rattle.net_base.specs.Members.{IsIn, IsDistinct}
-use Rattle.net_base.specs.Walks.{IsWalk, end_of}
+use Rattle.net_base.specs.Walks.{end_of}
 use Rattle.net_base.proofs.MemberLaws.{in_append_left, in_append_right}
 use Rattle.net_base.specs.declared.ids.SwitchId.{SwitchId}
 use Rattle.net_base.specs.declared.ids.Place.{Place}
 use Rattle.path_walk.specs.declared.Outcome.{Outcome}
-use Rattle.path_walk.specs.declared.Outcome.TheVariants.{Discard, Leave, Go}
+use Rattle.path_walk.specs.declared.Outcome.TheVariants.{Go}
 use Rattle.acyclic_numbering.specs.Heights.{IsEdge, Falls, number_of}
 use Rattle.acyclic_numbering.specs.declared.Edge.{Edge}
 use Rattle.update_model.specs.Mixtures.{Rollout, IsPossible, MayGo, IsMixedWalk}
-use Rattle.certificates.specs.Steps.{IsMixedStep, switches_along}
+use Rattle.certificates.specs.Steps.{IsMixedStep}
 use Rattle.certificates.proofs.Falling.{distinct_walk}
 use Rattle.breaking_walks.specs.Breaking.{switches_before}
-use Rattle.breaking_walks.specs.Surveys.{NeverDrops, NeverRepeats, AreAdded}
+use Rattle.breaking_walks.specs.Surveys.{NeverRepeats, AreAdded}
 use Rattle.breaking_walks.specs.Trails.{first_node, ArePut}
 use Rattle.breaking_walks.specs.declared.trail.Node.{Node}
 use Rattle.breaking_walks.proofs.BreakLaws.{along_split}
-use Rattle.breaking_walks.proofs.TrailLaws.{node_along, along_is, IsTrail, IsSearchedTo, searched_none, searched_next, none_along, in_take_more}
+use Rattle.breaking_walks.proofs.TrailLaws.{node_along, along_is, IsSearchedTo, searched_none, searched_next, none_along, in_take_more}
 
 -- nothing is looked for
 abbrev Never : Node → Type 0

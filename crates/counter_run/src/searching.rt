@@ -135,7 +135,14 @@ fn search_round(
         round,
         tables: tables.tables(),
     };
-    mark_good(alloc, stage, update.duties, update.classes, survey, by_survey)?;
+    mark_good(
+        alloc,
+        stage,
+        update.duties,
+        update.classes,
+        survey,
+        by_survey,
+    )?;
     round_run(alloc, stage, update.duties, update.classes, &survey.good)
 }
 

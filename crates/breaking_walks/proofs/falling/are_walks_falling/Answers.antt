@@ -54,6 +54,6 @@ returns c =
     let none_left : length c.looking.trail ≤ c.looking.next = (let none = c.looking-test.false in let count = c.count.ensures.count in omega arith) in
     IfOk-weaker c.have_falling.result (λ (found : Bool). found ≡ true → (numbers : List ℕ) × Falls (IsEdge c.deref.result.now) numbers) (λ (falls : Bool). falls ≡ true → NeverRepeats u k dst entry)
     (λ falls found on.
-        let (numbers, fall) = found on in
-        surveyed_repeats u k dst entry c.looking.next c.looking.trail edges c.looking.invariant none_left numbers (subst (λ (es : List Edge). Falls (IsEdge es) numbers) c.deref.ensures.value fall))
+    let (numbers, fall) = found on in
+    surveyed_repeats u k dst entry c.looking.next c.looking.trail edges c.looking.invariant none_left numbers (subst (λ (es : List Edge). Falls (IsEdge es) numbers) c.deref.ensures.value fall))
     c.have_falling.ensures
