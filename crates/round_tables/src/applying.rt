@@ -73,8 +73,23 @@ fn insert_rules(table: &mut Table, changes: &[Change])
     }
 }
 
-/// Makes good changes of a table: first its deletes and then its replaces, each in one pass over the table, and then its
-/// inserts.
+/// Makes good changes of a table one after the other. Each delete and each replace looks for its key.
+fn change_in_turn(table: &mut Table, changes: &[Change])
+    requires good { AreGood table.old.rules changes.now }
+    requires fits { insert_count changes.now ≤ table.old.spare }
+    ensures rules { table.new.rules ≡ rules_after changes.now table.old.rules }
+    ensures room { room_of table.new ≡ room_of table.old }
+{
+    for change in changes {
+        change_table(table, change);
+    }
+}
+
+/// So many changes of a switch are made one after the other at most. More are faster made by kinds.
+const MOST_IN_TURN: usize = 4;
+
+/// Makes good changes of a table. Where they are many, first its deletes and then its replaces, each in one pass over the
+/// table, and then its inserts.
 fn change_rules(table: &mut Table, changes: &[Change], rules: &mut Vec<Rule>)
     requires good { AreGood table.old.rules changes.now }
     requires fits { insert_count changes.now ≤ table.old.spare }
@@ -83,6 +98,10 @@ fn change_rules(table: &mut Table, changes: &[Change], rules: &mut Vec<Rule>)
     ensures room { room_of table.new ≡ room_of table.old }
     ensures list { vec_capacity rules.old ≤ vec_capacity rules.new }
 {
+    if changes.len() <= MOST_IN_TURN {
+        change_in_turn(table, changes);
+        return;
+    }
     collect_deleted(changes, rules);
     table.delete_all(rules);
     collect_replacing(changes, rules);
