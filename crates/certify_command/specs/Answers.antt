@@ -18,7 +18,7 @@ use Rattle.check_base.specs.Names.{CheckNames}
 use Rattle.check_base.specs.Checks.{CheckMeaning, FilesMeanPlan, IsNamed, check_count, task_in}
 use Rattle.round_judge.specs.Evidence.{IsSearchEvidence}
 use Rattle.round_certifier.specs.Refusals.{IsFirstRefusal}
-use Rattle.round_certifier.specs.Standing.{aim_for}
+use Rattle.round_certifier.specs.Standing.{target_for}
 use Rattle.round_certifier.specs.declared.refusal.Refusal.{Refusal}
 use Rattle.certify_command.specs.Lines.{cause_line, class_of_cause}
 
@@ -40,7 +40,7 @@ pub record IsCertifiable (m : CheckMeaning) : Type 0 where
 -- certified and keeps every packet of every run consistent
 pub record IsCertifiedText (m : CheckMeaning) (text : List ℕ) : Type 0 where
   pub evidence : OrderedEvidence
-  pub searched : IsSearchEvidence (aim_for (task_in m)) (rollout (task_in m)) evidence
+  pub searched : IsSearchEvidence (target_for (task_in m)) (rollout (task_in m)) evidence
   pub text_is : text ≡ plan_text m.update.net (plan_with m evidence)
   pub means : plan_in m.update.net text ≡ Ok (plan_with m evidence)
   pub certified : IsCertified (task_in m) (Ordered evidence)

@@ -12,7 +12,7 @@ ghost use Rattle.command_base.specs.Updates.{meaning_of};
 ghost use Rattle.command_base.specs.Replies.{answer_of};
 ghost use Rattle.round_judge.specs.Evidence.{IsSearchEvidence};
 ghost use Rattle.round_certifier.specs.Refusals.{IsFirstRefusal, OfRefusal};
-ghost use Rattle.round_certifier.specs.Standing.{aim_for};
+ghost use Rattle.round_certifier.specs.Standing.{target_for};
 ghost use Rattle.certify_command.specs.Answers.{IsCertifiable, IsCertifiedText, IsCertifyAnswer, case_in};
 ghost use Rattle.certify_command.specs.Lines.{cause_line};
 
@@ -40,7 +40,7 @@ fn evidence_reply(
     requires new { IsUserConfig files.now.net (rules_of_all files.now.new) }
     requires valid { IsValidPlan files.now.net
         (record { rounds = plan.rounds; evidence = Ordered evidence }) }
-    requires searched { IsSearchEvidence (aim_for (task_for (meaning_of files.now) plan))
+    requires searched { IsSearchEvidence (target_for (task_for (meaning_of files.now) plan))
         (rollout (task_for (meaning_of files.now) plan)) evidence }
     requires certified { IsCertified (task_for (meaning_of files.now) plan) (Ordered evidence) }
     ensures status { IfOk result (λ r. (answer_of r).status ≡ Status.Done) }
@@ -92,7 +92,7 @@ fn find_evidence(
     requires valid { IsValidPlan files.now.net plan.now }
     requires fits { Fits (task_for (meaning_of files.now) plan.now) room.old }
     ensures searched { IfOk result
-        (IsSearchEvidence (aim_for (task_for (meaning_of files.now) plan.now))
+        (IsSearchEvidence (target_for (task_for (meaning_of files.now) plan.now))
         (rollout (task_for (meaning_of files.now) plan.now))) }
     ensures certified { IfOk result (λ e.
         IsCertified (task_for (meaning_of files.now) plan.now) (Ordered e)) }

@@ -1,5 +1,5 @@
 -- A report is read as the log: its other lines are comments.
-use Rattle.std.proofs.Common.{◌≡◌, ◌≢◌, ℕ, zero, suc, ◌+◌, ◌/◌, ◌%◌, ◌<◌, ◌≤◌, true, List, [], ◌∷◌, ◌++◌, length, map, drop, get_or, codes, decimal, Ok, refl, sym, ap, ◌∙◌, subst, inl, inr, append_assoc, append-nil, length-append, arith}
+use Rattle.std.proofs.Common.{◌≡◌, ◌≢◌, ℕ, suc, ◌+◌, ◌/◌, ◌%◌, ◌≤◌, true, List, [], ◌∷◌, ◌++◌, length, map, get_or, codes, decimal, Ok, refl, sym, ap, ◌∙◌, inl, inr, append-nil, length-append, arith}
 use Rattle.std.specs.Prelude.{slice_index, flat_map}
 use Rattle.std.specs.List.{AllByRecursion}
 use Rattle.std.proofs.Math.ListN.{get_or-eq_default}
@@ -10,13 +10,12 @@ use Rattle.net_base.proofs.Cuts.{Lacks, Lacks-append, Lacks-cons}
 use Rattle.net_base.proofs.MemberLaws.{each_append}
 use Rattle.topology.specs.Networks.{Network, IsNetwork, IsName}
 use Rattle.update_model.specs.declared.Change.{Change}
-use Rattle.update_model.specs.declared.Event.{Event}
-use Rattle.schedule_replay.specs.EventTexts.{event_text, schedule_text, HasLine}
+use Rattle.schedule_replay.specs.EventTexts.{event_text, HasLine}
 use Rattle.net_base.specs.Lines.{text_of, is_comment}
 use Rattle.schedule_replay.specs.Schedules.{schedule_in, numbered}
 use Rattle.schedule_replay.specs.Traces.{phase_line}
 use Rattle.schedule_replay.proofs.EventsAgain.{lines_between}
-use Rattle.schedule_replay.proofs.Printed.{are_from, are_lower, Lacks-from, decimal_from, name_from}
+use Rattle.schedule_replay.proofs.Printed.{Lacks-from, decimal_from, name_from}
 use Rattle.schedule_replay.proofs.TracesAgain.{phase_from}
 use Rattle.round_messages.specs.Requests.{switch_numbered}
 use Rattle.switch_session.specs.declared.Cause.{Cause}
@@ -24,7 +23,8 @@ use Rattle.switch_session.specs.declared.Cause.TheVariants as cause
 use Rattle.switch_session.specs.declared.Session.{Session}
 use Rattle.switch_session.specs.declared.Session.TheVariants.{Waiting, Open, Failed}
 use Rattle.update_driver.specs.Drivers.{DriverState, channel_at}
-use Rattle.drive_command.specs.Reports.{sent_line, cause_text, failed_line, session_lines, by_switch, sent_to, session_of, front_lines, last_line, log_text, report_text}
+use Rattle.switch_session.specs.Causes.{cause_text}
+use Rattle.drive_command.specs.Reports.{session_lines, by_switch, sent_to, session_of, front_lines, last_line, log_text, report_text}
 
 -- ---- the lines on the switches
 

@@ -1,5 +1,5 @@
 -- What is written of a driver: what it sent, which sessions failed, its log and how far the update is.
-use Rattle.std.specs.Prelude.{ℕ, suc, ◌+◌, List, [], ◌∷◌, ◌++◌, map, length, codes, decimal}
+use Rattle.std.specs.Prelude.{ℕ, suc, ◌+◌, List, [], ◌∷◌, ◌++◌, map, length, codes}
 use Rattle.hex.specs.Hex.{encode_lower}
 use Rattle.topology.specs.Networks.{Network}
 use Rattle.update_model.specs.declared.Change.{Change}
@@ -7,8 +7,8 @@ use Rattle.schedule_replay.specs.EventTexts.{event_text, schedule_text}
 use Rattle.net_base.specs.Lines.{text_of}
 use Rattle.schedule_replay.specs.Traces.{phase_line}
 use Rattle.round_messages.specs.Requests.{switch_numbered}
+use Rattle.switch_session.specs.Causes.{cause_text}
 use Rattle.switch_session.specs.declared.Cause.{Cause}
-use Rattle.switch_session.specs.declared.Cause.TheVariants as cause
 use Rattle.switch_session.specs.declared.Session.{Session}
 use Rattle.switch_session.specs.declared.Session.TheVariants.{Waiting, Open, Failed}
 use Rattle.update_driver.specs.Drivers.{DriverState, channel_at}
@@ -16,14 +16,6 @@ use Rattle.update_driver.specs.Drivers.{DriverState, channel_at}
 -- all bytes that were sent to a switch of this name: `# sent SWITCH HEX`
 abbrev pub sent_line : List ℕ → List ℕ → List ℕ
 sent_line name bytes = codes "# sent " ++ name ++ codes " " ++ encode_lower bytes
-
--- why a session failed
-abbrev pub cause_text : Cause → List ℕ
-cause_text cause.Length = codes "Length"
-cause_text cause.Version = codes "Version"
-cause_text cause.NoHello = codes "NoHello"
-cause_text (cause.Error kind code) = codes "Error " ++ decimal kind ++ codes " " ++ decimal code
-cause_text (cause.Xid xid) = codes "Xid " ++ decimal xid
 
 -- a session that failed, with a switch of this name: `# failed SWITCH CAUSE`
 abbrev pub failed_line : List ℕ → Cause → List ℕ

@@ -8,6 +8,7 @@ use hex::encode;
 use net_base::{Memory, SwitchId};
 use schedule_replay::{add_line, events_text, phase_line, switch_text};
 use std::alloc::Global;
+use switch_session::cause_text;
 use topology::Net;
 use update_driver::{Cause, Driver, Session};
 
@@ -19,19 +20,6 @@ fn sent_line(alloc: Global, name: &str, bytes: &[u8]) -> Result<Vec<u8>, Memory>
     let mut text = format!(in alloc; "# sent {name} ")?.into_bytes();
     text.extend_from_slice(digits.as_bytes())?;
     Ok(text)
-}
-
-/// Why a session failed.
-fn cause_text(alloc: Global, cause: Cause) -> Result<Vec<u8>, Memory>
-    ensures { IfOk result (λ t. t.items ≡ reports.cause_text cause) }
-{
-    match cause {
-        Cause::Length => Ok(b"Length".to_vec(alloc)?),
-        Cause::Version => Ok(b"Version".to_vec(alloc)?),
-        Cause::NoHello => Ok(b"NoHello".to_vec(alloc)?),
-        Cause::Error(kind, code) => Ok(format!(in alloc; "Error {kind} {code}")?.into_bytes()),
-        Cause::Xid(xid) => Ok(format!(in alloc; "Xid {xid}")?.into_bytes()),
-    }
 }
 
 /// The line on a session that failed, with a switch of this name.

@@ -1,15 +1,16 @@
 //! Writing the lines: one text grows, and nothing is kept besides.
-ghost use Rattle.std.specs.Prelude.{◌≡◌, ◌≤◌, ◌<◌, ◌+◌, ◌*◌, ◌++◌, ◌^◌, ◌∷◌, [], ℕ, length, map, filter, sum_by, slice_index_or, false, IfOk, OnOk};
+ghost use Rattle.std.specs.Prelude.{◌≡◌, ◌≤◌, ◌<◌, ◌+◌, ◌*◌, ◌++◌, ◌^◌, ◌∷◌, [], length, map, filter, sum_by, IfOk, OnOk};
 ghost use Rattle.std.specs.List.{AllByRecursion};
-ghost use Rattle.topology.specs.Networks.{switch_count};
+ghost use Rattle.net_base.specs.Switches.{has};
 ghost use Rattle.update_model.specs.Ranges.{IsPlanChange};
-ghost use Rattle.round_messages.specs.Requests.{change_request, barrier_request, round_requests, requests_from, is_changed, switches_of, switch_numbered};
+ghost use Rattle.round_messages.specs.Requests.{change_request, barrier_request, round_requests, requests_from, switches_of};
 ghost use Rattle.emit_command.specs.Lines.{line, emit_text};
 ghost use Rattle.emit_command.specs.Written.{AddsLines};
 
 use command_base::switch_name;
-use net_base::{Memory, SwitchId};
+use net_base::{Memory, SwitchId, SwitchSet};
 use openflow10::{encode_barrier, encode_change};
+use round_messages::changed_switches;
 use std::alloc::Global;
 use topology::Net;
 use update_model::{Change, Rounds};
@@ -39,21 +40,6 @@ fn push_line(
     text.extend_from_slice(digits.as_bytes())?;
     text.push(b'\n')?;
     Ok(())
-}
-
-/// Which switches have a change in the round, by their numbers.
-fn changed_switches(alloc: Global, net: &Net, changes: &[Change]) -> Result<Vec<bool>, Memory>
-    requires { AllByRecursion (IsPlanChange net.now) changes.now }
-    ensures long { IfOk result (λ marks. length marks.items ≡ switch_count net.now) }
-    ensures marked { IfOk result (λ marks. (s : ℕ) → s < switch_count net.now
-        → slice_index_or marks.items s false ≡ is_changed changes.now (switch_numbered s)) }
-{
-    let mut marks = vec![in alloc; false; net.switches() as usize]?;
-    for change in changes {
-        let switch = change.switch();
-        marks[switch.0 as usize] = true;
-    }
-    Ok(marks)
 }
 
 impl Lines {
@@ -118,26 +104,25 @@ impl Lines {
         Ok(())
     }
 
-    /// The lines of a barrier request for each switch that is marked, ascending.
+    /// The lines of a barrier request for each switch that has a change, ascending.
     fn add_barriers(
         &mut self,
         alloc: Global,
         net: &Net,
         round: usize,
-        marks: &[bool],
+        changed: SwitchSet,
     ) -> Result<(), Memory>
         requires round { round < 4200 }
-        requires long { length marks.now ≡ switch_count net.now }
         requires xids { self.old.xid + 128 < 2 ^ 32 }
         ensures { OnOk result
             (AddsLines net.now
-            (map (barrier_request round)
-            (filter (λ s. slice_index_or marks.now s.0 false) (switches_of net.now)))
+            (map (barrier_request round) (filter (has changed) (switches_of net.now)))
             self.old self.new) }
     {
         for number in 0..net.switches() {
-            if marks[number as usize] {
-                self.add_barrier(alloc, net, round, SwitchId(number))?;
+            let switch = SwitchId(number);
+            if changed.has(switch) {
+                self.add_barrier(alloc, net, round, switch)?;
             }
         }
         Ok(())
@@ -157,9 +142,10 @@ impl Lines {
         ensures { OnOk result
             (AddsLines net.now (round_requests net.now round changes.now) self.old self.new) }
     {
-        let marks = changed_switches(alloc, net, changes)?;
+        net.keeps_rules();
+        let changed = changed_switches(changes);
         self.add_changes(alloc, net, round, changes)?;
-        self.add_barriers(alloc, net, round, &marks)?;
+        self.add_barriers(alloc, net, round, changed)?;
         Ok(())
     }
 }

@@ -16,12 +16,13 @@ use Rattle.update_model.specs.declared.Change.{Change}
 use Rattle.certificates.specs.Certified.{is_two_phase}
 use Rattle.certificates.specs.Updates.{Update}
 use Rattle.certificates.specs.declared.Plan.{Plan}
-use Rattle.packed_rounds.specs.Packing.{Target, CanStand, IsPackedRound, ArePacked, PacksOrdered, PacksStuck}
+use Rattle.table_difference.specs.Targets.{Target}
+use Rattle.packed_rounds.specs.Packing.{CanStand, IsPackedRound, ArePacked, PacksOrdered, PacksStuck}
 use Rattle.packed_trees.specs.Bounds.{AreBounds}
 use Rattle.round_planner.specs.Search.{single_rounds}
 use Rattle.round_planner.proofs.StandingLaws.{length_rounds}
 use Rattle.round_planner.proofs.UserTables.{user_start, remaining_count}
-use Rattle.round_planner.specs.Updates.{update_aim, bare_task}
+use Rattle.round_planner.specs.Updates.{update_target, bare_task}
 use Rattle.tag_allocator.specs.Tags.{available_tags}
 use Rattle.topology.specs.Networks.{Network}
 use Rattle.two_phase.specs.Depths.{depth_rounds, depth_count}
@@ -42,7 +43,7 @@ use Rattle.plan_command.specs.NewPlans.{FilesMeanTrees, FilesMeanGoodEnds, IsStu
 use Rattle.plan_command.specs.Planned.{SaysTooFew, SaysTooSmall}
 use Rattle.plan_command.proofs.UpdateAnswers as law
 use Rattle.plan_command.proofs.UpdateAnswers.{AreApart, IsOneStuck, AnswersUpdate, SaysGoodPlan, tree_ends, plan_status, none_not_done, none_not_refused, none_not_bad, few_by_status, small_by_status, none_fits, few_of_none, small_of_none, fits_tags, fits_room}
-use Rattle.pack_command.specs.Chosen.{update_target, IsPackedPlan, IsPackingStuck, IsOrderedPlan, HasNoOrderedPlan, phased_plan, phased_count, IsPackPlan}
+use Rattle.pack_command.specs.Chosen.{IsPackedPlan, IsPackingStuck, IsOrderedPlan, HasNoOrderedPlan, phased_plan, phased_count, IsPackPlan}
 use Rattle.pack_command.specs.Packed.{SaysPackPlan, SaysNoPlan, PacksInFewRounds, SaysPacked, IsPacked}
 use Rattle.pack_command.specs.PackFiles.{IsPackingOrdered, EndsInOrder, HasPackPlan, FilesHavePackPlan, FilesPackNoTags, FilesPackNoRoom, WritesPackPlan, AreFull}
 use Rattle.pack_command.specs.Promise.{PackPromise}
@@ -108,7 +109,7 @@ module _ (apart : AreApart) (packing_apart : PackingIsApart) (u : Update) where
   -- where packing or the search ends ordered, they don't both end stuck
   order_apart : EndsInOrder u → (tried : List (List Change)) → ¬ HasNoOrderedPlan u tried
   order_apart (inl packing) tried none = packing_apart (update_target u) u.old packing.rounds none.packing.rounds packing.ends none.packing.ends
-  order_apart (inr ordered) tried none = apart (update_aim u) u.old ordered.changes none.search.changes ordered.ends none.search.ends
+  order_apart (inr ordered) tried none = apart (update_target u) u.old ordered.changes none.search.changes ordered.ends none.search.ends
 
   -- where packing ends ordered an ordered plan is the packed one
   packed_of : IsPackingOrdered u → (p : Plan) → IsOrderedPlan u p → IsPackedPlan u p
@@ -151,7 +152,7 @@ module _ (apart : AreApart) (packing_apart : PackingIsApart) (u : Update) where
     ordered_few : PackedAreFew → (p : Plan) → IsOrderedPlan u p → length p.rounds ≤ length (remaining u.old u.new)
     ordered_few few p (inl packed) = few (update_target u) u.old p.rounds (tables_of_user u u.old old_user) (tables_of_user u u.new new_user) packed.packed
     ordered_few few p (inr (stuck, search)) =
-        let count = remaining_count (update_aim u) u.old new_user u.old (user_start (update_aim u) u.old new_user old_user) search.changes search.searched.ends.found in
+        let count = remaining_count (update_target u) u.old new_user u.old (user_start (update_target u) u.old new_user old_user) search.changes search.searched.ends.found in
         let rounds : length p.rounds ≡ length (single_rounds search.changes) = ap (λ (q : Plan). length q.rounds) search.plan_is in
         let singles = length_rounds search.changes in
         omega arith

@@ -25,20 +25,20 @@ use Rattle.check_reasons.specs.Passed.{ChangesPass}
 use Rattle.check_reasons.specs.Reasons.{IsCommonReason, HasRewrite, class_duties, old_breaks, new_breaks, bad_change, ambiguous, over_capacity, wrong_end}
 use Rattle.check_reasons.specs.declared.reason.Reason.{Reason}
 use Rattle.evidence_store.specs.Stored.{no_evidence}
-use Rattle.packed_rounds.specs.Packing.{Target, PacksOrdered}
+use Rattle.table_difference.specs.Targets.{Target}
+use Rattle.packed_rounds.specs.Packing.{PacksOrdered}
 use Rattle.packed_rounds.proofs.Packed.{never_more}
 use Rattle.plan_checker.proofs.Refuted.{break_refuted, within_rounds, bad_change_refuted, unclear_refuted, need_fits, rewrite_refuted}
 use Rattle.round_certifier.specs.Refusals.{HasNoEvidence, IsCause, IsFirstRefusal, common_reason, some_rewrite, two_phase_plan, no_evidence as none_keeps}
-use Rattle.round_certifier.specs.Standing.{aim_for}
+use Rattle.round_certifier.specs.Standing.{target_for}
 use Rattle.round_certifier.specs.declared.refusal.Refusal.{Refusal}
 use Rattle.round_judge.specs.Evidence.{IsSearchEvidence}
-use Rattle.round_planner.specs.Updates.{update_classes, update_count, update_aim}
+use Rattle.round_planner.specs.Updates.{update_classes, update_count, update_target}
 use Rattle.round_planner.proofs.ClassKept.{class_kept, same_classes_back}
 use Rattle.round_planner.proofs.SameRound.{IsSameRound, same_back, held_same, need_same, safe_same}
 use Rattle.table_difference.specs.SameClasses.{HasSameClasses, MakeNoClasses}
 use Rattle.plan_command.specs.Planned.{BothEndsAreGood}
 use Rattle.plan_command.proofs.UpdateAnswers.{count_same}
-use Rattle.pack_command.specs.Chosen.{update_target}
 use Rattle.pack_command.proofs.StandLaws.{IsStanding, tables_of_user, keeps_round, standing_at, ends_at_new, changes_few, remaining_few, ranges, no_prefix}
 
 -- what rounds are packed for, for the duties and the classes that were made
@@ -75,7 +75,7 @@ module _ (u : Update) (old_user : IsUserConfig u.net u.old) (new_user : IsUserCo
     good_for tables good = λ n class is. good n class (class_before n class is)
 
     -- the evidence of the search for these rounds is that for the classes of the update
-    pub searched_as : (e : OrderedEvidence) → IsSearchEvidence (aim_for (task_for u p)) (rollout (task_for u p)) e → IsSearchEvidence (update_aim u) (rollout (task_for u p)) e
+    pub searched_as : (e : OrderedEvidence) → IsSearchEvidence (target_for (task_for u p)) (rollout (task_for u p)) e → IsSearchEvidence (update_target u) (rollout (task_for u p)) e
     searched_as e h = record {
       picks = λ k n class less is. h.picks k n class less (class_kept (update_classes u) (classes_for t) (same_classes_back (classes_for t) (update_classes u) same) n class is);
       picked = λ pick i.

@@ -24,10 +24,9 @@ use Rattle.table_difference.proofs.LengthLaws.{few_remain}
 use Rattle.packed_rounds.specs.Packing.{CanStand, ArePacked, IsPackedRound, PacksOrdered, tables_past}
 use Rattle.packed_rounds.proofs.Filled.{filled_stands}
 use Rattle.packed_rounds.proofs.Packed.{packed_part, part_made}
-use Rattle.round_planner.specs.Updates.{update_aim}
+use Rattle.round_planner.specs.Updates.{update_target}
 use Rattle.round_planner.proofs.EndLaws.{same_when_none}
 use Rattle.round_planner.proofs.UserTables.{AreUserTables, IsUserChange, plan_change, keeps_user, user_start, user_next, remaining_user, remaining_applies}
-use Rattle.pack_command.specs.Chosen.{update_target}
 
 -- each table of a user configuration has distinct keys
 each_table : (tables : List (List Rule)) → ((s : SwitchId) → IsTable (rules_at tables s)) → AllByRecursion IsTable tables
@@ -40,23 +39,23 @@ tables_of_user u tables user = each_table tables user.distinct
 module _ (u : Update) (old_user : IsUserConfig u.net u.old) (new_user : IsUserConfig u.net u.new) where
   -- tables of rules that are those of a user
   abbrev pub AreUsers : List (List Rule) → Type 0
-  AreUsers tables = AreUserTables (update_aim u) u.old tables
+  AreUsers tables = AreUserTables (update_target u) u.old tables
 
   abbrev pub IsUsers : Change → Type 0
-  IsUsers c = IsUserChange (update_aim u) u.old c
+  IsUsers c = IsUserChange (update_target u) u.old c
 
   new_unique : AllUnique u.new
   new_unique s = unique_in_table (rules_at u.new s) (new_user.distinct s)
 
   old_users : AreUsers u.old
-  old_users = user_start (update_aim u) u.old new_user old_user
+  old_users = user_start (update_target u) u.old new_user old_user
 
   -- changes that remain one after the other
   made_users : (tables : List (List Rule)) → AreUsers tables → (changes : List Change) → AreRemaining tables u.new changes → AreUsers (tables_after changes tables) × AllByRecursion IsUsers changes
   made_users tables user [] made = (user, tt)
   made_users tables user (c ∷ changes) made =
-      let is = remaining_user (update_aim u) u.old new_user tables user c made.0 in
-      let next = user_next (update_aim u) u.old new_user tables user c (remaining_applies (update_aim u) u.old new_user tables user c made.0) is in
+      let is = remaining_user (update_target u) u.old new_user tables user c made.0 in
+      let next = user_next (update_target u) u.old new_user tables user c (remaining_applies (update_target u) u.old new_user tables user c made.0) is in
       let rest = made_users (tables_after_change c tables) next changes made.1 in
       (rest.0, (is, rest.1))
 
@@ -124,7 +123,7 @@ module _ (u : Update) (old_user : IsUserConfig u.net u.old) (new_user : IsUserCo
     pub ends_at_new : (s : SwitchId) → IsSameSet (rules_at (settled_tables rounds (length rounds) u.old) s) (rules_at u.new s)
     ends_at_new s =
         subst (λ ts. IsSameSet (rules_at ts s) (rules_at u.new s)) (sym (settled_past rounds u.old))
-        (same_when_none (update_aim u) u.old new_user (tables_past rounds u.old) (past_from u.old old_users rounds ordered.packed) ordered.none_remains s)
+        (same_when_none (update_target u) u.old new_user (tables_past rounds u.old) (past_from u.old old_users rounds ordered.packed) ordered.none_remains s)
 
     pub changes_few : sum_by length rounds ≤ 4096
     changes_few =

@@ -5,25 +5,21 @@ use Rattle.certificates.specs.Updates.{Update, task_for, rollout}
 use Rattle.certificates.specs.declared.Evidence.TheVariants.{Ordered}
 use Rattle.certificates.specs.declared.OrderedEvidence.{OrderedEvidence}
 use Rattle.certificates.specs.declared.Plan.{Plan}
-use Rattle.packed_rounds.specs.Packing.{Target, PacksOrdered, PacksStuck}
+use Rattle.packed_rounds.specs.Packing.{PacksOrdered, PacksStuck}
 use Rattle.round_judge.specs.Evidence.{IsSearchEvidence}
 use Rattle.round_planner.specs.Ends.{IsPlanOf, AreStuck}
 use Rattle.round_planner.specs.declared.Ordered.{Ordered as Search}
 use Rattle.round_planner.specs.declared.Ordered.TheVariants as search
-use Rattle.round_planner.specs.Updates.{update_classes, update_aim}
+use Rattle.round_planner.specs.Updates.{update_target}
 use Rattle.two_phase.specs.Laws.{FitsTwoPhase}
 use Rattle.two_phase.specs.Depths.{depth_plan, depth_count}
-
--- what the rounds of an update are packed for
-abbrev pub update_target : Update → Target
-update_target u = record { net = u.net; new = u.new; demands = u.demands; classes = update_classes u }
 
 -- packing ends ordered with the rounds of the plan, and its evidence is that which the search makes for these rounds
 pub record IsPackedPlan (u : Update) (p : Plan) : Type 0 where
   pub packed : PacksOrdered (update_target u) u.old p.rounds
   pub evidence : OrderedEvidence
   pub evidence_is : p.evidence ≡ Ordered evidence
-  pub searched : IsSearchEvidence (update_aim u) (rollout (task_for u p)) evidence
+  pub searched : IsSearchEvidence (update_target u) (rollout (task_for u p)) evidence
 
 -- packing ends stuck
 pub record IsPackingStuck (u : Update) : Type 0 where
@@ -32,12 +28,12 @@ pub record IsPackingStuck (u : Update) : Type 0 where
 
 -- the packed plan, or where packing ends stuck that of a search which ends ordered
 abbrev pub IsOrderedPlan : Update → Plan → Type 0
-IsOrderedPlan u p = IsPackedPlan u p ⊎ (IsPackingStuck u × IsPlanOf (update_aim u) u.old p)
+IsOrderedPlan u p = IsPackedPlan u p ⊎ (IsPackingStuck u × IsPlanOf (update_target u) u.old p)
 
 -- there is no ordered plan: packing ends stuck, and so does the search, after these rounds
 pub record HasNoOrderedPlan (u : Update) (tried : List (List Change)) : Type 0 where
   pub packing : IsPackingStuck u
-  pub search : AreStuck (update_aim u) u.old tried
+  pub search : AreStuck (update_target u) u.old tried
 
 -- the ordered plan if there is one, otherwise the rounds after which the search is stuck
 abbrev pub IsFound : Update → Search → Type 0

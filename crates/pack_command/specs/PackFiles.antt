@@ -11,11 +11,13 @@ use Rattle.certificates.specs.Updates.{Update}
 use Rattle.certificates.specs.declared.Plan.{Plan}
 use Rattle.plan_format.specs.Plans.{plan_in}
 use Rattle.plan_text.specs.PlanText.{plan_text}
-use Rattle.packed_rounds.specs.Packing.{Target, CanStand, PacksOrdered}
+use Rattle.table_difference.specs.Targets.{Target}
+use Rattle.packed_rounds.specs.Packing.{CanStand, PacksOrdered}
 use Rattle.two_phase.specs.Laws.{FitsTwoPhase}
 use Rattle.command_base.specs.Names.{UpdateNames}
 use Rattle.plan_command.specs.NewPlans.{FilesMeanGoodEnds, FilesLackTags, FilesLackRoom, IsOrdered}
-use Rattle.pack_command.specs.Chosen.{update_target, IsPackingStuck, IsPackPlan}
+use Rattle.round_planner.specs.Updates.{update_target}
+use Rattle.pack_command.specs.Chosen.{IsPackingStuck, IsPackPlan}
 
 -- packing ends ordered
 pub record IsPackingOrdered (u : Update) : Type 0 where

@@ -9,12 +9,12 @@ use Rattle.certificates.specs.declared.Plan.{Plan}
 use Rattle.packed_rounds.specs.Packing.{PacksOrdered}
 use Rattle.packed_trees.specs.Bounds.{AreBounds}
 use Rattle.table_difference.specs.SameClasses.{HasSameClasses}
-use Rattle.round_planner.specs.Updates.{update_classes, update_count, bare_task}
+use Rattle.round_planner.specs.Updates.{update_classes, update_count, update_target, bare_task}
 use Rattle.command_base.specs.Answers.{Answer}
 use Rattle.command_base.specs.Judgements.{SaysTooMany, SaysWhyNot, most_classes}
 use Rattle.upgrade_command.specs.Texts.{SaysPlan}
 use Rattle.plan_command.specs.Planned.{BothEndsAreGood, IsEndLine, SaysTooFew, SaysTooSmall}
-use Rattle.pack_command.specs.Chosen.{update_target, IsPackPlan, IsPackingStuck}
+use Rattle.pack_command.specs.Chosen.{IsPackPlan, IsPackingStuck}
 
 -- the answer is the text of the chosen plan, which is certified and keeps every packet of every run consistent
 pub record SaysPackPlan (u : Update) (answer : Answer) : Type 0 where

@@ -9,7 +9,7 @@ use Rattle.certificates.specs.declared.Plan.{Plan}
 use Rattle.packed_rounds.specs.Packing.{CanStand, PacksOrdered}
 use Rattle.packed_trees.specs.Bounds.{AreBounds}
 use Rattle.round_planner.specs.Search.{single_rounds}
-use Rattle.round_planner.specs.Updates.{update_count, bare_task, KeepsConsistent}
+use Rattle.round_planner.specs.Updates.{update_count, update_target, bare_task, KeepsConsistent}
 use Rattle.tag_allocator.specs.Tags.{available_tags}
 use Rattle.two_phase.specs.Depths.{depth_count}
 use Rattle.two_phase.specs.Laws.{FitsTwoPhase}
@@ -24,7 +24,6 @@ use Rattle.command_base.specs.Runs.{IsSettled}
 use Rattle.check_base.specs.Checks.{FilesAreCertified}
 use Rattle.plan_command.specs.NoPlanLines as lines
 use Rattle.plan_command.specs.NewPlans.{FilesHavePlan, FilesBreakAnEnd, UpdateMakesTooMany, FilesMeanTrees, NamesFirstEndBreak, HoldBeside}
-use Rattle.pack_command.specs.Chosen.{update_target}
 use Rattle.pack_command.specs.PackFiles.{IsPackingOrdered, EndsInOrder, FilesHavePackPlan, FilesPackNoTags, FilesPackNoRoom, WritesPackPlan, AreFull}
 
 -- the files and their names, what was written before and after the run, and how it ended

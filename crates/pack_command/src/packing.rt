@@ -12,13 +12,13 @@ ghost use Rattle.evidence_store.specs.Stored.{no_evidence};
 ghost use Rattle.packed_rounds.specs.Packing.{PacksOrdered};
 ghost use Rattle.plan_checker.specs.Fits.{Fits};
 ghost use Rattle.round_judge.specs.Evidence.{IsSearchEvidence};
-ghost use Rattle.round_certifier.specs.Standing.{aim_for};
-ghost use Rattle.round_planner.specs.Updates.{update_classes, update_count};
+ghost use Rattle.round_certifier.specs.Standing.{target_for};
+ghost use Rattle.round_planner.specs.Updates.{update_classes, update_count, update_target};
 ghost use Rattle.table_difference.specs.SameClasses.{HasSameClasses, MakeNoClasses};
 ghost use Rattle.command_base.specs.Updates.{meaning_of};
 ghost use Rattle.command_base.specs.Judgements.{most_classes};
 ghost use Rattle.plan_command.specs.Planned.{BothEndsAreGood};
-ghost use Rattle.pack_command.specs.Chosen.{update_target, IsPackedPlan};
+ghost use Rattle.pack_command.specs.Chosen.{IsPackedPlan};
 
 use certificates::{Evidence, OrderedEvidence, Plan};
 use check_reasons::Case;
@@ -61,7 +61,7 @@ fn certify_packed(
         (update_classes (meaning_of files.now)) }
     requires fits { Fits (task_for (meaning_of files.now) plan.now) room.old }
     ensures searched { IfOk result
-        (IsSearchEvidence (aim_for (task_for (meaning_of files.now) plan.now))
+        (IsSearchEvidence (target_for (task_for (meaning_of files.now) plan.now))
         (rollout (task_for (meaning_of files.now) plan.now))) }
     ensures certified { IfOk result (λ e.
         IsCertified (task_for (meaning_of files.now) plan.now) (Ordered e)) }
@@ -100,7 +100,7 @@ fn packed_evidence(
         (update_classes (meaning_of files.now)) }
     requires few { update_count (meaning_of files.now) ≤ most_classes }
     ensures searched { IfOk result
-        (IsSearchEvidence (aim_for (task_for (meaning_of files.now) plan.now))
+        (IsSearchEvidence (target_for (task_for (meaning_of files.now) plan.now))
         (rollout (task_for (meaning_of files.now) plan.now))) }
     ensures certified { IfOk result (λ e.
         IsCertified (task_for (meaning_of files.now) plan.now) (Ordered e)) }

@@ -11,7 +11,8 @@ use Rattle.update_model.specs.declared.Change.{Change}
 use Rattle.update_model.proofs.RemainingLaws.{AllUnique, remaining_shortens, remaining_made, unique_then}
 use Rattle.table_difference.proofs.WithoutLaws.{unique_tables, remaining_without}
 use Rattle.certificates.proofs.Fewer.{round_of_fewer}
-use Rattle.packed_rounds.specs.Packing.{IsFilled, Target, CanStand, IsPackedRound, ArePacked, PacksOrdered, PacksStuck, tables_past}
+use Rattle.table_difference.specs.Targets.{Target}
+use Rattle.packed_rounds.specs.Packing.{IsFilled, CanStand, IsPackedRound, ArePacked, PacksOrdered, PacksStuck, tables_past}
 use Rattle.packed_rounds.proofs.Filled.{round_part, filled_once, filled_full, filled_stands, whole_filled}
 
 -- fewer changes can stand too

@@ -1,26 +1,17 @@
 -- Packed rounds: each takes, in the order of what remains, every change that can stand in it beside those taken before.
 use Rattle.std.specs.Prelude.{◌≡◌, ◌≢◌, ◌⊎◌, List, [], ◌∷◌, ◌++◌}
-use Rattle.topology.specs.Networks.{Network}
 use Rattle.flow_rules.specs.declared.rules.Rule.{Rule}
-use Rattle.dest_classes.specs.Classes.{ClassList}
-use Rattle.demands.specs.Duties.{DemandView}
 use Rattle.update_model.specs.Changes.{tables_after}
 use Rattle.update_model.specs.Remaining.{remaining}
 use Rattle.update_model.specs.declared.Change.{Change}
 use Rattle.certificates.specs.Rounds.{CanBeRound}
+use Rattle.table_difference.specs.Targets.{Target}
 
 -- going through a list, each change is taken with which what was taken so far can stand, and the others are left
 abbrev pub IsFilled : (List Change → Type 0) → List Change → List Change → List Change → Type 0
 IsFilled can taken [] round = round ≡ taken
 IsFilled can taken (c ∷ rest) round =
     (can (taken ++ c ∷ []) × IsFilled can (taken ++ c ∷ []) rest round) ⊎ ((¬ can (taken ++ c ∷ [])) × IsFilled can taken rest round)
-
--- what is packed for: a network, the new tables, demands, and the classes
-pub record Target : Type 0 where
-  pub net : Network
-  pub new : List (List Rule)
-  pub demands : List DemandView
-  pub classes : ClassList
 
 -- the changes can be a round at the tables
 abbrev pub CanStand : Target → List (List Rule) → List Change → Type 0

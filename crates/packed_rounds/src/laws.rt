@@ -6,7 +6,8 @@ ghost use Rattle.flow_rules.specs.Tables.{IsTable};
 ghost use Rattle.flow_rules.specs.declared.rules.Rule.{Rule};
 ghost use Rattle.update_model.specs.Remaining.{remaining};
 ghost use Rattle.update_model.specs.declared.Change.{Change};
-ghost use Rattle.packed_rounds.specs.Packing.{Target, CanStand, IsPackedRound, PacksOrdered, PacksStuck, tables_past};
+ghost use Rattle.table_difference.specs.Targets.{Target};
+ghost use Rattle.packed_rounds.specs.Packing.{CanStand, IsPackedRound, PacksOrdered, PacksStuck, tables_past};
 
 /// There is one packed round at most, and packing has one end at most.
 pub fn packing_ends_once()

@@ -21,7 +21,8 @@ use Rattle.certificates.specs.Updates.{Task}
 use Rattle.certificates.specs.Trees.{IsRemainingReplace}
 use Rattle.certificates.proofs.TreeTables.{Fits}
 use Rattle.certificates.proofs.TreeRounds.{new_fit}
-use Rattle.packed_rounds.specs.Packing.{Target, CanStand, IsPackedRound, ArePacked, PacksStuck, tables_past}
+use Rattle.table_difference.specs.Targets.{Target}
+use Rattle.packed_rounds.specs.Packing.{CanStand, IsPackedRound, ArePacked, PacksStuck, tables_past}
 use Rattle.packed_rounds.proofs.Filled.{filled_stands}
 use Rattle.packed_rounds.proofs.Packed.{packed_part, packed_full, stuck_alone}
 use Rattle.packed_trees.specs.TreeUpdates.{IsUserTreeUpdate, task_target}

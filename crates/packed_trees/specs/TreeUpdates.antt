@@ -4,7 +4,7 @@ use Rattle.path_walk.specs.UserConfigs.{IsUserConfig}
 use Rattle.certificates.specs.Updates.{Task}
 use Rattle.certificates.specs.Certified.{classes_for}
 use Rattle.certificates.specs.Trees.{IsTreeUpdate}
-use Rattle.packed_rounds.specs.Packing.{Target}
+use Rattle.table_difference.specs.Targets.{Target}
 
 -- what the packing of an update is for
 abbrev pub task_target : Task → Target

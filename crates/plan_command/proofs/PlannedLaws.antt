@@ -6,7 +6,7 @@ use Rattle.file_access.specs.Outside.{Files}
 use Rattle.net_base.specs.declared.ids.SwitchId.{SwitchId}
 use Rattle.certificates.specs.Updates.{Update}
 use Rattle.round_planner.specs.Search.{single_rounds}
-use Rattle.round_planner.specs.Updates.{update_aim}
+use Rattle.round_planner.specs.Updates.{update_target}
 use Rattle.two_phase.specs.Plans.{IsFirstTooSmall}
 use Rattle.tag_allocator.specs.Tags.{available_tags}
 use Rattle.command_base.specs.declared.status.Status.{Status}
@@ -103,8 +103,8 @@ module _ (files : Files) (names : UpdateNames) (old new : Option (List ℕ)) (re
   module _ (apart : AreApart) where
     done_at : (u : Update) → HasPlan u → SaysSearched u a.answer → a.answer.status ≡ status.Done
     done_at u plan (inl v) = plan_status u a.answer v.plan v.says
-    done_at u (inl ordered) (inr (inl v)) = absurd (apart (update_aim u) u.old ordered.changes v.stuck.changes ordered.ends v.stuck.ends)
-    done_at u (inl ordered) (inr (inr v)) = absurd (apart (update_aim u) u.old ordered.changes v.stuck.changes ordered.ends v.stuck.ends)
+    done_at u (inl ordered) (inr (inl v)) = absurd (apart (update_target u) u.old ordered.changes v.stuck.changes ordered.ends v.stuck.ends)
+    done_at u (inl ordered) (inr (inr v)) = absurd (apart (update_target u) u.old ordered.changes v.stuck.changes ordered.ends v.stuck.ends)
     done_at u (inr (stuck, fits)) (inr none) = absurd (none_fits u a.answer fits none)
 
     pub done : (result ≡ status.Done) ↔ FilesHavePlan files names
@@ -118,14 +118,14 @@ module _ (files : Files) (names : UpdateNames) (old new : Option (List ℕ)) (re
     -- a new plan is none of a stuck search without room or tags
     few_at : (u : Update) → IsStuck u → length (available_tags u.net) < length u.net.vlans → SaysSearched u a.answer → SaysTooFew u a.answer
     few_at u stuck fewer (inl v) = elim v.is_new [
-      | inl ordered ↦ absurd (apart (update_aim u) u.old ordered.changes stuck.changes ordered.searched.ends stuck.ends)
+      | inl ordered ↦ absurd (apart (update_target u) u.old ordered.changes stuck.changes ordered.searched.ends stuck.ends)
       | inr two ↦ absurd (fits_tags u two.fits fewer)
     ]
     few_at u stuck fewer (inr none) = few_of_none u a.answer fewer none
 
     small_at : (u : Update) (s : SwitchId) (need capacity : ℕ) → IsStuck u → IsFirstTooSmall u.net u.old u.new s need capacity → SaysSearched u a.answer → SaysTooSmall u a.answer
     small_at u s need capacity stuck small (inl v) = elim v.is_new [
-      | inl ordered ↦ absurd (apart (update_aim u) u.old ordered.changes stuck.changes ordered.searched.ends stuck.ends)
+      | inl ordered ↦ absurd (apart (update_target u) u.old ordered.changes stuck.changes ordered.searched.ends stuck.ends)
       | inr two ↦ absurd (fits_room u s need capacity two.fits small)
     ]
     small_at u s need capacity stuck small (inr none) = small_of_none u a.answer s need capacity small none

@@ -18,9 +18,9 @@ use Rattle.certificates.specs.declared.Plan.{Plan}
 use Rattle.table_difference.specs.SameClasses.{HasSameClasses}
 use Rattle.plan_format.specs.Plans.{plan_in}
 use Rattle.plan_text.specs.PlanText.{plan_text}
-use Rattle.round_judge.specs.Aims.{Aim}
+use Rattle.table_difference.specs.Targets.{Target}
 use Rattle.round_planner.specs.Search.{EndsOrdered, EndsStuck, single_rounds}
-use Rattle.round_planner.specs.Updates.{update_classes, update_count, update_aim, bare_task, KeepsConsistent}
+use Rattle.round_planner.specs.Updates.{update_classes, update_count, update_target, bare_task, KeepsConsistent}
 use Rattle.tag_allocator.specs.Tags.{available_tags}
 use Rattle.two_phase.specs.TwoPhasePlan.{two_phase_need}
 use Rattle.two_phase.specs.Laws.{FitsTwoPhase}
@@ -50,11 +50,11 @@ tree_ends u tree = record { old_good = tree.old_good; new_good = tree.new_good }
 
 -- a search that is stuck doesn't end ordered
 abbrev pub AreApart : Type 0
-AreApart = (aim : Aim) (old : List (List Rule)) (changes others : List Change) → EndsOrdered aim old changes → ¬ EndsStuck aim old others
+AreApart = (to : Target) (old : List (List Rule)) (changes others : List Change) → EndsOrdered to old changes → ¬ EndsStuck to old others
 
 -- the changes of a search that is stuck are the only ones
 abbrev pub IsOneStuck : Type 0
-IsOneStuck = (aim : Aim) (old : List (List Rule)) (changes others : List Change) → EndsStuck aim old changes → EndsStuck aim old others → changes ≡ others
+IsOneStuck = (to : Target) (old : List (List Rule)) (changes others : List Change) → EndsStuck to old changes → EndsStuck to old others → changes ≡ others
 
 -- ---- why there is no plan
 
@@ -343,7 +343,7 @@ module _ (Says : Update → Answer → Type 0) (files : Files) (names : UpdateNa
   pub too_few_written : IsOneStuck → (u : Update) (stuck : IsStuck u) → SaysTooFew u a.answer
       → Appends old new (too_few_lines u.net (length u.net.vlans) (length (available_tags u.net)) (single_rounds stuck.changes))
   too_few_written one u stuck v =
-      let changes = one (update_aim u) u.old v.stuck.changes stuck.changes v.stuck.ends stuck.ends in
+      let changes = one (update_target u) u.old v.stuck.changes stuck.changes v.stuck.ends stuck.ends in
       let rounds = v.stuck.rounds_are ∙ ap (λ cs. single_rounds cs) changes in
       wrote _ (text_of a.answer _ _ v.answer_is
       ∙ ap (λ n. too_few_lines u.net n v.has v.rounds) v.few.need_is
@@ -353,7 +353,7 @@ module _ (Says : Update → Answer → Type 0) (files : Files) (names : UpdateNa
   pub too_small_written : IsOneStuck → (u : Update) (stuck : IsStuck u) (s : SwitchId) (need capacity : ℕ) → IsFirstTooSmall u.net u.old u.new s need capacity → SaysTooSmall u a.answer
       → Appends old new (too_small_lines u.net s need capacity (single_rounds stuck.changes))
   too_small_written one u stuck s need capacity small v =
-      let changes = one (update_aim u) u.old v.stuck.changes stuck.changes v.stuck.ends stuck.ends in
+      let changes = one (update_target u) u.old v.stuck.changes stuck.changes v.stuck.ends stuck.ends in
       let rounds = v.stuck.rounds_are ∙ ap (λ cs. single_rounds cs) changes in
       wrote _ (text_of a.answer _ _ v.answer_is
       ∙ small_lines_same u.net u.old u.new v.switch s v.need v.capacity need capacity v.rounds v.small small

@@ -11,7 +11,7 @@ use Rattle.plan_format.specs.Plans.{plan_in}
 use Rattle.plan_text.specs.PlanText.{plan_text}
 use Rattle.round_planner.specs.Search.{EndsOrdered, EndsStuck}
 use Rattle.round_planner.specs.Ends.{IsPlanOf}
-use Rattle.round_planner.specs.Updates.{update_count, update_aim, bare_task}
+use Rattle.round_planner.specs.Updates.{update_count, update_target, bare_task}
 use Rattle.tag_allocator.specs.Tags.{available_tags}
 use Rattle.two_phase.specs.Laws.{FitsTwoPhase}
 use Rattle.two_phase.specs.Plans.{IsFirstTooSmall}
@@ -36,12 +36,12 @@ pub record FilesMeanTrees (files : Files) (names : UpdateNames) (u : Update) : T
 -- the search of the update ends ordered
 pub record IsOrdered (u : Update) : Type 0 where
   pub changes : List Change
-  pub ends : EndsOrdered (update_aim u) u.old changes
+  pub ends : EndsOrdered (update_target u) u.old changes
 
 -- the search of the update ends stuck
 pub record IsStuck (u : Update) : Type 0 where
   pub changes : List Change
-  pub ends : EndsStuck (update_aim u) u.old changes
+  pub ends : EndsStuck (update_target u) u.old changes
 
 -- the search ends ordered, or it ends stuck and the plan of two phases fits
 abbrev pub HasPlan : Update → Type 0
@@ -93,7 +93,7 @@ pub record WritesNewPlan (u : Update) (old new : Option (List ℕ)) : Type 0 whe
 -- the text of an ordered plan was written: that of the search, with one round for each rule that is replaced; reading it gives this plan
 pub record WritesOrderedPlan (u : Update) (old new : Option (List ℕ)) : Type 0 where
   pub plan : Plan
-  pub searched : IsPlanOf (update_aim u) u.old plan
+  pub searched : IsPlanOf (update_target u) u.old plan
   pub count : length plan.rounds ≡ length (remaining u.old u.new)
   pub means : plan_in u.net (plan_text u.net plan) ≡ Ok plan
   pub written : Appends old new (plan_text u.net plan)

@@ -16,7 +16,7 @@ use Rattle.certificates.specs.declared.Plan.{Plan}
 use Rattle.check_reasons.specs.declared.reason.Reason.TheVariants.{EndBreaks}
 use Rattle.table_difference.specs.SameClasses.{HasSameClasses}
 use Rattle.round_planner.specs.Ends.{IsPlanOf, AreStuck}
-use Rattle.round_planner.specs.Updates.{update_classes, update_count, update_aim, bare_task}
+use Rattle.round_planner.specs.Updates.{update_classes, update_count, update_target, bare_task}
 use Rattle.two_phase.specs.Laws.{FitsTwoPhase}
 use Rattle.two_phase.specs.Plans.{two_phase_plan, AreTooFew, IsFirstTooSmall}
 use Rattle.command_base.specs.declared.status.Status.TheVariants as status
@@ -48,13 +48,13 @@ pub record IsEndLine (u : Update) (line : List ℕ) : Type 0 where
 -- the search ended stuck, and the plan is that of two phases with the rounds of the search as those that were tried
 pub record IsTwoPhasePlan (u : Update) (p : Plan) : Type 0 where
   pub rounds : List (List Change)
-  pub stuck : AreStuck (update_aim u) u.old rounds
+  pub stuck : AreStuck (update_target u) u.old rounds
   pub fits : FitsTwoPhase u.net u.old u.new
   pub plan_is : p ≡ two_phase_plan u.net u.old u.new rounds
 
 -- the plan of a search that ended ordered, or of two phases
 abbrev pub IsNewPlan : Update → Plan → Type 0
-IsNewPlan u p = IsPlanOf (update_aim u) u.old p ⊎ IsTwoPhasePlan u p
+IsNewPlan u p = IsPlanOf (update_target u) u.old p ⊎ IsTwoPhasePlan u p
 
 -- the answer is the text of a new plan, which is certified and keeps every packet of every run consistent
 pub record SaysNewPlan (u : Update) (answer : Answer) : Type 0 where
@@ -68,14 +68,14 @@ pub record SaysNewPlan (u : Update) (answer : Answer) : Type 0 where
 -- the answer is the text of an ordered plan: that of the search, with one round for each rule that is replaced
 pub record SaysOrdered (u : Update) (answer : Answer) : Type 0 where
   pub plan : Plan
-  pub searched : IsPlanOf (update_aim u) u.old plan
+  pub searched : IsPlanOf (update_target u) u.old plan
   pub says : SaysPlan u.net plan answer
   pub count : length plan.rounds ≡ length (remaining u.old u.new)
 
 -- the search ended stuck, and there are too few tags
 pub record SaysTooFew (u : Update) (answer : Answer) : Type 0 where
   pub rounds : List (List Change)
-  pub stuck : AreStuck (update_aim u) u.old rounds
+  pub stuck : AreStuck (update_target u) u.old rounds
   pub need : ℕ
   pub has : ℕ
   pub few : AreTooFew u.net need has
@@ -84,7 +84,7 @@ pub record SaysTooFew (u : Update) (answer : Answer) : Type 0 where
 -- the search ended stuck, there are enough tags, and a switch is too small
 pub record SaysTooSmall (u : Update) (answer : Answer) : Type 0 where
   pub rounds : List (List Change)
-  pub stuck : AreStuck (update_aim u) u.old rounds
+  pub stuck : AreStuck (update_target u) u.old rounds
   pub switch : SwitchId
   pub need : ℕ
   pub capacity : ℕ

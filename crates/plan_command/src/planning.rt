@@ -8,7 +8,7 @@ ghost use Rattle.certificates.specs.Valid.{IsValidPlan};
 ghost use Rattle.table_difference.specs.SameClasses.{HasSameClasses};
 ghost use Rattle.table_difference.specs.Tried.{AreTried};
 ghost use Rattle.round_planner.specs.Ends.{AreStuck};
-ghost use Rattle.round_planner.specs.Updates.{update_classes, update_count, update_aim, bare_task};
+ghost use Rattle.round_planner.specs.Updates.{update_classes, update_count, update_target, bare_task};
 ghost use Rattle.two_phase.specs.Plans.{AreTooFew, IsFirstTooSmall};
 ghost use Rattle.command_base.specs.Judgements.{most_classes};
 ghost use Rattle.certificates.specs.Updates.{task_for};
@@ -55,7 +55,7 @@ pub fn too_few_reply(
     need: u32,
     has: u32,
 ) -> Result<Reply, Memory>
-    requires stuck { AreStuck (update_aim (meaning_of files.now)) (rules_of_all files.now.old)
+    requires stuck { AreStuck (update_target (meaning_of files.now)) (rules_of_all files.now.old)
         tried.now }
     requires few { AreTooFew files.now.net need has }
     ensures { IfOk result (λ r. SaysTooFew (meaning_of files.now) (answer_of r)) }
@@ -75,7 +75,7 @@ pub fn too_small_reply(
     need: u64,
     capacity: u32,
 ) -> Result<Reply, Memory>
-    requires stuck { AreStuck (update_aim (meaning_of files.now)) (rules_of_all files.now.old)
+    requires stuck { AreStuck (update_target (meaning_of files.now)) (rules_of_all files.now.old)
         tried.now }
     requires small { IsFirstTooSmall files.now.net (rules_of_all files.now.old)
         (rules_of_all files.now.new) switch need capacity }
@@ -92,7 +92,7 @@ fn two_phase_reply(alloc: Global, files: &UpdateFiles, tried: &Rounds) -> Result
     requires old { IsUserConfig files.now.net (rules_of_all files.now.old) }
     requires new { IsUserConfig files.now.net (rules_of_all files.now.new) }
     requires good { BothEndsAreGood (meaning_of files.now) }
-    requires stuck { AreStuck (update_aim (meaning_of files.now)) (rules_of_all files.now.old)
+    requires stuck { AreStuck (update_target (meaning_of files.now)) (rules_of_all files.now.old)
         tried.now }
     requires tried { AreTried files.now.net tried.now }
     ensures { IfOk result (λ r. SaysSearched (meaning_of files.now) (answer_of r)) }

@@ -31,7 +31,8 @@ use Rattle.evidence_store.specs.State.{StoreState}
 use Rattle.evidence_store.specs.Stored.{IsStored, no_evidence}
 use Rattle.plan_checker.specs.Checking.{EndsAreGood, EndsAtNew}
 use Rattle.plan_checker.proofs.Stages.{all_passed}
-use Rattle.round_judge.specs.Aims.{Aim, HasAtoms}
+use Rattle.table_difference.specs.Targets.{Target}
+use Rattle.round_judge.specs.Goals.{HasAtoms}
 use Rattle.round_judge.specs.Evidence.{HasEvidenceTo, IsSearchEvidence}
 use Rattle.round_judge.specs.Judged.{IsReady, IsNextRound, AreFirstJudged, AreSafeBelow, AreWithPicks}
 use Rattle.round_judge.specs.declared.judging.Verdict.{Verdict}
@@ -39,12 +40,12 @@ use Rattle.round_judge.specs.Visits.{marks_at, HoldTables, HoldAfter}
 use Rattle.round_judge.specs.declared.judging.Found.{Found}
 use Rattle.round_judge.proofs.VisitLaws.{all_come}
 use Rattle.round_judge.proofs.EvidenceLaws.{evidence_none, evidence_more, evidence_whole}
-use Rattle.round_certifier.specs.Standing.{aim_for, ChangesPassTo, IsCertifiedTo}
+use Rattle.round_certifier.specs.Standing.{target_for, ChangesPassTo, IsCertifiedTo}
 use Rattle.round_certifier.proofs.RefusalLaws.{keeps_of}
 
 -- what the rounds of a task are for, part by part
 pub aim_is : (t : Task) (net : Network) (new : List (List Rule)) (demands : List DemandView) (classes : ClassList) → net ≡ t.update.net → new ≡ t.update.new → demands ≡ t.update.demands → classes ≡ classes_for t
-    → (let a : Aim = record { net = net; new = new; demands = demands; classes = classes } in a) ≡ aim_for t
+    → (let a : Target = record { net = net; new = new; demands = demands; classes = classes } in a) ≡ target_for t
 aim_is t net new demands classes net_is new_is demands_are classes_are =
     ap (λ (n : Network). record { net = n; new = new; demands = demands; classes = classes }) net_is
     ∙ ap (λ (ts : List (List Rule)). record { net = t.update.net; new = ts; demands = demands; classes = classes }) new_is
@@ -64,10 +65,10 @@ pub certified_none : (c : CaseView) → IsNetwork c.task.update.net → IsUserCo
     → ((n : ℕ) (s : SwitchId) → n < class_count classes → s.0 < 128 → IsTrue (has (marks_at came n) s)) → (looked : List Bool) → HasAtoms classes looked → IsCertifiedTo c 0 store came looked
 certified_none c net user classes are store empty came count all looked atoms = record {
   passed = λ j less. absurd (let f : j < 0 = less in omega arith);
-  evidence = subst (λ (s : StoreState). HasEvidenceTo (aim_for c.task) (rollout c.task) 0 s.evidence) (sym empty) (evidence_none (aim_for c.task) (rollout c.task));
+  evidence = subst (λ (s : StoreState). HasEvidenceTo (target_for c.task) (rollout c.task) 0 s.evidence) (sym empty) (evidence_none (target_for c.task) (rollout c.task));
   classes = ap (λ (s : StoreState). s.classes) empty ∙ ap (λ (cs : ClassList). class_count cs) are;
-  visits = subst (λ (ts : List (List Rule)). HoldTables (aim_for c.task) ts came) (sym (settled_start c.task.rounds c.task.update.old))
-      (all_come (aim_for c.task) c.task.update.old net user refl (class_count classes) (ap (λ (cs : ClassList). class_count cs) are) came count all);
+  visits = subst (λ (ts : List (List Rule)). HoldTables (target_for c.task) ts came) (sym (settled_start c.task.rounds c.task.update.old))
+      (all_come (target_for c.task) c.task.update.old net user refl (class_count classes) (ap (λ (cs : ClassList). class_count cs) are) came count all);
   atoms = subst (λ (cs : ClassList). HasAtoms cs looked) are atoms;
 }
 
@@ -87,8 +88,8 @@ module _ (c : CaseView) (ordered : is_two_phase c.evidence ≡ false) (k : ℕ) 
   }
 
   -- it is the next one
-  pub next_round : k < length c.task.rounds → (e : OrderedEvidence) → HasEvidenceTo (aim_for c.task) (rollout c.task) k e
-      → IsNextRound (aim_for c.task) (rollout c.task) e k (round_after k c.task.rounds)
+  pub next_round : k < length c.task.rounds → (e : OrderedEvidence) → HasEvidenceTo (target_for c.task) (rollout c.task) k e
+      → IsNextRound (target_for c.task) (rollout c.task) e k (round_after k c.task.rounds)
   next_round within e so_far = record {
     within = within;
     round = refl;
@@ -100,8 +101,8 @@ module _ (c : CaseView) (ordered : is_two_phase c.evidence ≡ false) (k : ℕ) 
 
   -- what is known so far is enough to judge its classes
   pub ready_for : IsUserConfig c.task.update.net c.task.update.old → (mixes : List MixedState) → AreLoaded (rollout c.task) k mixes → (store : StoreState) (came : List ℕ) (looked : List Bool)
-      → IsCertifiedTo c k store came looked → (aim : Aim) → aim ≡ aim_for c.task → IsReady aim mixes store
-  ready_for user mixes loaded store came looked so_far aim is = subst (λ (a : Aim). IsReady a mixes store) (sym is) (record {
+      → IsCertifiedTo c k store came looked → (to : Target) → to ≡ target_for c.task → IsReady to mixes store
+  ready_for user mixes loaded store came looked so_far to is = subst (λ (a : Target). IsReady a mixes store) (sym is) (record {
     round = (rollout c.task, k, round_of user mixes loaded);
     numberings = so_far.evidence.numberings;
     classes = so_far.classes;
@@ -109,23 +110,23 @@ module _ (c : CaseView) (ordered : is_two_phase c.evidence ≡ false) (k : ℕ) 
 
   -- what is found for them
   pub judged_here : IsUserConfig c.task.update.net c.task.update.old → k < length c.task.rounds → (mixes : List MixedState) → AreLoaded (rollout c.task) k mixes
-      → (store : StoreState) (came : List ℕ) (looked : List Bool) → IsCertifiedTo c k store came looked → (aim : Aim) → aim ≡ aim_for c.task → (v : Verdict) (new : List ℕ)
-      → ((u : Rollout) (j : ℕ) → IsRoundOf aim.net mixes u j → IsNextRound aim u store.evidence j (round_after k c.task.rounds) → HoldTables aim (tables_before u j) came
-      → AreFirstJudged aim u store.evidence j v × HoldAfter aim u j v new)
-      → AreFirstJudged (aim_for c.task) (rollout c.task) store.evidence k v × HoldAfter (aim_for c.task) (rollout c.task) k v new
-  judged_here user within mixes loaded store came looked so_far aim is v new all =
-      subst (λ (a : Aim). (u : Rollout) (j : ℕ) → IsRoundOf a.net mixes u j → IsNextRound a u store.evidence j (round_after k c.task.rounds) → HoldTables a (tables_before u j) came
+      → (store : StoreState) (came : List ℕ) (looked : List Bool) → IsCertifiedTo c k store came looked → (to : Target) → to ≡ target_for c.task → (v : Verdict) (new : List ℕ)
+      → ((u : Rollout) (j : ℕ) → IsRoundOf to.net mixes u j → IsNextRound to u store.evidence j (round_after k c.task.rounds) → HoldTables to (tables_before u j) came
+      → AreFirstJudged to u store.evidence j v × HoldAfter to u j v new)
+      → AreFirstJudged (target_for c.task) (rollout c.task) store.evidence k v × HoldAfter (target_for c.task) (rollout c.task) k v new
+  judged_here user within mixes loaded store came looked so_far to is v new all =
+      subst (λ (a : Target). (u : Rollout) (j : ℕ) → IsRoundOf a.net mixes u j → IsNextRound a u store.evidence j (round_after k c.task.rounds) → HoldTables a (tables_before u j) came
       → AreFirstJudged a u store.evidence j v × HoldAfter a u j v new) is all
       (rollout c.task) k (round_of user mixes loaded) (next_round within store.evidence so_far.evidence) so_far.visits
 
   -- after it
-  pub certified_more : k < length c.task.rounds → (store new : StoreState) → HasEvidenceTo (aim_for c.task) (rollout c.task) k store.evidence → store.classes ≡ class_count (classes_for c.task)
-      → (found : List Found) → AreSafeBelow (aim_for c.task) (rollout c.task) store.evidence k (class_count (classes_for c.task)) found → (round : ℕ) → round ≡ suc k
+  pub certified_more : k < length c.task.rounds → (store new : StoreState) → HasEvidenceTo (target_for c.task) (rollout c.task) k store.evidence → store.classes ≡ class_count (classes_for c.task)
+      → (found : List Found) → AreSafeBelow (target_for c.task) (rollout c.task) store.evidence k (class_count (classes_for c.task)) found → (round : ℕ) → round ≡ suc k
       → AreWithPicks store.evidence round found new.evidence → new.classes ≡ store.classes → IsStored store.evidence → IsStored new.evidence
-      → (came : List ℕ) → HoldTables (aim_for c.task) (tables_before (rollout c.task) (suc k)) came → (looked : List Bool) → HasAtoms (classes_for c.task) looked → IsCertifiedTo c (suc k) new came looked
+      → (came : List ℕ) → HoldTables (target_for c.task) (tables_before (rollout c.task) (suc k)) came → (looked : List Bool) → HasAtoms (classes_for c.task) looked → IsCertifiedTo c (suc k) new came looked
   certified_more within store new so_far classes found safe round number added same stored_old stored came held looked atoms = record {
     passed = all_pass;
-    evidence = evidence_more (aim_for c.task) (rollout c.task) refl k within store.evidence new.evidence found so_far stored_old safe
+    evidence = evidence_more (target_for c.task) (rollout c.task) refl k within store.evidence new.evidence found so_far stored_old safe
         (subst (λ n. AreWithPicks store.evidence n found new.evidence) number added) stored;
     classes = same ∙ classes;
     visits = held;
@@ -136,8 +137,8 @@ module _ (c : CaseView) (ordered : is_two_phase c.evidence ≡ false) (k : ℕ) 
 
 module _ (c : CaseView) (ordered : is_two_phase c.evidence ≡ false) (ends : EndsAreGood c.task) (store : StoreState) (came : List ℕ) (looked : List Bool)
     (so_far : IsCertifiedTo c (length c.task.rounds) store came looked) where
-  pub made_evidence : IsSearchEvidence (aim_for c.task) (rollout c.task) store.evidence
-  made_evidence = evidence_whole (aim_for c.task) (rollout c.task) (length c.task.rounds) store.evidence so_far.evidence (omega arith)
+  pub made_evidence : IsSearchEvidence (target_for c.task) (rollout c.task) store.evidence
+  made_evidence = evidence_whole (target_for c.task) (rollout c.task) (length c.task.rounds) store.evidence so_far.evidence (omega arith)
 
   rounds_pass : RoundsPass c.task (Ordered store.evidence) (length c.task.rounds)
   rounds_pass j less =

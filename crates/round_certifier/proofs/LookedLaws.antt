@@ -5,7 +5,7 @@ use Rattle.dest_classes.specs.Classes.{ClassList, class_count, atom_count}
 use Rattle.dest_classes.proofs.MapLaws.{number_fits, some_atom}
 use Rattle.update_model.specs.declared.Change.{Change}
 use Rattle.check_reasons.specs.AtomMarks.{is_marked, AreTouched}
-use Rattle.round_judge.specs.Aims.{HasAtoms}
+use Rattle.round_judge.specs.Goals.{HasAtoms}
 
 -- two marks of which each is set where the other is are the same
 same_mark : (a b : Bool) → (a ≡ true → b ≡ true) → (b ≡ true → a ≡ true) → a ≡ b

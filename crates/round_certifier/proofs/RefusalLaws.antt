@@ -28,7 +28,7 @@ use Rattle.round_judge.specs.Evidence.{HasEvidenceTo}
 use Rattle.round_judge.specs.Judged.{IsFirstUnsafe}
 use Rattle.round_judge.specs.declared.unsafe_class.UnsafeClass.{UnsafeClass}
 use Rattle.round_certifier.specs.Refusals.{HasNoEvidence, IsCause, common_reason, some_rewrite, two_phase_plan, no_evidence, place_of, IsFirstRefusal}
-use Rattle.round_certifier.specs.Standing.{aim_for, ChangesPassTo}
+use Rattle.round_certifier.specs.Standing.{target_for, ChangesPassTo}
 use Rattle.round_certifier.specs.declared.refusal.Refusal.{Refusal}
 use Rattle.round_certifier.specs.declared.refusal.Refusal.TheVariants.{Checked, TwoPhasePlan, NoEvidence}
 
@@ -96,7 +96,7 @@ module _ (c : CaseView) (count : length c.task.update.old ≡ switch_count c.tas
       (keeps_of c.evidence ordered (round_after k c.task.rounds) (passed k less).keeps) has.stands)
 
 -- evidence for a round refutes that a class has none in it
-pub evidence_refutes : (t : Task) (k : ℕ) (e : OrderedEvidence) → HasEvidenceTo (aim_for t) (rollout t) k e → (j n : ℕ) → j < k → ¬ HasNoEvidence t j n
+pub evidence_refutes : (t : Task) (k : ℕ) (e : OrderedEvidence) → HasEvidenceTo (target_for t) (rollout t) k e → (j n : ℕ) → j < k → ¬ HasNoEvidence t j n
 evidence_refutes t k e so_far j n less has =
     let certificate = so_far.certificates j n has.class less has.judged.is in
     has.never certificate.numbers certificate.sets certificate.safe
@@ -137,7 +137,7 @@ module _ (c : CaseView) (count : length c.task.update.old ≡ switch_count c.tas
         later other (two_phase_plan is) = λ before. omega arith
         later other (no_evidence k n has) = λ before. omega arith
 
-    module _ (ordered : is_two_phase c.evidence ≡ false) (k : ℕ) (passed : ChangesPassTo c.task c.evidence k) (e : OrderedEvidence) (so_far : HasEvidenceTo (aim_for c.task) (rollout c.task) k e) where
+    module _ (ordered : is_two_phase c.evidence ≡ false) (k : ℕ) (passed : ChangesPassTo c.task c.evidence k) (e : OrderedEvidence) (so_far : HasEvidenceTo (target_for c.task) (rollout c.task) k e) where
       -- the first reason of the changes of a round is, where there is evidence for the rounds before
       pub changes_first : (r : Reason) → IsFirstFrom c.task c.evidence (round_start k) r → IsOfChanges k r → IsFirstRefusal c (Checked r)
       changes_first r first of = record { cause = cause.1; first = later }
@@ -168,7 +168,7 @@ module _ (c : CaseView) (count : length c.task.update.old ≡ switch_count c.tas
               evidence_refutes c.task k e so_far j n (omega arith) has
 
       -- the first class that no evidence keeps safe is, where the changes of its round pass, too
-      pub class_first : k < length c.task.rounds → ChangesPass c.task c.evidence k → (f : UnsafeClass) → IsFirstUnsafe (aim_for c.task) (rollout c.task) k f → (round : ℕ) → round ≡ suc k
+      pub class_first : k < length c.task.rounds → ChangesPass c.task c.evidence k → (f : UnsafeClass) → IsFirstUnsafe (target_for c.task) (rollout c.task) k f → (round : ℕ) → round ≡ suc k
           → IsFirstRefusal c (NoEvidence round f.number)
       class_first within pass f unsafe round number = subst (λ n. IsFirstRefusal c (NoEvidence n f.number)) (sym number) (record {
         cause = no_evidence k f.number (record { class = f.class; judged = record { within = within; is = unsafe.is_unsafe.is_class }; never = unsafe.is_unsafe.unsafe_.never });

@@ -10,7 +10,7 @@ ghost use Rattle.plan_checker.specs.Fits.{Fits};
 ghost use Rattle.round_tables.specs.PreparedTables.{HasRoom, StandsBefore};
 ghost use Rattle.round_judge.specs.Evidence.{IsSearchEvidence};
 ghost use Rattle.round_certifier.specs.Refusals.{IsFirstRefusal, OfRefusal};
-ghost use Rattle.round_certifier.specs.Standing.{IsCertifiedTo, aim_for};
+ghost use Rattle.round_certifier.specs.Standing.{IsCertifiedTo, target_for};
 
 use crate::evidence::RoundEvidence;
 use crate::refusal::{CertifyFault, Refusal};
@@ -35,7 +35,7 @@ fn certify_round(
 ) -> Result<Option<Refusal>, Memory>
     requires within { k < length case.now.task.rounds }
     requires ordered { is_two_phase case.now.evidence ≡ false }
-    requires goal { goal.now ≡ aim_for case.now.task }
+    requires goal { goal.now ≡ target_for case.now.task }
     requires ends { EndsAreGood case.now.task }
     requires room { HasRoom (rollout case.now.task) tables.old }
     requires tables { StandsBefore (rollout case.now.task) k tables.old }
@@ -76,7 +76,7 @@ fn certify_all(
     so_far: &mut RoundEvidence,
 ) -> Result<Option<Refusal>, Memory>
     requires ordered { is_two_phase case.now.evidence ≡ false }
-    requires goal { goal.now ≡ aim_for case.now.task }
+    requires goal { goal.now ≡ target_for case.now.task }
     requires ends { EndsAreGood case.now.task }
     requires room { HasRoom (rollout case.now.task) tables.old }
     requires so_far { IsCertifiedTo case.now 0 so_far.old.store so_far.old.watch.came.items
@@ -111,7 +111,7 @@ fn certify_rounds(
     requires ordered { is_two_phase case.now.evidence ≡ false }
     requires ends { EndsAreGood case.now.task }
     ensures evidence { IfOk result
-        (IsSearchEvidence (aim_for case.now.task) (rollout case.now.task)) }
+        (IsSearchEvidence (target_for case.now.task) (rollout case.now.task)) }
     ensures certified { IfOk result (λ e. IsCertified case.now.task (Ordered e)) }
     ensures valid { IfOk result (λ e. IsValidPlan case.now.task.update.net
         (record { rounds = case.now.task.rounds; evidence = Ordered e })) }
@@ -162,7 +162,7 @@ pub fn certify(
 ) -> Result<OrderedEvidence, CertifyFault>
     requires { Fits case.now.task room.old }
     ensures evidence { IfOk result
-        (IsSearchEvidence (aim_for case.now.task) (rollout case.now.task)) }
+        (IsSearchEvidence (target_for case.now.task) (rollout case.now.task)) }
     ensures certified { IfOk result (λ e. IsCertified case.now.task (Ordered e)) }
     ensures valid { IfOk result (λ e. IsValidPlan case.now.task.update.net
         (record { rounds = case.now.task.rounds; evidence = Ordered e })) }

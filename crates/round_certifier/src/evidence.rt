@@ -9,7 +9,7 @@ ghost use Rattle.mixed_walks.specs.Walks.{IsRoundOf};
 ghost use Rattle.check_reasons.specs.AtomMarks.{AreTouched};
 ghost use Rattle.net_base.specs.Switches.{has};
 ghost use Rattle.evidence_store.specs.Stored.{IsStored, no_evidence};
-ghost use Rattle.round_judge.specs.Aims.{HasAtoms};
+ghost use Rattle.round_judge.specs.Goals.{HasAtoms};
 ghost use Rattle.round_judge.specs.Judged.{IsReady, IsNextRound, AreFirstJudged};
 ghost use Rattle.round_judge.specs.Visits.{marks_at, HoldTables, HoldAfter};
 

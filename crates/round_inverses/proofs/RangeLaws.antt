@@ -8,13 +8,15 @@ use Rattle.topology.specs.Networks.{Network}
 use Rattle.flow_rules.specs.Patterns.{key_eq}
 use Rattle.flow_rules.specs.Tables.{rules_at}
 use Rattle.flow_rules.specs.declared.rules.Rule.{Rule}
-use Rattle.update_model.specs.Changes.{switch_of, rule_of, rules_after_change, tables_after_change, tables_after}
+use Rattle.update_model.specs.Changes.{switch_of, rules_after_change, tables_after_change, tables_after}
 use Rattle.update_model.specs.Ranges.{IsPlanChange}
 use Rattle.update_model.specs.declared.Change.{Change}
 use Rattle.update_model.specs.declared.Change.TheVariants.{Insert, Delete, Replace}
 use Rattle.two_way_runs.specs.Inverse.{rule_with, inverse_of, inverse_round}
 use Rattle.round_inverses.specs.Rounds.{inverse_rounds}
-use Rattle.round_inverses.specs.Ranges.{IsPlanRule, ArePlanTables, ArePlanRounds}
+use Rattle.round_inverses.specs.Ranges.{ArePlanRounds}
+use Rattle.plan_rules.specs.PlanRules.{IsPlanRule, ArePlanTables}
+use Rattle.plan_rules.proofs.UserRules.{rule_of_plan}
 
 -- ---- rules of tables
 
@@ -46,13 +48,10 @@ tables_set (x ∷ tables) (suc i) rules one all = (all.0, tables_set tables i ru
 -- ---- changes
 
 module _ (net : Network) where
-  rule_range : (c : Change) → IsPlanChange net c → IsPlanRule (rule_of c)
-  rule_range c h = record { priority = h.priority; priority_most = h.priority_most; port = h.port; vlan = h.vlan; dst = h.dst; action = h.action }
-
   after_range : (c : Change) (rules : List Rule) → IsPlanChange net c → AllByRecursion IsPlanRule rules → AllByRecursion IsPlanRule (rules_after_change c rules)
-  after_range (Insert s r) rules h all = each_append IsPlanRule rules (r ∷ []) all (rule_range (Insert s r) h, tt)
+  after_range (Insert s r) rules h all = each_append IsPlanRule rules (r ∷ []) all (rule_of_plan net (Insert s r) h, tt)
   after_range (Delete s r) rules h all = each_filter (λ q. not (key_eq q.key r.key)) rules all
-  after_range (Replace s r) rules h all = each_replaced (λ q. key_eq q.key r.key) r rules (rule_range (Replace s r) h) all
+  after_range (Replace s r) rules h all = each_replaced (λ q. key_eq q.key r.key) r rules (rule_of_plan net (Replace s r) h) all
 
   tables_range : (round : List Change) (tables : List (List Rule)) → AllByRecursion (IsPlanChange net) round → ArePlanTables tables → ArePlanTables (tables_after round tables)
   tables_range [] tables plan all = all
@@ -64,7 +63,7 @@ module _ (net : Network) where
   inverse_range before (Insert s r) all h = record { switch = h.switch; priority = h.priority; priority_most = h.priority_most; port = h.port; vlan = h.vlan; dst = h.dst; action = h.action }
   inverse_range before (Delete s r) all h = record { switch = h.switch; priority = h.priority; priority_most = h.priority_most; port = h.port; vlan = h.vlan; dst = h.dst; action = h.action }
   inverse_range before (Replace s r) all h =
-      let f : IsPlanRule (rule_with before r.key r) = found (λ q. key_eq q.key r.key) before r all (rule_range (Replace s r) h) in
+      let f : IsPlanRule (rule_with before r.key r) = found (λ q. key_eq q.key r.key) before r all (rule_of_plan net (Replace s r) h) in
       record { switch = h.switch; priority = f.priority; priority_most = f.priority_most; port = f.port; vlan = f.vlan; dst = f.dst; action = f.action }
 
   round_range : (round : List Change) (tables : List (List Rule)) → AllByRecursion (IsPlanChange net) round → ArePlanTables tables → AllByRecursion (IsPlanChange net) (inverse_round tables round)

@@ -8,7 +8,8 @@ ghost use Rattle.update_model.specs.Mixtures.{Rollout, AreGoodRounds, tables_bef
 ghost use Rattle.update_model.specs.declared.Change.{Change};
 ghost use Rattle.round_messages.specs.Requests.{is_changed};
 ghost use Rattle.two_way_runs.specs.Inverse.{inverse_round};
-ghost use Rattle.round_inverses.specs.Ranges.{ArePlanTables, ArePlanRounds};
+ghost use Rattle.plan_rules.specs.PlanRules.{ArePlanTables};
+ghost use Rattle.round_inverses.specs.Ranges.{ArePlanRounds};
 ghost use Rattle.round_inverses.specs.Rounds.{AreGoodFrom, inverse_rounds};
 
 /// There is one for each round: its inverse over the tables before it, with changes at the same switches.

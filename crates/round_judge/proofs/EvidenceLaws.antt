@@ -1,5 +1,5 @@
 -- The evidence after one round more.
-use Rattle.std.proofs.Common.{◌≡◌, ◌⊎◌, ℕ, suc, ◌<◌, ◌≤◌, List, [], ◌∷◌, ◌++◌, length, refl, sym, ◌∙◌, subst, ap, inl, inr, arith}
+use Rattle.std.proofs.Common.{◌≡◌, ◌⊎◌, ℕ, suc, ◌<◌, ◌≤◌, List, [], ◌∷◌, length, refl, sym, ◌∙◌, subst, ap, inl, inr, arith}
 use Rattle.std.proofs.lemmas.Bool.{cases_lt, leb-true, le-leb}
 use Rattle.std.specs.Prelude.{◌↔◌, nat_le}
 use Rattle.std.specs.List.{AllByRecursion}
@@ -20,7 +20,8 @@ use Rattle.certificates.specs.declared.OrderedEvidence.{OrderedEvidence}
 use Rattle.evidence_store.specs.Found.{IsSafeEvidence}
 use Rattle.evidence_store.specs.Stored.{IsStored, no_evidence}
 use Rattle.round_judge.specs.declared.judging.Found.{Found}
-use Rattle.round_judge.specs.Aims.{Aim, duties_in}
+use Rattle.table_difference.specs.Targets.{Target}
+use Rattle.round_judge.specs.Goals.{duties_in}
 use Rattle.round_judge.specs.Evidence.{evidence_until, HasPick, IsLeastPick, IsSearchEvidence, IsCertifiedClass, HasEvidenceTo}
 use Rattle.round_judge.specs.Judged.{AreSafeBelow, AreWithPicks}
 use Rattle.round_judge.proofs.GrowthLaws.{Grows, meant_more, meant_less, grown, old_pick, pick_cases, pick_for, numbering_cases, before_cases}
@@ -64,8 +65,8 @@ until_meant k e p numbers sets h = meant_more (evidence_until k e) e (record { n
 
 -- ---- before the first round, and after the last one
 
-pub evidence_none : (aim : Aim) (u : Rollout) → HasEvidenceTo aim u 0 no_evidence
-evidence_none aim u = record {
+pub evidence_none : (to : Target) (u : Rollout) → HasEvidenceTo to u 0 no_evidence
+evidence_none to u = record {
   within = omega arith;
   picks = λ k n class less is. absurd (let f : k < 0 = less in omega arith);
   picked = λ p i. absurd i;
@@ -85,20 +86,20 @@ evidence_none aim u = record {
 }
 
 -- that of all rounds is the evidence of the search for them
-pub evidence_whole : (aim : Aim) (u : Rollout) (k : ℕ) (e : OrderedEvidence) → HasEvidenceTo aim u k e → length u.rounds ≤ k → IsSearchEvidence aim u e
-evidence_whole aim u k e h all = record {
+pub evidence_whole : (to : Target) (u : Rollout) (k : ℕ) (e : OrderedEvidence) → HasEvidenceTo to u k e → length u.rounds ≤ k → IsSearchEvidence to u e
+evidence_whole to u k e h all = record {
   picks = λ j n class less is. h.picks j n class (omega arith) is;
   picked = h.picked;
   ascending = h.ascending;
-  sets = each_weaker (IsValidBefore aim.net) (λ set. IsChain (λ s t. s < t) set) (λ set valid. valid.1) e.befores h.befores;
+  sets = each_weaker (IsValidBefore to.net) (λ set. IsChain (λ s t. s < t) set) (λ set valid. valid.1) e.befores h.befores;
   once = h.once;
 }
 
 -- ---- one round more
 
 -- the picks so far are of the rounds so far
-pub begun_before : (aim : Aim) (u : Rollout) (k : ℕ) (e : OrderedEvidence) → HasEvidenceTo aim u k e → AllByRecursion (λ p. p.round < suc k) e.picks
-begun_before aim u k e h = each_weaker (λ (p : OrderedPick). (0 < p.round) × (p.round ≤ k)) (λ (p : OrderedPick). p.round < suc k) (λ p in_rounds. let le = in_rounds.1 in omega arith) e.picks h.begun
+pub begun_before : (to : Target) (u : Rollout) (k : ℕ) (e : OrderedEvidence) → HasEvidenceTo to u k e → AllByRecursion (λ p. p.round < suc k) e.picks
+begun_before to u k e h = each_weaker (λ (p : OrderedPick). (0 < p.round) × (p.round ≤ k)) (λ (p : OrderedPick). p.round < suc k) (λ p in_rounds. let le = in_rounds.1 in omega arith) e.picks h.begun
 
 -- what is found later is of a greater class
 pub found_above : (h : Found) (found : List Found) → IsChain (λ (f g : Found). f.class < g.class) (h ∷ found) → (g : Found) → IsIn g found → h.class < g.class
@@ -118,8 +119,8 @@ found_once (h ∷ found) chain f g (inl a) (inr j) e = absurd (let above = found
 found_once (h ∷ found) chain f g (inr i) (inl b) e = absurd (let above = found_above h found chain f i in let same = ap (λ (x : Found). x.class) b in omega arith)
 found_once (h ∷ found) chain f g (inr i) (inr j) e = found_once found (chain_rest h found chain) f g i j e
 
-module _ (aim : Aim) (u : Rollout) (net : u.net ≡ aim.net) (last : ℕ) (within : last < length u.rounds) (e more : OrderedEvidence) (found : List Found)
-    (so_far : HasEvidenceTo aim u last e) (stored_old : IsStored e) (safe : AreSafeBelow aim u e last (class_count aim.classes) found)
+module _ (to : Target) (u : Rollout) (net : u.net ≡ to.net) (last : ℕ) (within : last < length u.rounds) (e more : OrderedEvidence) (found : List Found)
+    (so_far : HasEvidenceTo to u last e) (stored_old : IsStored e) (safe : AreSafeBelow to u e last (class_count to.classes) found)
     (added : AreWithPicks e (suc last) found more) (stored : IsStored more) where
   grows : Grows e more
   grows = grown e (suc last) found more added
@@ -179,57 +180,57 @@ module _ (aim : Aim) (u : Rollout) (net : u.net ≡ aim.net) (last : ℕ) (withi
         (λ p numbers sets i m. meant_until last more p numbers sets (meaning_there p numbers sets i m)) h
 
   -- what was found is of a class, and keeps it safe
-  found_safe : (f : Found) → IsIn f found → (class : Class) × IsClass aim.classes f.class class × IsSafeEvidence u last class (duties_in aim class) f.evidence
+  found_safe : (f : Found) → IsIn f found → (class : Class) × IsClass to.classes f.class class × IsSafeEvidence u last class (duties_in to class) f.evidence
   found_safe f i =
-      let below = each_at (λ (g : Found). g.class < class_count aim.classes) found f safe.within i in
-      let (class, is) = class_exists aim.classes f.class below in
+      let below = each_at (λ (g : Found). g.class < class_count to.classes) found f safe.within i in
+      let (class, is) = class_exists to.classes f.class below in
       elim (safe.each f.class class below is) [
         | inl (kept, none) ↦ absurd (each_at (λ (g : Found). ¬ (g.class ≡ f.class)) found f none i refl)
         | inr (fails, has) ↦
             let same : has.new ≡ f = found_once found safe.ascending has.new f has.stands i has.class_is in
-            (class, is, subst (λ (g : Found). IsSafeEvidence u last class (duties_in aim class) g.evidence) same has.safe)
+            (class, is, subst (λ (g : Found). IsSafeEvidence u last class (duties_in to class) g.evidence) same has.safe)
       ]
 
   -- a round is one of those before, or the last one
   early_or_last : (k : ℕ) → k < suc last → (k < last) ⊎ (k ≡ last)
   early_or_last k less = elim (cases_lt k last) [ inl l ↦ inl l | inr h ↦ inr (omega arith) ]
 
-  last_pick : (n : ℕ) (class : Class) → IsClass aim.classes n class
-      → HasPick more last n ↔ (¬ OrderedCertificate u (evidence_until last more) last n class.first class.entry (duties_in aim class))
+  last_pick : (n : ℕ) (class : Class) → IsClass to.classes n class
+      → HasPick more last n ↔ (¬ OrderedCertificate u (evidence_until last more) last n class.first class.entry (duties_in to class))
   last_pick n class is = (
     λ has h. elim (pick_cases e (suc last) found more added has.pick has.stands) [
       | inl i ↦ (let le = old_round has.pick i in let round = has.round_is in absurd (omega arith))
-      | inr (f, i, of) ↦ elim (safe.each n class (number_fits aim.classes n class is) is) [
+      | inr (f, i, of) ↦ elim (safe.each n class (number_fits to.classes n class is) is) [
         | inl (kept, none) ↦ absurd (each_at (λ (g : Found). ¬ (g.class ≡ n)) found f none i (sym of.class_is ∙ has.class_is))
-        | inr (fails, new) ↦ fails (last_to n class.first class.entry (duties_in aim class) h)
+        | inr (fails, new) ↦ fails (last_to n class.first class.entry (duties_in to class) h)
       ]
     ],
-    λ fails. elim (safe.each n class (number_fits aim.classes n class is) is) [
-      | inl (kept, none) ↦ absurd (fails (last_back n class.first class.entry (duties_in aim class) kept))
+    λ fails. elim (safe.each n class (number_fits to.classes n class is) is) [
+      | inl (kept, none) ↦ absurd (fails (last_back n class.first class.entry (duties_in to class) kept))
       | inr (not_kept, has) ↦
           let (p, i, of) = pick_for e (suc last) found more added has.new has.stands in
           record { pick = p; stands = i; round_is = of.round_is; class_is = of.class_is ∙ has.class_is }
     ],
   )
 
-  early_pick : (k : ℕ) → k < last → (n : ℕ) (class : Class) → IsClass aim.classes n class
-      → HasPick more k n ↔ (¬ OrderedCertificate u (evidence_until k more) k n class.first class.entry (duties_in aim class))
+  early_pick : (k : ℕ) → k < last → (n : ℕ) (class : Class) → IsClass to.classes n class
+      → HasPick more k n ↔ (¬ OrderedCertificate u (evidence_until k more) k n class.first class.entry (duties_in to class))
   early_pick k less n class is =
       let before = so_far.picks k n class less is in (
         λ has h. before.0 (record { pick = has.pick; stands = early_old k less has.pick has.stands (let round = has.round_is in omega arith); round_is = has.round_is; class_is = has.class_is })
-            (until_late k less n class.first class.entry (duties_in aim class) h),
-        λ fails. (let has = before.1 (λ h. fails (until_early k less n class.first class.entry (duties_in aim class) h)) in
+            (until_late k less n class.first class.entry (duties_in to class) h),
+        λ fails. (let has = before.1 (λ h. fails (until_early k less n class.first class.entry (duties_in to class) h)) in
             record { pick = has.pick; stands = old_pick e (suc last) found more added has.pick has.stands; round_is = has.round_is; class_is = has.class_is }),
       )
 
-  picks_more : (k n : ℕ) (class : Class) → k < suc last → IsClass aim.classes n class
-      → HasPick more k n ↔ (¬ OrderedCertificate u (evidence_until k more) k n class.first class.entry (duties_in aim class))
+  picks_more : (k n : ℕ) (class : Class) → k < suc last → IsClass to.classes n class
+      → HasPick more k n ↔ (¬ OrderedCertificate u (evidence_until k more) k n class.first class.entry (duties_in to class))
   picks_more k n class less is = elim (early_or_last k less) [
     | inl l ↦ early_pick k l n class is
-    | inr same ↦ subst (λ j. HasPick more j n ↔ (¬ OrderedCertificate u (evidence_until j more) j n class.first class.entry (duties_in aim class))) (sym same) (last_pick n class is)
+    | inr same ↦ subst (λ j. HasPick more j n ↔ (¬ OrderedCertificate u (evidence_until j more) j n class.first class.entry (duties_in to class))) (sym same) (last_pick n class is)
   ]
 
-  picked_more : (p : OrderedPick) → IsIn p more.picks → IsLeastPick aim u more p
+  picked_more : (p : OrderedPick) → IsIn p more.picks → IsLeastPick to u more p
   picked_more p i = elim (pick_cases e (suc last) found more added p i) [
     | inl j ↦
         let h = so_far.picked p j in
@@ -253,7 +254,7 @@ module _ (aim : Aim) (u : Rollout) (net : u.net ≡ aim.net) (last : ℕ) (withi
           sets = f.evidence.befores;
           within = within;
           round_is = of.round_is;
-          class_is = subst (λ n. IsClass aim.classes n class) (sym of.class_is) is;
+          class_is = subst (λ n. IsClass to.classes n class) (sym of.class_is) is;
           meant = of.meant;
           least = good.least;
         }
@@ -266,9 +267,9 @@ module _ (aim : Aim) (u : Rollout) (net : u.net ≡ aim.net) (last : ℕ) (withi
         | inr (f, j, of) ↦ (let round = of.round_is in (omega arith, omega arith))
       ])
 
-  last_certificate : (n : ℕ) (class : Class) → IsClass aim.classes n class → IsCertifiedClass aim u more last n class
-  last_certificate n class is = elim (safe.each n class (number_fits aim.classes n class is) is) [
-    | inl (kept, none) ↦ certificate_by u last e more n class.first class.entry (duties_in aim class) (λ p i. old_pick e (suc last) found more added p i)
+  last_certificate : (n : ℕ) (class : Class) → IsClass to.classes n class → IsCertifiedClass to u more last n class
+  last_certificate n class is = elim (safe.each n class (number_fits to.classes n class is) is) [
+    | inl (kept, none) ↦ certificate_by u last e more n class.first class.entry (duties_in to class) (λ p i. old_pick e (suc last) found more added p i)
         (λ p i of_class le. elim (pick_cases e (suc last) found more added p i) [
           | inl j ↦ j
           | inr (f, j, of) ↦ absurd (each_at (λ (g : Found). ¬ (g.class ≡ n)) found f none j (sym of.class_is ∙ of_class))
@@ -290,26 +291,26 @@ module _ (aim : Aim) (u : Rollout) (net : u.net ≡ aim.net) (last : ℕ) (withi
         }
   ]
 
-  certificates_more : (k n : ℕ) (class : Class) → k < suc last → IsClass aim.classes n class → IsCertifiedClass aim u more k n class
+  certificates_more : (k n : ℕ) (class : Class) → k < suc last → IsClass to.classes n class → IsCertifiedClass to u more k n class
   certificates_more k n class less is = elim (early_or_last k less) [
-    | inl l ↦ early k l n class.first class.entry (duties_in aim class) (so_far.certificates k n class l is)
-    | inr same ↦ subst (λ j. IsCertifiedClass aim u more j n class) (sym same) (last_certificate n class is)
+    | inl l ↦ early k l n class.first class.entry (duties_in to class) (so_far.certificates k n class l is)
+    | inr same ↦ subst (λ j. IsCertifiedClass to u more j n class) (sym same) (last_certificate n class is)
   ]
 
-  numberings_more : AllByRecursion (IsValidNumbering aim.net) more.numberings
-  numberings_more = each_from_in (IsValidNumbering aim.net) more.numberings (λ n i. elim (numbering_cases e (suc last) found more added n i) [
-    | inl j ↦ each_at (IsValidNumbering aim.net) e.numberings n so_far.numberings j
-    | inr (f, j, same) ↦ (let (class, is, good) = found_safe f j in subst (IsValidNumbering aim.net) (sym same) (subst (λ (x : Network). IsValidNumbering x f.evidence.numbering) net good.numbering))
+  numberings_more : AllByRecursion (IsValidNumbering to.net) more.numberings
+  numberings_more = each_from_in (IsValidNumbering to.net) more.numberings (λ n i. elim (numbering_cases e (suc last) found more added n i) [
+    | inl j ↦ each_at (IsValidNumbering to.net) e.numberings n so_far.numberings j
+    | inr (f, j, same) ↦ (let (class, is, good) = found_safe f j in subst (IsValidNumbering to.net) (sym same) (subst (λ (x : Network). IsValidNumbering x f.evidence.numbering) net good.numbering))
   ])
 
-  befores_more : AllByRecursion (IsValidBefore aim.net) more.befores
-  befores_more = each_from_in (IsValidBefore aim.net) more.befores (λ set i. elim (before_cases e (suc last) found more added set i) [
-    | inl j ↦ each_at (IsValidBefore aim.net) e.befores set so_far.befores j
+  befores_more : AllByRecursion (IsValidBefore to.net) more.befores
+  befores_more = each_from_in (IsValidBefore to.net) more.befores (λ set i. elim (before_cases e (suc last) found more added set i) [
+    | inl j ↦ each_at (IsValidBefore to.net) e.befores set so_far.befores j
     | inr (f, j, k) ↦ (let (class, is, good) = found_safe f j in subst (λ (x : Network). IsValidBefore x set) net (each_at (IsValidBefore u.net) f.evidence.befores set good.befores k))
   ])
 
   -- the evidence after the round
-  pub evidence_more : HasEvidenceTo aim u (suc last) more
+  pub evidence_more : HasEvidenceTo to u (suc last) more
   evidence_more = record {
     within = omega arith;
     picks = picks_more;

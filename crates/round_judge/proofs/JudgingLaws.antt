@@ -29,7 +29,8 @@ use Rattle.config_check.proofs.JudgeLaws.{class_within}
 use Rattle.round_judge.specs.declared.judging.Found.{Found}
 use Rattle.round_judge.specs.declared.judging.Judged.{Judged}
 use Rattle.round_judge.specs.declared.judging.Judged.TheVariants.{Kept, New, Unsafe}
-use Rattle.round_judge.specs.Aims.{Aim, duties_in}
+use Rattle.table_difference.specs.Targets.{Target}
+use Rattle.round_judge.specs.Goals.{duties_in}
 use Rattle.round_judge.specs.declared.unsafe_class.UnsafeClass.{UnsafeClass}
 use Rattle.class_watch.specs.Walks.{HoldsTables, meets_any}
 use Rattle.class_watch.proofs.StandLaws.{safe_after}
@@ -49,35 +50,35 @@ some_round (p ∷ picks) =
       (omega arith, each_weaker (λ (q : OrderedPick). q.round ≤ round) (λ (q : OrderedPick). q.round ≤ p.round + round) (λ q le. omega arith) picks all),
     )
 
-module _ (aim : Aim) (u : Rollout) (e : OrderedEvidence) (k n : ℕ) (class : Class) where
+module _ (to : Target) (u : Rollout) (e : OrderedEvidence) (k n : ℕ) (class : Class) where
   -- a class without a pick has no certificate
-  pub not_without_pick : ((pick : OrderedPick) → IsIn pick e.picks → pick.class ≢ n) → ¬ IsCertifiedClass aim u e k n class
+  pub not_without_pick : ((pick : OrderedPick) → IsIn pick e.picks → pick.class ≢ n) → ¬ IsCertifiedClass to u e k n class
   not_without_pick none h = none h.pick h.in_force.stands h.in_force.of_class
 
   -- what the pick in force means decides
   pub certified_by : IsChain IsPickBefore e.picks → (pick : OrderedPick) (numbers : List ℕ) (sets : List (List ℕ)) → IsPickInForce e.picks (suc k) n pick → IsMeant e pick numbers sets
-      → IsSafe u k class.first class.entry (duties_in aim class) numbers sets ↔ IsCertifiedClass aim u e k n class
+      → IsSafe u k class.first class.entry (duties_in to class) numbers sets ↔ IsCertifiedClass to u e k n class
   certified_by in_order pick numbers sets force meant = (
     λ safe. record { pick = pick; numbers = numbers; sets = sets; in_force = force; meant = meant; safe = safe },
     λ h.
         let same : h.pick ≡ pick = one_in_force e.picks in_order (suc k) n h.pick pick h.in_force force in
         let meant_too : IsMeant e pick h.numbers h.sets = subst (λ (p : OrderedPick). IsMeant e p h.numbers h.sets) same h.meant in
         let (same_numbers, same_sets) = one_meaning e pick h.numbers numbers h.sets sets meant_too meant in
-        subst (λ (xs : List (List ℕ)). IsSafe u k class.first class.entry (duties_in aim class) numbers xs) same_sets
-        (subst (λ (xs : List ℕ). IsSafe u k class.first class.entry (duties_in aim class) xs h.sets) same_numbers h.safe),
+        subst (λ (xs : List (List ℕ)). IsSafe u k class.first class.entry (duties_in to class) numbers xs) same_sets
+        (subst (λ (xs : List ℕ). IsSafe u k class.first class.entry (duties_in to class) xs h.sets) same_numbers h.safe),
   )
 
 -- ---- a class that the changes of a round don't meet
 
-module _ (aim : Aim) (u : Rollout) (e : OrderedEvidence) (k : ℕ) (changes : List Change) (next : IsNextRound aim u e k changes) where
+module _ (to : Target) (u : Rollout) (e : OrderedEvidence) (k : ℕ) (changes : List Change) (next : IsNextRound to u e k changes) where
   pub picks_up_to : AllByRecursion (λ p. p.round ≤ suc k) e.picks
   picks_up_to = each_weaker (λ (p : OrderedPick). (0 < p.round) × (p.round ≤ k)) (λ (p : OrderedPick). p.round ≤ suc k) (λ p h. let le = h.1 in omega arith) e.picks next.picks
 
   -- its certificate of the round before stands
-  pub stays_certified : TablesKeepVlans u.old → KeepVlansUpTo u k → (n : ℕ) (class : Class) (marks : ℕ) → IsClass aim.classes n class → 0 < k
-      → HoldsTables u.net (tables_before u k) class marks → meets_any changes class marks ≡ false → IsCertifiedClass aim u e k n class
+  pub stays_certified : TablesKeepVlans u.old → KeepVlansUpTo u k → (n : ℕ) (class : Class) (marks : ℕ) → IsClass to.classes n class → 0 < k
+      → HoldsTables u.net (tables_before u k) class marks → meets_any changes class marks ≡ false → IsCertifiedClass to u e k n class
   stays_certified rules keeps n class marks is later held off =
-      elim k as (λ j. 0 < j → IsNextRound aim u e j changes → KeepVlansUpTo u j → HoldsTables u.net (tables_before u j) class marks → IsCertifiedClass aim u e j n class) [
+      elim k as (λ j. 0 < j → IsNextRound to u e j changes → KeepVlansUpTo u j → HoldsTables u.net (tables_before u j) class marks → IsCertifiedClass to u e j n class) [
         | zero ↦ λ less _ _ _. absurd (let low : 0 < 0 = less in omega arith)
         | suc j ↦ λ less h keep hold.
             let cert = h.certificates j n class (omega arith) is in
@@ -94,8 +95,8 @@ module _ (aim : Aim) (u : Rollout) (e : OrderedEvidence) (k : ℕ) (changes : Li
                     cert.in_force.latest other i same (each_at (λ (p : OrderedPick). (0 < p.round) × (p.round ≤ suc j)) e.picks other h.picks i).1;
               };
               meant = cert.meant;
-              safe = safe_still u (suc j) class changes h.round rules keep marks hold off (duties_in aim class) cert.numbers cert.sets
-                  (safe_after u j class less (h.good j (omega arith)) (duties_in aim class) cert.numbers cert.sets cert.safe);
+              safe = safe_still u (suc j) class changes h.round rules keep marks hold off (duties_in to class) cert.numbers cert.sets
+                  (safe_after u j class less (h.good j (omega arith)) (duties_in to class) cert.numbers cert.sets cert.safe);
             }
       ] later next keeps held
 
@@ -144,8 +145,8 @@ below_or_last n m less = elim (cases_lt n m) [ inl below ↦ inl below | inr abo
 none_some : (f : UnsafeClass) → ¬ (None ≡ Some f)
 none_some f same = cc
 
-module _ (aim : Aim) (u : Rollout) (e : OrderedEvidence) (k : ℕ) where
-  pub safe_none : AreSafeBelow aim u e k 0 []
+module _ (to : Target) (u : Rollout) (e : OrderedEvidence) (k : ℕ) where
+  pub safe_none : AreSafeBelow to u e k 0 []
   safe_none = record { each = λ n class less is. absurd (omega arith); within = tt; ascending = tt }
 
   within_more : (m : ℕ) (found : List Found) → AllByRecursion (λ (f : Found). f.class < m) found → AllByRecursion (λ (f : Found). f.class < m + 1) found
@@ -155,24 +156,24 @@ module _ (aim : Aim) (u : Rollout) (e : OrderedEvidence) (k : ℕ) where
   not_found_above m found h = each_weaker (λ (f : Found). f.class < m) (λ (f : Found). ¬ (f.class ≡ m)) (λ f less same. absurd (omega arith)) found h
 
   -- the pick in force keeps the next class safe
-  pub safe_kept : (m : ℕ) (found : List Found) → AreSafeBelow aim u e k m found → ((class : Class) → IsClass aim.classes m class → IsCertifiedClass aim u e k m class) → AreSafeBelow aim u e k (m + 1) found
+  pub safe_kept : (m : ℕ) (found : List Found) → AreSafeBelow to u e k m found → ((class : Class) → IsClass to.classes m class → IsCertifiedClass to u e k m class) → AreSafeBelow to u e k (m + 1) found
   safe_kept m found h kept = record { each = each; within = within_more m found h.within; ascending = h.ascending }
     where
-      each : (n : ℕ) (class : Class) → n < m + 1 → IsClass aim.classes n class
-          → (IsCertifiedClass aim u e k n class × HasNotFound n found) ⊎ ((¬ IsCertifiedClass aim u e k n class) × HasFound aim u k n class found)
+      each : (n : ℕ) (class : Class) → n < m + 1 → IsClass to.classes n class
+          → (IsCertifiedClass to u e k n class × HasNotFound n found) ⊎ ((¬ IsCertifiedClass to u e k n class) × HasFound to u k n class found)
       each n class less is = elim (below_or_last n m less) [
         | inl below ↦ h.each n class below is
         | inr last ↦
             inl (
-              subst (λ (i : ℕ). IsCertifiedClass aim u e k i class) (sym last) (kept class (subst (λ (i : ℕ). IsClass aim.classes i class) last is)),
+              subst (λ (i : ℕ). IsCertifiedClass to u e k i class) (sym last) (kept class (subst (λ (i : ℕ). IsClass to.classes i class) last is)),
               subst (λ (i : ℕ). HasNotFound i found) (sym last) (not_found_above m found h.within),
             )
       ]
 
   -- new evidence keeps the next class safe, for which the pick in force fails
-  pub safe_new : (m : ℕ) (found : List Found) (new : Found) → new.class ≡ m → AreSafeBelow aim u e k m found
-      → ((class : Class) → IsClass aim.classes m class → (¬ IsCertifiedClass aim u e k m class) × IsSafeEvidence u k class (duties_in aim class) new.evidence)
-      → AreSafeBelow aim u e k (m + 1) (found ++ new ∷ [])
+  pub safe_new : (m : ℕ) (found : List Found) (new : Found) → new.class ≡ m → AreSafeBelow to u e k m found
+      → ((class : Class) → IsClass to.classes m class → (¬ IsCertifiedClass to u e k m class) × IsSafeEvidence u k class (duties_in to class) new.evidence)
+      → AreSafeBelow to u e k (m + 1) (found ++ new ∷ [])
   safe_new m found new number h judged = record {
     each = each;
     within = each_append (λ (f : Found). f.class < m + 1) found (new ∷ []) (within_more m found h.within) (omega arith, tt);
@@ -180,8 +181,8 @@ module _ (aim : Aim) (u : Rollout) (e : OrderedEvidence) (k : ℕ) where
         (each_weaker (λ (f : Found). f.class < m) (λ (f : Found). f.class < new.class) (λ f less. omega arith) found h.within);
   }
     where
-      each : (n : ℕ) (class : Class) → n < m + 1 → IsClass aim.classes n class
-          → (IsCertifiedClass aim u e k n class × HasNotFound n (found ++ new ∷ [])) ⊎ ((¬ IsCertifiedClass aim u e k n class) × HasFound aim u k n class (found ++ new ∷ []))
+      each : (n : ℕ) (class : Class) → n < m + 1 → IsClass to.classes n class
+          → (IsCertifiedClass to u e k n class × HasNotFound n (found ++ new ∷ [])) ⊎ ((¬ IsCertifiedClass to u e k n class) × HasFound to u k n class (found ++ new ∷ []))
       each n class less is = elim (below_or_last n m less) [
         | inl below ↦
             elim (h.each n class below is) [
@@ -193,91 +194,91 @@ module _ (aim : Aim) (u : Rollout) (e : OrderedEvidence) (k : ℕ) where
                   )
             ]
         | inr last ↦
-            let found_here = judged class (subst (λ (i : ℕ). IsClass aim.classes i class) last is) in
+            let found_here = judged class (subst (λ (i : ℕ). IsClass to.classes i class) last is) in
             inr (
-              subst (λ (i : ℕ). ¬ IsCertifiedClass aim u e k i class) (sym last) found_here.0,
+              subst (λ (i : ℕ). ¬ IsCertifiedClass to u e k i class) (sym last) found_here.0,
               record { new = new; stands = in_append_right new found (new ∷ []) (inl refl); class_is = number ∙ sym last; safe = found_here.1 },
             )
       ]
 
   -- where a class is new, there is its evidence
-  pub new_there : (m : ℕ) → m < class_count aim.classes → (new : Found) → new.class ≡ m
-      → ((class : Class) → IsClass aim.classes m class → (¬ IsCertifiedClass aim u e k m class) × IsSafeEvidence u k class (duties_in aim class) new.evidence) → IsNewlySafe aim u e k new
+  pub new_there : (m : ℕ) → m < class_count to.classes → (new : Found) → new.class ≡ m
+      → ((class : Class) → IsClass to.classes m class → (¬ IsCertifiedClass to u e k m class) × IsSafeEvidence u k class (duties_in to class) new.evidence) → IsNewlySafe to u e k new
   new_there m less new number judged =
-      let (class, is) = class_exists aim.classes m less in
+      let (class, is) = class_exists to.classes m less in
       let (fails, safe) = judged class is in record {
         class = class;
-        is_class = subst (λ (i : ℕ). IsClass aim.classes i class) (sym number) is;
-        fails = subst (λ (i : ℕ). ¬ IsCertifiedClass aim u e k i class) (sym number) fails;
+        is_class = subst (λ (i : ℕ). IsClass to.classes i class) (sym number) is;
+        fails = subst (λ (i : ℕ). ¬ IsCertifiedClass to u e k i class) (sym number) fails;
         safe = safe;
       }
 
   -- and it is that of each class with the number
-  pub new_here : (n : ℕ) (found : Found) → found.class ≡ n → IsNewlySafe aim u e k found → (class : Class) → IsClass aim.classes n class
-      → (¬ IsCertifiedClass aim u e k n class) × IsSafeEvidence u k class (duties_in aim class) found.evidence
+  pub new_here : (n : ℕ) (found : Found) → found.class ≡ n → IsNewlySafe to u e k found → (class : Class) → IsClass to.classes n class
+      → (¬ IsCertifiedClass to u e k n class) × IsSafeEvidence u k class (duties_in to class) found.evidence
   new_here n found number new class is =
-      let there = subst (λ (i : ℕ). IsClass aim.classes i new.class) number new.is_class in
-      let same : new.class ≡ class = same_class aim.classes n new.class class there is in (
-        subst (λ (x : Class). ¬ IsCertifiedClass aim u e k n x) same (subst (λ (i : ℕ). ¬ IsCertifiedClass aim u e k i new.class) number new.fails),
-        subst (λ (x : Class). IsSafeEvidence u k x (duties_in aim x) found.evidence) same new.safe,
+      let there = subst (λ (i : ℕ). IsClass to.classes i new.class) number new.is_class in
+      let same : new.class ≡ class = same_class to.classes n new.class class there is in (
+        subst (λ (x : Class). ¬ IsCertifiedClass to u e k n x) same (subst (λ (i : ℕ). ¬ IsCertifiedClass to u e k i new.class) number new.fails),
+        subst (λ (x : Class). IsSafeEvidence u k x (duties_in to x) found.evidence) same new.safe,
       )
 
   -- ---- the classes that the round meets
 
   -- what is found for those below a number: all that is new, and all there is if there is a round before
   abbrev pub AreMetBelow : ℕ → List Found → Type 0
-  AreMetBelow below found = (0 < k → AreSafeBelow aim u e k below found) × AllByRecursion (IsNewlySafe aim u e k) found
+  AreMetBelow below found = (0 < k → AreSafeBelow to u e k below found) × AllByRecursion (IsNewlySafe to u e k) found
 
   pub met_none : AreMetBelow 0 []
   met_none = (λ later. safe_none, tt)
 
-  pub met_kept : (m : ℕ) (found : List Found) → AreMetBelow m found → ((class : Class) → IsClass aim.classes m class → 0 < k → IsCertifiedClass aim u e k m class) → AreMetBelow (m + 1) found
+  pub met_kept : (m : ℕ) (found : List Found) → AreMetBelow m found → ((class : Class) → IsClass to.classes m class → 0 < k → IsCertifiedClass to u e k m class) → AreMetBelow (m + 1) found
   met_kept m found h kept = (λ later. safe_kept m found (h.0 later) (λ class is. kept class is later), h.1)
 
-  pub met_new : (m : ℕ) → m < class_count aim.classes → (found : List Found) (new : Found) → new.class ≡ m → AreMetBelow m found
-      → ((class : Class) → IsClass aim.classes m class → (¬ IsCertifiedClass aim u e k m class) × IsSafeEvidence u k class (duties_in aim class) new.evidence)
+  pub met_new : (m : ℕ) → m < class_count to.classes → (found : List Found) (new : Found) → new.class ≡ m → AreMetBelow m found
+      → ((class : Class) → IsClass to.classes m class → (¬ IsCertifiedClass to u e k m class) × IsSafeEvidence u k class (duties_in to class) new.evidence)
       → AreMetBelow (m + 1) (found ++ new ∷ [])
   met_new m less found new number h judged = (
     λ later. safe_new m found new number (h.0 later) judged,
-    each_append (IsNewlySafe aim u e k) found (new ∷ []) h.1 (new_there m less new number judged, tt),
+    each_append (IsNewlySafe to u e k) found (new ∷ []) h.1 (new_there m less new number judged, tt),
   )
 
   -- the class with a number is not safe by any evidence
-  pub unsafe_at : (m : ℕ) → m < class_count aim.classes → (f : UnsafeClass) → ((class : Class) → IsClass aim.classes m class → (f.number ≡ m) × (f.class ≡ class) × IsUnsafe aim u k f)
-      → HasUnsafe aim u k f
+  pub unsafe_at : (m : ℕ) → m < class_count to.classes → (f : UnsafeClass) → ((class : Class) → IsClass to.classes m class → (f.number ≡ m) × (f.class ≡ class) × IsUnsafe to u k f)
+      → HasUnsafe to u k f
   unsafe_at m less f judged =
-      let (class, is) = class_exists aim.classes m less in
+      let (class, is) = class_exists to.classes m less in
       let (number, same, unsafe_) = judged class is in
-      record { is_class = subst (λ (n : ℕ). IsClass aim.classes n f.class) (sym number) (subst (IsClass aim.classes m) (sym same) is); unsafe_ = unsafe_ }
+      record { is_class = subst (λ (n : ℕ). IsClass to.classes n f.class) (sym number) (subst (IsClass to.classes m) (sym same) is); unsafe_ = unsafe_ }
 
   -- ---- what is noted of the class with a number
 
   -- what holds of all that is found holds with what is noted, where the class is safe
-  pub safe_noted : (m : ℕ) (found new : List Found) (judged : Judged) (failing : Option UnsafeClass) → IsNoted m judged found new failing → failing ≡ None → AreSafeBelow aim u e k m found
-      → ((class : Class) → IsClass aim.classes m class → IsJudged aim u e k m class judged) → AreSafeBelow aim u e k (m + 1) new
-  safe_noted m found new Kept failing noted none h judged = subst (AreSafeBelow aim u e k (m + 1)) (sym noted.0) (safe_kept m found h judged)
+  pub safe_noted : (m : ℕ) (found new : List Found) (judged : Judged) (failing : Option UnsafeClass) → IsNoted m judged found new failing → failing ≡ None → AreSafeBelow to u e k m found
+      → ((class : Class) → IsClass to.classes m class → IsJudged to u e k m class judged) → AreSafeBelow to u e k (m + 1) new
+  safe_noted m found new Kept failing noted none h judged = subst (AreSafeBelow to u e k (m + 1)) (sym noted.0) (safe_kept m found h judged)
   safe_noted m found new (New evidence) failing noted none h judged =
-      subst (AreSafeBelow aim u e k (m + 1)) (sym noted.0) (safe_new m found (record { class = m; evidence = evidence }) refl h judged)
+      subst (AreSafeBelow to u e k (m + 1)) (sym noted.0) (safe_new m found (record { class = m; evidence = evidence }) refl h judged)
   safe_noted m found new (Unsafe f) failing noted none h judged = absurd (none_some f (sym none ∙ noted))
 
-  pub met_noted : (m : ℕ) → m < class_count aim.classes → (found new : List Found) (judged : Judged) (failing : Option UnsafeClass) → IsNoted m judged found new failing → failing ≡ None
-      → AreMetBelow m found → ((class : Class) → IsClass aim.classes m class → IsJudgedIfMet aim u e k m class judged) → AreMetBelow (m + 1) new
+  pub met_noted : (m : ℕ) → m < class_count to.classes → (found new : List Found) (judged : Judged) (failing : Option UnsafeClass) → IsNoted m judged found new failing → failing ≡ None
+      → AreMetBelow m found → ((class : Class) → IsClass to.classes m class → IsJudgedIfMet to u e k m class judged) → AreMetBelow (m + 1) new
   met_noted m less found new Kept failing noted none h judged = subst (AreMetBelow (m + 1)) (sym noted.0) (met_kept m found h judged)
   met_noted m less found new (New evidence) failing noted none h judged =
       subst (AreMetBelow (m + 1)) (sym noted.0) (met_new m less found (record { class = m; evidence = evidence }) refl h judged)
   met_noted m less found new (Unsafe f) failing noted none h judged = absurd (none_some f (sym none ∙ noted))
 
   -- the class that is noted as failing is not safe by any evidence
-  pub failed_noted : (m : ℕ) → m < class_count aim.classes → (found new : List Found) (judged : Judged) (failing : Option UnsafeClass) (f : UnsafeClass) → IsNoted m judged found new failing
-      → failing ≡ Some f → ((class : Class) → IsClass aim.classes m class → IsJudgedIfMet aim u e k m class judged) → HasUnsafe aim u k f
+  pub failed_noted : (m : ℕ) → m < class_count to.classes → (found new : List Found) (judged : Judged) (failing : Option UnsafeClass) (f : UnsafeClass) → IsNoted m judged found new failing
+      → failing ≡ Some f → ((class : Class) → IsClass to.classes m class → IsJudgedIfMet to u e k m class judged) → HasUnsafe to u k f
   failed_noted m less found new Kept failing f noted some judged = absurd (none_some f (sym noted.1 ∙ some))
   failed_noted m less found new (New evidence) failing f noted some judged = absurd (none_some f (sym noted.1 ∙ some))
   failed_noted m less found new (Unsafe g) failing f noted some judged =
-      subst (HasUnsafe aim u k) (same_Some g f (sym noted ∙ some)) (unsafe_at m less g judged)
+      subst (HasUnsafe to u k) (same_Some g f (sym noted ∙ some)) (unsafe_at m less g judged)
 
-module _ (aim : Aim) (u : Rollout) (e : OrderedEvidence) (k : ℕ) where
+module _ (to : Target) (u : Rollout) (e : OrderedEvidence) (k : ℕ) where
   -- what was found, and the picks in force, keep the classes below a number safe
-  pub safe_below : (m : ℕ) (found : List Found) → AreSafeBelow aim u e k m found → CanBeSafeBelow aim u k m
+  pub safe_below : (m : ℕ) (found : List Found) → AreSafeBelow to u e k m found → CanBeSafeBelow to u k m
   safe_below m found h n class less is =
       elim (h.each n class less is) [
         | inl (kept, none) ↦ (kept.numbers, kept.sets, kept.safe)
@@ -285,19 +286,19 @@ module _ (aim : Aim) (u : Rollout) (e : OrderedEvidence) (k : ℕ) where
       ]
 
   -- the class that is noted as failing has the number
-  pub failed_number : (m : ℕ) → m < class_count aim.classes → (found new : List Found) (judged : Judged) (failing : Option UnsafeClass) (f : UnsafeClass) → IsNoted m judged found new failing
-      → failing ≡ Some f → ((class : Class) → IsClass aim.classes m class → IsJudgedIfMet aim u e k m class judged) → f.number ≡ m
+  pub failed_number : (m : ℕ) → m < class_count to.classes → (found new : List Found) (judged : Judged) (failing : Option UnsafeClass) (f : UnsafeClass) → IsNoted m judged found new failing
+      → failing ≡ Some f → ((class : Class) → IsClass to.classes m class → IsJudgedIfMet to u e k m class judged) → f.number ≡ m
   failed_number m less found new Kept failing f noted some judged = absurd (none_some f (sym noted.1 ∙ some))
   failed_number m less found new (New evidence) failing f noted some judged = absurd (none_some f (sym noted.1 ∙ some))
   failed_number m less found new (Unsafe g) failing f noted some judged =
-      let (class, is) = class_exists aim.classes m less in
+      let (class, is) = class_exists to.classes m less in
       ap (λ (x : UnsafeClass). x.number) (sym (same_Some g f (sym noted ∙ some))) ∙ (judged class is).0
 
   -- so where those below it are safe, those below its own number are
-  pub failed_below : (m : ℕ) → m < class_count aim.classes → (found new : List Found) (judged : Judged) (failing : Option UnsafeClass) (f : UnsafeClass) → IsNoted m judged found new failing
-      → failing ≡ Some f → ((class : Class) → IsClass aim.classes m class → IsJudgedIfMet aim u e k m class judged) → AreSafeBelow aim u e k m found → CanBeSafeBelow aim u k f.number
+  pub failed_below : (m : ℕ) → m < class_count to.classes → (found new : List Found) (judged : Judged) (failing : Option UnsafeClass) (f : UnsafeClass) → IsNoted m judged found new failing
+      → failing ≡ Some f → ((class : Class) → IsClass to.classes m class → IsJudgedIfMet to u e k m class judged) → AreSafeBelow to u e k m found → CanBeSafeBelow to u k f.number
   failed_below m less found new judged failing f noted some all safe =
-      subst (CanBeSafeBelow aim u k) (sym (failed_number m less found new judged failing f noted some all)) (safe_below m found safe)
+      subst (CanBeSafeBelow to u k) (sym (failed_number m less found new judged failing f noted some all)) (safe_below m found safe)
 
 -- ---- the class of a number
 
@@ -314,14 +315,14 @@ pub numbered_within : (net : Network) → IsNetwork net → (there here : ClassL
     → numbered.class.entry.switch.0 < switch_count net
 numbered_within net valid there here same hosts numbered is = class_within net valid here numbered.number numbered.class hosts (subst (λ (cs : ClassList). IsNumbered cs numbered) (sym same) is)
 
-module _ (aim : Aim) (u : Rollout) (e : OrderedEvidence) (k : ℕ) where
+module _ (to : Target) (u : Rollout) (e : OrderedEvidence) (k : ℕ) where
   -- what is found for the class that was made for a number is found for each class with it
-  pub judged_there : (numbered : NumberedClass) (n : ℕ) (class : Class) → numbered.number ≡ n → numbered.class ≡ class → (judged : Judged) → IsJudged aim u e k numbered.number numbered.class judged
-      → IsJudged aim u e k n class judged
+  pub judged_there : (numbered : NumberedClass) (n : ℕ) (class : Class) → numbered.number ≡ n → numbered.class ≡ class → (judged : Judged) → IsJudged to u e k numbered.number numbered.class judged
+      → IsJudged to u e k n class judged
   judged_there numbered n class number same judged h =
-      subst (λ (x : Class). IsJudged aim u e k n x judged) same (subst (λ (i : ℕ). IsJudged aim u e k i numbered.class judged) number h)
+      subst (λ (x : Class). IsJudged to u e k n x judged) same (subst (λ (i : ℕ). IsJudged to u e k i numbered.class judged) number h)
 
-  pub judged_met : (n : ℕ) (class : Class) (judged : Judged) → IsJudged aim u e k n class judged → IsJudgedIfMet aim u e k n class judged
+  pub judged_met : (n : ℕ) (class : Class) (judged : Judged) → IsJudged to u e k n class judged → IsJudgedIfMet to u e k n class judged
   judged_met n class Kept h = λ later. h
   judged_met n class (New evidence) h = h
   judged_met n class (Unsafe f) h = h

@@ -2,7 +2,7 @@
 use Rattle.std.proofs.Common.{◌≡◌, ◌≢◌, ℕ, suc, ◌+◌, ◌<◌, false, List, length, IsTrue, sym, ◌∙◌, subst, inl, inr, arith}
 use Rattle.std.proofs.lemmas.Bool.{cases_eq, cases_lt}
 use Rattle.net_base.specs.declared.ids.SwitchId.{SwitchId}
-use Rattle.topology.specs.Networks.{Network, IsNetwork, switch_count}
+use Rattle.topology.specs.Networks.{Network, IsNetwork}
 use Rattle.flow_rules.specs.declared.rules.Rule.{Rule}
 use Rattle.path_walk.specs.UserConfigs.{IsUserConfig}
 use Rattle.config_check.proofs.JudgeLaws.{class_within}
@@ -20,7 +20,7 @@ use Rattle.net_base.specs.Switches.{has}
 use Rattle.class_watch.specs.Walks.{at_rest, HoldsWalks, HoldsTables, meets_any}
 use Rattle.class_watch.proofs.StandLaws as stand
 use Rattle.class_watch.proofs.StandLaws.{held_before, held_after, vlan_before, all_held}
-use Rattle.round_judge.specs.Aims.{Aim}
+use Rattle.table_difference.specs.Targets.{Target}
 use Rattle.round_judge.specs.Visits.{marks_at, HoldTables, HoldRound}
 
 -- ---- a class that the changes of a round don't meet
@@ -41,20 +41,20 @@ module _ (u : Rollout) (k : ℕ) (class : Class) (changes : List Change) (round_
 
 -- ---- class by class
 
-module _ (aim : Aim) (u : Rollout) (k : ℕ) where
+module _ (to : Target) (u : Rollout) (k : ℕ) where
   -- the marks of each class hold where its packets come to before the round, and those of each class below a number its mixed walks
   pub record AreHeldBelow (below : ℕ) (came : List ℕ) : Type 0 where
-    pub count : length came ≡ class_count aim.classes
-    pub before : (n : ℕ) (class : Class) → IsClass aim.classes n class → HoldsTables u.net (tables_before u k) class (marks_at came n)
-    pub walks : (n : ℕ) (class : Class) → n < below → IsClass aim.classes n class → HoldsWalks u k class (marks_at came n)
+    pub count : length came ≡ class_count to.classes
+    pub before : (n : ℕ) (class : Class) → IsClass to.classes n class → HoldsTables u.net (tables_before u k) class (marks_at came n)
+    pub walks : (n : ℕ) (class : Class) → n < below → IsClass to.classes n class → HoldsWalks u k class (marks_at came n)
 
   -- what looking at the class of a number leaves of the marks
   pub record IsHeldAt (n : ℕ) (mid new : List ℕ) : Type 0 where
     pub count : length new ≡ length mid
     pub others : (m : ℕ) → m ≢ n → marks_at new m ≡ marks_at mid m
-    pub walks : (class : Class) → IsClass aim.classes n class → HoldsTables u.net (tables_before u k) class (marks_at mid n) → HoldsWalks u k class (marks_at new n)
+    pub walks : (class : Class) → IsClass to.classes n class → HoldsTables u.net (tables_before u k) class (marks_at mid n) → HoldsWalks u k class (marks_at new n)
 
-  pub held_none : u.net ≡ aim.net → (came : List ℕ) → HoldTables aim (tables_before u k) came → AreHeldBelow 0 came
+  pub held_none : u.net ≡ to.net → (came : List ℕ) → HoldTables to (tables_before u k) came → AreHeldBelow 0 came
   held_none net came h = record {
     count = h.count;
     before = λ n class is. subst (λ (x : Network). HoldsTables x (tables_before u k) class (marks_at came n)) (sym net) (h.each n class is);
@@ -62,14 +62,14 @@ module _ (aim : Aim) (u : Rollout) (k : ℕ) where
   }
 
   module _ (n : ℕ) (mid new : List ℕ) (at : IsHeldAt n mid new) where
-    here : (m : ℕ) (class : Class) → m ≡ n → IsClass aim.classes m class → ((j : ℕ) (x : Class) → IsClass aim.classes j x → HoldsTables u.net (tables_before u k) x (marks_at mid j))
+    here : (m : ℕ) (class : Class) → m ≡ n → IsClass to.classes m class → ((j : ℕ) (x : Class) → IsClass to.classes j x → HoldsTables u.net (tables_before u k) x (marks_at mid j))
         → HoldsWalks u k class (marks_at new m)
     here m class e is before =
-        let is_n = subst (λ (i : ℕ). IsClass aim.classes i class) e is in
+        let is_n = subst (λ (i : ℕ). IsClass to.classes i class) e is in
         subst (λ (i : ℕ). HoldsWalks u k class (marks_at new i)) (sym e) (at.walks class is_n (before n class is_n))
 
-    before_more : ((j : ℕ) (x : Class) → IsClass aim.classes j x → HoldsTables u.net (tables_before u k) x (marks_at mid j))
-        → (m : ℕ) (class : Class) → IsClass aim.classes m class → HoldsTables u.net (tables_before u k) class (marks_at new m)
+    before_more : ((j : ℕ) (x : Class) → IsClass to.classes j x → HoldsTables u.net (tables_before u k) x (marks_at mid j))
+        → (m : ℕ) (class : Class) → IsClass to.classes m class → HoldsTables u.net (tables_before u k) class (marks_at new m)
     before_more before m class is =
         elim (cases_eq m n) [
           | inl e ↦ held_before u k class (marks_at new m) (here m class e is before)
@@ -87,39 +87,39 @@ module _ (aim : Aim) (u : Rollout) (k : ℕ) where
           ];
     }
 
-  pub held_back : u.net ≡ aim.net → (below : ℕ) (came : List ℕ) → AreHeldBelow below came → HoldTables aim (tables_before u k) came
+  pub held_back : u.net ≡ to.net → (below : ℕ) (came : List ℕ) → AreHeldBelow below came → HoldTables to (tables_before u k) came
   held_back net below came h = record {
     count = h.count;
     each = λ n class is. subst (λ (x : Network). HoldsTables x (tables_before u k) class (marks_at came n)) net (h.before n class is);
   }
 
-  pub held_all : (came : List ℕ) → AreHeldBelow (class_count aim.classes) came → HoldRound aim u k came
-  held_all came h = record { count = h.count; each = λ n class is. h.walks n class (number_fits aim.classes n class is) is }
+  pub held_all : (came : List ℕ) → AreHeldBelow (class_count to.classes) came → HoldRound to u k came
+  held_all came h = record { count = h.count; each = λ n class is. h.walks n class (number_fits to.classes n class is) is }
 
   -- the marks of all classes hold their mixed walks, and go on to, whichever class is looked at
   pub round_still : (n : ℕ) (mid new : List ℕ) → length new ≡ length mid → ((m : ℕ) → m ≢ n → marks_at new m ≡ marks_at mid m)
-      → ((class : Class) → IsClass aim.classes n class → HoldsWalks u k class (marks_at mid n) → HoldsWalks u k class (marks_at new n)) → HoldRound aim u k mid → HoldRound aim u k new
+      → ((class : Class) → IsClass to.classes n class → HoldsWalks u k class (marks_at mid n) → HoldsWalks u k class (marks_at new n)) → HoldRound to u k mid → HoldRound to u k new
   round_still n mid new count others walks h = record {
     count = count ∙ h.count;
     each = λ m class is.
         elim (cases_eq m n) [
           | inl e ↦
-              let is_n = subst (λ (i : ℕ). IsClass aim.classes i class) e is in
+              let is_n = subst (λ (i : ℕ). IsClass to.classes i class) e is in
               subst (λ (i : ℕ). HoldsWalks u k class (marks_at new i)) (sym e) (walks class is_n (h.each n class is_n))
           | inr ne ↦ subst (HoldsWalks u k class) (sym (others m ne)) (h.each m class is)
         ];
   }
 
   -- so they hold where packets come to before the round, and after it
-  pub round_before : u.net ≡ aim.net → (came : List ℕ) → HoldRound aim u k came → HoldTables aim (tables_before u k) came
+  pub round_before : u.net ≡ to.net → (came : List ℕ) → HoldRound to u k came → HoldTables to (tables_before u k) came
   round_before net came h = record {
     count = h.count;
     each = λ n class is.
         subst (λ (x : Network). HoldsTables x (tables_before u k) class (marks_at came n)) net (held_before u k class (marks_at came n) (h.each n class is));
   }
 
-  pub round_after_it : u.net ≡ aim.net → k < length u.rounds → IsGoodRound (tables_before u k) (round_after k u.rounds) → (came : List ℕ) → HoldRound aim u k came
-      → HoldTables aim (tables_before u (suc k)) came
+  pub round_after_it : u.net ≡ to.net → k < length u.rounds → IsGoodRound (tables_before u k) (round_after k u.rounds) → (came : List ℕ) → HoldRound to u k came
+      → HoldTables to (tables_before u (suc k)) came
   round_after_it net less good came h = record {
     count = h.count;
     each = λ n class is.
@@ -129,11 +129,11 @@ module _ (aim : Aim) (u : Rollout) (k : ℕ) where
 -- ---- before the first round
 
 -- where all switches are marked for each class
-pub all_come : (aim : Aim) (old : List (List Rule)) → IsNetwork aim.net → IsUserConfig aim.net old → aim.classes.hosts ≡ aim.net.hosts → (count : ℕ) → count ≡ class_count aim.classes → (came : List ℕ)
-    → length came ≡ count → ((n : ℕ) (s : SwitchId) → n < count → s.0 < 128 → IsTrue (has (marks_at came n) s)) → HoldTables aim old came
-all_come aim old net user hosts count count_is came length_is all = record {
+pub all_come : (to : Target) (old : List (List Rule)) → IsNetwork to.net → IsUserConfig to.net old → to.classes.hosts ≡ to.net.hosts → (count : ℕ) → count ≡ class_count to.classes → (came : List ℕ)
+    → length came ≡ count → ((n : ℕ) (s : SwitchId) → n < count → s.0 < 128 → IsTrue (has (marks_at came n) s)) → HoldTables to old came
+all_come to old net user hosts count count_is came length_is all = record {
   count = length_is ∙ count_is;
   each = λ n class is.
-      let number = number_fits aim.classes n class is in
-      all_held aim.net old class (marks_at came n) net (tables_keep aim.net old user) (class_within aim.net net aim.classes n class hosts is) (λ s less. all n s (omega arith) less);
+      let number = number_fits to.classes n class is in
+      all_held to.net old class (marks_at came n) net (tables_keep to.net old user) (class_within to.net net to.classes n class hosts is) (λ s less. all n s (omega arith) less);
 }

@@ -11,7 +11,8 @@ use Rattle.certificates.specs.declared.OrderedPick.{OrderedPick}
 use Rattle.certificates.specs.declared.OrderedEvidence.{OrderedEvidence}
 use Rattle.evidence_store.specs.Found.{IsLeastEvidence}
 use Rattle.evidence_store.specs.Stored.{IsEachOnce}
-use Rattle.round_judge.specs.Aims.{Aim, duties_in}
+use Rattle.table_difference.specs.Targets.{Target}
+use Rattle.round_judge.specs.Goals.{duties_in}
 
 -- the evidence with the picks of the rounds up to one alone
 abbrev pub evidence_until : ℕ → OrderedEvidence → OrderedEvidence
@@ -25,41 +26,41 @@ pub record HasPick (e : OrderedEvidence) (k n : ℕ) : Type 0 where
   pub class_is : pick.class ≡ n
 
 -- a pick means the heights and the least before sets of its round and class
-pub record IsLeastPick (aim : Aim) (u : Rollout) (e : OrderedEvidence) (pick : OrderedPick) : Type 0 where
+pub record IsLeastPick (to : Target) (u : Rollout) (e : OrderedEvidence) (pick : OrderedPick) : Type 0 where
   pub k : ℕ
   pub class : Class
   pub numbers : List ℕ
   pub sets : List (List ℕ)
   pub within : k < length u.rounds
   pub round_is : pick.round ≡ suc k
-  pub class_is : IsClass aim.classes pick.class class
+  pub class_is : IsClass to.classes pick.class class
   pub meant : IsMeant e pick numbers sets
-  pub least : IsLeastEvidence u k class (duties_in aim class) numbers sets
+  pub least : IsLeastEvidence u k class (duties_in to class) numbers sets
 
 -- the evidence of the search for these rounds: a new pick exactly where the one in force fails, with heights and least sets,
 -- each numbering, set and use once and in the order of first use
-pub record IsSearchEvidence (aim : Aim) (u : Rollout) (e : OrderedEvidence) : Type 0 where
-  pub picks : (k n : ℕ) (class : Class) → k < length u.rounds → IsClass aim.classes n class
-      → HasPick e k n ↔ (¬ OrderedCertificate u (evidence_until k e) k n class.first class.entry (duties_in aim class))
-  pub picked : (p : OrderedPick) → IsIn p e.picks → IsLeastPick aim u e p
+pub record IsSearchEvidence (to : Target) (u : Rollout) (e : OrderedEvidence) : Type 0 where
+  pub picks : (k n : ℕ) (class : Class) → k < length u.rounds → IsClass to.classes n class
+      → HasPick e k n ↔ (¬ OrderedCertificate u (evidence_until k e) k n class.first class.entry (duties_in to class))
+  pub picked : (p : OrderedPick) → IsIn p e.picks → IsLeastPick to u e p
   pub ascending : IsChain IsPickBefore e.picks
   pub sets : AllByRecursion (λ set. IsChain (λ s t. s < t) set) e.befores
   pub once : IsEachOnce e
 
 -- the class has its certificate in round k by the evidence
-abbrev pub IsCertifiedClass : Aim → Rollout → OrderedEvidence → ℕ → ℕ → Class → Type 0
-IsCertifiedClass aim u e k n class = OrderedCertificate u e k n class.first class.entry (duties_in aim class)
+abbrev pub IsCertifiedClass : Target → Rollout → OrderedEvidence → ℕ → ℕ → Class → Type 0
+IsCertifiedClass to u e k n class = OrderedCertificate u e k n class.first class.entry (duties_in to class)
 
 -- so far there is this evidence, for the first k rounds: their picks and no others, and each class has its certificate in each
 -- of them
-pub record HasEvidenceTo (aim : Aim) (u : Rollout) (k : ℕ) (e : OrderedEvidence) : Type 0 where
+pub record HasEvidenceTo (to : Target) (u : Rollout) (k : ℕ) (e : OrderedEvidence) : Type 0 where
   pub within : k ≤ length u.rounds
-  pub picks : (j n : ℕ) (class : Class) → j < k → IsClass aim.classes n class
-      → HasPick e j n ↔ (¬ OrderedCertificate u (evidence_until j e) j n class.first class.entry (duties_in aim class))
-  pub picked : (p : OrderedPick) → IsIn p e.picks → IsLeastPick aim u e p
+  pub picks : (j n : ℕ) (class : Class) → j < k → IsClass to.classes n class
+      → HasPick e j n ↔ (¬ OrderedCertificate u (evidence_until j e) j n class.first class.entry (duties_in to class))
+  pub picked : (p : OrderedPick) → IsIn p e.picks → IsLeastPick to u e p
   pub begun : AllByRecursion (λ p. (0 < p.round) × (p.round ≤ k)) e.picks
   pub ascending : IsChain IsPickBefore e.picks
   pub once : IsEachOnce e
-  pub certificates : (j n : ℕ) (class : Class) → j < k → IsClass aim.classes n class → IsCertifiedClass aim u e j n class
-  pub numberings : AllByRecursion (IsValidNumbering aim.net) e.numberings
-  pub befores : AllByRecursion (IsValidBefore aim.net) e.befores
+  pub certificates : (j n : ℕ) (class : Class) → j < k → IsClass to.classes n class → IsCertifiedClass to u e j n class
+  pub numberings : AllByRecursion (IsValidNumbering to.net) e.numberings
+  pub befores : AllByRecursion (IsValidBefore to.net) e.befores

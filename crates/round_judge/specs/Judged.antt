@@ -27,46 +27,47 @@ use Rattle.round_judge.specs.declared.judging.Judged.TheVariants.{Kept, New, Uns
 use Rattle.round_judge.specs.declared.judging.Verdict.{Verdict}
 use Rattle.round_judge.specs.declared.judging.Verdict.TheVariants as verdict
 use Rattle.round_judge.specs.declared.unsafe_class.UnsafeClass.{UnsafeClass}
-use Rattle.round_judge.specs.Aims.{Aim, duties_in}
+use Rattle.table_difference.specs.Targets.{Target}
+use Rattle.round_judge.specs.Goals.{duties_in}
 use Rattle.round_judge.specs.Evidence.{IsCertifiedClass}
 use Rattle.round_judge.specs.Visits.{HoldTables, HoldRound}
 
 -- the changes are round k, which may be carried out; the picks so far are of the rounds before it, in which each class has its
 -- certificate
-pub record IsNextRound (aim : Aim) (u : Rollout) (e : OrderedEvidence) (k : ℕ) (changes : List Change) : Type 0 where
+pub record IsNextRound (to : Target) (u : Rollout) (e : OrderedEvidence) (k : ℕ) (changes : List Change) : Type 0 where
   pub within : k < length u.rounds
   pub round : round_after k u.rounds ≡ changes
   pub good : (j : ℕ) → j ≤ k → IsGoodRound (tables_before u j) (round_after j u.rounds)
   pub clear : (s : SwitchId) (mixed : List Rule) → MayHold u k s mixed → IsClear mixed
   pub picks : AllByRecursion (λ p. (0 < p.round) × (p.round ≤ k)) e.picks
-  pub certificates : (j n : ℕ) (class : Class) → j < k → IsClass aim.classes n class → IsCertifiedClass aim u e j n class
+  pub certificates : (j n : ℕ) (class : Class) → j < k → IsClass to.classes n class → IsCertifiedClass to u e j n class
 
 -- the switches are prepared for a round, and the evidence so far is of the classes, with numberings of the network
-pub record IsReady (aim : Aim) (mixes : List MixedState) (store : StoreState) : Type 0 where
-  pub round : (u : Rollout) × (k : ℕ) × IsRoundOf aim.net mixes u k
-  pub numberings : AllByRecursion (IsValidNumbering aim.net) store.evidence.numberings
-  pub classes : store.classes ≡ class_count aim.classes
+pub record IsReady (to : Target) (mixes : List MixedState) (store : StoreState) : Type 0 where
+  pub round : (u : Rollout) × (k : ℕ) × IsRoundOf to.net mixes u k
+  pub numberings : AllByRecursion (IsValidNumbering to.net) store.evidence.numberings
+  pub classes : store.classes ≡ class_count to.classes
 
 -- no evidence keeps the class safe in round k, and each switch that its mixed walks come to is known
-pub record IsUnsafe (aim : Aim) (u : Rollout) (k : ℕ) (f : UnsafeClass) : Type 0 where
-  pub never : (numbers : List ℕ) (sets : List (List ℕ)) → ¬ IsSafe u k f.class.first f.class.entry (duties_in aim f.class) numbers sets
+pub record IsUnsafe (to : Target) (u : Rollout) (k : ℕ) (f : UnsafeClass) : Type 0 where
+  pub never : (numbers : List ℕ) (sets : List (List ℕ)) → ¬ IsSafe u k f.class.first f.class.entry (duties_in to f.class) numbers sets
   pub visits : HoldsWalks u k f.class f.visited
 
 -- the least before sets that were found last, if any were, are those of a class
-abbrev pub HoldsLastOf : Aim → Option SetsState → Type 0
-HoldsLastOf aim last = HoldsLast aim.net (record { demands = aim.demands; classes = aim.classes }) last
+abbrev pub HoldsLastOf : Target → Option SetsState → Type 0
+HoldsLastOf to last = HoldsLast to.net (record { demands = to.demands; classes = to.classes }) last
 
 -- what is found for a class in round k: the pick in force keeps it safe, or it fails and new evidence does, or nothing does
-abbrev pub IsJudged : Aim → Rollout → OrderedEvidence → ℕ → ℕ → Class → Judged → Type 0
-IsJudged aim u e k n class Kept = IsCertifiedClass aim u e k n class
-IsJudged aim u e k n class (New evidence) = (¬ IsCertifiedClass aim u e k n class) × IsSafeEvidence u k class (duties_in aim class) evidence
-IsJudged aim u e k n class (Unsafe f) = (f.number ≡ n) × (f.class ≡ class) × IsUnsafe aim u k f
+abbrev pub IsJudged : Target → Rollout → OrderedEvidence → ℕ → ℕ → Class → Judged → Type 0
+IsJudged to u e k n class Kept = IsCertifiedClass to u e k n class
+IsJudged to u e k n class (New evidence) = (¬ IsCertifiedClass to u e k n class) × IsSafeEvidence u k class (duties_in to class) evidence
+IsJudged to u e k n class (Unsafe f) = (f.number ≡ n) × (f.class ≡ class) × IsUnsafe to u k f
 
 -- the same where the class is looked at if the round meets it: if it is kept, the pick in force of the round before does that
-abbrev pub IsJudgedIfMet : Aim → Rollout → OrderedEvidence → ℕ → ℕ → Class → Judged → Type 0
-IsJudgedIfMet aim u e k n class Kept = 0 < k → IsJudged aim u e k n class Kept
-IsJudgedIfMet aim u e k n class (New evidence) = IsJudged aim u e k n class (New evidence)
-IsJudgedIfMet aim u e k n class (Unsafe f) = IsJudged aim u e k n class (Unsafe f)
+abbrev pub IsJudgedIfMet : Target → Rollout → OrderedEvidence → ℕ → ℕ → Class → Judged → Type 0
+IsJudgedIfMet to u e k n class Kept = 0 < k → IsJudged to u e k n class Kept
+IsJudgedIfMet to u e k n class (New evidence) = IsJudged to u e k n class (New evidence)
+IsJudgedIfMet to u e k n class (Unsafe f) = IsJudged to u e k n class (Unsafe f)
 
 -- what is noted for class n behind what was found: its new evidence, if there is some, or that it is not safe by any evidence
 abbrev pub IsNoted : ℕ → Judged → List Found → List Found → Option UnsafeClass → Type 0
@@ -75,11 +76,11 @@ IsNoted n (New evidence) old new failing = (new ≡ old ++ record { class = n; e
 IsNoted n (Unsafe f) old new failing = failing ≡ Some f
 
 -- new evidence was found for class n
-pub record HasFound (aim : Aim) (u : Rollout) (k n : ℕ) (class : Class) (found : List Found) : Type 0 where
+pub record HasFound (to : Target) (u : Rollout) (k n : ℕ) (class : Class) (found : List Found) : Type 0 where
   pub new : Found
   pub stands : IsIn new found
   pub class_is : new.class ≡ n
-  pub safe : IsSafeEvidence u k class (duties_in aim class) new.evidence
+  pub safe : IsSafeEvidence u k class (duties_in to class) new.evidence
 
 -- no evidence was found for class n
 abbrev pub HasNotFound : ℕ → List Found → Type 0
@@ -87,36 +88,36 @@ HasNotFound n found = AllByRecursion (λ (f : Found). ¬ (f.class ≡ n)) found
 
 -- each class below a number is safe in round k: the pick in force keeps it safe and nothing new was found for it,
 -- or it fails and new evidence was found; what was found is of these classes, ascending
-pub record AreSafeBelow (aim : Aim) (u : Rollout) (e : OrderedEvidence) (k below : ℕ) (found : List Found) : Type 0 where
-  pub each : (n : ℕ) (class : Class) → n < below → IsClass aim.classes n class
-      → (IsCertifiedClass aim u e k n class × HasNotFound n found) ⊎ ((¬ IsCertifiedClass aim u e k n class) × HasFound aim u k n class found)
+pub record AreSafeBelow (to : Target) (u : Rollout) (e : OrderedEvidence) (k below : ℕ) (found : List Found) : Type 0 where
+  pub each : (n : ℕ) (class : Class) → n < below → IsClass to.classes n class
+      → (IsCertifiedClass to u e k n class × HasNotFound n found) ⊎ ((¬ IsCertifiedClass to u e k n class) × HasFound to u k n class found)
   pub within : AllByRecursion (λ (f : Found). f.class < below) found
   pub ascending : IsChain (λ (f g : Found). f.class < g.class) found
 
 -- one of the classes is not safe by any evidence
-pub record HasUnsafe (aim : Aim) (u : Rollout) (k : ℕ) (f : UnsafeClass) : Type 0 where
-  pub is_class : IsClass aim.classes f.number f.class
-  pub unsafe_ : IsUnsafe aim u k f
+pub record HasUnsafe (to : Target) (u : Rollout) (k : ℕ) (f : UnsafeClass) : Type 0 where
+  pub is_class : IsClass to.classes f.number f.class
+  pub unsafe_ : IsUnsafe to u k f
 
 -- some evidence keeps each class below a number safe
-abbrev pub CanBeSafeBelow : Aim → Rollout → ℕ → ℕ → Type 0
-CanBeSafeBelow aim u k below = (n : ℕ) (class : Class) → n < below → IsClass aim.classes n class
-    → (numbers : List ℕ) × (sets : List (List ℕ)) × IsSafe u k class.first class.entry (duties_in aim class) numbers sets
+abbrev pub CanBeSafeBelow : Target → Rollout → ℕ → ℕ → Type 0
+CanBeSafeBelow to u k below = (n : ℕ) (class : Class) → n < below → IsClass to.classes n class
+    → (numbers : List ℕ) × (sets : List (List ℕ)) × IsSafe u k class.first class.entry (duties_in to class) numbers sets
 
 -- the first class that is not safe by any evidence
-pub record IsFirstUnsafe (aim : Aim) (u : Rollout) (k : ℕ) (f : UnsafeClass) : Type 0 where
-  pub is_unsafe : HasUnsafe aim u k f
-  pub below : CanBeSafeBelow aim u k f.number
+pub record IsFirstUnsafe (to : Target) (u : Rollout) (k : ℕ) (f : UnsafeClass) : Type 0 where
+  pub is_unsafe : HasUnsafe to u k f
+  pub below : CanBeSafeBelow to u k f.number
 
 -- what is found for all classes in round k
-abbrev pub AreJudged : Aim → Rollout → OrderedEvidence → ℕ → Verdict → Type 0
-AreJudged aim u e k (verdict.Safe found) = AreSafeBelow aim u e k (class_count aim.classes) found.items
-AreJudged aim u e k (verdict.Unsafe f) = HasUnsafe aim u k f
+abbrev pub AreJudged : Target → Rollout → OrderedEvidence → ℕ → Verdict → Type 0
+AreJudged to u e k (verdict.Safe found) = AreSafeBelow to u e k (class_count to.classes) found.items
+AreJudged to u e k (verdict.Unsafe f) = HasUnsafe to u k f
 
 -- the same where the classes are looked at in order
-abbrev pub AreFirstJudged : Aim → Rollout → OrderedEvidence → ℕ → Verdict → Type 0
-AreFirstJudged aim u e k (verdict.Safe found) = AreSafeBelow aim u e k (class_count aim.classes) found.items
-AreFirstJudged aim u e k (verdict.Unsafe f) = IsFirstUnsafe aim u k f
+abbrev pub AreFirstJudged : Target → Rollout → OrderedEvidence → ℕ → Verdict → Type 0
+AreFirstJudged to u e k (verdict.Safe found) = AreSafeBelow to u e k (class_count to.classes) found.items
+AreFirstJudged to u e k (verdict.Unsafe f) = IsFirstUnsafe to u k f
 
 -- the verdict by what is found, and by the class that is not safe by any evidence, if there is one
 abbrev pub verdict_of : Vec Found Global → Option UnsafeClass → Verdict
@@ -124,23 +125,23 @@ verdict_of found None = verdict.Safe found
 verdict_of found (Some f) = verdict.Unsafe f
 
 -- the pick in force fails to keep a class safe in round k, and new evidence does
-pub record IsNewlySafe (aim : Aim) (u : Rollout) (e : OrderedEvidence) (k : ℕ) (f : Found) : Type 0 where
+pub record IsNewlySafe (to : Target) (u : Rollout) (e : OrderedEvidence) (k : ℕ) (f : Found) : Type 0 where
   pub class : Class
-  pub is_class : IsClass aim.classes f.class class
-  pub fails : ¬ IsCertifiedClass aim u e k f.class class
-  pub safe : IsSafeEvidence u k class (duties_in aim class) f.evidence
+  pub is_class : IsClass to.classes f.class class
+  pub fails : ¬ IsCertifiedClass to u e k f.class class
+  pub safe : IsSafeEvidence u k class (duties_in to class) f.evidence
 
 -- each class that round k meets is safe in it, and so is each other one if there is a round before;
 -- and each switch that the mixed walks of each class come to is known
-pub record AreMetSafe (aim : Aim) (u : Rollout) (e : OrderedEvidence) (k : ℕ) (found : List Found) (came : List ℕ) : Type 0 where
-  pub later : 0 < k → AreSafeBelow aim u e k (class_count aim.classes) found
-  pub new : AllByRecursion (IsNewlySafe aim u e k) found
-  pub known : HoldRound aim u k came
+pub record AreMetSafe (to : Target) (u : Rollout) (e : OrderedEvidence) (k : ℕ) (found : List Found) (came : List ℕ) : Type 0 where
+  pub later : 0 < k → AreSafeBelow to u e k (class_count to.classes) found
+  pub new : AllByRecursion (IsNewlySafe to u e k) found
+  pub known : HoldRound to u k came
 
 -- what is found for the classes that round k meets, and where packets come to then
-abbrev pub AreMetJudged : Aim → Rollout → OrderedEvidence → ℕ → Verdict → List ℕ → Type 0
-AreMetJudged aim u e k (verdict.Safe found) came = AreMetSafe aim u e k found.items came
-AreMetJudged aim u e k (verdict.Unsafe f) came = HasUnsafe aim u k f × (0 < k → CanBeSafeBelow aim u k f.number) × HoldTables aim (tables_before u k) came
+abbrev pub AreMetJudged : Target → Rollout → OrderedEvidence → ℕ → Verdict → List ℕ → Type 0
+AreMetJudged to u e k (verdict.Safe found) came = AreMetSafe to u e k found.items came
+AreMetJudged to u e k (verdict.Unsafe f) came = HasUnsafe to u k f × (0 < k → CanBeSafeBelow to u k f.number) × HoldTables to (tables_before u k) came
 
 -- the evidence with a pick more for each class for which new evidence was found
 abbrev pub AreWithPicks : OrderedEvidence → ℕ → List Found → OrderedEvidence → Type 0

@@ -1,4 +1,4 @@
-pub mod Aims
+pub mod Goals
 pub mod Evidence
 pub mod Visits
 pub mod Judged

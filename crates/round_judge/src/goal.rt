@@ -22,9 +22,10 @@ pub struct Goal<'a> {
 
 impl<'a> Model for Goal<'a> {
     ghost use Rattle.flow_rules.specs.Tables.{rules_of_all};
-    ghost use Rattle.round_judge.specs.Aims.{Aim, IsGoal};
+    ghost use Rattle.table_difference.specs.Targets.{Target};
+    ghost use Rattle.round_judge.specs.Goals.{IsGoal};
 
-    ghost Value = { Aim };
+    ghost Value = { Target };
 
     ghost view = { λ g. record { net = g.net.now; new = rules_of_all g.new.now; demands = g.duties.now.demands; classes = g.classes.now } };
 

@@ -11,13 +11,13 @@ ghost use Rattle.certificates.specs.Valid.{IsValidNumbering, IsValidUse};
 ghost use Rattle.certificates.specs.declared.OrderedPick.{OrderedPick};
 ghost use Rattle.dest_classes.specs.Numbered.{IsNumbered};
 ghost use Rattle.mixed_walks.specs.Walks.{IsRoundOf, IsWalked};
-ghost use Rattle.round_judge.specs.Aims.{duties_in};
+ghost use Rattle.round_judge.specs.Goals.{duties_in};
 ghost use Rattle.round_judge.specs.declared.judging.Found.{Found as FoundOf};
 ghost use Rattle.check_reasons.specs.AtomMarks.{AreTouched};
 ghost use Rattle.class_watch.specs.Walks.{HoldsWalks, HoldsTables};
 ghost use Rattle.round_judge.specs.Evidence.{IsCertifiedClass};
 ghost use Rattle.round_judge.specs.Judged.{IsReady, IsNextRound, IsJudged, IsJudgedIfMet, IsNewlySafe, IsNoted, AreJudged, AreFirstJudged, AreMetJudged, HoldsLastOf, verdict_of};
-ghost use Rattle.round_judge.specs.Aims.{HasAtoms};
+ghost use Rattle.round_judge.specs.Goals.{HasAtoms};
 ghost use Rattle.round_judge.specs.Visits.{marks_at, HoldTables, HoldRound, HoldAfter};
 
 use crate::goal::Goal;

@@ -3,7 +3,7 @@ ghost use Rattle.std.specs.Prelude.{◌≡◌, ℕ, ◌<◌, length, IsTrue, IfO
 ghost use Rattle.net_base.specs.declared.ids.SwitchId.{SwitchId as Switch};
 ghost use Rattle.dest_classes.specs.Classes.{class_count};
 ghost use Rattle.net_base.specs.Switches.{has};
-ghost use Rattle.round_judge.specs.Aims.{HasAtoms};
+ghost use Rattle.round_judge.specs.Goals.{HasAtoms};
 ghost use Rattle.round_judge.specs.Visits.{marks_at};
 
 use class_watch::{ClassWatch, LookedAtoms};

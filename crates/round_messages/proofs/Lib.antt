@@ -1,3 +1,4 @@
 pub mod Requests
 pub mod BySwitch
 pub mod Marking
+pub mod Places

@@ -1,14 +1,36 @@
--- Which switches of a round are marked.
-use Rattle.std.proofs.Common.{◌≡◌, ℕ, zero, suc, ◌+◌, ◌<◌, ◌≤◌, Bool, false, cond, List, ◌∷◌, map, get_or, refl, ap, ◌∙◌, arith}
-use Rattle.std.specs.Prelude.{filter}
-use Rattle.std.specs.List.{range_with_len}
+-- Which switches a round changes.
+use Rattle.std.proofs.Common.{◌≡◌, ◌≢◌, ℕ, zero, suc, ◌+◌, ◌<◌, ◌≤◌, Bool, true, false, cond, eqb, List, [], ◌∷◌, ◌++◌, map, refl, sym, ap, ◌∙◌, subst, inl, inr, arith}
+use Rattle.std.specs.Prelude.{◌||◌, ◌&&◌, IsTrue, filter, find, Option}
+use Rattle.std.specs.List.{list_any, range_with_len}
+use Rattle.std.proofs.lemmas.Bool.{cases_Bool, cases_eq, eq-eqb, ne_eqb, or_left, or_right}
+use Rattle.std.proofs.lemmas.List.Folds.{list_any-append}
+use Rattle.std.proofs.Math.Bool.{or-false}
 use Rattle.net_base.specs.declared.ids.SwitchId.{SwitchId}
+use Rattle.net_base.specs.Switches.{has}
+use Rattle.net_base.proofs.NameLaws.{same_switch}
+use Rattle.update_model.specs.Changes.{switch_of}
 use Rattle.update_model.specs.declared.Change.{Change}
 use Rattle.round_messages.specs.Requests.{is_changed, switch_numbered}
 
--- the marks of the first changes
-abbrev pub AreMarks : ℕ → List Bool → List Change → Type 0
-AreMarks n marks changes = (s : ℕ) → s < n → get_or marks s false ≡ is_changed changes (switch_numbered s)
+-- the set of the switches that have a change among these
+abbrev pub HasChanged : ℕ → List Change → Type 0
+HasChanged set changes = (s : SwitchId) → has set s ≡ is_changed changes s
+
+-- and one change more
+pub changed_more : (old new : ℕ) (changes : List Change) (c : Change) → IsTrue (has new (switch_of c)) → ((s : SwitchId) → s.0 ≢ (switch_of c).0 → has new s ≡ has old s)
+    → HasChanged old changes → HasChanged new (changes ++ c ∷ [])
+changed_more old new changes c there others is s =
+    let at : Change → Bool = λ x. eqb (switch_of x).0 s.0 in
+    let more = list_any-append at changes (c ∷ []) in
+    elim (cases_eq s.0 (switch_of c).0) [
+      | inl e ↦ (
+          let same = same_switch s (switch_of c) e in
+          let here : at c ≡ true = eq-eqb (switch_of c).0 s.0 (sym e) in
+          subst (λ (t : SwitchId). has new t ≡ true) (sym same) there ∙ sym (more ∙ or_right (list_any at changes) (list_any at (c ∷ [])) (or_left (at c) false here)))
+      | inr ne ↦ (
+          let off : at c ≡ false = ne_eqb (switch_of c).0 s.0 (λ e. ne (sym e)) in
+          others s ne ∙ is s ∙ sym (more ∙ ap (λ b. list_any at changes || (b || false)) off ∙ or-false (list_any at changes)))
+    ]
 
 -- two tests that agree on the switches
 pub same_passed : (p q : SwitchId → Bool) (a n : ℕ) → ((s : ℕ) → a ≤ s → s < a + n → p (switch_numbered s) ≡ q (switch_numbered s))
@@ -19,3 +41,19 @@ same_passed p q a (suc n) h =
     let rest = same_passed p q (a + 1) n (λ s ge lt. h s (omega arith) (omega arith)) in
     ap (λ b. cond b (switch_numbered a ∷ filter p (map switch_numbered (range_with_len (a + 1) n))) (filter p (map switch_numbered (range_with_len (a + 1) n)))) here
     ∙ ap (λ xs. cond (q (switch_numbered a)) (switch_numbered a ∷ xs) xs) rest
+
+-- ---- the first of some switches that passes a test
+
+module _ (p q : SwitchId → Bool) where
+  -- among so many from a number on
+  abbrev pub found_from : ℕ → ℕ → Option SwitchId
+  found_from n m = find p (filter q (map switch_numbered (range_with_len n m)))
+
+  pub not_first : (n m : ℕ) → (q (switch_numbered n) && p (switch_numbered n)) ≡ false → found_from n (suc m) ≡ found_from (n + 1) m
+  not_first n m e =
+      elim (cases_Bool (q (switch_numbered n))) [
+        | inl on ↦ (
+            let closed : p (switch_numbered n) ≡ false = sym (ap (λ b. b && p (switch_numbered n)) on) ∙ e in
+            rw (on, closed) refl)
+        | inr off ↦ rw off refl
+      ]

@@ -34,7 +34,8 @@ use Rattle.class_watch.specs.Walks.{meets, meets_any}
 use Rattle.class_watch.specs.Alike.{covering_changes, AreAlike}
 use Rattle.class_watch.proofs.CoveringLaws.{covering_kept}
 use Rattle.class_watch.proofs.StandLaws.{alike_walks, alike_safe}
-use Rattle.packed_rounds.specs.Packing.{Target, CanStand}
+use Rattle.table_difference.specs.Targets.{Target}
+use Rattle.packed_rounds.specs.Packing.{CanStand}
 use Rattle.round_trials.proofs.FitLaws.{at_more, within_good}
 use Rattle.round_packer.specs.declared.failing.Failure.{Failure}
 use Rattle.round_packer.specs.Kept.{HoldsClass, IsFailing, change_eq, unmet}

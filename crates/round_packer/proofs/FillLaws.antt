@@ -12,7 +12,8 @@ use Rattle.certificates.specs.Rounds.{one_round_of}
 use Rattle.check_reasons.specs.Loaded.{AreLoaded}
 use Rattle.round_mix.specs.Prepared.{MixedState}
 use Rattle.mixed_walks.specs.Walks.{TablesKeepVlans}
-use Rattle.packed_rounds.specs.Packing.{Target, CanStand, IsFilled}
+use Rattle.table_difference.specs.Targets.{Target}
+use Rattle.packed_rounds.specs.Packing.{CanStand, IsFilled}
 use Rattle.round_trials.specs.Filling.{TrialState, FitTables, IsTrial}
 use Rattle.round_packer.specs.declared.failing.Failure.{Failure}
 use Rattle.round_packer.specs.Kept.{AreKept, HasAtoms, ArePreparedFor, IsFailing, IsFailureOf}

@@ -25,7 +25,7 @@ use Rattle.net_base.specs.Switches.{has}
 use Rattle.class_watch.specs.Walks.{meets}
 use Rattle.evidence_store.specs.Found.{IsFound}
 use Rattle.evidence_store.specs.declared.class_evidence.ClassEvidence.{ClassEvidence}
-use Rattle.packed_rounds.specs.Packing.{Target}
+use Rattle.table_difference.specs.Targets.{Target}
 use Rattle.round_packer.specs.declared.failing.Failure.{Failure}
 use Rattle.round_packer.specs.Kept.{HoldsClass, IsKept, AreKept, AreWatched, HasAtoms, IsTold, AreTold, AreJudgedBeside, enters_at, set_at}
 use Rattle.round_packer.proofs.KeptLaws.{held_without, kept_unmet}

@@ -30,7 +30,7 @@ use Rattle.net_base.specs.Switches.{has}
 use Rattle.class_watch.specs.Walks.{meets}
 use Rattle.class_watch.specs.Alike.{covering_changes, AreAlike}
 use Rattle.class_watch.proofs.StandLaws.{alike_walks, alike_safe}
-use Rattle.packed_rounds.specs.Packing.{Target}
+use Rattle.table_difference.specs.Targets.{Target}
 use Rattle.round_trials.proofs.FitLaws.{at_more, part_longer, more_here, more_there, within_good}
 use Rattle.round_packer.specs.Kept.{HoldsClass, IsKept}
 

@@ -22,7 +22,8 @@ use Rattle.mixed_walks.specs.Walks.{TablesKeepVlans}
 use Rattle.mixed_walks.proofs.PlaceLaws.{tables_keep}
 use Rattle.certificates.proofs.TreeTables.{unique_in_table}
 use Rattle.path_walk.specs.UserConfigs.{IsUserConfig}
-use Rattle.packed_rounds.specs.Packing.{Target, CanStand, IsFilled, IsPackedRound, ArePacked, PacksOrdered, PacksStuck, tables_past}
+use Rattle.table_difference.specs.Targets.{Target}
+use Rattle.packed_rounds.specs.Packing.{CanStand, IsFilled, IsPackedRound, ArePacked, PacksOrdered, PacksStuck, tables_past}
 use Rattle.packed_rounds.proofs.Packed.{packed_part, part_made, some_more}
 use Rattle.round_trials.specs.Filling.{TrialState, IsTrial}
 use Rattle.round_packer.specs.declared.failing.Failure.{Failure}

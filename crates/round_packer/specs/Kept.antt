@@ -16,7 +16,7 @@ use Rattle.round_mix.specs.Prepared.{MixedState}
 use Rattle.mixed_walks.specs.Walks.{IsRoundOf}
 use Rattle.class_watch.specs.Classes.{AreClasses}
 use Rattle.class_watch.specs.Walks.{HoldsWalks, meets_any}
-use Rattle.packed_rounds.specs.Packing.{Target}
+use Rattle.table_difference.specs.Targets.{Target}
 use Rattle.round_packer.specs.declared.failing.Failure.{Failure}
 
 -- what is packed for, by the new tables and by the duties of classes

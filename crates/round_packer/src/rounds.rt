@@ -5,7 +5,7 @@ ghost use Rattle.flow_rules.specs.declared.rules.Rule.{Rule};
 ghost use Rattle.path_walk.specs.UserConfigs.{IsUserConfig};
 ghost use Rattle.dest_classes.specs.Classes.{class_count};
 ghost use Rattle.update_model.specs.Changes.{tables_after};
-ghost use Rattle.packed_rounds.specs.Packing.{Target};
+ghost use Rattle.table_difference.specs.Targets.{Target};
 ghost use Rattle.round_trials.specs.Filling.{IsTrial};
 ghost use Rattle.round_packer.specs.Kept.{IsGoal, HasAtoms, target_of};
 ghost use Rattle.round_packer.specs.Filling.{EndsAt, IsPackedTo};

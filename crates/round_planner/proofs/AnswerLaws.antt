@@ -13,43 +13,44 @@ use Rattle.certificates.specs.Valid.{IsValidPlan}
 use Rattle.certificates.specs.declared.Plan.{Plan}
 use Rattle.evidence_store.specs.Stored.{IsStored}
 use Rattle.table_difference.specs.SameClasses.{HasSameClasses, classes_before, MakeNoClasses}
-use Rattle.round_judge.specs.Aims.{Aim}
+use Rattle.table_difference.specs.Targets.{Target}
 use Rattle.round_planner.specs.Searching.{SearchState, IsEnded, answer_by}
 use Rattle.table_difference.specs.Tried.{AreTried}
-use Rattle.round_planner.specs.Ends.{aim_of, IsSearched, OfPlan, OfStuck, IsNotStuck}
+use Rattle.table_difference.specs.Targets.{target_between}
+use Rattle.round_planner.specs.Ends.{IsSearched, OfPlan, OfStuck, IsNotStuck}
 use Rattle.round_planner.proofs.OrderLaws.{plan_searched, now_valid, now_certified, now_classes, now_count, rounds_stuck, rounds_tried, tree_not_stuck}
 
-module _ (aim : Aim) (old : List (List Rule)) (classes_are : aim.classes ≡ classes_before aim.net old aim.new aim.demands) (net : IsNetwork aim.net) (old_user : IsUserConfig aim.net old)
-    (new_user : IsUserConfig aim.net aim.new) (s : SearchState) where
-  pub answer_searched : (none : Bool) → IsEnded aim old s none → IsSearched (aim_of aim.net old aim.new aim.demands) old (answer_by s none)
-  answer_searched true (changes, at, ends) = plan_searched aim old classes_are net old_user new_user s changes at ends
-  answer_searched false (changes, at, ends) = rounds_stuck aim old classes_are net old_user new_user s changes at ends
+module _ (to : Target) (old : List (List Rule)) (classes_are : to.classes ≡ classes_before to.net old to.new to.demands) (net : IsNetwork to.net) (old_user : IsUserConfig to.net old)
+    (new_user : IsUserConfig to.net to.new) (s : SearchState) where
+  pub answer_searched : (none : Bool) → IsEnded to old s none → IsSearched (target_between to.net old to.new to.demands) old (answer_by s none)
+  answer_searched true (changes, at, ends) = plan_searched to old classes_are net old_user new_user s changes at ends
+  answer_searched false (changes, at, ends) = rounds_stuck to old classes_are net old_user new_user s changes at ends
 
-  pub answer_tried : (none : Bool) → IsEnded aim old s none → OfStuck (AreTried aim.net) (answer_by s none)
+  pub answer_tried : (none : Bool) → IsEnded to old s none → OfStuck (AreTried to.net) (answer_by s none)
   answer_tried true (changes, at, ends) = tt
-  answer_tried false (changes, at, ends) = rounds_tried aim old classes_are net old_user new_user s changes at
+  answer_tried false (changes, at, ends) = rounds_tried to old classes_are net old_user new_user s changes at
 
-  pub answer_tree : (none : Bool) → IsEnded aim old s none → IsTreeUpdate (record { update = record { net = aim.net; old = old; new = aim.new; demands = aim.demands }; rounds = [] }) → IsNotStuck (answer_by s none)
+  pub answer_tree : (none : Bool) → IsEnded to old s none → IsTreeUpdate (record { update = record { net = to.net; old = old; new = to.new; demands = to.demands }; rounds = [] }) → IsNotStuck (answer_by s none)
   answer_tree true (changes, at, ends) tree = tt
-  answer_tree false (changes, at, ends) tree = absurd (tree_not_stuck aim old classes_are net old_user new_user s changes at tree ends)
+  answer_tree false (changes, at, ends) tree = absurd (tree_not_stuck to old classes_are net old_user new_user s changes at tree ends)
 
   module _ (stored : IsStored s.store.evidence) where
-    pub answer_valid : class_count aim.classes ≤ 8192 → (none : Bool) → IsEnded aim old s none → OfPlan (IsValidPlan aim.net) (answer_by s none)
-    answer_valid few true (changes, at, ends) = now_valid aim old classes_are net old_user new_user s changes at ends stored (subst (λ n. n ≤ 8192) (sym at.classes) few)
+    pub answer_valid : class_count to.classes ≤ 8192 → (none : Bool) → IsEnded to old s none → OfPlan (IsValidPlan to.net) (answer_by s none)
+    answer_valid few true (changes, at, ends) = now_valid to old classes_are net old_user new_user s changes at ends stored (subst (λ n. n ≤ 8192) (sym at.classes) few)
     answer_valid few false (changes, at, ends) = tt
 
-    module _ (no_classes : MakeNoClasses aim.net old aim.new) (old_good : HasGoodPaths aim.net old aim.demands aim.classes) (new_good : HasGoodPaths aim.net aim.new aim.demands aim.classes) where
+    module _ (no_classes : MakeNoClasses to.net old to.new) (old_good : HasGoodPaths to.net old to.demands to.classes) (new_good : HasGoodPaths to.net to.new to.demands to.classes) where
       abbrev pub task_of_plan : Plan → Task
-      task_of_plan p = record { update = record { net = aim.net; old = old; new = aim.new; demands = aim.demands }; rounds = p.rounds }
+      task_of_plan p = record { update = record { net = to.net; old = old; new = to.new; demands = to.demands }; rounds = p.rounds }
 
-      pub answer_certified : (none : Bool) → IsEnded aim old s none → OfPlan (λ p. IsCertified (task_of_plan p) p.evidence) (answer_by s none)
-      answer_certified true (changes, at, ends) = now_certified aim old classes_are net old_user new_user s changes at ends stored no_classes old_good new_good
+      pub answer_certified : (none : Bool) → IsEnded to old s none → OfPlan (λ p. IsCertified (task_of_plan p) p.evidence) (answer_by s none)
+      answer_certified true (changes, at, ends) = now_certified to old classes_are net old_user new_user s changes at ends stored no_classes old_good new_good
       answer_certified false (changes, at, ends) = tt
 
-      pub answer_classes : (none : Bool) → IsEnded aim old s none → OfPlan (λ p. HasSameClasses (classes_for (task_of_plan p)) aim.classes) (answer_by s none)
-      answer_classes true (changes, at, ends) = now_classes aim old classes_are net old_user new_user s changes at ends stored no_classes old_good new_good
+      pub answer_classes : (none : Bool) → IsEnded to old s none → OfPlan (λ p. HasSameClasses (classes_for (task_of_plan p)) to.classes) (answer_by s none)
+      answer_classes true (changes, at, ends) = now_classes to old classes_are net old_user new_user s changes at ends stored no_classes old_good new_good
       answer_classes false (changes, at, ends) = tt
 
-      pub answer_count : (none : Bool) → IsEnded aim old s none → OfPlan (λ p. length p.rounds ≡ length (remaining old aim.new)) (answer_by s none)
-      answer_count true (changes, at, ends) = now_count aim old classes_are net old_user new_user s changes at ends stored no_classes old_good new_good
+      pub answer_count : (none : Bool) → IsEnded to old s none → OfPlan (λ p. length p.rounds ≡ length (remaining old to.new)) (answer_by s none)
+      answer_count true (changes, at, ends) = now_count to old classes_are net old_user new_user s changes at ends stored no_classes old_good new_good
       answer_count false (changes, at, ends) = tt

@@ -42,7 +42,7 @@ use Rattle.dest_classes.specs.Classes.{class_count}
 use Rattle.evidence_store.specs.Stored.{IsStored}
 use Rattle.table_difference.specs.SameClasses.{HasSameClasses, classes_before, BringNoPrefix, MakeNoClasses}
 use Rattle.round_tables.specs.Trials.{single, HasRoomAlone}
-use Rattle.round_judge.specs.Aims.{Aim}
+use Rattle.table_difference.specs.Targets.{Target}
 use Rattle.round_planner.specs.Search.{update_by, single_rounds, IsFirstQualifying, AreFirstQualifying}
 use Rattle.round_planner.specs.Standing.{Stands}
 use Rattle.table_difference.specs.Tried.{AreTried}
@@ -78,30 +78,30 @@ split_at (d ∷ changes) (suc k) less =
     let s = split_at changes k (omega arith) in
     record { front = d ∷ s.front; c = s.c; rest = s.rest; are = ap (λ xs. d ∷ xs) s.are; length_is = ap suc s.length_is }
 
-first_there : (aim : Aim) (tables : List (List Rule)) (front : List Change) (c : Change) (rest : List Change) → AreFirstQualifying aim tables (front ++ c ∷ rest)
-    → IsFirstQualifying aim (tables_after front tables) (remaining (tables_after front tables) aim.new) c
-first_there aim tables [] c rest found = found.0
-first_there aim tables (d ∷ front) c rest found = first_there aim (tables_after_change d tables) front c rest found.1
+first_there : (to : Target) (tables : List (List Rule)) (front : List Change) (c : Change) (rest : List Change) → AreFirstQualifying to tables (front ++ c ∷ rest)
+    → IsFirstQualifying to (tables_after front tables) (remaining (tables_after front tables) to.new) c
+first_there to tables [] c rest found = found.0
+first_there to tables (d ∷ front) c rest found = first_there to (tables_after_change d tables) front c rest found.1
 
-front_found : (aim : Aim) (tables : List (List Rule)) (front rest : List Change) → AreFirstQualifying aim tables (front ++ rest) → AreFirstQualifying aim tables front
-front_found aim tables [] rest found = tt
-front_found aim tables (d ∷ front) rest found = (found.0, front_found aim (tables_after_change d tables) front rest found.1)
+front_found : (to : Target) (tables : List (List Rule)) (front rest : List Change) → AreFirstQualifying to tables (front ++ rest) → AreFirstQualifying to tables front
+front_found to tables [] rest found = tt
+front_found to tables (d ∷ front) rest found = (found.0, front_found to (tables_after_change d tables) front rest found.1)
 
 -- ---- where nothing remains
 
-module _ (aim : Aim) (old : List (List Rule)) (new_user : IsUserConfig aim.net aim.new) (tables : List (List Rule)) (user : AreUserTables aim old tables) (none : remaining tables aim.new ≡ []) where
-  no_change : (c : Change) → ¬ IsIn c (remaining tables aim.new)
+module _ (to : Target) (old : List (List Rule)) (new_user : IsUserConfig to.net to.new) (tables : List (List Rule)) (user : AreUserTables to old tables) (none : remaining tables to.new ≡ []) where
+  no_change : (c : Change) → ¬ IsIn c (remaining tables to.new)
   no_change c i = subst (IsIn c) none i
 
-  module _ (s : SwitchId) (within : s.0 < switch_count aim.net) where
+  module _ (s : SwitchId) (within : s.0 < switch_count to.net) where
     abbrev now : List Rule
     now = rules_at tables s
 
     abbrev next : List Rule
-    next = rules_at aim.new s
+    next = rules_at to.new s
 
     not_between : (c : Change) → ¬ IsIn c (changes_between s now next)
-    not_between c i = no_change c (remaining_in tables aim.new s c (subst (λ n. s.0 < n) (sym user.count) within) (subst (λ n. s.0 < n) (sym new_user.count) within) i)
+    not_between c i = no_change c (remaining_in tables to.new s c (subst (λ n. s.0 < n) (sym user.count) within) (subst (λ n. s.0 < n) (sym new_user.count) within) i)
 
     -- what stands under a key in both tables is the same
     same_under : (k : Key) → IsIn k (keys_in_order (keys_of now ++ keys_of next)) → (o p : Option Rule) → rule_with k now ≡ o → rule_with k next ≡ p → difference s o p ≡ None
@@ -143,57 +143,57 @@ module _ (aim : Aim) (old : List (List Rule)) (new_user : IsUserConfig aim.net a
         ] refl
 
   -- where no change remains the tables are the new ones, as sets
-  pub same_when_none : (s : SwitchId) → IsSameSet (rules_at tables s) (rules_at aim.new s)
+  pub same_when_none : (s : SwitchId) → IsSameSet (rules_at tables s) (rules_at to.new s)
   same_when_none s =
-      elim (cases_lt s.0 (switch_count aim.net)) [
+      elim (cases_lt s.0 (switch_count to.net)) [
         | inl within ↦ λ r. (there s within r, back s within r)
         | inr past ↦
             let first : rules_at tables s ≡ [] = get_or_past tables s.0 (let n = user.count in omega arith) in
-            let second : rules_at aim.new s ≡ [] = get_or_past aim.new s.0 (let n = new_user.count in omega arith) in
-            subst (λ xs. IsSameSet xs (rules_at aim.new s)) (sym first) (subst (λ ys. IsSameSet [] ys) (sym second) (λ r. (λ i. i, λ i. i)))
+            let second : rules_at to.new s ≡ [] = get_or_past to.new s.0 (let n = new_user.count in omega arith) in
+            subst (λ xs. IsSameSet xs (rules_at to.new s)) (sym first) (subst (λ ys. IsSameSet [] ys) (sym second) (λ r. (λ i. i, λ i. i)))
       ]
 
 -- ---- the rounds of a search
 
-module _ (aim : Aim) (old : List (List Rule)) (net : IsNetwork aim.net) (old_user : IsUserConfig aim.net old) (new_user : IsUserConfig aim.net aim.new)
-    (changes : List Change) (found : AreFirstQualifying aim old changes) where
+module _ (to : Target) (old : List (List Rule)) (net : IsNetwork to.net) (old_user : IsUserConfig to.net old) (new_user : IsUserConfig to.net to.new)
+    (changes : List Change) (found : AreFirstQualifying to old changes) where
   abbrev u : Rollout
-  u = update_by aim old changes
+  u = update_by to old changes
 
-  pub found_user : AreUserTables aim old (tables_after changes old)
-  found_user = user_along aim old new_user old (user_start aim old new_user old_user) changes found
+  pub found_user : AreUserTables to old (tables_after changes old)
+  found_user = user_along to old new_user old (user_start to old new_user old_user) changes found
 
-  found_changes : AllByRecursion (IsUserChange aim old) changes
-  found_changes = changes_along aim old new_user old (user_start aim old new_user old_user) changes found
+  found_changes : AllByRecursion (IsUserChange to old) changes
+  found_changes = changes_along to old new_user old (user_start to old new_user old_user) changes found
 
   -- the change of round k, which applies, and is clear and within capacity alone
   record IsRoundAt (k : ℕ) : Type 0 where
     front : List Change
     c : Change
     rest : List Change
-    same : IsSameRound u k (single aim.net (tables_after front old) c) 0
+    same : IsSameRound u k (single to.net (tables_after front old) c) 0
     round_is : round_after k u.rounds ≡ c ∷ []
     applies : Applies (tables_before u k) c
-    stands : HasRoomAlone aim.net (tables_after front old) c
+    stands : HasRoomAlone to.net (tables_after front old) c
 
   round_of : (k : ℕ) → k < length u.rounds → IsRoundAt k
   round_of k less =
       let count = length_rounds changes in
       let s = split_at changes k (omega arith) in
-      let first = first_there aim old s.front s.c s.rest (subst (AreFirstQualifying aim old) s.are found) in
-      let user = user_along aim old new_user old (user_start aim old new_user old_user) s.front (front_found aim old s.front (s.c ∷ s.rest) (subst (AreFirstQualifying aim old) s.are found)) in
-      let i = first_remains aim (tables_after s.front old) (remaining (tables_after s.front old) aim.new) s.c first in
-      let same : IsSameRound u k (single aim.net (tables_after s.front old) s.c) 0 =
-      subst (λ cs. IsSameRound (update_by aim old cs) k (single aim.net (tables_after s.front old) s.c) 0) (sym s.are)
-      (subst (λ j. IsSameRound (update_by aim old (s.front ++ s.c ∷ s.rest)) j (single aim.net (tables_after s.front old) s.c) 0) s.length_is
-      (same_back (single aim.net (tables_after s.front old) s.c) 0 (update_by aim old (s.front ++ s.c ∷ s.rest)) (length s.front) (same_alone aim old s.front s.c s.rest))) in
+      let first = first_there to old s.front s.c s.rest (subst (AreFirstQualifying to old) s.are found) in
+      let user = user_along to old new_user old (user_start to old new_user old_user) s.front (front_found to old s.front (s.c ∷ s.rest) (subst (AreFirstQualifying to old) s.are found)) in
+      let i = first_remains to (tables_after s.front old) (remaining (tables_after s.front old) to.new) s.c first in
+      let same : IsSameRound u k (single to.net (tables_after s.front old) s.c) 0 =
+      subst (λ cs. IsSameRound (update_by to old cs) k (single to.net (tables_after s.front old) s.c) 0) (sym s.are)
+      (subst (λ j. IsSameRound (update_by to old (s.front ++ s.c ∷ s.rest)) j (single to.net (tables_after s.front old) s.c) 0) s.length_is
+      (same_back (single to.net (tables_after s.front old) s.c) 0 (update_by to old (s.front ++ s.c ∷ s.rest)) (length s.front) (same_alone to old s.front s.c s.rest))) in
       record {
         front = s.front;
         c = s.c;
         rest = s.rest;
         same = same;
         round_is = same.round;
-        applies = subst (λ ts. Applies ts s.c) (sym (same.tables ∙ settled_start ((s.c ∷ []) ∷ []) (tables_after s.front old))) (remaining_applies aim old new_user (tables_after s.front old) user s.c i);
+        applies = subst (λ ts. Applies ts s.c) (sym (same.tables ∙ settled_start ((s.c ∷ []) ∷ []) (tables_after s.front old))) (remaining_applies to old new_user (tables_after s.front old) user s.c i);
         stands = first.qualifies.stands;
       }
 
@@ -205,12 +205,12 @@ module _ (aim : Aim) (old : List (List Rule)) (net : IsNetwork aim.net) (old_use
   clear : AreClearRounds u
   clear k less s mixed held =
       let r = round_of k less in
-      r.stands.clear s mixed (held_same u k (single aim.net (tables_after r.front old) r.c) 0 r.same s mixed held)
+      r.stands.clear s mixed (held_same u k (single to.net (tables_after r.front old) r.c) 0 r.same s mixed held)
 
-  fits : (k : ℕ) (s : SwitchId) → k < length u.rounds → s.0 < switch_count aim.net → need_of u k s ≤ capacity_of aim.net s
+  fits : (k : ℕ) (s : SwitchId) → k < length u.rounds → s.0 < switch_count to.net → need_of u k s ≤ capacity_of to.net s
   fits k s less within =
       let r = round_of k less in
-      subst (λ n. n ≤ capacity_of aim.net s) (sym (need_same u k (single aim.net (tables_after r.front old) r.c) 0 r.same s)) (r.stands.fits s within)
+      subst (λ n. n ≤ capacity_of to.net s) (sym (need_same u k (single to.net (tables_after r.front old) r.c) 0 r.same s)) (r.stands.fits s within)
 
   each_round : (P : Change → Type 0) (cs : List Change) → AllByRecursion P cs → AllByRecursion (AllByRecursion P) (single_rounds cs)
   each_round P [] all = tt
@@ -218,21 +218,21 @@ module _ (aim : Aim) (old : List (List Rule)) (net : IsNetwork aim.net) (old_use
 
   keeps : AllByRecursion (AllByRecursion (λ c. KeepsVlan (rule_of c).action)) u.rounds
   keeps = each_round (λ c. KeepsVlan (rule_of c).action) changes
-      (each_weaker (IsUserChange aim old) (λ c. KeepsVlan (rule_of c).action) (λ c is. keeps_user aim.net (switch_of c) (rule_of c).action is.rule.action) changes found_changes)
+      (each_weaker (IsUserChange to old) (λ c. KeepsVlan (rule_of c).action) (λ c is. keeps_user to.net (switch_of c) (rule_of c).action is.rule.action) changes found_changes)
 
-  pub ranges : AllByRecursion (AllByRecursion (IsPlanChange aim.net)) u.rounds
-  ranges = each_round (IsPlanChange aim.net) changes (each_weaker (IsUserChange aim old) (IsPlanChange aim.net) (λ c is. plan_change aim.net net c is.within is.rule) changes found_changes)
+  pub ranges : AllByRecursion (AllByRecursion (IsPlanChange to.net)) u.rounds
+  ranges = each_round (IsPlanChange to.net) changes (each_weaker (IsUserChange to old) (IsPlanChange to.net) (λ c is. plan_change to.net net c is.within is.rule) changes found_changes)
 
   tables_last : (cs : List Change) (tables : List (List Rule)) → settled_tables (single_rounds cs) (length (single_rounds cs)) tables ≡ tables_after cs tables
   tables_last [] tables = refl
   tables_last (c ∷ cs) tables = tables_last cs (tables_after (c ∷ []) tables)
 
   -- what remained at first was made or remains, and is little
-  pub found_count : length changes + length (remaining (tables_after changes old) aim.new) ≡ length (remaining old aim.new)
-  found_count = remaining_count aim old new_user old (user_start aim old new_user old_user) changes found
+  pub found_count : length changes + length (remaining (tables_after changes old) to.new) ≡ length (remaining old to.new)
+  found_count = remaining_count to old new_user old (user_start to old new_user old_user) changes found
 
-  pub found_few : length (remaining old aim.new) ≤ 4096
-  found_few = let few = few_remain old aim.new in let first = old_user.few in let second = new_user.few in omega arith
+  pub found_few : length (remaining old to.new) ≤ 4096
+  found_few = let few = few_remain old to.new in let first = old_user.few in let second = new_user.few in omega arith
 
   length_singles : length u.rounds ≡ length changes
   length_singles = length_rounds changes
@@ -245,7 +245,7 @@ module _ (aim : Aim) (old : List (List Rule)) (net : IsNetwork aim.net) (old_use
   sum_singles [] = refl
   sum_singles (c ∷ cs) = let first = sum_by-cons length (c ∷ []) (single_rounds cs) in let rest = sum_singles cs in omega arith
 
-  pub may_be_tried : AreTried aim.net u.rounds
+  pub may_be_tried : AreTried to.net u.rounds
   may_be_tried = record {
     few = (let count = length_singles in let all = found_count in let few = found_few in omega arith);
     single = single_each changes;
@@ -253,30 +253,30 @@ module _ (aim : Aim) (old : List (List Rule)) (net : IsNetwork aim.net) (old_use
   }
 
   -- the rounds bring in no prefix of their own
-  blocks_known : (cs : List Change) → AllByRecursion (IsUserChange aim old) cs → (b : Block) → IsIn b (round_blocks (single_rounds cs)) → IsIn b (table_blocks old ++ table_blocks aim.new)
+  blocks_known : (cs : List Change) → AllByRecursion (IsUserChange to old) cs → (b : Block) → IsIn b (round_blocks (single_rounds cs)) → IsIn b (table_blocks old ++ table_blocks to.new)
   blocks_known [] all b i = absurd i
-  blocks_known (c ∷ cs) all b (inl e) = subst (λ x. IsIn x (table_blocks old ++ table_blocks aim.new)) (sym e) all.0.known
+  blocks_known (c ∷ cs) all b (inl e) = subst (λ x. IsIn x (table_blocks old ++ table_blocks to.new)) (sym e) all.0.known
   blocks_known (c ∷ cs) all b (inr i) = blocks_known cs all.1 b i
 
-  pub no_prefix : BringNoPrefix old aim.new u.rounds
+  pub no_prefix : BringNoPrefix old to.new u.rounds
   no_prefix b i = inl (blocks_known changes found_changes b i)
 
   -- ---- the plan
 
-  module _ (e : OrderedEvidence) (stands : Stands aim old changes e) (stored : IsStored e) where
+  module _ (e : OrderedEvidence) (stands : Stands to old changes e) (stored : IsStored e) where
     abbrev pub plan_of : Plan
     plan_of = record { rounds = single_rounds changes; evidence = Ordered e }
 
-    valid_pick : (p : OrderedPick) → IsIn p e.picks → class_count aim.classes ≤ 8192 → IsValidPick (length u.rounds) (length e.uses) p
+    valid_pick : (p : OrderedPick) → IsIn p e.picks → class_count to.classes ≤ 8192 → IsValidPick (length u.rounds) (length e.uses) p
     valid_pick p i few =
         let least = stands.so_far.picked p i in
         let within = each_at (λ (q : OrderedPick). (q.shared < length e.uses) × (q.shared ≤ 4294967295)) e.picks p stored.picks i in
-        let number = number_fits aim.classes p.class least.class least.class_is in
+        let number = number_fits to.classes p.class least.class least.class_is in
         let round = least.round_is in
         let less = least.within in
         (omega arith, omega arith, omega arith, within.0, within.1)
 
-    pub plan_valid : class_count aim.classes ≤ 8192 → IsValidPlan aim.net plan_of
+    pub plan_valid : class_count to.classes ≤ 8192 → IsValidPlan to.net plan_of
     plan_valid few = record {
       few_rounds = (let count = length_singles in let all = found_count in let most = found_few in omega arith);
       few_changes = (let sum = sum_singles changes in let all = found_count in let most = found_few in omega arith);
@@ -291,16 +291,16 @@ module _ (aim : Aim) (old : List (List Rule)) (net : IsNetwork aim.net) (old_use
     }
 
     -- the plan of a search for the classes of the configurations and the demands
-    module _ (classes_are : aim.classes ≡ classes_before aim.net old aim.new aim.demands) (no_classes : MakeNoClasses aim.net old aim.new)
-        (old_good : HasGoodPaths aim.net old aim.demands aim.classes) (new_good : HasGoodPaths aim.net aim.new aim.demands aim.classes) (none : remaining (tables_after changes old) aim.new ≡ []) where
+    module _ (classes_are : to.classes ≡ classes_before to.net old to.new to.demands) (no_classes : MakeNoClasses to.net old to.new)
+        (old_good : HasGoodPaths to.net old to.demands to.classes) (new_good : HasGoodPaths to.net to.new to.demands to.classes) (none : remaining (tables_after changes old) to.new ≡ []) where
       abbrev pub task : Task
-      task = record { update = record { net = aim.net; old = old; new = aim.new; demands = aim.demands }; rounds = u.rounds }
+      task = record { update = record { net = to.net; old = old; new = to.new; demands = to.demands }; rounds = u.rounds }
 
-      pub plan_classes : HasSameClasses (classes_for task) aim.classes
-      plan_classes = subst (HasSameClasses (classes_for task)) (sym classes_are) (no_classes aim.demands u.rounds no_prefix)
+      pub plan_classes : HasSameClasses (classes_for task) to.classes
+      plan_classes = subst (HasSameClasses (classes_for task)) (sym classes_are) (no_classes to.demands u.rounds no_prefix)
 
-      class_of : (n : ℕ) (class : Class) → IsClass (classes_for task) n class → IsClass aim.classes n class
-      class_of n class is = class_kept (classes_for task) aim.classes plan_classes n class is
+      class_of : (n : ℕ) (class : Class) → IsClass (classes_for task) n class → IsClass to.classes n class
+      class_of n class is = class_kept (classes_for task) to.classes plan_classes n class is
 
       pub plan_certified : IsCertified task (Ordered e)
       plan_certified = record {
@@ -311,9 +311,9 @@ module _ (aim : Aim) (old : List (List Rule)) (net : IsNetwork aim.net) (old_use
         fits = fits;
         keeps = keeps;
         certificates = λ k n class less is. stands.so_far.certificates k n class (let count = length_singles in omega arith) (class_of n class is);
-        ends = λ s. subst (λ ts. IsSameSet (rules_at ts s) (rules_at aim.new s)) (sym (tables_last changes old)) (same_when_none aim old new_user (tables_after changes old) found_user none s);
+        ends = λ s. subst (λ ts. IsSameSet (rules_at ts s) (rules_at to.new s)) (sym (tables_last changes old)) (same_when_none to old new_user (tables_after changes old) found_user none s);
       }
 
       -- one round for each change that remained at first
-      pub plan_count : length (single_rounds changes) ≡ length (remaining old aim.new)
-      plan_count = let count = length_singles in let all = found_count in let nothing : length (remaining (tables_after changes old) aim.new) ≡ 0 = ap length none in omega arith
+      pub plan_count : length (single_rounds changes) ≡ length (remaining old to.new)
+      plan_count = let count = length_singles in let all = found_count in let nothing : length (remaining (tables_after changes old) to.new) ≡ 0 = ap length none in omega arith

@@ -27,7 +27,8 @@ use Rattle.round_tables.specs.PreparedTables.{PreparedState}
 use Rattle.round_tables.specs.Trials.{single, HasRoomAlone, IsSettled}
 use Rattle.round_tables.proofs.TrialLaws.{changes_here, changes_there}
 use Rattle.round_mix.proofs.TriedLaws.{clear_none}
-use Rattle.round_judge.specs.Aims.{Aim, duties_in}
+use Rattle.table_difference.specs.Targets.{Target}
+use Rattle.round_judge.specs.Goals.{duties_in}
 use Rattle.round_planner.specs.Search.{CanBeSafe, Qualifies}
 use Rattle.net_base.specs.Switches.{has}
 use Rattle.class_watch.specs.Alike.{AreAlike}
@@ -96,17 +97,17 @@ no_room net t tables c settled are none there =
 
 -- ---- a class that is not safe
 
-module _ (aim : Aim) (tables : List (List Rule)) (c : Change) (keeps_rules : TablesKeepVlans tables) (keeps : KeepsVlan (rule_of c).action) (class : Class) where
+module _ (to : Target) (tables : List (List Rule)) (c : Change) (keeps_rules : TablesKeepVlans tables) (keeps : KeepsVlan (rule_of c).action) (class : Class) where
   abbrev u : Rollout
-  u = single aim.net tables c
+  u = single to.net tables c
 
   keep_rounds : (j : ℕ) → AllByRecursion (λ d. KeepsVlan (rule_of d).action) (round_after j u.rounds)
   keep_rounds zero = (keeps, tt)
   keep_rounds (suc j) = tt
 
-  module _ (d : Change) (within : (switch_of d).0 < length tables) (apart : IsApart aim tables c class d) where
+  module _ (d : Change) (within : (switch_of d).0 < length tables) (apart : IsApart to tables c class d) where
     abbrev v : Rollout
-    v = single aim.net (tables_after_change d tables) c
+    v = single to.net (tables_after_change d tables) c
 
     -- the same rules cover a packet of the class where its mixed walks come to
     same_covering : (place : Place) → IsOnMixedWalk u 0 class.first class.entry place
@@ -126,11 +127,11 @@ module _ (aim : Aim) (tables : List (List Rule)) (c : Change) (keeps_rules : Tab
     alike = record { net = refl; each = λ place on. record { rules = sym (same_covering place on); changes = refl } }
 
     -- evidence that keeps the class safe after the change does before it
-    pub safe_back : CanBeSafe aim (tables_after_change d tables) c class → CanBeSafe aim tables c class
+    pub safe_back : CanBeSafe to (tables_after_change d tables) c class → CanBeSafe to tables c class
     safe_back can = record {
       numbers = can.numbers;
       sets = can.sets;
-      safe = (alike_safe u v 0 0 class alike (duties_in aim class) can.numbers can.sets).0 can.safe;
+      safe = (alike_safe u v 0 0 class alike (duties_in to class) can.numbers can.sets).0 can.safe;
     }
 
     -- and its mixed walks are the same
@@ -139,23 +140,23 @@ module _ (aim : Aim) (tables : List (List Rule)) (c : Change) (keeps_rules : Tab
 
 -- ---- a failure, after one change
 
-pub failure_stands : (aim : Aim) (tables : List (List Rule)) (c : Change) → TablesKeepVlans tables → KeepsVlan (rule_of c).action → (d : Change) → (switch_of d).0 < length tables
-    → (f : Failure) → ¬ IsTouched (switch_of c) d f → IsFailure aim tables c f → IsFailure aim (tables_after_change d tables) c f
-failure_stands aim tables c keeps_rules keeps d within failure.Table untouched fails =
-    λ room. fails (room_back aim.net tables c d (λ e. untouched (sym e)) room)
-failure_stands aim tables c keeps_rules keeps d within (failure.Class f) untouched fails =
-    let apart : IsApart aim tables c f.class d = λ place on at covers_it.
+pub failure_stands : (to : Target) (tables : List (List Rule)) (c : Change) → TablesKeepVlans tables → KeepsVlan (rule_of c).action → (d : Change) → (switch_of d).0 < length tables
+    → (f : Failure) → ¬ IsTouched (switch_of c) d f → IsFailure to tables c f → IsFailure to (tables_after_change d tables) c f
+failure_stands to tables c keeps_rules keeps d within failure.Table untouched fails =
+    λ room. fails (room_back to.net tables c d (λ e. untouched (sym e)) room)
+failure_stands to tables c keeps_rules keeps d within (failure.Class f) untouched fails =
+    let apart : IsApart to tables c f.class d = λ place on at covers_it.
     untouched (and_from (may_cover d f.class) (has f.visited (switch_of d)) covers_it (subst (λ (x : SwitchId). IsTrue (has f.visited x)) at (fails.visits place on))) in
     record {
       is_class = fails.is_class;
-      never = λ can. fails.never (safe_back aim tables c keeps_rules keeps f.class d within apart can);
-      visits = λ place on. fails.visits place (walk_same aim tables c keeps_rules keeps f.class d within apart place on);
+      never = λ can. fails.never (safe_back to tables c keeps_rules keeps f.class d within apart can);
+      visits = λ place on. fails.visits place (walk_same to tables c keeps_rules keeps f.class d within apart place on);
     }
 
 -- a failure rules the change out
-pub fails_then : (aim : Aim) (tables : List (List Rule)) (c : Change) (f : Failure) → IsFailure aim tables c f → ¬ Qualifies aim tables c
-fails_then aim tables c failure.Table fails q = fails (room_there aim.net tables c q.stands)
-fails_then aim tables c (failure.Class f) fails q = fails.never (q.safe f.number f.class fails.is_class)
+pub fails_then : (to : Target) (tables : List (List Rule)) (c : Change) (f : Failure) → IsFailure to tables c f → ¬ Qualifies to tables c
+fails_then to tables c failure.Table fails q = fails (room_there to.net tables c q.stands)
+fails_then to tables c (failure.Class f) fails q = fails.never (q.safe f.number f.class fails.is_class)
 
 -- ---- after several changes
 
@@ -188,13 +189,13 @@ never_room net c [] tables none apart = none
 never_room net c (d ∷ changes) tables none apart =
     never_room net c changes (tables_after_change d tables) (λ room. none (room_back net tables c d (λ e. apart.0 (sym e)) room)) apart.1
 
-module _ (aim : Aim) (c : Change) (keeps : KeepsVlan (rule_of c).action) (class : Class) where
+module _ (to : Target) (c : Change) (keeps : KeepsVlan (rule_of c).action) (class : Class) where
   -- a change that keeps the VLANs, at a switch of the tables, and covers the class at none that its mixed walks come to
   abbrev pub LeavesWalks : List (List Rule) → Change → Type 0
-  LeavesWalks tables d = KeepsVlan (rule_of d).action × ((switch_of d).0 < length tables) × IsApart aim tables c class d
+  LeavesWalks tables d = KeepsVlan (rule_of d).action × ((switch_of d).0 < length tables) × IsApart to tables c class d
 
-  pub never_safe : (changes : List Change) (tables : List (List Rule)) → TablesKeepVlans tables → AllByRecursion (LeavesWalks tables) changes → ¬ CanBeSafe aim tables c class
-      → ¬ CanBeSafe aim (tables_after changes tables) c class
+  pub never_safe : (changes : List Change) (tables : List (List Rule)) → TablesKeepVlans tables → AllByRecursion (LeavesWalks tables) changes → ¬ CanBeSafe to tables c class
+      → ¬ CanBeSafe to (tables_after changes tables) c class
   never_safe [] tables rules apart never = never
   never_safe (d ∷ changes) tables rules apart never =
       let (kept, within, off) = apart.0 in
@@ -203,6 +204,6 @@ module _ (aim : Aim) (c : Change) (keeps : KeepsVlan (rule_of c).action) (class 
       (λ e h. (
         h.0,
         subst (λ n. (switch_of e).0 < n) (sym (length-set tables (switch_of d).0 (rules_after_change d (rules_at tables (switch_of d))))) h.1,
-        λ place on at covers_it. h.2 place (walk_same aim tables c rules keeps class d within off place on) at covers_it,
+        λ place on at covers_it. h.2 place (walk_same to tables c rules keeps class d within off place on) at covers_it,
       )) changes apart.1)
-      (λ can. never (safe_back aim tables c rules keeps class d within off can))
+      (λ can. never (safe_back to tables c rules keeps class d within off can))

@@ -17,7 +17,7 @@ use Rattle.mixed_walks.specs.Walks.{TablesKeepVlans}
 use Rattle.mixed_walks.proofs.PlaceLaws.{tables_keep}
 use Rattle.table_difference.proofs.WithoutLaws.{remaining_without}
 use Rattle.round_planner.specs.declared.left.Left.{Left}
-use Rattle.round_judge.specs.Aims.{Aim}
+use Rattle.table_difference.specs.Targets.{Target}
 use Rattle.round_planner.specs.Search.{Qualifies}
 use Rattle.round_planner.specs.Failures.{IsFailure, IsTouched, HasStanding, IsOfUsers, AreOfUsers, AreLeft}
 use Rattle.round_planner.specs.Searching.{SearchState, IsAt, IsLeftTried, IsMadeAt, NoneQualifies, IsPlaced, IsMoved}
@@ -85,36 +85,36 @@ module _ {A : Type 0} where
 
 -- ---- what stands of the changes that remain
 
-module _ (aim : Aim) (tables : List (List Rule)) where
+module _ (to : Target) (tables : List (List Rule)) where
   -- one that has failed doesn't qualify
-  pub failed_some : (one : Left) → is_some one.failure ≡ true → HasStanding aim tables one → ¬ Qualifies aim tables one.change
+  pub failed_some : (one : Left) → is_some one.failure ≡ true → HasStanding to tables one → ¬ Qualifies to tables one.change
   failed_some one some stands =
-      elim one.failure as (λ o. is_some o ≡ true → IfSome o (λ g. IsFailure aim tables one.change g) → ¬ Qualifies aim tables one.change) [
+      elim one.failure as (λ o. is_some o ≡ true → IfSome o (λ g. IsFailure to tables one.change g) → ¬ Qualifies to tables one.change) [
         | None ↦ λ e _. absurd (false≢true e)
-        | Some f ↦ λ _ fails. fails_then aim tables one.change f fails
+        | Some f ↦ λ _ fails. fails_then to tables one.change f fails
       ] some stands
 
   -- a failure that a change doesn't touch stands after it
   pub stands_on : (one : Left) (d : Change) → IsOfUsers tables one → (switch_of d).0 < length tables → ¬ IsSomeAnd one.failure (λ f. IsTouched (switch_of one.change) d f)
-      → HasStanding aim tables one → HasStanding aim (tables_after_change d tables) one
+      → HasStanding to tables one → HasStanding to (tables_after_change d tables) one
   stands_on one d users within untouched stands =
-      elim one.failure as (λ o. ¬ IsSomeAnd o (λ f. IsTouched (switch_of one.change) d f) → IfSome o (λ f. IsFailure aim tables one.change f)
-      → IfSome o (λ f. IsFailure aim (tables_after_change d tables) one.change f)) [
+      elim one.failure as (λ o. ¬ IsSomeAnd o (λ f. IsTouched (switch_of one.change) d f) → IfSome o (λ f. IsFailure to tables one.change f)
+      → IfSome o (λ f. IsFailure to (tables_after_change d tables) one.change f)) [
         | None ↦ λ _ _. tt
-        | Some f ↦ λ off fails. failure_stands aim tables one.change users.rules users.change d within f off fails
+        | Some f ↦ λ off fails. failure_stands to tables one.change users.rules users.change d within f off fails
       ] untouched stands
 
 -- ---- a change that is tried among those that remain
 
-module _ (aim : Aim) (old : List (List Rule)) (changes : List Change) where
+module _ (to : Target) (old : List (List Rule)) (changes : List Change) where
   abbrev tables : List (List Rule)
   tables = tables_after changes old
 
   abbrev Unfit : Left → Type 0
-  Unfit one = ¬ Qualifies aim tables one.change
+  Unfit one = ¬ Qualifies to tables one.change
 
   -- one of them remains
-  pub left_in : (left : List Left) (i : ℕ) (x : Left) → AreLeft aim tables left → i < length left → x ≡ get_or left i x → IsIn x.change (remaining tables aim.new)
+  pub left_in : (left : List Left) (i : ℕ) (x : Left) → AreLeft to tables left → i < length left → x ≡ get_or left i x → IsIn x.change (remaining tables to.new)
   left_in left i x are less is =
       let parts = ap (map change_of) (split_there left i x less is) ∙ map-append change_of (take i left) (x ∷ drop (suc i) left) in
       subst (IsIn x.change) (sym parts ∙ are.changes) (in_append_right x.change (map change_of (take i left)) (x.change ∷ map change_of (drop (suc i) left)) (inl refl))
@@ -130,18 +130,18 @@ module _ (aim : Aim) (old : List (List Rule)) (changes : List Change) where
     there = sym (get_or-set_same left i y y less)
 
     -- those before it don't qualify, and it does
-    pub placed : AreLeft aim tables left → AllByRecursion Unfit (take i left) → (s : SearchState) → IsLeftTried aim old changes x s true → IsPlaced aim old changes s set_left (Some i)
+    pub placed : AreLeft to tables left → AllByRecursion Unfit (take i left) → (s : SearchState) → IsLeftTried to old changes x s true → IsPlaced to old changes s set_left (Some i)
     placed are none s (q, go) = record {
       front = take i set_left;
       one = y;
       back = drop (suc i) set_left;
       are = split_there set_left i y within there;
       at_place = length-take-le i set_left (omega (arith, within));
-      at = subst (λ (c : Change). IsAt aim old (changes ++ c ∷ []) s) (sym same) (go (record {
+      at = subst (λ (c : Change). IsAt to old (changes ++ c ∷ []) s) (sym same) (go (record {
         earlier = map change_of (take i left);
         later = map change_of (drop (suc i) left);
         are = sym are.changes ∙ ap (map change_of) (split_there left i x less is) ∙ map-append change_of (take i left) (x ∷ drop (suc i) left);
-        none_earlier = each_map change_of (λ d. ¬ Qualifies aim tables d) (take i left) none;
+        none_earlier = each_map change_of (λ d. ¬ Qualifies to tables d) (take i left) none;
         qualifies = q;
       }));
     }
@@ -150,51 +150,51 @@ module _ (aim : Aim) (old : List (List Rule)) (changes : List Change) where
     pub unfit_more : AllByRecursion Unfit (take i left) → Unfit x → AllByRecursion Unfit (take (i + 1) set_left)
     unfit_more none fails =
         subst (AllByRecursion Unfit) (sym (take_more set_left i y within there))
-        (each_append Unfit (take i set_left) (y ∷ []) (subst (AllByRecursion Unfit) (sym (take_set left i y)) none) (subst (λ (c : Change). ¬ Qualifies aim tables c) (sym same) fails, tt))
+        (each_append Unfit (take i set_left) (y ∷ []) (subst (AllByRecursion Unfit) (sym (take_set left i y)) none) (subst (λ (c : Change). ¬ Qualifies to tables c) (sym same) fails, tt))
 
   -- none of those that remain qualifies
-  pub unfit_all : (left : List Left) → map change_of left ≡ remaining tables aim.new → AllByRecursion Unfit left → NoneQualifies aim tables
-  unfit_all left are none = subst (AllByRecursion (λ d. ¬ Qualifies aim tables d)) are (each_map change_of (λ d. ¬ Qualifies aim tables d) left none)
+  pub unfit_all : (left : List Left) → map change_of left ≡ remaining tables to.new → AllByRecursion Unfit left → NoneQualifies to tables
+  unfit_all left are none = subst (AllByRecursion (λ d. ¬ Qualifies to tables d)) are (each_map change_of (λ d. ¬ Qualifies to tables d) left none)
 
 -- ---- after a change of the search
 
-module _ (aim : Aim) (old : List (List Rule)) (old_user : IsUserConfig aim.net old) (new_user : IsUserConfig aim.net aim.new) (changes : List Change) (s : SearchState) (at : IsAt aim old changes s)
-    (left : List Left) (are : AreLeft aim (tables_after changes old) left) where
-  user : AreUserTables aim old (tables_after changes old)
-  user = user_along aim old new_user old (user_start aim old new_user old_user) changes at.stands.found
+module _ (to : Target) (old : List (List Rule)) (old_user : IsUserConfig to.net old) (new_user : IsUserConfig to.net to.new) (changes : List Change) (s : SearchState) (at : IsAt to old changes s)
+    (left : List Left) (are : AreLeft to (tables_after changes old) left) where
+  user : AreUserTables to old (tables_after changes old)
+  user = user_along to old new_user old (user_start to old new_user old_user) changes at.stands.found
 
   rules_keep : TablesKeepVlans (tables_after changes old)
-  rules_keep = keeps_all changes old (tables_keep aim.net old old_user)
-      (each_weaker (IsUserChange aim old) (λ d. KeepsVlan (rule_of d).action) (λ d is. keeps_user aim.net (switch_of d) (rule_of d).action is.rule.action) changes
-      (changes_along aim old new_user old (user_start aim old new_user old_user) changes at.stands.found))
+  rules_keep = keeps_all changes old (tables_keep to.net old old_user)
+      (each_weaker (IsUserChange to old) (λ d. KeepsVlan (rule_of d).action) (λ d is. keeps_user to.net (switch_of d) (rule_of d).action is.rule.action) changes
+      (changes_along to old new_user old (user_start to old new_user old_user) changes at.stands.found))
 
-  each_left : AllByRecursion (λ (l : Left). IsUserChange aim old l.change) left
-  each_left = each_from_map change_of (IsUserChange aim old) left
-      (subst (AllByRecursion (IsUserChange aim old)) (sym are.changes)
-      (each_from_in (IsUserChange aim old) (remaining (tables_after changes old) aim.new) (remaining_user aim old new_user (tables_after changes old) user)))
+  each_left : AllByRecursion (λ (l : Left). IsUserChange to old l.change) left
+  each_left = each_from_map change_of (IsUserChange to old) left
+      (subst (AllByRecursion (IsUserChange to old)) (sym are.changes)
+      (each_from_in (IsUserChange to old) (remaining (tables_after changes old) to.new) (remaining_user to old new_user (tables_after changes old) user)))
 
   -- neither the tables nor the changes set or strip
   pub of_users : AreOfUsers (tables_after changes old) left
-  of_users = each_weaker (λ (l : Left). IsUserChange aim old l.change) (IsOfUsers (tables_after changes old))
+  of_users = each_weaker (λ (l : Left). IsUserChange to old l.change) (IsOfUsers (tables_after changes old))
       (λ l is. record {
         rules = rules_keep;
-        change = keeps_user aim.net (switch_of l.change) (rule_of l.change).action is.rule.action;
+        change = keeps_user to.net (switch_of l.change) (rule_of l.change).action is.rule.action;
         within = subst (λ n. (switch_of l.change).0 < n) (sym user.count) is.within;
       }) left each_left
 
   -- after one of them the others remain
-  pub moved_on : (new : List Left) (t : SearchState) (place : ℕ) (made : IsMadeAt aim old changes t left place)
-      → map change_of new ≡ map change_of (made.front ++ made.back) → AllByRecursion (HasStanding aim (tables_after_change made.one.change (tables_after changes old))) new → IsMoved aim old changes t new true
+  pub moved_on : (new : List Left) (t : SearchState) (place : ℕ) (made : IsMadeAt to old changes t left place)
+      → map change_of new ≡ map change_of (made.front ++ made.back) → AllByRecursion (HasStanding to (tables_after_change made.one.change (tables_after changes old))) new → IsMoved to old changes t new true
   moved_on new t place made others standing =
       let c = made.one.change in
       let tables = tables_after changes old in
-      let all : remaining tables aim.new ≡ map change_of made.front ++ c ∷ map change_of made.back =
+      let all : remaining tables to.new ≡ map change_of made.front ++ c ∷ map change_of made.back =
       sym are.changes ∙ ap (map change_of) made.are ∙ map-append change_of made.front (made.one ∷ made.back) in
-      let after : remaining (tables_after_change c tables) aim.new ≡ map change_of made.front ++ map change_of made.back =
-      remaining_without tables aim.new user.unique (λ x. unique_in_table _ (new_user.distinct x)) (map change_of made.front) (map change_of made.back) c all in (
+      let after : remaining (tables_after_change c tables) to.new ≡ map change_of made.front ++ map change_of made.back =
+      remaining_without tables to.new user.unique (λ x. unique_in_table _ (new_user.distinct x)) (map change_of made.front) (map change_of made.back) c all in (
         c,
         made.at,
-        subst (λ (ts : List (List Rule)). AreLeft aim ts new) (sym (tables_more changes c old)) (record {
+        subst (λ (ts : List (List Rule)). AreLeft to ts new) (sym (tables_more changes c old)) (record {
           changes = others ∙ map-append change_of made.front made.back ∙ sym after;
           standing = standing;
         }),

@@ -21,7 +21,7 @@ use Rattle.certificates.specs.Steps.{IsMixedStep, MayLeave, MayDrop}
 use Rattle.certificates.specs.Ordered.{Position, positions, IsSafe}
 use Rattle.evidence_store.specs.Found.{IsLeastEvidence}
 use Rattle.round_tables.specs.Trials.{single}
-use Rattle.round_judge.specs.Aims.{Aim}
+use Rattle.table_difference.specs.Targets.{Target}
 use Rattle.round_planner.specs.Search.{update_by, single_rounds}
 
 -- ---- what may happen
@@ -143,8 +143,8 @@ rounds_before [] rest tables = settled_start (single_rounds rest) tables
 rounds_before (c ∷ changes) rest tables = rounds_before changes rest (tables_after (c ∷ []) tables)
 
 -- before round k of the search the tables are those after its first k changes
-pub tables_at : (aim : Aim) (old : List (List Rule)) (changes rest : List Change) → tables_before (update_by aim old (changes ++ rest)) (length changes) ≡ tables_after changes old
-tables_at aim old changes rest = rounds_before changes rest old
+pub tables_at : (to : Target) (old : List (List Rule)) (changes rest : List Change) → tables_before (update_by to old (changes ++ rest)) (length changes) ≡ tables_after changes old
+tables_at to old changes rest = rounds_before changes rest old
 
 pub round_at : (changes : List Change) (c : Change) (rest : List Change) → round_after (length changes) (single_rounds (changes ++ c ∷ rest)) ≡ c ∷ []
 round_at [] c rest = refl
@@ -158,28 +158,28 @@ tables_prefix_from (c ∷ changes) rest zero tables le = refl
 tables_prefix_from (c ∷ changes) rest (suc k) tables le = tables_prefix_from changes rest k (tables_after (c ∷ []) tables) (omega arith)
 
 -- more changes at the end change nothing before
-pub tables_prefix : (aim : Aim) (old : List (List Rule)) (changes rest : List Change) (k : ℕ) → k ≤ length changes
-    → tables_before (update_by aim old (changes ++ rest)) k ≡ tables_before (update_by aim old changes) k
-tables_prefix aim old changes rest k le = tables_prefix_from changes rest k old le
+pub tables_prefix : (to : Target) (old : List (List Rule)) (changes rest : List Change) (k : ℕ) → k ≤ length changes
+    → tables_before (update_by to old (changes ++ rest)) k ≡ tables_before (update_by to old changes) k
+tables_prefix to old changes rest k le = tables_prefix_from changes rest k old le
 
 pub round_prefix : (changes rest : List Change) (k : ℕ) → k < length changes → round_after k (single_rounds (changes ++ rest)) ≡ round_after k (single_rounds changes)
 round_prefix [] rest k less = absurd (let f : k < 0 = less in omega arith)
 round_prefix (c ∷ changes) rest zero less = refl
 round_prefix (c ∷ changes) rest (suc k) less = round_prefix changes rest k (omega arith)
 
-pub same_prefix : (aim : Aim) (old : List (List Rule)) (changes rest : List Change) (k : ℕ) → k < length changes
-    → IsSameRound (update_by aim old changes) k (update_by aim old (changes ++ rest)) k
-same_prefix aim old changes rest k less = record {
+pub same_prefix : (to : Target) (old : List (List Rule)) (changes rest : List Change) (k : ℕ) → k < length changes
+    → IsSameRound (update_by to old changes) k (update_by to old (changes ++ rest)) k
+same_prefix to old changes rest k less = record {
   net = refl;
-  tables = sym (tables_prefix aim old changes rest k (omega arith));
+  tables = sym (tables_prefix to old changes rest k (omega arith));
   round = sym (round_prefix changes rest k less);
 }
 
 -- a change that is tried alone, and as the next round of the search
-pub same_alone : (aim : Aim) (old : List (List Rule)) (changes : List Change) (c : Change) (rest : List Change)
-    → IsSameRound (single aim.net (tables_after changes old) c) 0 (update_by aim old (changes ++ c ∷ rest)) (length changes)
-same_alone aim old changes c rest = record {
+pub same_alone : (to : Target) (old : List (List Rule)) (changes : List Change) (c : Change) (rest : List Change)
+    → IsSameRound (single to.net (tables_after changes old) c) 0 (update_by to old (changes ++ c ∷ rest)) (length changes)
+same_alone to old changes c rest = record {
   net = refl;
-  tables = settled_start ((c ∷ []) ∷ []) (tables_after changes old) ∙ sym (tables_at aim old changes (c ∷ rest));
+  tables = settled_start ((c ∷ []) ∷ []) (tables_after changes old) ∙ sym (tables_at to old changes (c ∷ rest));
   round = sym (round_at changes c rest);
 }

@@ -30,7 +30,7 @@ use Rattle.certificates.proofs.TreePaths.{fine_from_good, fine_after_round}
 use Rattle.certificates.proofs.TreeSteps.{some_replace_is_safe}
 use Rattle.table_difference.specs.SameClasses.{HasSameClasses}
 use Rattle.round_tables.specs.Trials.{single}
-use Rattle.round_judge.specs.Aims.{Aim}
+use Rattle.table_difference.specs.Targets.{Target}
 use Rattle.round_planner.specs.Search.{Qualifies, AreFirstQualifying, EndsStuck}
 use Rattle.round_planner.proofs.ClassKept.{class_kept, same_classes_back}
 use Rattle.update_model.proofs.RemainingLaws.{switch_at, in_from_changes, in_changes}
@@ -47,8 +47,8 @@ replaced_length s next [] = refl
 replaced_length s next (q ∷ rules) = ap suc (replaced_length s next rules)
 
 -- what the search of an update is for, with a list of classes
-abbrev aim_for : Task → ClassList → Aim
-aim_for t classes = record { net = t.update.net; new = t.update.new; demands = t.update.demands; classes = classes }
+abbrev target_for : Task → ClassList → Target
+target_for t classes = record { net = t.update.net; new = t.update.new; demands = t.update.demands; classes = classes }
 
 module _ (t : Task) (tree : IsTreeUpdate t) (is_net : IsNetwork t.update.net) (old_user : IsUserConfig t.update.net t.update.old) (new_user : IsUserConfig t.update.net t.update.new)
     (classes : ClassList) (same : HasSameClasses classes (classes_for t)) where
@@ -118,7 +118,7 @@ module _ (t : Task) (tree : IsTreeUpdate t) (is_net : IsNetwork t.update.net) (o
           ]
 
       -- after a change that qualifies
-      goes_on : Qualifies (aim_for t classes) tables c → Progress (tables_after_change c tables)
+      goes_on : Qualifies (target_for t classes) tables c → Progress (tables_after_change c tables)
       goes_on q = record {
         fit = λ x. subst (Fits (rules_at t.update.new x)) (sym (rules_then x)) (one_fits t tree old_user.distinct new_user.distinct x s r.next (rules_at tables x) r.wanted (p.fit x));
         fine = λ n class is.
@@ -135,7 +135,7 @@ module _ (t : Task) (tree : IsTreeUpdate t) (is_net : IsNetwork t.update.net) (o
       -- a remaining replace that keeps each class safe qualifies
       qualifies : ((n : ℕ) (class : Class) → IsClass (classes_for t) n class
           → (numbers : List ℕ) × (sets : List (List ℕ)) × IsSafe (single t.update.net tables c) 0 class.first class.entry (duties_of t.update.demands class.entry class.first) numbers sets)
-          → Qualifies (aim_for t classes) tables c
+          → Qualifies (target_for t classes) tables c
       qualifies safe = record {
         stands = record {
           clear = λ x mixed held. mixture_clear t tree old_user.distinct new_user.distinct tables p.fit s r.next r.wanted x mixed
@@ -150,16 +150,16 @@ module _ (t : Task) (tree : IsTreeUpdate t) (is_net : IsNetwork t.update.net) (o
       }
 
     -- where a change remains, one qualifies
-    some_qualifies : (d : Change) → IsIn d (remaining tables t.update.new) → (c : Change) × IsIn c (remaining tables t.update.new) × Qualifies (aim_for t classes) tables c
+    some_qualifies : (d : Change) → IsIn d (remaining tables t.update.new) → (c : Change) × IsIn c (remaining tables t.update.new) × Qualifies (target_for t classes) tables c
     some_qualifies d i =
         let (c, r, safe) = some_replace_is_safe t tree old_user.distinct new_user.distinct is_net tables p.fit p.fine tables (λ x. (x ∷ []) ∷ []) 0 (λ x. refl) (λ x. refl) d (remaining_replace d i) in
         (c, remains c r, qualifies c r safe)
 
   -- along the search the tables stay fit and fine
-  along : (tables : List (List Rule)) → Progress tables → (changes : List Change) → AreFirstQualifying (aim_for t classes) tables changes → Progress (tables_after changes tables)
+  along : (tables : List (List Rule)) → Progress tables → (changes : List Change) → AreFirstQualifying (target_for t classes) tables changes → Progress (tables_after changes tables)
   along tables p [] found = p
   along tables p (c ∷ changes) found =
-      let r = remaining_replace tables p c (first_remains (aim_for t classes) tables (remaining tables t.update.new) c found.0) in
+      let r = remaining_replace tables p c (first_remains (target_for t classes) tables (remaining tables t.update.new) c found.0) in
       along (tables_after_change c tables) (goes_on tables p c r found.0.qualifies) changes found.1
 
   some_in : (changes : List Change) → changes ≢ [] → (d : Change) × IsIn d changes
@@ -167,10 +167,10 @@ module _ (t : Task) (tree : IsTreeUpdate t) (is_net : IsNetwork t.update.net) (o
   some_in (d ∷ changes) ne = (d, inl refl)
 
   -- the search isn't stuck
-  pub not_stuck : (changes : List Change) → ¬ EndsStuck (aim_for t classes) t.update.old changes
+  pub not_stuck : (changes : List Change) → ¬ EndsStuck (target_for t classes) t.update.old changes
   not_stuck changes stuck =
       let now = tables_after changes t.update.old in
       let p = along t.update.old start changes stuck.found in
       let (d, i) = some_in (remaining now t.update.new) stuck.some_remain in
       let (c, j, q) = some_qualifies now p d i in
-      each_at (λ x. ¬ Qualifies (aim_for t classes) now x) (remaining now t.update.new) c stuck.none_qualifies j q
+      each_at (λ x. ¬ Qualifies (target_for t classes) now x) (remaining now t.update.new) c stuck.none_qualifies j q

@@ -1,66 +1,39 @@
 -- Along a search the tables hold user rules of the old and the new configuration.
 use Rattle.std.proofs.Common.{◌≡◌, ◌⊎◌, ℕ, zero, suc, ◌+◌, ◌<◌, true, false, cond, List, [], ◌∷◌, ◌++◌, length, map, get_or, refl, sym, ◌∙◌, subst, inl, inr, arith}
-use Rattle.std.specs.Prelude.{◌==◌, Option, Some, None}
+use Rattle.std.specs.Prelude.{◌==◌}
 use Rattle.std.specs.List.{AllByRecursion}
 use Rattle.std.proofs.lemmas.Bool.{eqb-true}
 use Rattle.net_base.specs.Members.{IsIn}
 use Rattle.net_base.proofs.MemberLaws.{each_at, in_map, in_append_left, in_append_right}
 use Rattle.net_base.proofs.NameLaws.{same_switch}
 use Rattle.net_base.specs.declared.ids.SwitchId.{SwitchId}
-use Rattle.net_base.specs.declared.ids.Port.{Port}
-use Rattle.topology.specs.Networks.{Network, IsNetwork, IsUsed, IsPortNumber, switch_count, used_ports}
+use Rattle.topology.specs.Networks.{Network, IsNetwork, switch_count}
 use Rattle.flow_rules.specs.Tables.{rules_at, table_blocks}
 use Rattle.flow_rules.specs.declared.rules.Rule.{Rule}
-use Rattle.flow_rules.specs.declared.rules.VlanTest.{VlanTest}
-use Rattle.flow_rules.specs.declared.rules.VlanTest.TheVariants as test
 use Rattle.flow_rules.specs.declared.rules.Action.{Action}
 use Rattle.flow_rules.specs.declared.rules.Action.TheVariants.{Discard, Out}
-use Rattle.path_walk.specs.UserConfigs.{IsUserPort, IsUserVlan, IsUserAction, IsUserRule, IsUserConfig}
+use Rattle.path_walk.specs.UserConfigs.{IsUserAction, IsUserRule, IsUserConfig}
 use Rattle.update_model.specs.Changes.{switch_of, rule_of, AppliesTo, Applies, rules_after_change, tables_after, tables_after_change}
 use Rattle.update_model.proofs.Matches.{Writes}
-use Rattle.update_model.specs.Ranges.{IsPlanPort, IsPlanVlan, IsPlanRewrite, IsPlanAction, IsPlanChange}
+use Rattle.update_model.specs.Ranges.{IsPlanChange}
 use Rattle.update_model.specs.Remaining.{remaining}
 use Rattle.update_model.specs.declared.Change.{Change}
 use Rattle.update_model.specs.declared.Change.TheVariants.{Insert, Delete, Replace}
 use Rattle.update_model.proofs.ChangeLaws.{stands_from_in, rules_at-after_change, length-tables_after}
 use Rattle.update_model.proofs.DifferenceLaws.{IsDifference, difference_switch, remaining_is}
 use Rattle.update_model.proofs.RemainingLaws.{AreUnique, unique_then, remaining_shortens}
+use Rattle.plan_rules.proofs.UserRules.{change_plan, rule_plan}
 use Rattle.certificates.specs.Certified.{KeepsVlan}
 use Rattle.certificates.proofs.TreeTables.{unique_in_table}
-use Rattle.round_judge.specs.Aims.{Aim}
+use Rattle.table_difference.specs.Targets.{Target}
 use Rattle.round_planner.specs.Search.{AreFirstQualifying}
 use Rattle.round_planner.proofs.SearchLaws.{first_remains}
 
 -- ---- user rules are rules of plans
 
-module _ (net : Network) (is_net : IsNetwork net) where
-  used_number : (s : SwitchId) (p : Port) → IsUsed net (record { switch = s; port = p }) → IsPortNumber p.0
-  used_number s p used = (each_at _ (used_ports net) (record { switch = s; port = p }) is_net.ports used).1
-
-  plan_port : (s : SwitchId) (port : Option Port) → IsUserPort net s port → IsPlanPort port
-  plan_port s None user = tt
-  plan_port s (Some p) user = used_number s p user
-
-  plan_vlan : (v : VlanTest) → IsUserVlan net v → IsPlanVlan v
-  plan_vlan test.Any user = tt
-  plan_vlan test.Untagged user = tt
-  plan_vlan (test.Id id) user = user.0
-
-  plan_action : (s : SwitchId) (a : Action) → IsUserAction net s a → IsPlanAction a
-  plan_action s Discard user = tt
-  plan_action s (Out port rewrite) user = (used_number s port user.0, subst IsPlanRewrite (sym user.1) tt)
-
-  -- a change of a user rule has its numbers in range
-  pub plan_change : (c : Change) → (switch_of c).0 < switch_count net → IsUserRule net (switch_of c) (rule_of c) → IsPlanChange net c
-  plan_change c within user = record {
-    switch = within;
-    priority = user.above;
-    priority_most = (let most = user.below in omega arith);
-    port = plan_port (switch_of c) (rule_of c).key.pattern.in_port user.port;
-    vlan = plan_vlan (rule_of c).key.pattern.vlan user.vlan;
-    dst = user.dst;
-    action = plan_action (switch_of c) (rule_of c).action user.action;
-  }
+-- a change of a user rule has its numbers in range
+pub plan_change : (net : Network) → IsNetwork net → (c : Change) → (switch_of c).0 < switch_count net → IsUserRule net (switch_of c) (rule_of c) → IsPlanChange net c
+plan_change net is_net c within user = change_plan net c within (rule_plan net is_net (switch_of c) (rule_of c) user)
 
 pub keeps_user : (net : Network) (s : SwitchId) (a : Action) → IsUserAction net s a → KeepsVlan a
 keeps_user net s Discard user = tt
@@ -68,22 +41,22 @@ keeps_user net s (Out port rewrite) user = user.1
 
 -- ---- tables of user rules
 
-module _ (aim : Aim) (old : List (List Rule)) where
+module _ (to : Target) (old : List (List Rule)) where
   -- the prefix of a rule of the old or the new configuration
   abbrev pub IsKnown : Rule → Type 0
-  IsKnown r = IsIn r.key.pattern.dst (table_blocks old ++ table_blocks aim.new)
+  IsKnown r = IsIn r.key.pattern.dst (table_blocks old ++ table_blocks to.new)
 
   -- one table per switch, each of user rules of distinct keys, with known prefixes
   pub record AreUserTables (tables : List (List Rule)) : Type 0 where
-    pub count : length tables ≡ switch_count aim.net
-    pub rules : (s : SwitchId) (r : Rule) → IsIn r (rules_at tables s) → IsUserRule aim.net s r
+    pub count : length tables ≡ switch_count to.net
+    pub rules : (s : SwitchId) (r : Rule) → IsIn r (rules_at tables s) → IsUserRule to.net s r
     pub known : (s : SwitchId) (r : Rule) → IsIn r (rules_at tables s) → IsKnown r
     pub unique : (s : SwitchId) → AreUnique (rules_at tables s)
 
   -- a change of a user rule with a known prefix, at a switch of the network
   pub record IsUserChange (c : Change) : Type 0 where
-    pub within : (switch_of c).0 < switch_count aim.net
-    pub rule : IsUserRule aim.net (switch_of c) (rule_of c)
+    pub within : (switch_of c).0 < switch_count to.net
+    pub rule : IsUserRule to.net (switch_of c) (rule_of c)
     pub known : IsKnown (rule_of c)
 
   in_blocks : (tables : List (List Rule)) (n : ℕ) (r : Rule) → IsIn r (get_or tables n []) → IsIn r.key.pattern.dst (table_blocks tables)
@@ -91,45 +64,45 @@ module _ (aim : Aim) (old : List (List Rule)) where
   in_blocks (rules ∷ tables) zero r i = in_append_left r.key.pattern.dst (map (λ x. x.key.pattern.dst) rules) (table_blocks tables) (in_map (λ x. x.key.pattern.dst) r rules i)
   in_blocks (rules ∷ tables) (suc n) r i = in_append_right r.key.pattern.dst (map (λ x. x.key.pattern.dst) rules) (table_blocks tables) (in_blocks tables n r i)
 
-  module _ (new_user : IsUserConfig aim.net aim.new) where
-    pub user_start : IsUserConfig aim.net old → AreUserTables old
+  module _ (new_user : IsUserConfig to.net to.new) where
+    pub user_start : IsUserConfig to.net old → AreUserTables old
     user_start user = record {
       count = user.count;
-      rules = λ s r i. each_at (IsUserRule aim.net s) (rules_at old s) r (user.rules s) i;
-      known = λ s r i. in_append_left r.key.pattern.dst (table_blocks old) (table_blocks aim.new) (in_blocks old s.0 r i);
+      rules = λ s r i. each_at (IsUserRule to.net s) (rules_at old s) r (user.rules s) i;
+      known = λ s r i. in_append_left r.key.pattern.dst (table_blocks old) (table_blocks to.new) (in_blocks old s.0 r i);
       unique = λ s. unique_in_table (rules_at old s) (user.distinct s);
     }
 
-    new_unique : (s : SwitchId) → AreUnique (rules_at aim.new s)
-    new_unique s = unique_in_table (rules_at aim.new s) (new_user.distinct s)
+    new_unique : (s : SwitchId) → AreUnique (rules_at to.new s)
+    new_unique s = unique_in_table (rules_at to.new s) (new_user.distinct s)
 
     -- a rule of the new configuration
-    new_rule : (s : SwitchId) (r : Rule) → IsIn r (rules_at aim.new s) → IsUserRule aim.net s r × IsKnown r
-    new_rule s r i = (each_at (IsUserRule aim.net s) (rules_at aim.new s) r (new_user.rules s) i, in_append_right r.key.pattern.dst (table_blocks old) (table_blocks aim.new) (in_blocks aim.new s.0 r i))
+    new_rule : (s : SwitchId) (r : Rule) → IsIn r (rules_at to.new s) → IsUserRule to.net s r × IsKnown r
+    new_rule s r i = (each_at (IsUserRule to.net s) (rules_at to.new s) r (new_user.rules s) i, in_append_right r.key.pattern.dst (table_blocks old) (table_blocks to.new) (in_blocks to.new s.0 r i))
 
     module _ (tables : List (List Rule)) (user : AreUserTables tables) where
-      rule_from : (s : SwitchId) (c : Change) → IsDifference s (rules_at tables s) (rules_at aim.new s) c → IsUserRule aim.net s (rule_of c) × IsKnown (rule_of c)
+      rule_from : (s : SwitchId) (c : Change) → IsDifference s (rules_at tables s) (rules_at to.new s) c → IsUserRule to.net s (rule_of c) × IsKnown (rule_of c)
       rule_from s (Delete t r) h = (user.rules s r h.1, user.known s r h.1)
       rule_from s (Insert t r) h = new_rule s r h.1
       rule_from s (Replace t q) h = new_rule s q h.1
 
       -- each change that remains is of a user rule
-      pub remaining_user : (c : Change) → IsIn c (remaining tables aim.new) → IsUserChange c
+      pub remaining_user : (c : Change) → IsIn c (remaining tables to.new) → IsUserChange c
       remaining_user c i =
-          let (s, less, is) = remaining_is tables aim.new c i in
-          let at = difference_switch s (rules_at tables s) (rules_at aim.new s) c is in
+          let (s, less, is) = remaining_is tables to.new c i in
+          let at = difference_switch s (rules_at tables s) (rules_at to.new s) c is in
           let (rule, known) = rule_from s c is in
           record {
-            within = subst (λ (x : SwitchId). x.0 < switch_count aim.net) (sym at) (subst (λ n. s.0 < n) user.count less);
-            rule = subst (λ x. IsUserRule aim.net x (rule_of c)) (sym at) rule;
+            within = subst (λ (x : SwitchId). x.0 < switch_count to.net) (sym at) (subst (λ n. s.0 < n) user.count less);
+            rule = subst (λ x. IsUserRule to.net x (rule_of c)) (sym at) rule;
             known = known;
           }
 
-      pub remaining_applies : (c : Change) → IsIn c (remaining tables aim.new) → Applies tables c
-      remaining_applies c i = (remaining_shortens tables aim.new user.unique new_unique c i).0
+      pub remaining_applies : (c : Change) → IsIn c (remaining tables to.new) → Applies tables c
+      remaining_applies c i = (remaining_shortens tables to.new user.unique new_unique c i).0
 
-      pub remaining_fewer : (c : Change) → IsIn c (remaining tables aim.new) → length (remaining tables aim.new) ≡ suc (length (remaining (tables_after_change c tables) aim.new))
-      remaining_fewer c i = (remaining_shortens tables aim.new user.unique new_unique c i).1
+      pub remaining_fewer : (c : Change) → IsIn c (remaining tables to.new) → length (remaining tables to.new) ≡ suc (length (remaining (tables_after_change c tables) to.new))
+      remaining_fewer c i = (remaining_shortens tables to.new user.unique new_unique c i).1
 
       module _ (c : Change) (applies : Applies tables c) (is : IsUserChange c) where
         written : (r : Rule) (d : Change) → Writes r d → r ≡ rule_of d
@@ -155,7 +128,7 @@ module _ (aim : Aim) (old : List (List Rule)) where
           count = length-tables_after (c ∷ []) tables ∙ user.count;
           rules = λ s r i. elim (rule_cases s r i) [
             | inl j ↦ user.rules s r j
-            | inr (at, same) ↦ subst (λ x. IsUserRule aim.net x r) (sym at) (subst (IsUserRule aim.net (switch_of c)) (sym same) is.rule)
+            | inr (at, same) ↦ subst (λ x. IsUserRule to.net x r) (sym at) (subst (IsUserRule to.net (switch_of c)) (sym same) is.rule)
           ];
           known = λ s r i. elim (rule_cases s r i) [
             | inl j ↦ user.known s r j
@@ -165,25 +138,25 @@ module _ (aim : Aim) (old : List (List Rule)) where
         }
 
     -- along the search
-    pub user_along : (tables : List (List Rule)) → AreUserTables tables → (changes : List Change) → AreFirstQualifying aim tables changes → AreUserTables (tables_after changes tables)
+    pub user_along : (tables : List (List Rule)) → AreUserTables tables → (changes : List Change) → AreFirstQualifying to tables changes → AreUserTables (tables_after changes tables)
     user_along tables user [] found = user
     user_along tables user (c ∷ changes) found =
-        let i = first_remains aim tables (remaining tables aim.new) c found.0 in
+        let i = first_remains to tables (remaining tables to.new) c found.0 in
         user_along (tables_after_change c tables) (user_next tables user c (remaining_applies tables user c i) (remaining_user tables user c i)) changes found.1
 
-    pub changes_along : (tables : List (List Rule)) → AreUserTables tables → (changes : List Change) → AreFirstQualifying aim tables changes → AllByRecursion IsUserChange changes
+    pub changes_along : (tables : List (List Rule)) → AreUserTables tables → (changes : List Change) → AreFirstQualifying to tables changes → AllByRecursion IsUserChange changes
     changes_along tables user [] found = tt
     changes_along tables user (c ∷ changes) found =
-        let i = first_remains aim tables (remaining tables aim.new) c found.0 in
+        let i = first_remains to tables (remaining tables to.new) c found.0 in
         let is = remaining_user tables user c i in
         (is, changes_along (tables_after_change c tables) (user_next tables user c (remaining_applies tables user c i) is) changes found.1)
 
     -- what remained at first was made or remains
-    pub remaining_count : (tables : List (List Rule)) → AreUserTables tables → (changes : List Change) → AreFirstQualifying aim tables changes
-        → length changes + length (remaining (tables_after changes tables) aim.new) ≡ length (remaining tables aim.new)
+    pub remaining_count : (tables : List (List Rule)) → AreUserTables tables → (changes : List Change) → AreFirstQualifying to tables changes
+        → length changes + length (remaining (tables_after changes tables) to.new) ≡ length (remaining tables to.new)
     remaining_count tables user [] found = omega arith
     remaining_count tables user (c ∷ changes) found =
-        let i = first_remains aim tables (remaining tables aim.new) c found.0 in
+        let i = first_remains to tables (remaining tables to.new) c found.0 in
         let next = user_next tables user c (remaining_applies tables user c i) (remaining_user tables user c i) in
         let fewer = remaining_fewer tables user c i in
         let rest = remaining_count (tables_after_change c tables) next changes found.1 in

@@ -1,39 +1,32 @@
 -- How the search of an update ends.
 use Rattle.std.specs.Prelude.{◌≡◌, List}
-use Rattle.topology.specs.Networks.{Network}
 use Rattle.flow_rules.specs.declared.rules.Rule.{Rule}
-use Rattle.demands.specs.Duties.{DemandView}
 use Rattle.update_model.specs.declared.Change.{Change}
 use Rattle.certificates.specs.declared.Evidence.TheVariants as kind
 use Rattle.certificates.specs.declared.OrderedEvidence.{OrderedEvidence}
 use Rattle.certificates.specs.declared.Plan.{Plan}
-use Rattle.table_difference.specs.SameClasses.{classes_before}
 use Rattle.round_planner.specs.declared.Ordered.{Ordered}
 use Rattle.round_planner.specs.declared.Ordered.TheVariants.{Rounds, Stuck}
-use Rattle.round_judge.specs.Aims.{Aim}
+use Rattle.table_difference.specs.Targets.{Target}
 use Rattle.round_planner.specs.Search.{IsSearchPlan, EndsStuck, single_rounds}
 
--- what the search of an update is for
-abbrev pub aim_of : Network → List (List Rule) → List (List Rule) → List DemandView → Aim
-aim_of net old new demands = record { net = net; new = new; demands = demands; classes = classes_before net old new demands }
-
 -- the plan is that of a search which ended ordered
-pub record IsPlanOf (aim : Aim) (old : List (List Rule)) (plan : Plan) : Type 0 where
+pub record IsPlanOf (to : Target) (old : List (List Rule)) (plan : Plan) : Type 0 where
   pub changes : List Change
   pub evidence : OrderedEvidence
   pub plan_is : plan ≡ record { rounds = single_rounds changes; evidence = kind.Ordered evidence }
-  pub searched : IsSearchPlan aim old changes evidence
+  pub searched : IsSearchPlan to old changes evidence
 
 -- the rounds are those of a search which ended stuck
-pub record AreStuck (aim : Aim) (old : List (List Rule)) (rounds : List (List Change)) : Type 0 where
+pub record AreStuck (to : Target) (old : List (List Rule)) (rounds : List (List Change)) : Type 0 where
   pub changes : List Change
   pub rounds_are : rounds ≡ single_rounds changes
-  pub ends : EndsStuck aim old changes
+  pub ends : EndsStuck to old changes
 
 -- the search plan exactly where the search ends ordered, its rounds where it ends stuck
-abbrev pub IsSearched : Aim → List (List Rule) → Ordered → Type 0
-IsSearched aim old (Rounds plan) = IsPlanOf aim old plan
-IsSearched aim old (Stuck rounds) = AreStuck aim old rounds
+abbrev pub IsSearched : Target → List (List Rule) → Ordered → Type 0
+IsSearched to old (Rounds plan) = IsPlanOf to old plan
+IsSearched to old (Stuck rounds) = AreStuck to old rounds
 
 -- this holds of the plan, if there is one
 abbrev pub OfPlan : (Plan → Type 0) → Ordered → Type 0

@@ -1,5 +1,5 @@
 -- Why a change doesn't qualify, and what that rests on.
-use Rattle.std.specs.Prelude.{◌≡◌, ◌<◌, ◌≤◌, ℕ, List, [], ◌∷◌, length, map, IsTrue, IfSome}
+use Rattle.std.specs.Prelude.{◌≡◌, ◌<◌, ◌≤◌, List, [], ◌∷◌, length, map, IsTrue, IfSome}
 use Rattle.std.specs.List.{AllByRecursion}
 use Rattle.net_base.specs.declared.ids.SwitchId.{SwitchId}
 use Rattle.net_base.specs.declared.ids.Place.{Place}
@@ -19,7 +19,7 @@ use Rattle.class_watch.specs.Walks.{HoldsWalks, meets}
 use Rattle.round_tables.specs.Trials.{single}
 use Rattle.round_planner.specs.declared.failing.Failure.{Failure}
 use Rattle.round_planner.specs.declared.failing.Failure.TheVariants as failure
-use Rattle.round_judge.specs.Aims.{Aim}
+use Rattle.table_difference.specs.Targets.{Target}
 use Rattle.round_judge.specs.declared.unsafe_class.UnsafeClass.{UnsafeClass}
 use Rattle.round_planner.specs.declared.left.Left.{Left}
 use Rattle.round_planner.specs.Search.{CanBeSafe}
@@ -32,15 +32,15 @@ pub record HasRoomThere (net : Network) (tables : List (List Rule)) (c : Change)
   pub fits : (switch_of c).0 < switch_count net → entries_needed (rules_at tables (switch_of c)) (c ∷ []) ≤ capacity_of net (switch_of c)
 
 -- while the change is made no evidence keeps the class safe, and each switch that its mixed walks come to is known
-pub record IsUnsafeClass (aim : Aim) (tables : List (List Rule)) (c : Change) (f : UnsafeClass) : Type 0 where
-  pub is_class : IsClass aim.classes f.number f.class
-  pub never : ¬ CanBeSafe aim tables c f.class
-  pub visits : HoldsWalks (single aim.net tables c) 0 f.class f.visited
+pub record IsUnsafeClass (to : Target) (tables : List (List Rule)) (c : Change) (f : UnsafeClass) : Type 0 where
+  pub is_class : IsClass to.classes f.number f.class
+  pub never : ¬ CanBeSafe to tables c f.class
+  pub visits : HoldsWalks (single to.net tables c) 0 f.class f.visited
 
 -- why the change doesn't qualify: it has no room in its table, or a class is not safe by any evidence
-abbrev pub IsFailure : Aim → List (List Rule) → Change → Failure → Type 0
-IsFailure aim tables c failure.Table = ¬ HasRoomThere aim.net tables c
-IsFailure aim tables c (failure.Class f) = IsUnsafeClass aim tables c f
+abbrev pub IsFailure : Target → List (List Rule) → Change → Failure → Type 0
+IsFailure to tables c failure.Table = ¬ HasRoomThere to.net tables c
+IsFailure to tables c (failure.Class f) = IsUnsafeClass to tables c f
 
 -- ---- what it rests on
 
@@ -50,16 +50,16 @@ IsTouched s d failure.Table = (switch_of d).0 ≡ s.0
 IsTouched s d (failure.Class f) = IsTrue (meets d f.class f.visited)
 
 -- while the change c is made no packet of the class comes to a switch where the change d covers it
-abbrev pub IsApart : Aim → List (List Rule) → Change → Class → Change → Type 0
-IsApart aim tables c class d =
-    (place : Place) → IsOnMixedWalk (single aim.net tables c) 0 class.first class.entry place
+abbrev pub IsApart : Target → List (List Rule) → Change → Class → Change → Type 0
+IsApart to tables c class d =
+    (place : Place) → IsOnMixedWalk (single to.net tables c) 0 class.first class.entry place
     → place.switch ≡ switch_of d → ¬ IsTrue (may_cover d class)
 
 -- ---- the changes that remain
 
 -- the failure of a change that remains stands, if there is one
-abbrev pub HasStanding : Aim → List (List Rule) → Left → Type 0
-HasStanding aim tables left = IfSome left.failure (λ f. IsFailure aim tables left.change f)
+abbrev pub HasStanding : Target → List (List Rule) → Left → Type 0
+HasStanding to tables left = IfSome left.failure (λ f. IsFailure to tables left.change f)
 
 -- neither the tables nor the change set or strip a tag, and there is the switch of the change
 pub record IsOfUsers (tables : List (List Rule)) (left : Left) : Type 0 where
@@ -72,6 +72,6 @@ abbrev pub AreOfUsers : List (List Rule) → List Left → Type 0
 AreOfUsers tables left = AllByRecursion (IsOfUsers tables) left
 
 -- these are the changes that remain, in order, and each failure stands
-pub record AreLeft (aim : Aim) (tables : List (List Rule)) (left : List Left) : Type 0 where
-  pub changes : map (λ (l : Left). l.change) left ≡ remaining tables aim.new
-  pub standing : AllByRecursion (HasStanding aim tables) left
+pub record AreLeft (to : Target) (tables : List (List Rule)) (left : List Left) : Type 0 where
+  pub changes : map (λ (l : Left). l.change) left ≡ remaining tables to.new
+  pub standing : AllByRecursion (HasStanding to tables) left

@@ -1,5 +1,5 @@
 -- What a search is for, and where it is.
-use Rattle.std.specs.Prelude.{◌≡◌, ℕ, ◌<◌, ◌≤◌, Bool, true, false, List, [], ◌∷◌, ◌++◌, length, Option, Some, None}
+use Rattle.std.specs.Prelude.{◌≡◌, ℕ, ◌≤◌, Bool, true, false, List, [], ◌∷◌, ◌++◌, length, Option, Some, None}
 use Rattle.std.specs.List.{AllByRecursion}
 use Rattle.flow_rules.specs.Tables.{rules_of_all}
 use Rattle.flow_rules.specs.declared.rules.Rule.{Rule}
@@ -18,7 +18,8 @@ use Rattle.round_planner.specs.declared.Ordered.TheVariants.{Rounds, Stuck}
 use Rattle.round_planner.specs.declared.failing.Failure.{Failure}
 use Rattle.round_planner.specs.declared.left.Left.{Left}
 use Rattle.round_planner.specs.Failures.{IsFailure, AreLeft}
-use Rattle.round_judge.specs.Aims.{Aim, HasAtoms}
+use Rattle.table_difference.specs.Targets.{Target}
+use Rattle.round_judge.specs.Goals.{HasAtoms}
 use Rattle.round_judge.specs.Visits.{HoldTables}
 use Rattle.round_planner.specs.Search.{single_rounds, Qualifies, IsFirstQualifying, EndsOrdered, EndsStuck}
 use Rattle.round_planner.specs.Standing.{Stands}
@@ -33,67 +34,67 @@ pub record SearchState : Type 0 where
   pub looked : List Bool
 
 -- the search has made these changes, each as a round of its own, and no change is tried
-pub record IsAt (aim : Aim) (old : List (List Rule)) (changes : List Change) (s : SearchState) : Type 0 where
+pub record IsAt (to : Target) (old : List (List Rule)) (changes : List Change) (s : SearchState) : Type 0 where
   pub rounds : s.rounds ≡ single_rounds changes
   pub tables : rules_of_all s.trial.tables ≡ tables_after changes old
-  pub settled : IsSettled aim.net s.trial
-  pub stands : Stands aim old changes s.store.evidence
-  pub classes : s.store.classes ≡ class_count aim.classes
-  pub came : HoldTables aim (tables_after changes old) s.came
-  pub looked : HasAtoms aim.classes s.looked
+  pub settled : IsSettled to.net s.trial
+  pub stands : Stands to old changes s.store.evidence
+  pub classes : s.store.classes ≡ class_count to.classes
+  pub came : HoldTables to (tables_after changes old) s.came
+  pub looked : HasAtoms to.classes s.looked
 
 -- the search has made these changes, and one that remains is tried; where packets come to after it is known
-pub record IsTryingAt (aim : Aim) (old : List (List Rule)) (changes : List Change) (c : Change) (s : SearchState) : Type 0 where
+pub record IsTryingAt (to : Target) (old : List (List Rule)) (changes : List Change) (c : Change) (s : SearchState) : Type 0 where
   pub rounds : s.rounds ≡ single_rounds changes
   pub tables : rules_of_all s.trial.tables ≡ tables_after changes old
-  pub trying : IsTrying aim.net c s.trial
-  pub stands : Stands aim old changes s.store.evidence
-  pub classes : s.store.classes ≡ class_count aim.classes
-  pub came : HoldTables aim (tables_after (changes ++ c ∷ []) old) s.came
-  pub looked : HasAtoms aim.classes s.looked
+  pub trying : IsTrying to.net c s.trial
+  pub stands : Stands to old changes s.store.evidence
+  pub classes : s.store.classes ≡ class_count to.classes
+  pub came : HoldTables to (tables_after (changes ++ c ∷ []) old) s.came
+  pub looked : HasAtoms to.classes s.looked
 
 -- what trying a change leads to: it qualifies and, if it is the first that does, the search has made it;
 -- or it fails and the search is where it was
-abbrev pub IsTried : Aim → List (List Rule) → List Change → Change → SearchState → Option Failure → Type 0
-IsTried aim old changes c s None =
-    Qualifies aim (tables_after changes old) c
-    × (IsFirstQualifying aim (tables_after changes old) (remaining (tables_after changes old) aim.new) c → IsAt aim old (changes ++ c ∷ []) s)
-IsTried aim old changes c s (Some f) = IsFailure aim (tables_after changes old) c f × IsAt aim old changes s
+abbrev pub IsTried : Target → List (List Rule) → List Change → Change → SearchState → Option Failure → Type 0
+IsTried to old changes c s None =
+    Qualifies to (tables_after changes old) c
+    × (IsFirstQualifying to (tables_after changes old) (remaining (tables_after changes old) to.new) c → IsAt to old (changes ++ c ∷ []) s)
+IsTried to old changes c s (Some f) = IsFailure to (tables_after changes old) c f × IsAt to old changes s
 
 -- the same of a change that remains: if it fails, why it does is kept with it
-abbrev pub IsLeftTried : Aim → List (List Rule) → List Change → Left → SearchState → Bool → Type 0
-IsLeftTried aim old changes one s true =
-    Qualifies aim (tables_after changes old) one.change
-    × (IsFirstQualifying aim (tables_after changes old) (remaining (tables_after changes old) aim.new) one.change → IsAt aim old (changes ++ one.change ∷ []) s)
-IsLeftTried aim old changes one s false = (¬ Qualifies aim (tables_after changes old) one.change) × IsAt aim old changes s
+abbrev pub IsLeftTried : Target → List (List Rule) → List Change → Left → SearchState → Bool → Type 0
+IsLeftTried to old changes one s true =
+    Qualifies to (tables_after changes old) one.change
+    × (IsFirstQualifying to (tables_after changes old) (remaining (tables_after changes old) to.new) one.change → IsAt to old (changes ++ one.change ∷ []) s)
+IsLeftTried to old changes one s false = (¬ Qualifies to (tables_after changes old) one.change) × IsAt to old changes s
 
 -- one of those that remain was made, that at the place
-pub record IsMadeAt (aim : Aim) (old : List (List Rule)) (changes : List Change) (s : SearchState) (left : List Left) (place : ℕ) : Type 0 where
+pub record IsMadeAt (to : Target) (old : List (List Rule)) (changes : List Change) (s : SearchState) (left : List Left) (place : ℕ) : Type 0 where
   pub front : List Left
   pub one : Left
   pub back : List Left
   pub are : left ≡ front ++ one ∷ back
   pub at_place : length front ≡ place
-  pub at : IsAt aim old (changes ++ one.change ∷ []) s
+  pub at : IsAt to old (changes ++ one.change ∷ []) s
 
 -- none of the changes that remain qualifies
-abbrev pub NoneQualifies : Aim → List (List Rule) → Type 0
-NoneQualifies aim tables = AllByRecursion (λ d. ¬ Qualifies aim tables d) (remaining tables aim.new)
+abbrev pub NoneQualifies : Target → List (List Rule) → Type 0
+NoneQualifies to tables = AllByRecursion (λ d. ¬ Qualifies to tables d) (remaining tables to.new)
 
 -- what going through the remaining changes leads to: the search has made the one at a place, or none of them qualifies
-abbrev pub IsPlaced : Aim → List (List Rule) → List Change → SearchState → List Left → Option ℕ → Type 0
-IsPlaced aim old changes s left (Some place) = IsMadeAt aim old changes s left place
-IsPlaced aim old changes s left None = NoneQualifies aim (tables_after changes old) × IsAt aim old changes s
+abbrev pub IsPlaced : Target → List (List Rule) → List Change → SearchState → List Left → Option ℕ → Type 0
+IsPlaced to old changes s left (Some place) = IsMadeAt to old changes s left place
+IsPlaced to old changes s left None = NoneQualifies to (tables_after changes old) × IsAt to old changes s
 
 -- what one step of the search leads to: it has made one change more, and these remain then, or none that remains qualifies
-abbrev pub IsMoved : Aim → List (List Rule) → List Change → SearchState → List Left → Bool → Type 0
-IsMoved aim old changes s left true = (c : Change) × IsAt aim old (changes ++ c ∷ []) s × AreLeft aim (tables_after (changes ++ c ∷ []) old) left
-IsMoved aim old changes s left false = NoneQualifies aim (tables_after changes old) × IsAt aim old changes s
+abbrev pub IsMoved : Target → List (List Rule) → List Change → SearchState → List Left → Bool → Type 0
+IsMoved to old changes s left true = (c : Change) × IsAt to old (changes ++ c ∷ []) s × AreLeft to (tables_after (changes ++ c ∷ []) old) left
+IsMoved to old changes s left false = NoneQualifies to (tables_after changes old) × IsAt to old changes s
 
 -- where the search ends: ordered, as no change remains, or stuck, as none of those that remain qualifies
-abbrev pub IsEnded : Aim → List (List Rule) → SearchState → Bool → Type 0
-IsEnded aim old s true = (changes : List Change) × IsAt aim old changes s × EndsOrdered aim old changes
-IsEnded aim old s false = (changes : List Change) × IsAt aim old changes s × EndsStuck aim old changes
+abbrev pub IsEnded : Target → List (List Rule) → SearchState → Bool → Type 0
+IsEnded to old s true = (changes : List Change) × IsAt to old changes s × EndsOrdered to old changes
+IsEnded to old s false = (changes : List Change) × IsAt to old changes s × EndsStuck to old changes
 
 -- the plan of these rounds and this evidence where no change remains, otherwise the rounds
 abbrev pub answer_of : List (List Change) → OrderedEvidence → Bool → Ordered
@@ -105,10 +106,10 @@ abbrev pub answer_by : SearchState → Bool → Ordered
 answer_by s none_remains = answer_of s.rounds s.store.evidence none_remains
 
 -- a search that has ended has this answer, with evidence in which nothing stands twice
-pub record IsAnswered (aim : Aim) (old : List (List Rule)) (answer : Ordered) : Type 0 where
+pub record IsAnswered (to : Target) (old : List (List Rule)) (answer : Ordered) : Type 0 where
   pub search : SearchState
   pub none_remains : Bool
-  pub ended : IsEnded aim old search none_remains
+  pub ended : IsEnded to old search none_remains
   pub stored : IsStored search.store.evidence
-  pub few : class_count aim.classes ≤ 8192
+  pub few : class_count to.classes ≤ 8192
   pub answer_is : answer ≡ answer_by search none_remains

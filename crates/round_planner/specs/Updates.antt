@@ -6,8 +6,8 @@ use Rattle.certificates.specs.Certified.{IsCertified, is_two_phase}
 use Rattle.certificates.specs.Consistent.{IsConsistent}
 use Rattle.certificates.specs.declared.Plan.{Plan}
 use Rattle.table_difference.specs.SameClasses.{classes_before}
-use Rattle.round_judge.specs.Aims.{Aim}
-use Rattle.round_planner.specs.Ends.{aim_of}
+use Rattle.table_difference.specs.Targets.{Target}
+use Rattle.table_difference.specs.Targets.{Target, target_between}
 
 -- the classes of an update: those of the prefixes of both configurations and of the demands
 abbrev pub update_classes : Update → ClassList
@@ -18,8 +18,8 @@ abbrev pub update_count : Update → ℕ
 update_count u = class_count (update_classes u)
 
 -- what the search of an update is for
-abbrev pub update_aim : Update → Aim
-update_aim u = aim_of u.net u.old u.new u.demands
+abbrev pub update_target : Update → Target
+update_target u = target_between u.net u.old u.new u.demands
 
 -- the update without rounds
 abbrev pub bare_task : Update → Task

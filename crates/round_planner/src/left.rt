@@ -4,7 +4,7 @@ ghost use Rattle.std.specs.Prelude.{None};
 ghost use Rattle.std.specs.List.{AllByRecursion};
 ghost use Rattle.flow_rules.specs.declared.rules.Rule.{Rule};
 ghost use Rattle.update_model.specs.Changes.{switch_of, tables_after_change};
-ghost use Rattle.round_judge.specs.Aims.{Aim};
+ghost use Rattle.table_difference.specs.Targets.{Target};
 ghost use Rattle.round_planner.specs.Failures.{IsTouched, HasStanding, IsOfUsers, AreOfUsers};
 ghost use Rattle.round_planner.specs.declared.left.Left.{Left as LeftOf};
 
@@ -35,10 +35,10 @@ impl Left {
     /// Forgets why the change failed, if a change that was made touches that.
     fn forget(&mut self, made: &Change)
         ensures change { self.new.change ≡ self.old.change }
-        ensures stands { (aim : Aim) (tables : List (List Rule)) → IsOfUsers tables self.old
+        ensures stands { (to : Target) (tables : List (List Rule)) → IsOfUsers tables self.old
             → (switch_of made.now).0 < length tables
-            → HasStanding aim tables self.old
-            → HasStanding aim (tables_after_change made.now tables) self.new }
+            → HasStanding to tables self.old
+            → HasStanding to (tables_after_change made.now tables) self.new }
     {
         if self.is_touched(made) {
             self.failure = None;
@@ -67,10 +67,10 @@ pub(crate) fn untried(alloc: Global, changes: &[Change]) -> Result<Vec<Left>, Me
 fn forget_touched(left: &mut [Left], made: &Change)
     ensures changes { map (λ (l : LeftOf). l.change) left.new
         ≡ map (λ (l : LeftOf). l.change) left.old }
-    ensures stands { (aim : Aim) (tables : List (List Rule)) → AreOfUsers tables left.old
+    ensures stands { (to : Target) (tables : List (List Rule)) → AreOfUsers tables left.old
         → (switch_of made.now).0 < length tables
-        → AllByRecursion (HasStanding aim tables) left.old
-        → AllByRecursion (HasStanding aim (tables_after_change made.now tables)) left.new }
+        → AllByRecursion (HasStanding to tables) left.old
+        → AllByRecursion (HasStanding to (tables_after_change made.now tables)) left.new }
 {
     for one in left.iter_mut() {
         one.forget(made);
@@ -86,9 +86,9 @@ pub(crate) fn take_out(left: &mut Vec<Left>, place: usize)
         ≡ map (λ (l : LeftOf). l.change) (front ++ back) }
     ensures stands { (front back : List LeftOf) (one : LeftOf)
         → left.old.items ≡ front ++ one ∷ back → length front ≡ place
-        → (aim : Aim) (tables : List (List Rule)) → AreOfUsers tables left.old.items
-        → AllByRecursion (HasStanding aim tables) left.old.items
-        → AllByRecursion (HasStanding aim (tables_after_change one.change tables)) left.new.items }
+        → (to : Target) (tables : List (List Rule)) → AreOfUsers tables left.old.items
+        → AllByRecursion (HasStanding to tables) left.old.items
+        → AllByRecursion (HasStanding to (tables_after_change one.change tables)) left.new.items }
 {
     let made = left.remove(place);
     forget_touched(left, &made.change);

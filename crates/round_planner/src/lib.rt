@@ -18,7 +18,8 @@ ghost use Rattle.certificates.specs.Trees.{IsTreeUpdate};
 ghost use Rattle.certificates.specs.Valid.{IsValidPlan};
 ghost use Rattle.table_difference.specs.SameClasses.{HasSameClasses, classes_before};
 ghost use Rattle.table_difference.specs.Tried.{AreTried};
-ghost use Rattle.round_planner.specs.Ends.{aim_of, IsSearched, OfPlan, OfStuck, IsNotStuck};
+ghost use Rattle.table_difference.specs.Targets.{target_between};
+ghost use Rattle.round_planner.specs.Ends.{IsSearched, OfPlan, OfStuck, IsNotStuck};
 
 use crate::searching::answer_to;
 use certificates::Plan;
@@ -68,7 +69,7 @@ pub fn order(
     requires old_good { HasGoodPaths net.now (rules_of_all old.now) duties.now.demands classes.now }
     requires new_good { HasGoodPaths net.now (rules_of_all new.now) duties.now.demands classes.now }
     ensures searched { IfOk result (IsSearched
-        (aim_of net.now (rules_of_all old.now) (rules_of_all new.now) duties.now.demands)
+        (target_between net.now (rules_of_all old.now) (rules_of_all new.now) duties.now.demands)
         (rules_of_all old.now)) }
     ensures valid { IfOk result (OfPlan (IsValidPlan net.now)) }
     ensures certified { IfOk result (OfPlan (λ p. IsCertified

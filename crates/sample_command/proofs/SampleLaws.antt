@@ -1,5 +1,5 @@
 -- What a run of `sample` promises.
-use Rattle.std.proofs.Common.{◌≡◌, ◌≢◌, ◌⊎◌, ℕ, ◌*◌, ◌-◌, List, length, refl, sym, subst, ap, ◌∙◌, inl, inr}
+use Rattle.std.proofs.Common.{◌≡◌, ◌≢◌, ℕ, ◌*◌, ◌-◌, List, length, refl, sym, subst, ap, ◌∙◌, inl, inr}
 use Rattle.std.specs.declared.option.Option.{Option}
 use Rattle.std.specs.Io.KnownBytes.{Appends}
 use Rattle.file_access.specs.Outside.{Files, AppendsFront}
@@ -15,13 +15,13 @@ use Rattle.certificates.specs.declared.Evidence.TheVariants.{Ordered}
 use Rattle.certificates.specs.declared.Plan.{Plan}
 use Rattle.table_difference.specs.SameClasses.{HasSameClasses}
 use Rattle.round_planner.specs.Ends.{IsPlanOf}
-use Rattle.round_planner.specs.Updates.{update_aim, KeepsConsistent}
+use Rattle.round_planner.specs.Updates.{update_target, KeepsConsistent}
 use Rattle.ring_sample.specs.Ring.{ring_tables, ring_update}
 use Rattle.sample_command.specs.Summaries.{sample_line, ring_classes, IsSummary, SaysSummary}
 use Rattle.sample_command.specs.Promise.{WritesSummary, WritesFront, SamplePromise}
 
 -- the line on the evidence of the plan
-pub summary_of : (n : ℕ) (plan : Plan) (searched : IsPlanOf (update_aim (ring_update n)) (ring_tables n 2) plan) → KeepsConsistent (ring_update n) plan → (rounds classes : ℕ) → rounds ≡ length plan.rounds → length plan.rounds ≡ 4 * (n - 1) → classes ≡ ring_classes n plan → classes ≡ 6 * n
+pub summary_of : (n : ℕ) (plan : Plan) (searched : IsPlanOf (update_target (ring_update n)) (ring_tables n 2) plan) → KeepsConsistent (ring_update n) plan → (rounds classes : ℕ) → rounds ≡ length plan.rounds → length plan.rounds ≡ 4 * (n - 1) → classes ≡ ring_classes n plan → classes ≡ 6 * n
     → (e : OrderedEvidence) → plan.evidence ≡ Ordered e → (text : List ℕ) → text ≡ sample_line n rounds classes (length e.numberings) (length e.picks) → IsSummary n text
 summary_of n plan searched keeps rounds classes counted_rounds many_rounds counted_classes classes_are e is text text_is =
     let rounds_are : rounds ≡ 4 * (n - 1) = counted_rounds ∙ many_rounds in

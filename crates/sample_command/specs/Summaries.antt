@@ -7,7 +7,7 @@ use Rattle.certificates.specs.declared.Plan.{Plan}
 use Rattle.round_planner.specs.Ends.{IsPlanOf}
 use Rattle.command_base.specs.declared.status.Status.TheVariants as status
 use Rattle.command_base.specs.Answers.{Answer}
-use Rattle.round_planner.specs.Updates.{update_aim, KeepsConsistent}
+use Rattle.round_planner.specs.Updates.{update_target, KeepsConsistent}
 use Rattle.ring_sample.specs.Ring.{ring_tables, ring_update}
 
 -- the ring of n switches, and the rounds and classes of its update
@@ -30,7 +30,7 @@ ring_classes n plan = class_count (classes_for (task_for (ring_update n) plan))
 -- every run consistent; its rounds and classes are as many as the line says
 pub record IsSummary (n : ℕ) (text : List ℕ) : Type 0 where
   pub plan : Plan
-  pub searched : IsPlanOf (update_aim (ring_update n)) (ring_tables n 2) plan
+  pub searched : IsPlanOf (update_target (ring_update n)) (ring_tables n 2) plan
   pub keeps : KeepsConsistent (ring_update n) plan
   pub rounds : length plan.rounds ≡ 4 * (n - 1)
   pub classes : ring_classes n plan ≡ 6 * n

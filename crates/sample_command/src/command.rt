@@ -11,7 +11,7 @@ ghost use Rattle.certificates.specs.Valid.{IsValidPlan};
 ghost use Rattle.round_planner.specs.Ends.{IsPlanOf};
 ghost use Rattle.command_base.specs.Replies.{answer_of};
 ghost use Rattle.command_base.specs.Updates.{meaning_of};
-ghost use Rattle.round_planner.specs.Updates.{update_aim, update_count, bare_task, KeepsConsistent};
+ghost use Rattle.round_planner.specs.Updates.{update_target, update_count, bare_task, KeepsConsistent};
 ghost use Rattle.ring_sample.specs.Ring.{ring_tables, ring_update as the_ring};
 ghost use Rattle.sample_command.specs.Summaries.{ring_classes, IsSummary, SaysSummary};
 
@@ -26,7 +26,7 @@ use std::alloc::Global;
 
 /// The line on a plan of the ring and its classes.
 fn summary(alloc: Global, size: RingSize, plan: &Plan, classes: u32) -> Result<Vec<u8>, Memory>
-    requires searched { IsPlanOf (update_aim (the_ring size.switches))
+    requires searched { IsPlanOf (update_target (the_ring size.switches))
         (ring_tables size.switches 2) plan.now }
     requires keeps { KeepsConsistent (the_ring size.switches) plan.now }
     requires rounds { length plan.now.rounds ≡ 4 * (size.switches - 1) }
@@ -56,7 +56,7 @@ fn checked_reply(
     requires meaning { meaning_of files.now ≡ the_ring size.switches }
     requires old { IsUserConfig files.now.net (rules_of_all files.now.old) }
     requires new { IsUserConfig files.now.net (rules_of_all files.now.new) }
-    requires searched { IsPlanOf (update_aim (the_ring size.switches))
+    requires searched { IsPlanOf (update_target (the_ring size.switches))
         (ring_tables size.switches 2) plan.now }
     requires valid { IsValidPlan files.now.net plan.now }
     requires certified { IsCertified (task_for (meaning_of files.now) plan.now) plan.now.evidence }

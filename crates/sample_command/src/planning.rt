@@ -13,7 +13,7 @@ ghost use Rattle.plan_checker.specs.Fits.{Fits};
 ghost use Rattle.command_base.specs.Judgements.{most_classes};
 ghost use Rattle.certificates.specs.Updates.{task_for};
 ghost use Rattle.command_base.specs.Updates.{meaning_of};
-ghost use Rattle.round_planner.specs.Updates.{update_classes, update_count, update_aim, bare_task};
+ghost use Rattle.round_planner.specs.Updates.{update_classes, update_count, update_target, bare_task};
 
 use certificates::Plan;
 use command_base::UpdateFiles;
@@ -52,7 +52,7 @@ fn searched_plan(
     requires classes { classes.now ≡ update_classes (meaning_of files.now) }
     requires duties { duties.now ≡ record { demands = files.now.demands; classes = classes.now } }
     ensures searched { IfOk result
-        (IsPlanOf (update_aim (meaning_of files.now)) (rules_of_all files.now.old)) }
+        (IsPlanOf (update_target (meaning_of files.now)) (rules_of_all files.now.old)) }
     ensures valid { IfOk result (IsValidPlan files.now.net) }
     ensures certified { IfOk result
         (λ p. IsCertified (task_for (meaning_of files.now) p) p.evidence) }
@@ -74,7 +74,7 @@ pub fn tree_plan(alloc: Global, files: &UpdateFiles) -> Result<Plan, Memory>
     requires tree { IsTreeUpdate (bare_task (meaning_of files.now)) }
     requires few { update_count (meaning_of files.now) ≤ most_classes }
     ensures searched { IfOk result
-        (IsPlanOf (update_aim (meaning_of files.now)) (rules_of_all files.now.old)) }
+        (IsPlanOf (update_target (meaning_of files.now)) (rules_of_all files.now.old)) }
     ensures valid { IfOk result (IsValidPlan files.now.net) }
     ensures certified { IfOk result
         (λ p. IsCertified (task_for (meaning_of files.now) p) p.evidence) }

@@ -1,4 +1,3 @@
 mod ServeLaws
 mod AnswerLaws
 mod EndLaws
-mod PlanTables

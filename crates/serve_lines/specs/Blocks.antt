@@ -2,12 +2,11 @@
 use Rattle.std.specs.Prelude.{ℕ, List, [], ◌∷◌, ◌++◌, map, codes, decimal}
 use Rattle.hex.specs.Hex.{encode_lower}
 use Rattle.net_base.specs.Lines.{text_of}
-use Rattle.net_base.specs.declared.ids.SwitchId.{SwitchId}
 use Rattle.topology.specs.Networks.{Network}
 use Rattle.schedule_replay.specs.EventTexts.{switch_text}
 use Rattle.schedule_replay.specs.Traces.{phase_line}
+use Rattle.switch_session.specs.Causes.{cause_text}
 use Rattle.switch_session.specs.declared.Cause.{Cause}
-use Rattle.switch_session.specs.declared.Cause.TheVariants as cause
 use Rattle.two_way_driver.specs.Laws.{phase_of}
 use Rattle.two_way_driver.specs.declared.Logged.{Logged}
 use Rattle.two_way_driver.specs.declared.Logged.TheVariants as logged
@@ -15,14 +14,6 @@ use Rattle.two_way_driver.specs.declared.Said.{Said}
 use Rattle.two_way_driver.specs.declared.Said.TheVariants.{Send, Failed, Log}
 use Rattle.serve_lines.specs.declared.blocks.Outcome.{Outcome}
 use Rattle.serve_lines.specs.declared.blocks.Outcome.TheVariants.{Went, Running, Finished, NotBegun, NotOpen, BadLine}
-
--- why a session failed
-abbrev pub cause_text : Cause → List ℕ
-cause_text cause.Length = codes "Length"
-cause_text cause.Version = codes "Version"
-cause_text cause.NoHello = codes "NoHello"
-cause_text (cause.Error kind code) = codes "Error " ++ decimal kind ++ codes " " ++ decimal code
-cause_text (cause.Xid xid) = codes "Xid " ++ decimal xid
 
 -- an event, as in a schedule; a round that is taken back settles too
 abbrev pub event_text : Logged → List ℕ

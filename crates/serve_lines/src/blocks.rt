@@ -9,6 +9,7 @@ use hex::encode;
 use net_base::{Memory, SwitchId};
 use schedule_replay::{add_line, switch_text};
 use std::alloc::Global;
+use switch_session::cause_text;
 use topology::Net;
 use two_way_driver::{Cause, Logged, Said, Stage};
 
@@ -27,19 +28,6 @@ pub enum Outcome {
     NotOpen(SwitchId),
     /// The line has none of the forms of a line.
     BadLine,
-}
-
-/// Why a session failed.
-fn cause_text(alloc: Global, cause: Cause) -> Result<Vec<u8>, Memory>
-    ensures { IfOk result (λ t. t.items ≡ blocks.cause_text cause) }
-{
-    match cause {
-        Cause::Length => Ok(b"Length".to_vec(alloc)?),
-        Cause::Version => Ok(b"Version".to_vec(alloc)?),
-        Cause::NoHello => Ok(b"NoHello".to_vec(alloc)?),
-        Cause::Error(kind, code) => Ok(format!(in alloc; "Error {kind} {code}")?.into_bytes()),
-        Cause::Xid(xid) => Ok(format!(in alloc; "Xid {xid}")?.into_bytes()),
-    }
 }
 
 /// The line on a message to a switch of this name.

@@ -25,7 +25,7 @@ use Rattle.check_base.specs.Checks.{CheckMeaning, check_dialogue, task_in, Files
 use Rattle.check_base.specs.Names.{CheckNames}
 use Rattle.check_base.proofs.FileLaws.{means_check, check_means}
 use Rattle.serve_promise.proofs.Networks.{network_keeps}
-use Rattle.serve_promise.proofs.PlanTables.{tables_range}
+use Rattle.plan_rules.proofs.UserRules.{tables_plan}
 
 -- ---- one meaning
 
@@ -75,7 +75,7 @@ module _ (files : Files) (names : CheckNames) (m : CheckMeaning) (mean : FilesMe
     few = valid.few_rounds;
     plan = valid.rounds;
     count = inverse_count m.update.old m.plan.rounds;
-    back_plan = rounds_range m.update.net m.plan.rounds m.update.old valid.rounds (tables_range m.update.net net_keeps m.update.old old_user);
+    back_plan = rounds_range m.update.net m.plan.rounds m.update.old valid.rounds (tables_plan m.update.net net_keeps m.update.old old_user);
     same = λ k s. same_changed m.update.old m.plan.rounds k s;
   }
 

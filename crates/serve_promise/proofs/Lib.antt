@@ -1,5 +1,4 @@
 mod Networks
-mod PlanTables
 mod FileLaws
 mod BlockLaws
 mod DriveLaws

@@ -34,7 +34,7 @@ failed_stays [] ch e = refl
 failed_stays (b ∷ bytes) ch e = ap (after_bytes bytes) (failed_byte b ch e) ∙ failed_stays bytes ch e
 
 -- a channel with other unread bytes
-abbrev with_unread : ChannelState → List ℕ → ChannelState
+abbrev pub with_unread : ChannelState → List ℕ → ChannelState
 with_unread ch unread = record ch { unread = unread }
 
 pub reading_byte : (b : ℕ) (ch : ChannelState) → is_failed ch.session ≡ false → after_byte b ch ≡ acted (front_of (ch.unread ++ b ∷ [])) (record ch { unread = ch.unread ++ b ∷ [] })
@@ -93,16 +93,16 @@ takes_front (b ∷ p) ch h =
 
 -- it is whole, and the rest is behind it
 module _ (bytes : List ℕ) (n : ℕ) (at : front_of bytes ≡ Message n) where
-  abbrev message : List ℕ
+  abbrev pub message : List ℕ
   message = take n bytes
 
-  here : HasMessage bytes n
+  pub here : HasMessage bytes n
   here = has_message bytes n at
 
-  long : 8 ≤ n
+  pub long : 8 ≤ n
   long = let said = here.said in let least = at_least_header (type_in bytes) (length_in bytes) here.right in omega arith
 
-  size : length message ≡ n
+  pub size : length message ≡ n
   size = length-take-le n bytes here.whole
 
   same_number : (o k : ℕ) → o + k ≤ 8 → number_at o k message ≡ number_at o k bytes
@@ -111,13 +111,13 @@ module _ (bytes : List ℕ) (n : ℕ) (at : front_of bytes ≡ Message n) where
       let least = long in
       sym (number_at-front o k message (drop n bytes) (omega arith)) ∙ ap (number_at o k) (take-append-drop n bytes)
 
-  message_whole : IsWhole message
+  pub message_whole : IsWhole message
   message_whole = record {
     header = (let inside = size in let least = long in omega arith);
     size = same_number 2 2 (omega arith) ∙ here.said ∙ sym size;
   }
 
-  message_echo : type_in message ≡ 2 → IsEchoRequest message
+  pub message_echo : type_in message ≡ 2 → IsEchoRequest message
   message_echo is = record {
     whole = message_whole;
     version = same_number 0 1 (omega arith) ∙ right_version (version_in bytes) (type_in bytes) here.version (sym (same_number 1 1 (omega arith)) ∙ is);

@@ -1,7 +1,7 @@
 -- The echo requests in all bytes that came on a channel, as more bytes come.
 use Rattle.std.proofs.Common.{◌≡◌, ℕ, true, false, cond, eqb, List, [], ◌∷◌, ◌++◌, drop, take, refl, sym, ap, ◌∙◌, subst, inl, inr, append_assoc, append-nil}
 use Rattle.std.specs.Prelude.{filter, flat_map, None}
-use Rattle.std.specs.List.{AllByRecursion, concat}
+use Rattle.std.specs.List.{concat}
 use Rattle.std.proofs.lemmas.Bool.{cases_Bool, cond_both}
 use Rattle.std.proofs.lemmas.List.{drop_at}
 use Rattle.std.proofs.lemmas.List.Elements.{filter-append}
@@ -10,7 +10,7 @@ use Rattle.net_base.proofs.MemberLaws.{each_append}
 use Rattle.openflow10.specs.Layout.{number_at}
 use Rattle.switch_session.specs.Fronts.{front_of, type_in, xid_in}
 use Rattle.switch_session.specs.Channels.{ChannelState, is_failed, failed, echo_reply, is_outstanding, answered, taken_open, taken_by, taken, acted, after_byte, after_bytes}
-use Rattle.switch_session.specs.Laws.{IsWhole, IsEchoRequest, is_echo, AreRequests, ReadsAll, OnlyReplies}
+use Rattle.switch_session.specs.Laws.{IsWhole, IsEchoRequest, is_echo, AreRequests, ReadsAll}
 use Rattle.switch_session.specs.declared.Cause.{Cause}
 use Rattle.switch_session.specs.declared.Cause.TheVariants as cause
 use Rattle.switch_session.specs.declared.Session.{Session}
@@ -38,8 +38,9 @@ requests_as came a b rs session unread h = record {
   each = h.each;
 }
 
-requests_failed : (came bytes : List ℕ) (a : ChannelState) (rs : List (List ℕ)) → is_failed a.session ≡ true → AreRequests came a rs → AreRequests (came ++ bytes) a rs
-requests_failed came bytes a rs failed h = record {
+-- what a failed session did stays all that it did
+pub requests_failed : (came bytes : List ℕ) (a b : ChannelState) (rs : List (List ℕ)) → is_failed b.session ≡ true → AreRequests came a rs → AreRequests (came ++ bytes) b rs
+requests_failed came bytes a b rs failed h = record {
   messages = h.messages;
   rest = h.rest ++ bytes;
   cut = record {
@@ -51,7 +52,8 @@ requests_failed came bytes a rs failed h = record {
   each = h.each;
 }
 
-requests_both : (came bytes : List ℕ) (a b : ChannelState) (rs more : List (List ℕ)) → is_failed a.session ≡ false → AreRequests came a rs → AreRequests (a.unread ++ bytes) b more → AreRequests (came ++ bytes) b (rs ++ more)
+-- what was asked for first, and what then
+pub requests_both : (came bytes : List ℕ) (a b : ChannelState) (rs more : List (List ℕ)) → is_failed a.session ≡ false → AreRequests came a rs → AreRequests (a.unread ++ bytes) b more → AreRequests (came ++ bytes) b (rs ++ more)
 requests_both came bytes a b rs more going h k = record {
   messages = h.messages ++ k.messages;
   rest = k.rest;
@@ -84,7 +86,7 @@ requests_fed came bytes a rs h =
             more = [];
             requests =
                 subst (λ (b : ChannelState). AreRequests (came ++ bytes) b (rs ++ [])) (sym same)
-                (subst (AreRequests (came ++ bytes) a) (sym (append-nil rs)) (requests_failed came bytes a rs failed h));
+                (subst (AreRequests (came ++ bytes) a) (sym (append-nil rs)) (requests_failed came bytes a a rs failed h));
             sent = ap (λ (b : ChannelState). b.sent) same ∙ sym (append-nil a.sent);
           })
       | inr going ↦ (

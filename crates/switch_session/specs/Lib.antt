@@ -2,3 +2,4 @@ pub mod Fronts
 pub mod Channels
 pub mod Seen
 pub mod Laws
+pub mod Causes

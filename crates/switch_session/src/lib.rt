@@ -2,10 +2,12 @@
 //! and bytes are sent.
 #![tactic(auto)]
 
+mod causes;
 mod channels;
 mod fronts;
 pub mod laws;
 
+pub use causes::cause_text;
 pub use channels::Channel;
 
 /// Why a session failed.

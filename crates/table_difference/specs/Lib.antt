@@ -2,3 +2,4 @@ pub mod KeyOrder
 pub mod Steps
 pub mod SameClasses
 pub mod Tried
+pub mod Targets

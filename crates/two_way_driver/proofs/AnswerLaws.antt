@@ -2,19 +2,19 @@
 use Rattle.std.proofs.Common.{◌≡◌, ℕ, ◌+◌, ◌≤◌, Bool, true, false, cond, eqb, ltb, not, ◌&&◌, List, [], ◌∷◌, ◌++◌, length, map, take, drop, refl, sym, ap, ◌∙◌, subst, append-nil, length-append, length-set, arith}
 use Rattle.std.specs.Prelude.{Option, Some, None, is_some, is_none}
 use Rattle.std.proofs.lemmas.Bool.{cond-true, cond-false, cond_both, eqb-true, eqb-false, eq-eqb, ne_eqb, lt-ltb, le-ltb}
-use Rattle.std.proofs.lemmas.List.{drop_at, take-append-drop, length-take-le}
+use Rattle.std.proofs.lemmas.List.{drop_at, take-append-drop}
 use Rattle.openflow10.specs.Layout.{number_at}
-use Rattle.switch_session.specs.Fronts.{front_of, version_in, type_in, length_in, xid_in}
+use Rattle.switch_session.specs.Fronts.{front_of, type_in, xid_in}
 use Rattle.switch_session.specs.Channels.{ChannelState, is_failed, is_open, failed, echo_reply, is_outstanding, answered, taken_open, taken_by, taken, acted, after_byte}
-use Rattle.switch_session.specs.Laws.{IsWhole, IsEchoRequest, is_echo, AreCut, AreRequests}
+use Rattle.switch_session.specs.Laws.{is_echo, AreCut, AreRequests}
 use Rattle.switch_session.specs.declared.Cause.{Cause}
 use Rattle.switch_session.specs.declared.Cause.TheVariants as cause
 use Rattle.switch_session.specs.declared.Session.{Session}
 use Rattle.switch_session.specs.declared.Session.TheVariants.{Waiting, Open, Failed}
 use Rattle.switch_session.specs.declared.fronts.Front.{Front}
 use Rattle.switch_session.specs.declared.fronts.Front.TheVariants.{Short, Fault, Message}
-use Rattle.switch_session.proofs.FrontLaws.{HasMessage, has_message, number_at-front, message_ends, at_least_header, right_version}
-use Rattle.switch_session.proofs.ByteLaws.{reading_byte, failed_stays}
+use Rattle.switch_session.proofs.FrontLaws.{message_ends}
+use Rattle.switch_session.proofs.ByteLaws.{reading_byte, failed_stays, with_unread, long, size, message_whole, message_echo}
 use Rattle.two_way_driver.specs.Peers.{failure_in, heard_of, heard_by}
 use Rattle.two_way_driver.specs.declared.peers.Heard.{Heard}
 use Rattle.two_way_driver.specs.declared.peers.Heard.TheVariants.{Nothing, Opened, Answered, Replied, Broke}
@@ -74,49 +74,14 @@ module _ (ch after : ChannelState) (closed : (is_open after.session && not (is_o
       (λ _. ap (λ (l : List ℕ). l ∷ []) (sym (ap (drop (length ch.sent)) sent ∙ drop_at ch.sent text (length ch.sent) refl)))
       (λ f. false_true _ f (lt-ltb (length ch.sent) (length after.sent) (omega arith)))))
 
--- a message at the front is whole
+-- the answer to a message at the front has bytes
 module _ (bytes : List ℕ) (n : ℕ) (at : front_of bytes ≡ Message n) where
-  abbrev message : List ℕ
-  message = take n bytes
-
-  here : HasMessage bytes n
-  here = has_message bytes n at
-
-  long : 8 ≤ n
-  long = let said = here.said in let least = at_least_header (type_in bytes) (length_in bytes) here.right in omega arith
-
-  size : length message ≡ n
-  size = length-take-le n bytes here.whole
-
-  same_number : (o k : ℕ) → o + k ≤ 8 → number_at o k message ≡ number_at o k bytes
-  same_number o k le =
-      let inside = size in
-      let least = long in
-      sym (number_at-front o k message (drop n bytes) (omega arith)) ∙ ap (number_at o k) (take-append-drop n bytes)
-
-  message_whole : IsWhole message
-  message_whole = record {
-    header = (let inside = size in let least = long in omega arith);
-    size = same_number 2 2 (omega arith) ∙ here.said ∙ sym size;
-  }
-
-  message_echo : type_in message ≡ 2 → IsEchoRequest message
-  message_echo is = record {
-    whole = message_whole;
-    version = same_number 0 1 (omega arith) ∙ right_version (version_in bytes) (type_in bytes) here.version (sym (same_number 1 1 (omega arith)) ∙ is);
-    echo = is;
-  }
-
-  reply_long : 1 ≤ length (echo_reply message)
-  reply_long = let inside = size in let least = long in let same = length-set message 1 3 in omega arith
+  reply_long : 1 ≤ length (echo_reply (take n bytes))
+  reply_long = let inside = size bytes n at in let least = long bytes n at in let same = length-set (take n bytes) 1 3 in omega arith
 
 -- none of the messages that came is a request
 pub no_requests : (came : List ℕ) (after : ChannelState) → (is_failed after.session ≡ false → came ≡ after.unread) → AreRequests came after []
 no_requests came after left = record { messages = []; rest = came; cut = record { whole = tt; bytes_are = refl }; left = left; requests_are = refl; each = tt }
-
--- a channel with other unread bytes
-abbrev with_unread : ChannelState → List ℕ → ChannelState
-with_unread ch unread = record ch { unread = unread }
 
 -- what a byte makes a driver hear of a channel that was opened
 pub record HeardOpen (ch : ChannelState) (come : List ℕ) (after : ChannelState) : Type 0 where

@@ -11,7 +11,7 @@ use Rattle.switch_session.specs.declared.Session.TheVariants.{Waiting, Open, Fai
 use Rattle.switch_session.specs.declared.fronts.Front.{Front}
 use Rattle.switch_session.specs.declared.fronts.Front.TheVariants.{Short, Fault, Message}
 use Rattle.switch_session.proofs.FrontLaws.{message_ends}
-use Rattle.switch_session.proofs.ByteLaws.{reading_byte}
+use Rattle.switch_session.proofs.ByteLaws.{reading_byte, with_unread}
 use Rattle.two_way_driver.specs.Peers.{opened_anew, kept_of}
 use Rattle.two_way_driver.specs.Laws.{IsQuiet, KeepsAllButSent}
 
@@ -39,10 +39,6 @@ module _ (m : List ℕ) (before base : ChannelState) (same : base.sent ≡ befor
   by_message : Says (taken m base)
   unfolding taken
   by_message = by_session base.session refl
-
--- a channel with other unread bytes
-abbrev with_unread : ChannelState → List ℕ → ChannelState
-with_unread ch unread = record ch { unread = unread }
 
 module _ (b : ℕ) (ch : ChannelState) (quiet : IsQuiet ch) where
   grown : List ℕ

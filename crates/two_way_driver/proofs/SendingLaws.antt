@@ -1,27 +1,25 @@
 -- What is sent to a switch: by each call, and in all.
 use Rattle.std.proofs.Common.{◌≡◌, ◌≢◌, ℕ, zero, suc, ◌+◌, ◌<◌, ◌≤◌, Bool, true, false, cond, eqb, ltb, ◌&&◌, List, [], ◌∷◌, ◌++◌, length, map, take, drop, replicate, set, get_or, get_or-set_same, refl, sym, ap, ◌∙◌, subst, inl, inr, append_assoc, append-nil, length-set, arith}
 use Rattle.std.specs.Prelude.{Option, Some, None, is_some, is_none, filter, flat_map}
-use Rattle.std.specs.List.{AllByRecursion, concat, cons_option}
+use Rattle.std.specs.List.{AllByRecursion, cons_option}
 use Rattle.std.specs.Option.{option_map_or}
 use Rattle.std.proofs.lemmas.Bool.{cases_Bool, cases_eq, cond_both, eqb-true, eq-eqb, ne_eqb, le-ltb}
 use Rattle.std.proofs.lemmas.List.{length-replicate, map-append, drop_at, take_at}
-use Rattle.std.proofs.lemmas.List.Elements.{filter-append, filter_map-append}
-use Rattle.std.proofs.lemmas.List.Folds.{concat-append}
+use Rattle.std.proofs.lemmas.List.Elements.{filter_map-append}
 use Rattle.net_base.specs.declared.ids.SwitchId.{SwitchId}
-use Rattle.net_base.proofs.MemberLaws.{each_append}
 use Rattle.topology.specs.Networks.{Network, switch_count}
 use Rattle.update_model.specs.Changes.{switch_of, round_after}
 use Rattle.update_model.specs.declared.Change.{Change}
 use Rattle.round_messages.specs.Requests.{is_changed, switch_numbered}
 use Rattle.switch_session.specs.Fronts.{front_of, type_in}
 use Rattle.switch_session.specs.Channels.{ChannelState, hello, is_open, is_failed, echo_reply, after_byte, asked}
-use Rattle.switch_session.specs.Laws.{IsWhole, IsEchoRequest, is_echo, AreRequests, ReadsAll}
+use Rattle.switch_session.specs.Laws.{AreRequests, ReadsAll}
 use Rattle.switch_session.specs.declared.Session.{Session}
 use Rattle.switch_session.specs.declared.Session.TheVariants.{Waiting, Open, Failed}
 use Rattle.switch_session.specs.declared.fronts.Front.{Front}
 use Rattle.switch_session.specs.declared.fronts.Front.TheVariants.{Short, Fault, Message}
 use Rattle.switch_session.proofs.FrontLaws.{fault_grows, message_grows}
-use Rattle.switch_session.proofs.RequestLaws.{requests_as, reads_bytes}
+use Rattle.switch_session.proofs.RequestLaws.{requests_as, requests_failed, requests_both, reads_bytes}
 use Rattle.switch_session.proofs.TalkLaws.{front_nil}
 use Rattle.turned_rounds.specs.Batches.{xid_behind, batch_of}
 use Rattle.turned_rounds.specs.declared.outgoing.Outgoing.{Outgoing}
@@ -397,39 +395,6 @@ module _ (net : Network) (rounds inverses : List (List Change)) (s : SwitchId) w
     texts : texts_to s (fed net rounds inverses s bytes d).said ≡ texts_to s d.said ++ map echo_reply more
     are : AreRequests came (channel_of (fed net rounds inverses s bytes d)) more
 
-  -- what a failed session did stays all that it did
-  dead_requests : (came bytes : List ℕ) (a b : ChannelState) (rs : List (List ℕ)) → is_failed b.session ≡ true → AreRequests came a rs → AreRequests (came ++ bytes) b rs
-  dead_requests came bytes a b rs failed h = record {
-    messages = h.messages;
-    rest = h.rest ++ bytes;
-    cut = record {
-      whole = h.cut.whole;
-      bytes_are = ap (λ (l : List ℕ). l ++ bytes) h.cut.bytes_are ∙ append_assoc (concat h.messages) h.rest bytes;
-    };
-    left = λ going. absurd (let f : true ≡ false = sym failed ∙ going in cc);
-    requests_are = h.requests_are;
-    each = h.each;
-  }
-
-  -- what was asked for first, and what then
-  requests_both : (came bytes : List ℕ) (a b : ChannelState) (rs more : List (List ℕ)) → is_failed a.session ≡ false → AreRequests came a rs → AreRequests (a.unread ++ bytes) b more → AreRequests (came ++ bytes) b (rs ++ more)
-  requests_both came bytes a b rs more going h k = record {
-    messages = h.messages ++ k.messages;
-    rest = k.rest;
-    cut = record {
-      whole = each_append IsWhole h.messages k.messages h.cut.whole k.cut.whole;
-      bytes_are =
-          ap (λ (l : List ℕ). l ++ bytes) (h.cut.bytes_are ∙ ap (λ (l : List ℕ). concat h.messages ++ l) (h.left going))
-          ∙ append_assoc (concat h.messages) a.unread bytes ∙ ap (λ (l : List ℕ). concat h.messages ++ l) k.cut.bytes_are
-          ∙ sym (append_assoc (concat h.messages) (concat k.messages) k.rest) ∙ ap (λ (l : List ℕ). l ++ k.rest) (sym (concat-append h.messages k.messages));
-    };
-    left = k.left;
-    requests_are =
-        ap (λ (l : List (List ℕ)). l ++ more) h.requests_are ∙ ap (λ (l : List (List ℕ)). filter is_echo h.messages ++ l) k.requests_are
-        ∙ sym (filter-append is_echo h.messages k.messages);
-    each = each_append IsEchoRequest rs more h.each k.each;
-  }
-
   fed_open : (bytes : List ℕ) (d : DriverState) → s.0 < length d.peers → (channel_of d).session ≡ Open → ReadsAll (channel_of d) → Served ((channel_of d).unread ++ bytes) bytes d
   fed_open [] d less is reads = record {
     more = [];
@@ -464,7 +429,7 @@ module _ (net : Network) (rounds inverses : List (List Change)) (s : SwitchId) w
               more = first.requests;
               texts = rest.texts ∙ texts;
               are = subst (λ (l : List ℕ). AreRequests l (channel_of (fed net rounds inverses s bytes e)) first.requests) row
-                  (dead_requests come bytes (channel_of e) (channel_of (fed net rounds inverses s bytes e)) first.requests rest.failed are);
+                  (requests_failed come bytes (channel_of e) (channel_of (fed net rounds inverses s bytes e)) first.requests rest.failed are);
             })
       ] refl (subst IsPastHello (sym seen.session) first.session)
 

@@ -1,8 +1,6 @@
 -- The steps of loops: what is still to be said, and who is still to be asked.
-use Rattle.std.proofs.Common.{◌≡◌, ℕ, zero, suc, ◌+◌, ◌-◌, ◌<◌, Bool, true, false, eqb, ◌&&◌, List, [], ◌∷◌, ◌++◌, length, map, take, drop, set, get_or, refl, sym, ap, ◌∙◌, inl, inr, append_assoc, add-one, drop-cons, arith}
-use Rattle.std.specs.Prelude.{filter, find, Option, Some, None, Result, Ok, Err, OnOk}
-use Rattle.std.specs.List.{range_with_len}
-use Rattle.std.proofs.lemmas.Bool.{cases_Bool}
+use Rattle.std.proofs.Common.{◌≡◌, ℕ, zero, suc, ◌+◌, ◌-◌, ◌<◌, Bool, true, false, eqb, ◌&&◌, List, [], ◌∷◌, ◌++◌, length, take, drop, set, get_or, refl, sym, ap, ◌∙◌, append_assoc, add-one, drop-cons, arith}
+use Rattle.std.specs.Prelude.{None, Result, Ok, Err, OnOk}
 use Rattle.net_base.specs.declared.ids.SwitchId.{SwitchId}
 use Rattle.update_model.specs.Changes.{switch_of}
 use Rattle.update_model.specs.declared.Change.{Change}
@@ -96,21 +94,3 @@ asked_step round peers all n x p less at changed changed_is y y_is z z_is so_far
     ∙ ap (λ l. (take n peers ++ y ∷ []) ++ asked_from z round (suc n) l) (back_set peers n y) ∙ append_assoc (take n peers) (y ∷ []) (asked_from z round (suc n) left)
     ∙ ap (λ q. take n peers ++ q ∷ asked_from z round (suc n) left) one ∙ ap (λ k. take n peers ++ asks_if here x p ∷ asked_from k round (suc n) left) next
     ∙ ap (λ l. take n peers ++ l) (sym whole) ∙ so_far
-
--- ---- the first switch that isn't open
-
-module _ (p q : SwitchId → Bool) where
-  abbrev pub found_from : ℕ → ℕ → Option SwitchId
-  found_from n m = find p (filter q (map switch_numbered (range_with_len n m)))
-
-  pub found_first : (n m : ℕ) → q (switch_numbered n) ≡ true → p (switch_numbered n) ≡ true → found_from n (suc m) ≡ Some (switch_numbered n)
-  found_first n m on unopened = rw (on, unopened) refl
-
-  pub not_first : (n m : ℕ) → (q (switch_numbered n) && p (switch_numbered n)) ≡ false → found_from n (suc m) ≡ found_from (n + 1) m
-  not_first n m e =
-      elim (cases_Bool (q (switch_numbered n))) [
-        | inl on ↦ (
-            let closed : p (switch_numbered n) ≡ false = sym (ap (λ b. b && p (switch_numbered n)) on) ∙ e in
-            rw (on, closed) refl)
-        | inr off ↦ rw off refl
-      ]

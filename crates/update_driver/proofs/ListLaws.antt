@@ -1,37 +1,12 @@
 -- Places of lists, and tests of all elements.
-use Rattle.std.proofs.Common.{◌≡◌, ◌≢◌, ℕ, zero, suc, ◌+◌, ◌<◌, ◌≤◌, Bool, true, false, ◌&&◌, List, [], ◌∷◌, length, drop, replicate, set, get_or, refl, sym, ap, ◌∙◌, arith}
-use Rattle.std.specs.Prelude.{slice_get, Option, Some, None}
+use Rattle.std.proofs.Common.{◌≡◌, ℕ, zero, suc, ◌<◌, Bool, true, false, ◌&&◌, List, [], ◌∷◌, length, replicate, set, get_or, refl, ap, arith}
+use Rattle.std.specs.Prelude.{slice_get, Some}
 use Rattle.std.specs.List.{AllByRecursion, list_all}
-
-pub get_set_same : {A : Type 0} (xs : List A) (i : ℕ) (x y : A) → slice_get xs i ≡ Some x → slice_get (set xs i y) i ≡ Some y
-get_set_same [] i x y e = absurd (let f : None ≡ Some x = e in cc)
-get_set_same (a ∷ xs) zero x y e = refl
-get_set_same (a ∷ xs) (suc i) x y e = get_set_same xs i x y e
-
-pub get_set_other : {A : Type 0} (xs : List A) (i j : ℕ) (y : A) → j ≢ i → slice_get (set xs i y) j ≡ slice_get xs j
-get_set_other [] i j y ne = refl
-get_set_other (a ∷ xs) zero zero y ne = absurd (ne refl)
-get_set_other (a ∷ xs) zero (suc j) y ne = refl
-get_set_other (a ∷ xs) (suc i) zero y ne = refl
-get_set_other (a ∷ xs) (suc i) (suc j) y ne = get_set_other xs i j y (λ e. ne (ap suc e))
 
 pub get_replicate : {A : Type 0} (n i : ℕ) (a : A) → i < n → slice_get (replicate n a) i ≡ Some a
 get_replicate zero i a lt = absurd (omega arith)
 get_replicate (suc n) zero a lt = refl
 get_replicate (suc n) (suc i) a lt = get_replicate n i a (omega arith)
-
--- what stands at the front of the rest of a list
-pub drop_head : {A : Type 0} (xs ys : List A) (i : ℕ) (y : A) → drop i xs ≡ y ∷ ys → (slice_get xs i ≡ Some y) × (drop (suc i) xs ≡ ys)
-drop_head [] ys zero y e = absurd (let f : [] ≡ y ∷ ys = e in cc)
-drop_head [] ys (suc i) y e = absurd (let f : [] ≡ y ∷ ys = e in cc)
-drop_head (x ∷ xs) ys zero y e = ((let f : x ∷ xs ≡ y ∷ ys = e in let g : x ≡ y = cc in ap Some g), (let f : x ∷ xs ≡ y ∷ ys = e in cc))
-drop_head (x ∷ xs) ys (suc i) y e = drop_head xs ys i y e
-
-pub drop_none : {A : Type 0} (xs : List A) (i n : ℕ) (x : A) → drop i xs ≡ [] → i ≤ n → slice_get xs n ≡ Some x → ⊥
-drop_none [] i n x e le at = let f : None ≡ Some x = at in cc
-drop_none (y ∷ xs) zero n x e le at = let f : y ∷ xs ≡ [] = e in cc
-drop_none (y ∷ xs) (suc i) zero x e le at = omega arith
-drop_none (y ∷ xs) (suc i) (suc n) x e le at = drop_none xs i n x e (omega arith) at
 
 and_parts_of : (a b : Bool) → (a && b) ≡ true → (a ≡ true) × (b ≡ true)
 and_parts_of true b e = (refl, e)

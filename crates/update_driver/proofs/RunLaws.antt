@@ -1,12 +1,11 @@
 -- The log of a driver is a run.
-use Rattle.std.proofs.Common.{◌≡◌, ◌≢◌, ℕ, zero, suc, ◌+◌, ◌<◌, ◌≤◌, Bool, true, false, cond, not, eqb, ◌&&◌, List, [], ◌∷◌, ◌++◌, length, map, drop, replicate, set, get_or, get_or-set_same, get_or-set_other, refl, sym, ap, ◌∙◌, subst, ◌⊎◌, inl, inr, append_assoc, length-set, arith}
+use Rattle.std.proofs.Common.{◌≡◌, ◌≢◌, ℕ, zero, suc, ◌+◌, ◌<◌, ◌≤◌, Bool, true, false, cond, not, eqb, List, [], ◌∷◌, ◌++◌, length, drop, replicate, set, get_or, get_or-set_same, get_or-set_other, refl, sym, ap, ◌∙◌, subst, ◌⊎◌, inl, inr, length-set, arith}
 use Rattle.std.specs.Prelude.{slice_get, Option, Some, None, is_some, is_none}
-use Rattle.std.specs.List.{AllByRecursion, list_all}
+use Rattle.std.specs.List.{AllByRecursion}
 use Rattle.std.proofs.lemmas.Bool.{cases_Bool, cases_eq, cond-true, cond-false, cond_both, eqb-true, eq-eqb}
 use Rattle.std.proofs.lemmas.List.{length-replicate}
-use Rattle.std.proofs.lemmas.Option.{slice_get_within, slice_get-get_or}
+use Rattle.std.proofs.lemmas.Option.{slice_get_within}
 use Rattle.net_base.specs.declared.ids.SwitchId.{SwitchId}
-use Rattle.net_base.proofs.MemberLaws.{each_append}
 use Rattle.topology.specs.Networks.{Network, switch_count}
 use Rattle.flow_rules.specs.declared.rules.Rule.{Rule}
 use Rattle.update_model.specs.Changes.{switch_of, round_after}
@@ -25,13 +24,14 @@ use Rattle.schedule_pilot.proofs.PendingLaws.{pending_applies, same_count}
 use Rattle.switch_session.specs.Channels.{ChannelState, first_channel, after_bytes}
 use Rattle.switch_session.specs.Laws.{KeepsBarrier}
 use Rattle.switch_session.proofs.ByteLaws.{keeps_barrier}
-use Rattle.update_driver.specs.Drivers.{DriverState, first_driver, channel_at, with_channel, none_outstanding, settled_if_answered, change_events, made, is_answered, heard, fed, told_all, started_driver, start_fault, started}
+use Rattle.update_driver.specs.Drivers.{DriverState, first_driver, channel_at, with_channel, none_outstanding, settled_if_answered, change_events, made, is_answered, heard, told_all, started_driver, start_fault, started}
 use Rattle.update_driver.specs.Calls.{Call, Start, Feed, IsCall, after_call, after_calls, driver_after}
-use Rattle.update_driver.specs.Laws.{update_from, IsOfUpdate, LogIsRun}
+use Rattle.update_driver.specs.Laws.{update_from}
 use Rattle.update_driver.specs.Inside.{IsPhaseWithin}
-use Rattle.update_driver.proofs.ListLaws.{get_set_same, get_set_other, get_replicate, drop_head, drop_none, all_at}
+use Rattle.update_driver.proofs.ListLaws.{get_replicate, all_at}
+use Rattle.round_messages.proofs.Places.{get_set_same, get_set_other, drop_head, drop_none}
 use Rattle.update_driver.proofs.PieceLaws.{parts}
-use Rattle.update_driver.proofs.SoundLaws.{no_barrier, answered_or_not, IsSound, MayBegin, sound_first, sound_with, sound_begun, sound_call, may_begin, begun, none_is}
+use Rattle.update_driver.proofs.SoundLaws.{no_barrier, answered_or_not, IsSound, MayBegin, sound_first, sound_call, may_begin, begun, none_is}
 
 -- whether the switch of a change still has to answer
 abbrev pub is_waited_for : List ChannelState → Change → Bool

@@ -1,25 +1,22 @@
 -- The steps of a start.
-use Rattle.std.proofs.Common.{◌≡◌, ◌≢◌, ℕ, zero, suc, ◌+◌, ◌-◌, ◌<◌, ◌≤◌, Bool, true, false, cond, eqb, not, ◌&&◌, List, [], ◌∷◌, ◌++◌, length, map, take, replicate, set, get_or, get_or-set_same, get_or-set_other, refl, sym, ap, ◌∙◌, subst, inl, inr, length-set, arith}
-use Rattle.std.specs.Prelude.{◌||◌, IsTrue, flat_map, filter, find, Option, Some, None, is_some, is_none}
-use Rattle.std.specs.List.{list_all, list_any, range_with_len}
+use Rattle.std.proofs.Common.{◌≡◌, ℕ, zero, suc, ◌+◌, ◌-◌, ◌<◌, ◌≤◌, Bool, true, false, cond, eqb, not, ◌&&◌, List, [], ◌∷◌, ◌++◌, length, map, take, set, get_or, get_or-set_same, get_or-set_other, refl, sym, ap, ◌∙◌, subst, inl, inr, length-set, arith}
+use Rattle.std.specs.Prelude.{flat_map, filter, find, Option, Some, is_some, is_none}
+use Rattle.std.specs.List.{list_all, range_with_len}
 use Rattle.std.specs.Option.{option_map, option_map_or}
-use Rattle.std.proofs.lemmas.Bool.{cases_Bool, cases_eq, cond-true, cond-false, eq-eqb, ne_eqb, or_left, or_right}
-use Rattle.std.proofs.lemmas.List.Folds.{list_any-append}
-use Rattle.std.proofs.Math.Bool.{or-false}
-use Rattle.std.proofs.lemmas.List.{map-append, map-set, replicate_more, length-map, get_or_default, take_all}
+use Rattle.std.proofs.lemmas.Bool.{cases_eq, cond-true, cond-false, ne_eqb}
+use Rattle.std.proofs.lemmas.List.{map-set, length-map, get_or_default}
 use Rattle.net_base.specs.declared.ids.SwitchId.{SwitchId}
 use Rattle.net_base.specs.Switches.{has}
-use Rattle.net_base.proofs.NameLaws.{same_switch}
 use Rattle.topology.specs.Networks.{Network, switch_count}
-use Rattle.update_model.specs.Changes.{round_after, switch_of}
+use Rattle.update_model.specs.Changes.{round_after}
 use Rattle.update_model.specs.declared.Change.{Change}
 use Rattle.update_model.specs.declared.Event.{Event}
 use Rattle.update_model.specs.declared.Phase.{Phase}
 use Rattle.update_model.specs.declared.Phase.TheVariants.{Settled}
 use Rattle.openflow10.specs.Messages.{wire_text}
 use Rattle.openflow10.specs.declared.Message.{Message}
-use Rattle.round_messages.proofs.Marking.{same_passed}
-use Rattle.round_messages.specs.Requests.{is_changed, switches_changed, switch_numbered, first_xid, round_requests, sent_from, sent_in}
+use Rattle.round_messages.proofs.Marking.{HasChanged, same_passed, found_from}
+use Rattle.round_messages.specs.Requests.{is_changed, switches_changed, switch_numbered, first_xid, round_requests, sent_from}
 use Rattle.round_messages.specs.ToSwitch.{messages_to}
 use Rattle.round_messages.proofs.BySwitch.{round_alone}
 use Rattle.switch_session.specs.Channels.{ChannelState, first_channel, is_open, asked, after_bytes}
@@ -52,52 +49,6 @@ states_kept (x ∷ vs) (suc i) v d e = ap (λ l. x.state ∷ l) (states_kept vs 
 
 pub length-states : (vs : List ChannelView) → length (states_of vs) ≡ length vs
 length-states vs = length-map vs (λ (x : ChannelView). x.state)
-
--- ---- which switches have a change
-
--- the set of the switches that have a change among these
-abbrev pub HasChanged : ℕ → List Change → Type 0
-HasChanged set changes = (s : SwitchId) → has set s ≡ is_changed changes s
-
--- and one change more
-pub changed_more : (old new : ℕ) (changes : List Change) (c : Change) → IsTrue (has new (switch_of c)) → ((s : SwitchId) → s.0 ≢ (switch_of c).0 → has new s ≡ has old s)
-    → HasChanged old changes → HasChanged new (changes ++ c ∷ [])
-changed_more old new changes c there others is s =
-    let at : Change → Bool = λ x. eqb (switch_of x).0 s.0 in
-    let more = list_any-append at changes (c ∷ []) in
-    elim (cases_eq s.0 (switch_of c).0) [
-      | inl e ↦ (
-          let same = same_switch s (switch_of c) e in
-          let here : at c ≡ true = eq-eqb (switch_of c).0 s.0 (sym e) in
-          subst (λ (t : SwitchId). has new t ≡ true) (sym same) there ∙ sym (more ∙ or_right (list_any at changes) (list_any at (c ∷ [])) (or_left (at c) false here)))
-      | inr ne ↦ (
-          let off : at c ≡ false = ne_eqb (switch_of c).0 s.0 (λ e. ne (sym e)) in
-          others s ne ∙ is s ∙ sym (more ∙ ap (λ b. list_any at changes || (b || false)) off ∙ or-false (list_any at changes)))
-    ]
-
--- ---- the first switch that isn't open
-
-module _ (p q : SwitchId → Bool) where
-  abbrev pub found_from : ℕ → ℕ → Option SwitchId
-  found_from n m = find p (filter q (map switch_numbered (range_with_len n m)))
-
-  pub found_first : (n m : ℕ) → (q (switch_numbered n) && p (switch_numbered n)) ≡ true → found_from n (suc m) ≡ Some (switch_numbered n)
-  found_first n m e =
-      elim (cases_Bool (q (switch_numbered n))) [
-        | inl on ↦ (
-            let unopened : p (switch_numbered n) ≡ true = sym (ap (λ b. b && p (switch_numbered n)) on) ∙ e in
-            rw (on, unopened) refl)
-        | inr off ↦ absurd (let f : false ≡ true = sym (ap (λ b. b && p (switch_numbered n)) off) ∙ e in cc)
-      ]
-
-  pub not_first : (n m : ℕ) → (q (switch_numbered n) && p (switch_numbered n)) ≡ false → found_from n (suc m) ≡ found_from (n + 1) m
-  not_first n m e =
-      elim (cases_Bool (q (switch_numbered n))) [
-        | inl on ↦ (
-            let closed : p (switch_numbered n) ≡ false = sym (ap (λ b. b && p (switch_numbered n)) on) ∙ e in
-            rw (on, closed) refl)
-        | inr off ↦ rw off refl
-      ]
 
 -- ---- turns are sent
 

@@ -2,13 +2,11 @@
 ghost use Rattle.std.specs.Prelude.{◌≡◌, ℕ, ◌<◌, ◌≤◌, ◌+◌, ◌^◌, ◌++◌, ◌&&◌, length, map, filter, find, not, replicate, false, slice_index_or, vec_len, vec_capacity, is_none, IfOk, IfErr, OnErr, OnOk};
 ghost use Rattle.std.specs.List.{AllByRecursion, list_all, range_with_len};
 ghost use Rattle.topology.specs.Networks.{switch_count};
-ghost use Rattle.update_model.specs.Changes.{switch_of};
 ghost use Rattle.update_model.specs.Ranges.{IsPlanChange};
 ghost use Rattle.update_model.specs.States.{settled, settled_count};
 ghost use Rattle.update_driver.specs.Laws.{begun_count};
-ghost use Rattle.net_base.specs.declared.ids.SwitchId.{SwitchId as Switch};
 ghost use Rattle.net_base.specs.Switches.{has};
-ghost use Rattle.round_messages.specs.Requests.{is_changed, switch_numbered};
+ghost use Rattle.round_messages.specs.Requests.{switch_numbered};
 ghost use Rattle.switch_session.specs.Channels.{first_channel, is_open};
 ghost use Rattle.update_driver.specs.Drivers.{none_outstanding, settled_if_answered, started};
 ghost use Rattle.update_driver.specs.Inside.{states_of, with_states, HasRoomFrom, told_by_turn, told_by_turns, begun_by_turns, heard_with, IsPhaseWithin, MayStartWith, IsRefusedWith};
@@ -16,6 +14,7 @@ ghost use Rattle.update_driver.specs.Inside.{states_of, with_states, HasRoomFrom
 use crate::StartFault;
 use crate::turns::Turn;
 use net_base::{Memory, SwitchId, SwitchSet};
+use round_messages::changed_switches;
 use std::alloc::Global;
 use switch_session::Channel;
 use topology::Net;
@@ -115,18 +114,6 @@ fn settle_if_answered(phase: &mut Phase, log: &mut Vec<Event>, channels: &[Chann
         *phase = settled(*phase);
         log.push_reserved(Event::Settle);
     }
-}
-
-/// The switches that have a change among these.
-fn changed_switches(changes: &[Change]) -> SwitchSet
-    requires { AllByRecursion (λ c. (switch_of c).0 < 128) changes.now }
-    ensures { (s : Switch) → has result s ≡ is_changed changes.now s }
-{
-    let mut changed = SwitchSet::none();
-    for change in changes {
-        changed.put(change.switch());
-    }
-    changed
 }
 
 /// Whether a switch has a change and no open session.

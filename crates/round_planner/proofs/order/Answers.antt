@@ -8,10 +8,11 @@ use Rattle.certificates.specs.Laws.{task_of}
 use Rattle.certificates.specs.Valid.{IsValidPlan}
 use Rattle.table_difference.specs.SameClasses.{HasSameClasses}
 use Rattle.round_planner.specs.declared.Ordered.{Ordered}
-use Rattle.round_judge.specs.Aims.{Aim}
+use Rattle.table_difference.specs.Targets.{Target}
 use Rattle.round_planner.specs.Searching.{IsAnswered}
 use Rattle.table_difference.specs.Tried.{AreTried}
-use Rattle.round_planner.specs.Ends.{aim_of, IsSearched, OfPlan, OfStuck, IsNotStuck}
+use Rattle.table_difference.specs.Targets.{target_between}
+use Rattle.round_planner.specs.Ends.{IsSearched, OfPlan, OfStuck, IsNotStuck}
 use Rattle.round_planner.proofs.AnswerLaws.{answer_searched, answer_tried, answer_tree, answer_valid, answer_certified, answer_classes, answer_count}
 use Rattle.round_planner.proofs.order.Goals as goal
 
@@ -29,49 +30,49 @@ answer_to-requires c = c.requires.old
 
 pub returns-clause-searched : goal.returns-clause-searched
 returns-clause-searched c =
-    let aim : Aim = record { net = c.args.net.now; new = rules_of_all c.args.new.now; demands = c.args.duties.now.demands; classes = c.args.classes.now } in
+    let to : Target = record { net = c.args.net.now; new = rules_of_all c.args.new.now; demands = c.args.duties.now.demands; classes = c.args.classes.now } in
     let old = rules_of_all c.args.old.now in
-    let P : Ordered → Type 0 = IsSearched (aim_of c.args.net.now old aim.new aim.demands) old in
-    IfOk-weaker c.answer_to.result (IsAnswered aim old) P (λ o a. subst P (sym a.answer_is) (answer_searched aim old c.requires.classes c.keeps_rules.ensures c.requires.old c.requires.new a.search a.none_remains a.ended)) c.answer_to.ensures
+    let P : Ordered → Type 0 = IsSearched (target_between c.args.net.now old to.new to.demands) old in
+    IfOk-weaker c.answer_to.result (IsAnswered to old) P (λ o a. subst P (sym a.answer_is) (answer_searched to old c.requires.classes c.keeps_rules.ensures c.requires.old c.requires.new a.search a.none_remains a.ended)) c.answer_to.ensures
 
 pub returns-clause-valid : goal.returns-clause-valid
 returns-clause-valid c =
-    let aim : Aim = record { net = c.args.net.now; new = rules_of_all c.args.new.now; demands = c.args.duties.now.demands; classes = c.args.classes.now } in
+    let to : Target = record { net = c.args.net.now; new = rules_of_all c.args.new.now; demands = c.args.duties.now.demands; classes = c.args.classes.now } in
     let old = rules_of_all c.args.old.now in
     let P : Ordered → Type 0 = OfPlan (IsValidPlan c.args.net.now) in
-    IfOk-weaker c.answer_to.result (IsAnswered aim old) P (λ o a. subst P (sym a.answer_is) (answer_valid aim old c.requires.classes c.keeps_rules.ensures c.requires.old c.requires.new a.search a.stored a.few a.none_remains a.ended)) c.answer_to.ensures
+    IfOk-weaker c.answer_to.result (IsAnswered to old) P (λ o a. subst P (sym a.answer_is) (answer_valid to old c.requires.classes c.keeps_rules.ensures c.requires.old c.requires.new a.search a.stored a.few a.none_remains a.ended)) c.answer_to.ensures
 
 pub returns-clause-certified : goal.returns-clause-certified
 returns-clause-certified c =
-    let aim : Aim = record { net = c.args.net.now; new = rules_of_all c.args.new.now; demands = c.args.duties.now.demands; classes = c.args.classes.now } in
+    let to : Target = record { net = c.args.net.now; new = rules_of_all c.args.new.now; demands = c.args.duties.now.demands; classes = c.args.classes.now } in
     let old = rules_of_all c.args.old.now in
     let P : Ordered → Type 0 = OfPlan (λ p. IsCertified (task_of c.args.net.now c.args.old.now c.args.new.now c.args.duties.now.demands p) p.evidence) in
-    IfOk-weaker c.answer_to.result (IsAnswered aim old) P (λ o a. subst P (sym a.answer_is) (answer_certified aim old c.requires.classes c.keeps_rules.ensures c.requires.old c.requires.new a.search a.stored c.rounds_make_no_classes.ensures c.requires.old_good c.requires.new_good a.none_remains a.ended)) c.answer_to.ensures
+    IfOk-weaker c.answer_to.result (IsAnswered to old) P (λ o a. subst P (sym a.answer_is) (answer_certified to old c.requires.classes c.keeps_rules.ensures c.requires.old c.requires.new a.search a.stored c.rounds_make_no_classes.ensures c.requires.old_good c.requires.new_good a.none_remains a.ended)) c.answer_to.ensures
 
 pub returns-clause-classes : goal.returns-clause-classes
 returns-clause-classes c =
-    let aim : Aim = record { net = c.args.net.now; new = rules_of_all c.args.new.now; demands = c.args.duties.now.demands; classes = c.args.classes.now } in
+    let to : Target = record { net = c.args.net.now; new = rules_of_all c.args.new.now; demands = c.args.duties.now.demands; classes = c.args.classes.now } in
     let old = rules_of_all c.args.old.now in
     let P : Ordered → Type 0 = OfPlan (λ p. HasSameClasses (classes_for (task_of c.args.net.now c.args.old.now c.args.new.now c.args.duties.now.demands p)) c.args.classes.now) in
-    IfOk-weaker c.answer_to.result (IsAnswered aim old) P (λ o a. subst P (sym a.answer_is) (answer_classes aim old c.requires.classes c.keeps_rules.ensures c.requires.old c.requires.new a.search a.stored c.rounds_make_no_classes.ensures c.requires.old_good c.requires.new_good a.none_remains a.ended)) c.answer_to.ensures
+    IfOk-weaker c.answer_to.result (IsAnswered to old) P (λ o a. subst P (sym a.answer_is) (answer_classes to old c.requires.classes c.keeps_rules.ensures c.requires.old c.requires.new a.search a.stored c.rounds_make_no_classes.ensures c.requires.old_good c.requires.new_good a.none_remains a.ended)) c.answer_to.ensures
 
 pub returns-clause-count : goal.returns-clause-count
 returns-clause-count c =
-    let aim : Aim = record { net = c.args.net.now; new = rules_of_all c.args.new.now; demands = c.args.duties.now.demands; classes = c.args.classes.now } in
+    let to : Target = record { net = c.args.net.now; new = rules_of_all c.args.new.now; demands = c.args.duties.now.demands; classes = c.args.classes.now } in
     let old = rules_of_all c.args.old.now in
-    let P : Ordered → Type 0 = OfPlan (λ p. length p.rounds ≡ length (remaining old aim.new)) in
-    IfOk-weaker c.answer_to.result (IsAnswered aim old) P (λ o a. subst P (sym a.answer_is) (answer_count aim old c.requires.classes c.keeps_rules.ensures c.requires.old c.requires.new a.search a.stored c.rounds_make_no_classes.ensures c.requires.old_good c.requires.new_good a.none_remains a.ended)) c.answer_to.ensures
+    let P : Ordered → Type 0 = OfPlan (λ p. length p.rounds ≡ length (remaining old to.new)) in
+    IfOk-weaker c.answer_to.result (IsAnswered to old) P (λ o a. subst P (sym a.answer_is) (answer_count to old c.requires.classes c.keeps_rules.ensures c.requires.old c.requires.new a.search a.stored c.rounds_make_no_classes.ensures c.requires.old_good c.requires.new_good a.none_remains a.ended)) c.answer_to.ensures
 
 pub returns-clause-tried : goal.returns-clause-tried
 returns-clause-tried c =
-    let aim : Aim = record { net = c.args.net.now; new = rules_of_all c.args.new.now; demands = c.args.duties.now.demands; classes = c.args.classes.now } in
+    let to : Target = record { net = c.args.net.now; new = rules_of_all c.args.new.now; demands = c.args.duties.now.demands; classes = c.args.classes.now } in
     let old = rules_of_all c.args.old.now in
     let P : Ordered → Type 0 = OfStuck (AreTried c.args.net.now) in
-    IfOk-weaker c.answer_to.result (IsAnswered aim old) P (λ o a. subst P (sym a.answer_is) (answer_tried aim old c.requires.classes c.keeps_rules.ensures c.requires.old c.requires.new a.search a.none_remains a.ended)) c.answer_to.ensures
+    IfOk-weaker c.answer_to.result (IsAnswered to old) P (λ o a. subst P (sym a.answer_is) (answer_tried to old c.requires.classes c.keeps_rules.ensures c.requires.old c.requires.new a.search a.none_remains a.ended)) c.answer_to.ensures
 
 pub returns-clause-tree : goal.returns-clause-tree
 returns-clause-tree c tree =
-    let aim : Aim = record { net = c.args.net.now; new = rules_of_all c.args.new.now; demands = c.args.duties.now.demands; classes = c.args.classes.now } in
+    let to : Target = record { net = c.args.net.now; new = rules_of_all c.args.new.now; demands = c.args.duties.now.demands; classes = c.args.classes.now } in
     let old = rules_of_all c.args.old.now in
     let P : Ordered → Type 0 = λ o. IsNotStuck o in
-    IfOk-weaker c.answer_to.result (IsAnswered aim old) P (λ o a. subst P (sym a.answer_is) (answer_tree aim old c.requires.classes c.keeps_rules.ensures c.requires.old c.requires.new a.search a.none_remains a.ended tree)) c.answer_to.ensures
+    IfOk-weaker c.answer_to.result (IsAnswered to old) P (λ o a. subst P (sym a.answer_is) (answer_tree to old c.requires.classes c.keeps_rules.ensures c.requires.old c.requires.new a.search a.none_remains a.ended tree)) c.answer_to.ensures

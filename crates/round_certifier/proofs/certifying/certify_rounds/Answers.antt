@@ -9,7 +9,7 @@ use Rattle.certificates.specs.declared.OrderedEvidence.{OrderedEvidence}
 use Rattle.check_reasons.specs.Cases.{CaseView}
 use Rattle.plan_checker.specs.Fits.{Fits}
 use Rattle.round_judge.specs.Evidence.{IsSearchEvidence}
-use Rattle.round_certifier.specs.Standing.{aim_for}
+use Rattle.round_certifier.specs.Standing.{target_for}
 use Rattle.round_certifier.proofs.CertifiedLaws.{certified_none, made_evidence, made_certified, made_valid, when_none}
 use Rattle.round_certifier.proofs.certifying.certify_rounds.Goals as goal
 
@@ -25,7 +25,7 @@ pub returns-clause-evidence : goal.returns-clause-evidence
 returns-clause-evidence c =
     let case = c.args.case.now in
     let so_far = when_none c.in_ok-refusal.field-0 _ c.in-None.is c.in_ok-refusal.ensures.none in
-    subst (IsSearchEvidence (aim_for case.task) (rollout case.task)) (sym c.into_evidence-evidence.ensures.evidence)
+    subst (IsSearchEvidence (target_for case.task) (rollout case.task)) (sym c.into_evidence-evidence.ensures.evidence)
     (made_evidence case c.requires.ordered c.requires.ends c.certify_all-refusal.new.so_far.store c.certify_all-refusal.new.so_far.watch.came.items c.certify_all-refusal.new.so_far.looked so_far)
 
 pub returns-clause-certified : goal.returns-clause-certified

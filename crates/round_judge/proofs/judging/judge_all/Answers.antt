@@ -20,23 +20,23 @@ returns-in-Unsafe c u k round next held =
 
 pub returns-then-has_picks : goal.returns-then-has_picks
 returns-then-has_picks c u k round next held =
-    let aim = c.args.goal.now in
+    let to = c.args.goal.now in
     let e = c.args.tried.now.store.now.evidence in
-    let met = subst (λ v. AreMetJudged aim u e k v c.judge_met.new.watch.came.items) c.in-Safe.is (c.in_ok-failing.ensures.judged u k round next held) in (
+    let met = subst (λ v. AreMetJudged to u e k v c.judge_met.new.watch.came.items) c.in-Safe.is (c.in_ok-failing.ensures.judged u k round next held) in (
       met.later (picks_later e.picks k (c.has_picks.ensures c.if-has_picks.true) next.picks),
-      round_after_it aim u k round.net_is next.within (next.good k (omega arith)) c.judge_met.new.watch.came.items met.known,
+      round_after_it to u k round.net_is next.within (next.good k (omega arith)) c.judge_met.new.watch.came.items met.known,
     )
 
 pub returns-else-has_picks : goal.returns-else-has_picks
 returns-else-has_picks c =
-    let aim = c.args.goal.now in
+    let to = c.args.goal.now in
     let e = c.args.tried.now.store.now.evidence in
     let changes = c.args.tried.now.changes.now in
     let mixes = c.args.tried.now.mixes.now in
     IfOk-weaker c.judge_rest.result
-    (λ (v : Verdict). (u : Rollout) (k : ℕ) → IsRoundOf aim.net mixes u k → IsNextRound aim u e k changes → AllByRecursion (IsNewlySafe aim u e k) c.in-Safe.found.items → HoldRound aim u k c.judge_met.new.watch.came.items
-    → AreJudged aim u e k v × HoldAfter aim u k v c.judge_rest.new.watch.came.items)
-    (λ (v : Verdict). (u : Rollout) (k : ℕ) → IsRoundOf aim.net mixes u k → IsNextRound aim u e k changes → HoldTables aim (tables_before u k) c.args.watch.now.came.items → AreJudged aim u e k v × HoldAfter aim u k v c.judge_rest.new.watch.came.items)
+    (λ (v : Verdict). (u : Rollout) (k : ℕ) → IsRoundOf to.net mixes u k → IsNextRound to u e k changes → AllByRecursion (IsNewlySafe to u e k) c.in-Safe.found.items → HoldRound to u k c.judge_met.new.watch.came.items
+    → AreJudged to u e k v × HoldAfter to u k v c.judge_rest.new.watch.came.items)
+    (λ (v : Verdict). (u : Rollout) (k : ℕ) → IsRoundOf to.net mixes u k → IsNextRound to u e k changes → HoldTables to (tables_before u k) c.args.watch.now.came.items → AreJudged to u e k v × HoldAfter to u k v c.judge_rest.new.watch.came.items)
     (λ v all u k round next held.
-    let met = subst (λ w. AreMetJudged aim u e k w c.judge_met.new.watch.came.items) c.in-Safe.is (c.in_ok-failing.ensures.judged u k round next held) in
+    let met = subst (λ w. AreMetJudged to u e k w c.judge_met.new.watch.came.items) c.in-Safe.is (c.in_ok-failing.ensures.judged u k round next held) in
     all u k round next met.new met.known) c.judge_rest.ensures

@@ -12,9 +12,9 @@ judge_every-failing-requires-clause-last c = c.none-last.ensures c.args.goal.now
 
 pub returns : goal.returns
 returns c =
-    let aim = c.args.goal.now in
+    let to = c.args.goal.now in
     let tried = c.args.tried.now in
     verdict_there
-    (λ (v : Verdict). (u : Rollout) (k : ℕ) → IsRoundOf aim.net tried.mixes.now u k → IsNextRound aim u tried.store.now.evidence k tried.changes.now → HoldTables aim (tables_before u k) c.args.watch.now.came.items
-    → AreFirstJudged aim u tried.store.now.evidence k v × HoldAfter aim u k v c.judge_every-failing.new.watch.came.items)
+    (λ (v : Verdict). (u : Rollout) (k : ℕ) → IsRoundOf to.net tried.mixes.now u k → IsNextRound to u tried.store.now.evidence k tried.changes.now → HoldTables to (tables_before u k) c.args.watch.now.came.items
+    → AreFirstJudged to u tried.store.now.evidence k v × HoldAfter to u k v c.judge_every-failing.new.watch.came.items)
     c.judge_every-failing.new.found c.judge_every-failing.result c.verdict_of.result c.verdict_of.ensures c.judge_every-failing.ensures

@@ -1,7 +1,7 @@
 use Rattle.std.proofs.Common.{◌≡◌, ◌<◌, refl, sym, ap, ◌∙◌, subst, arith}
 use Rattle.net_base.proofs.MemberLaws.{each_at, each_from_in}
 use Rattle.dest_classes.specs.Classes.{class_count}
-use Rattle.round_judge.specs.Aims.{Aim}
+use Rattle.table_difference.specs.Targets.{Target}
 use Rattle.round_judge.specs.Judged.{AreSafeBelow, IsNewlySafe}
 use Rattle.round_judge.proofs.JudgingLaws.{safe_none, safe_noted, failed_noted, judged_met}
 use Rattle.round_judge.proofs.VisitLaws.{round_still, round_before, round_after_it}
@@ -19,7 +19,7 @@ loop-number-init c = (
 
 pub judge_next-requires-clause-number : goal.judge_next-requires-clause-number
 judge_next-requires-clause-number c =
-    let count : c.count-number-end.result ≡ class_count c.args.goal.now.classes = c.count-number-end.ensures.count ∙ ap (λ (a : Aim). class_count a.classes) c.goal.view_is in
+    let count : c.count-number-end.result ≡ class_count c.args.goal.now.classes = c.count-number-end.ensures.count ∙ ap (λ (a : Target). class_count a.classes) c.goal.view_is in
     omega (arith, c.loop-number-test.true)
 
 pub judge_next-requires-clause-came : goal.judge_next-requires-clause-came
@@ -27,17 +27,17 @@ judge_next-requires-clause-came c = c.loop-number.invariant.0.0 ∙ c.requires.c
 
 pub returns-in-Some : goal.returns-in-Some
 returns-in-Some c u k round next met held =
-    let aim = c.args.goal.now in
+    let to = c.args.goal.now in
     let e = c.args.tried.now.store.now.evidence in
     let number = c.loop-number.number in
-    let count : c.count-number-end.result ≡ class_count aim.classes = c.count-number-end.ensures.count ∙ ap (λ (a : Aim). class_count a.classes) c.goal.view_is in
+    let count : c.count-number-end.result ≡ class_count to.classes = c.count-number-end.ensures.count ∙ ap (λ (a : Target). class_count a.classes) c.goal.view_is in
     let less : number < c.count-number-end.result = omega arith in
     let (safe, before, marked) = c.loop-number.invariant.1 u k round next met held in
     let judged = c.in_ok-judged.ensures in (
-      failed_noted aim u e k number (subst (λ n. number < n) count less) c.loop-number.found.items c.note.new.found.items c.in_ok-judged.judged c.in_ok-failing.field-0 c.in-Some.failing c.in_ok-failing.ensures c.in-Some.is
-          (λ class is. judged_met aim u e k number class c.in_ok-judged.judged (judged.judged u k class round is next before)),
-      round_before aim u k round.net_is c.judge_next.new.watch.came.items
-          (round_still aim u k number c.loop-number.watch.came.items c.judge_next.new.watch.came.items judged.count judged.others (λ class is. judged.walks u k class round is) marked),
+      failed_noted to u e k number (subst (λ n. number < n) count less) c.loop-number.found.items c.note.new.found.items c.in_ok-judged.judged c.in_ok-failing.field-0 c.in-Some.failing c.in_ok-failing.ensures c.in-Some.is
+          (λ class is. judged_met to u e k number class c.in_ok-judged.judged (judged.judged u k class round is next before)),
+      round_before to u k round.net_is c.judge_next.new.watch.came.items
+          (round_still to u k number c.loop-number.watch.came.items c.judge_next.new.watch.came.items judged.count judged.others (λ class is. judged.walks u k class round is) marked),
     )
 
 pub loop-number-preserved : goal.loop-number-preserved
@@ -45,23 +45,23 @@ loop-number-preserved c =
     let judged = c.in_ok-judged.ensures in (
       (judged.count ∙ c.loop-number.invariant.0.0, judged.last),
       λ u k round next met held.
-          let aim = c.args.goal.now in
+          let to = c.args.goal.now in
           let e = c.args.tried.now.store.now.evidence in
           let number = c.loop-number.number in
           let (so_far, before, marked) = c.loop-number.invariant.1 u k round next met held in (
-            safe_noted aim u e k number c.loop-number.found.items c.note.new.found.items c.in_ok-judged.judged c.in_ok-failing.field-0 c.in_ok-failing.ensures c.in_default.is so_far
+            safe_noted to u e k number c.loop-number.found.items c.note.new.found.items c.in_ok-judged.judged c.in_ok-failing.field-0 c.in_ok-failing.ensures c.in_default.is so_far
                 (λ class is. judged.judged u k class round is next before),
-            each_from_in (IsNewlySafe aim u e k) c.judge_next.new.before.items (λ f i. each_at (IsNewlySafe aim u e k) c.loop-number.before.items f before (judged.before f i)),
-            round_still aim u k number c.loop-number.watch.came.items c.judge_next.new.watch.came.items judged.count judged.others (λ class is. judged.walks u k class round is) marked,
+            each_from_in (IsNewlySafe to u e k) c.judge_next.new.before.items (λ f i. each_at (IsNewlySafe to u e k) c.loop-number.before.items f before (judged.before f i)),
+            round_still to u k number c.loop-number.watch.came.items c.judge_next.new.watch.came.items judged.count judged.others (λ class is. judged.walks u k class round is) marked,
           ),
     )
 
 pub returns : goal.returns
 returns c u k round next met held =
-    let aim = c.args.goal.now in
-    let count : c.count-number-end.result ≡ class_count aim.classes = c.count-number-end.ensures.count ∙ ap (λ (a : Aim). class_count a.classes) c.goal.view_is in
+    let to = c.args.goal.now in
+    let count : c.count-number-end.result ≡ class_count to.classes = c.count-number-end.ensures.count ∙ ap (λ (a : Target). class_count a.classes) c.goal.view_is in
     let last : c.loop-number.number ≡ c.count-number-end.result = omega arith in
     let (safe, before, marked) = c.loop-number.invariant.1 u k round next met held in (
-      subst (λ n. AreSafeBelow aim u c.args.tried.now.store.now.evidence k n c.loop-number.found.items) (last ∙ count) safe,
-      round_after_it aim u k round.net_is next.within (next.good k (omega arith)) c.loop-number.watch.came.items marked,
+      subst (λ n. AreSafeBelow to u c.args.tried.now.store.now.evidence k n c.loop-number.found.items) (last ∙ count) safe,
+      round_after_it to u k round.net_is next.within (next.good k (omega arith)) c.loop-number.watch.came.items marked,
     )

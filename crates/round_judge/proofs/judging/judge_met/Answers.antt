@@ -12,9 +12,9 @@ judge_touched-failing-requires-clause-last c = c.none-last.ensures c.args.goal.n
 
 pub returns-clause-judged : goal.returns-clause-judged
 returns-clause-judged c =
-    let aim = c.args.goal.now in
+    let to = c.args.goal.now in
     let tried = c.args.tried.now in
     verdict_there
-    (λ (v : Verdict). (u : Rollout) (k : ℕ) → IsRoundOf aim.net tried.mixes.now u k → IsNextRound aim u tried.store.now.evidence k tried.changes.now → HoldTables aim (tables_before u k) c.args.watch.now.came.items
-    → AreMetJudged aim u tried.store.now.evidence k v c.judge_touched-failing.new.watch.came.items)
+    (λ (v : Verdict). (u : Rollout) (k : ℕ) → IsRoundOf to.net tried.mixes.now u k → IsNextRound to u tried.store.now.evidence k tried.changes.now → HoldTables to (tables_before u k) c.args.watch.now.came.items
+    → AreMetJudged to u tried.store.now.evidence k v c.judge_touched-failing.new.watch.came.items)
     c.judge_touched-failing.new.found c.judge_touched-failing.result c.verdict_of.result c.verdict_of.ensures c.judge_touched-failing.ensures.judged

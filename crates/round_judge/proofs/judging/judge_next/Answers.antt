@@ -16,35 +16,35 @@ use Rattle.round_judge.proofs.judging.judge_next.Goals as goal
 
 pub returns-in-Some-clause-judged : goal.returns-in-Some-clause-judged
 returns-in-Some-clause-judged c = λ u k class round is next before.
-    let aim = c.args.goal.now in
+    let to = c.args.goal.now in
     let e = c.args.tried.now.store.now.evidence in
     let found : Found = record { class = c.args.number; evidence = c.in-Some.evidence } in
-    new_here aim u e k c.args.number found refl (each_at (IsNewlySafe aim u e k) c.args.before.now.items found before c.in-Some.ensures.some) class is
+    new_here to u e k c.args.number found refl (each_at (IsNewlySafe to u e k) c.args.before.now.items found before c.in-Some.ensures.some) class is
 
 pub returns-clause-judged : goal.returns-clause-judged
 returns-clause-judged c =
-    let aim = c.args.goal.now in
+    let to = c.args.goal.now in
     let e = c.args.tried.now.store.now.evidence in
     let changes = c.args.tried.now.changes.now in
     let mixes = c.args.tried.now.mixes.now in
     let number = c.args.number in
     let numbered = c.numbered.result in
     IfOk-weaker c.judge_class.result
-    (λ (j : Judged). (u : Rollout) (k : ℕ) → IsRoundOf aim.net mixes u k → IsNextRound aim u e k changes → IsJudged aim u e k numbered.number numbered.class j)
-    (λ (j : Judged). (u : Rollout) (k : ℕ) (class : Class) → IsRoundOf aim.net mixes u k → IsClass aim.classes number class → IsNextRound aim u e k changes
-    → AllByRecursion (IsNewlySafe aim u e k) c.args.before.now.items → IsJudged aim u e k number class j)
+    (λ (j : Judged). (u : Rollout) (k : ℕ) → IsRoundOf to.net mixes u k → IsNextRound to u e k changes → IsJudged to u e k numbered.number numbered.class j)
+    (λ (j : Judged). (u : Rollout) (k : ℕ) (class : Class) → IsRoundOf to.net mixes u k → IsClass to.classes number class → IsNextRound to u e k changes
+    → AllByRecursion (IsNewlySafe to u e k) c.args.before.now.items → IsJudged to u e k number class j)
     (λ j all u k class round is next before.
-    let same = numbered_class aim.classes number numbered c.numbered.ensures.number c.numbered.ensures.class class is in
-    judged_there aim u e k numbered number class c.numbered.ensures.number same j (all u k round next)) c.judge_class.ensures.judged
+    let same = numbered_class to.classes number numbered c.numbered.ensures.number c.numbered.ensures.class class is in
+    judged_there to u e k numbered number class c.numbered.ensures.number same j (all u k round next)) c.judge_class.ensures.judged
 
 pub returns-clause-walks : goal.returns-clause-walks
 returns-clause-walks c =
-    let aim = c.args.goal.now in
+    let to = c.args.goal.now in
     let number = c.args.number in
     let numbered = c.numbered.result in
     on_ok_weaker c.judge_class.result
     (λ all u k class round is held.
-    let same = numbered_class aim.classes number numbered c.numbered.ensures.number c.numbered.ensures.class class is in
+    let same = numbered_class to.classes number numbered c.numbered.ensures.number c.numbered.ensures.class class is in
     subst (λ (x : Class). HoldsWalks u k x (marks_at c.judge_class.new.watch.came.items number)) same
     (subst (λ (i : ℕ). HoldsWalks u k numbered.class (marks_at c.judge_class.new.watch.came.items i)) c.numbered.ensures.number (all u k round))) c.judge_class.ensures.walks
 

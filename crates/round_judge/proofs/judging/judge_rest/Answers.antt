@@ -17,21 +17,21 @@ judge_each-failing-requires-clause-last c = c.none-last.ensures c.args.goal.now.
 
 pub returns : goal.returns
 returns c =
-    let aim = c.args.goal.now in
+    let to = c.args.goal.now in
     let tried = c.args.tried.now in
     let e = tried.store.now.evidence in
     let found = c.judge_each-failing.new.found in
     let came = c.judge_each-failing.new.watch.came.items in
     let before = c.reverse.new.self.items in
     verdict_there
-    (λ (v : Verdict). (u : Rollout) (k : ℕ) → IsRoundOf aim.net tried.mixes.now u k → IsNextRound aim u e k tried.changes.now → AllByRecursion (IsNewlySafe aim u e k) c.args.met.items
-    → HoldRound aim u k c.args.watch.now.came.items → AreJudged aim u e k v × HoldAfter aim u k v came)
+    (λ (v : Verdict). (u : Rollout) (k : ℕ) → IsRoundOf to.net tried.mixes.now u k → IsNextRound to u e k tried.changes.now → AllByRecursion (IsNewlySafe to u e k) c.args.met.items
+    → HoldRound to u k c.args.watch.now.came.items → AreJudged to u e k v × HoldAfter to u k v came)
     found c.judge_each-failing.result c.verdict_of.result c.verdict_of.ensures
     (IfOk-weaker c.judge_each-failing.result
-    (λ (f : Option UnsafeClass). (u : Rollout) (k : ℕ) → IsRoundOf aim.net tried.mixes.now u k → IsNextRound aim u e k tried.changes.now → AllByRecursion (IsNewlySafe aim u e k) before
-    → HoldRound aim u k c.args.watch.now.came.items → AreJudged aim u e k (verdict_of found f) × HoldAfter aim u k (verdict_of found f) came)
-    (λ (f : Option UnsafeClass). (u : Rollout) (k : ℕ) → IsRoundOf aim.net tried.mixes.now u k → IsNextRound aim u e k tried.changes.now → AllByRecursion (IsNewlySafe aim u e k) c.args.met.items
-    → HoldRound aim u k c.args.watch.now.came.items → AreJudged aim u e k (verdict_of found f) × HoldAfter aim u k (verdict_of found f) came)
+    (λ (f : Option UnsafeClass). (u : Rollout) (k : ℕ) → IsRoundOf to.net tried.mixes.now u k → IsNextRound to u e k tried.changes.now → AllByRecursion (IsNewlySafe to u e k) before
+    → HoldRound to u k c.args.watch.now.came.items → AreJudged to u e k (verdict_of found f) × HoldAfter to u k (verdict_of found f) came)
+    (λ (f : Option UnsafeClass). (u : Rollout) (k : ℕ) → IsRoundOf to.net tried.mixes.now u k → IsNextRound to u e k tried.changes.now → AllByRecursion (IsNewlySafe to u e k) c.args.met.items
+    → HoldRound to u k c.args.watch.now.came.items → AreJudged to u e k (verdict_of found f) × HoldAfter to u k (verdict_of found f) came)
     (λ f all u k round next met held.
-    let new = IsNewlySafe aim u e k in
+    let new = IsNewlySafe to u e k in
     all u k round next (recursion_from_All new before (All-permutation new c.args.met.items before c.reverse.ensures.permutation (All-from_recursion new c.args.met.items met))) held) c.judge_each-failing.ensures)

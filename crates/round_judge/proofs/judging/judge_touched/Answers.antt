@@ -1,6 +1,6 @@
 use Rattle.std.proofs.Common.{◌≡◌, ◌+◌, ◌<◌, refl, sym, ◌∙◌, ap, subst, arith}
 use Rattle.dest_classes.specs.Classes.{class_count}
-use Rattle.round_judge.specs.Aims.{Aim}
+use Rattle.table_difference.specs.Targets.{Target}
 use Rattle.round_judge.proofs.JudgingLaws.{AreMetBelow, met_none, met_noted, failed_noted, failed_below}
 use Rattle.round_judge.proofs.VisitLaws.{held_none, held_more, held_all, held_back}
 use Rattle.round_judge.proofs.MetLaws.{AreMetUpTo, passed_over, past_to}
@@ -8,7 +8,7 @@ use Rattle.round_judge.proofs.judging.judge_touched.Goals as goal
 
 pub judging-init : goal.judging-init
 judging-init c =
-    let aim = c.args.goal.now in
+    let to = c.args.goal.now in
     let e = c.args.tried.now.store.now.evidence in
     let changes = c.args.tried.now.changes.now in
     let first = c.next_number-number.ensures in
@@ -19,14 +19,14 @@ judging-init c =
       count = refl;
       last = c.requires.last;
       met = λ u k round next held.
-          past_to aim u e k changes next round.keeps_old round.keeps found came 0 c.next_number-number.result first.from
-          (λ n from less. passed_over aim changes c.args.looked.now c.requires.atoms c.requires.touched n (first.passed n from less))
-          (subst (AreMetBelow aim u e k 0) (sym c.requires.none) (met_none aim u e k), held_none aim u k round.net_is came held);
+          past_to to u e k changes next round.keeps_old round.keeps found came 0 c.next_number-number.result first.from
+          (λ n from less. passed_over to changes c.args.looked.now c.requires.atoms c.requires.touched n (first.passed n from less))
+          (subst (AreMetBelow to u e k 0) (sym c.requires.none) (met_none to u e k), held_none to u k round.net_is came held);
     }
 
 pub judge_if_met-requires-clause-number : goal.judge_if_met-requires-clause-number
 judge_if_met-requires-clause-number c =
-    let count : c.count-end.result ≡ class_count c.args.goal.now.classes = c.count-end.ensures.count ∙ ap (λ (a : Aim). class_count a.classes) c.goal.view_is in
+    let count : c.count-end.result ≡ class_count c.args.goal.now.classes = c.count-end.ensures.count ∙ ap (λ (a : Target). class_count a.classes) c.goal.view_is in
     let less = c.judging-test.true in
     omega arith
 
@@ -35,32 +35,32 @@ judge_if_met-requires-clause-came c = c.judging.invariant.count ∙ c.requires.c
 
 pub returns-in-Some-clause-judged : goal.returns-in-Some-clause-judged
 returns-in-Some-clause-judged c u k round next held =
-    let aim = c.args.goal.now in
+    let to = c.args.goal.now in
     let e = c.args.tried.now.store.now.evidence in
     let number = c.judging.number in
-    let count : c.count-end.result ≡ class_count aim.classes = c.count-end.ensures.count ∙ ap (λ (a : Aim). class_count a.classes) c.goal.view_is in
+    let count : c.count-end.result ≡ class_count to.classes = c.count-end.ensures.count ∙ ap (λ (a : Target). class_count a.classes) c.goal.view_is in
     let test = c.judging-test.true in
-    let less : number < class_count aim.classes = omega arith in
+    let less : number < class_count to.classes = omega arith in
     let (met, known) = c.judging.invariant.met u k round next held in
     let judged = c.in_ok-judged.ensures in (
-      failed_noted aim u e k number less c.judging.found.items c.note.new.found.items c.in_ok-judged.judged c.in_ok-failing.field-0 c.in-Some.failing c.in_ok-failing.ensures c.in-Some.is
+      failed_noted to u e k number less c.judging.found.items c.note.new.found.items c.in_ok-judged.judged c.in_ok-failing.field-0 c.in-Some.failing c.in_ok-failing.ensures c.in-Some.is
           (λ class is. judged.judged u k class round is next (known.before number class is)),
-      λ later. failed_below aim u e k number less c.judging.found.items c.note.new.found.items c.in_ok-judged.judged c.in_ok-failing.field-0 c.in-Some.failing c.in_ok-failing.ensures c.in-Some.is
+      λ later. failed_below to u e k number less c.judging.found.items c.note.new.found.items c.in_ok-judged.judged c.in_ok-failing.field-0 c.in-Some.failing c.in_ok-failing.ensures c.in-Some.is
           (λ class is. judged.judged u k class round is next (known.before number class is)) (met.0 later),
-      held_back aim u k round.net_is (number + 1) c.judge_if_met.new.watch.came.items
-          (held_more aim u k number c.judging.watch.came.items c.judge_if_met.new.watch.came.items
+      held_back to u k round.net_is (number + 1) c.judge_if_met.new.watch.came.items
+          (held_more to u k number c.judging.watch.came.items c.judge_if_met.new.watch.came.items
           (record { count = judged.count; others = judged.others; walks = λ class is before. judged.walks u k class round is next before }) known),
     )
 
 pub judging-preserved : goal.judging-preserved
 judging-preserved c =
-    let aim = c.args.goal.now in
+    let to = c.args.goal.now in
     let e = c.args.tried.now.store.now.evidence in
     let changes = c.args.tried.now.changes.now in
     let number = c.judging.number in
-    let count : c.count-end.result ≡ class_count aim.classes = c.count-end.ensures.count ∙ ap (λ (a : Aim). class_count a.classes) c.goal.view_is in
+    let count : c.count-end.result ≡ class_count to.classes = c.count-end.ensures.count ∙ ap (λ (a : Target). class_count a.classes) c.goal.view_is in
     let test = c.judging-test.true in
-    let less : number < class_count aim.classes = omega arith in
+    let less : number < class_count to.classes = omega arith in
     let judged = c.in_ok-judged.ensures in
     let following = c.next_number-number-in-judging.ensures in
     let found = c.note.new.found.items in
@@ -71,23 +71,23 @@ judging-preserved c =
       last = judged.last;
       met = λ u k round next held.
           let (met, known) = c.judging.invariant.met u k round next held in
-          past_to aim u e k changes next round.keeps_old round.keeps found came (number + 1) c.next_number-number-in-judging.result following.from
-          (λ n from below. passed_over aim changes c.args.looked.now c.requires.atoms c.requires.touched n (following.passed n from below)) (
-            met_noted aim u e k number less c.judging.found.items found c.in_ok-judged.judged c.in_ok-failing.field-0 c.in_ok-failing.ensures c.in_default.is met
+          past_to to u e k changes next round.keeps_old round.keeps found came (number + 1) c.next_number-number-in-judging.result following.from
+          (λ n from below. passed_over to changes c.args.looked.now c.requires.atoms c.requires.touched n (following.passed n from below)) (
+            met_noted to u e k number less c.judging.found.items found c.in_ok-judged.judged c.in_ok-failing.field-0 c.in_ok-failing.ensures c.in_default.is met
                 (λ class is. judged.judged u k class round is next (known.before number class is)),
-            held_more aim u k number c.judging.watch.came.items came
+            held_more to u k number c.judging.watch.came.items came
                 (record { count = judged.count; others = judged.others; walks = λ class is before. judged.walks u k class round is next before }) known,
           );
     }
 
 pub returns-clause-judged : goal.returns-clause-judged
 returns-clause-judged c u k round next held =
-    let aim = c.args.goal.now in
+    let to = c.args.goal.now in
     let e = c.args.tried.now.store.now.evidence in
     let changes = c.args.tried.now.changes.now in
-    let count : c.count-end.result ≡ class_count aim.classes = c.count-end.ensures.count ∙ ap (λ (a : Aim). class_count a.classes) c.goal.view_is in
+    let count : c.count-end.result ≡ class_count to.classes = c.count-end.ensures.count ∙ ap (λ (a : Target). class_count a.classes) c.goal.view_is in
     let past = c.judging-test.false in
     let within = c.judging.invariant.within in
-    let all : c.judging.number ≡ class_count aim.classes = omega arith in
-    let ((later, new), known) = subst (AreMetUpTo aim u e k changes next round.keeps_old round.keeps c.judging.found.items c.judging.watch.came.items) all (c.judging.invariant.met u k round next held) in
-    record { later = later; new = new; known = held_all aim u k c.judging.watch.came.items known }
+    let all : c.judging.number ≡ class_count to.classes = omega arith in
+    let ((later, new), known) = subst (AreMetUpTo to u e k changes next round.keeps_old round.keeps c.judging.found.items c.judging.watch.came.items) all (c.judging.invariant.met u k round next held) in
+    record { later = later; new = new; known = held_all to u k c.judging.watch.came.items known }

@@ -3,7 +3,8 @@ use Rattle.std.specs.Prelude.{slice_get}
 use Rattle.std.specs.List.{AllZip}
 use Rattle.demands.specs.Duties.{DemandView, duties_of}
 use Rattle.certificates.specs.Ordered.{IsSafe}
-use Rattle.round_judge.specs.Aims.{Aim, duties_in}
+use Rattle.table_difference.specs.Targets.{Target}
+use Rattle.round_judge.specs.Goals.{duties_in}
 use Rattle.round_judge.proofs.JudgingLaws.{means_use}
 use Rattle.round_judge.proofs.judging.use_keeps.Goals as goal
 
@@ -17,6 +18,6 @@ returns c u k pick numbers sets net walked is meant =
     let here : AllZip (λ i set. slice_get c.list.result.now i ≡ Some set) c.list-2.result.now sets =
     subst (λ (is_ : List ℕ). AllZip (λ i set. slice_get c.list.result.now i ≡ Some set) is_ sets) (sym c.list-2.ensures)
     (subst (λ (bs : List (List ℕ)). AllZip (λ i set. slice_get bs i ≡ Some set) named.befores sets) (sym c.list.ensures) zipped) in
-    let told = c.keeps_safe.ensures u k sets (net ∙ sym (ap (λ (a : Aim). a.net) c.goal.view_is)) walked here in
+    let told = c.keeps_safe.ensures u k sets (net ∙ sym (ap (λ (a : Target). a.net) c.goal.view_is)) walked here in
     subst (λ (ns : List ℕ). IsTrue c.keeps_safe.result ↔ IsSafe u k class.first class.entry (duties_in c.args.goal.now class) ns sets) (sym same)
-    (subst (λ (ds : List DemandView). IsTrue c.keeps_safe.result ↔ IsSafe u k class.first class.entry (duties_of ds class.entry class.first) numbering sets) (ap (λ (a : Aim). a.demands) c.goal.view_is) told)
+    (subst (λ (ds : List DemandView). IsTrue c.keeps_safe.result ↔ IsSafe u k class.first class.entry (duties_of ds class.entry class.first) numbering sets) (ap (λ (a : Target). a.demands) c.goal.view_is) told)

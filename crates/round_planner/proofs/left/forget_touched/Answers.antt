@@ -21,15 +21,15 @@ loop-one-preserved c =
     let more : i + 1 ≡ suc i = omega arith in (
       map_set change_of left i old new less is c.forget.ensures.change ∙ changes,
       ap (λ n. drop n (set left i new)) more ∙ drop_set left i new ∙ drop_next left c.args.left.now i rest ∙ ap (λ n. drop n c.args.left.now) (sym more),
-      λ aim tables users there stands.
-          let P = HasStanding aim (tables_after_change c.args.made.now tables) in
-          let this = c.forget.ensures.stands aim tables (each_there (IsOfUsers tables) left c.args.left.now i old less is rest users) there
-          (each_there (HasStanding aim tables) left c.args.left.now i old less is rest stands) in
+      λ to tables users there stands.
+          let P = HasStanding to (tables_after_change c.args.made.now tables) in
+          let this = c.forget.ensures.stands to tables (each_there (IsOfUsers tables) left c.args.left.now i old less is rest users) there
+          (each_there (HasStanding to tables) left c.args.left.now i old less is rest stands) in
           subst (AllByRecursion P) (sym (take_more (set left i new) i new within (sym (get_or-set_same left i new new less))))
-          (each_append P (take i (set left i new)) (new ∷ []) (subst (AllByRecursion P) (sym (take_set left i new)) (standing aim tables users there stands)) (this, tt)),
+          (each_append P (take i (set left i new)) (new ∷ []) (subst (AllByRecursion P) (sym (take_set left i new)) (standing to tables users there stands)) (this, tt)),
     )
 
 pub returns-clause-stands : goal.returns-clause-stands
-returns-clause-stands c = λ aim tables users within stands.
+returns-clause-stands c = λ to tables users within stands.
     let (changes, rest, standing) = c.loop-one.invariant in
-    subst (AllByRecursion (HasStanding aim (tables_after_change c.args.made.now tables))) (take_all c.loop-one.one-index c.loop-one.left (omega (arith, c.loop-one-test.false, c.loop-one.auto.left))) (standing aim tables users within stands)
+    subst (AllByRecursion (HasStanding to (tables_after_change c.args.made.now tables))) (take_all c.loop-one.one-index c.loop-one.left (omega (arith, c.loop-one-test.false, c.loop-one.auto.left))) (standing to tables users within stands)

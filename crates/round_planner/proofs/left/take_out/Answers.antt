@@ -11,7 +11,7 @@ use Rattle.round_planner.proofs.LeftLaws.{each_remove}
 use Rattle.round_planner.proofs.left.take_out.Goals as goal
 
 pub returns-clause-stands : goal.returns-clause-stands
-returns-clause-stands c = λ front back one are at_place aim tables users stands.
+returns-clause-stands c = λ front back one are at_place to tables users stands.
     let made : Left = c.remove-made.result in
     let all : List Left = c.args.left.now.items in
     let new = c.forget_touched.new.left in
@@ -20,8 +20,8 @@ returns-clause-stands c = λ front back one are at_place aim tables users stands
     let i : IsIn one all = subst (IsIn one) (sym are) (in_append_right one front (one ∷ back) (inl refl)) in
     let within = (each_at (IsOfUsers tables) all one users i).within in
     let lent = c.deref_mut.ensures.value ∙ c.remove-made.ensures.items in
-    subst (AllByRecursion (HasStanding aim (tables_after_change one.change tables))) (sym same)
-    (subst (λ (x : Left). AllByRecursion (HasStanding aim (tables_after_change x.change tables)) new) is
-    (c.forget_touched.ensures.stands aim tables (subst (AllByRecursion (IsOfUsers tables)) (sym lent) (each_remove (IsOfUsers tables) all c.args.place users))
+    subst (AllByRecursion (HasStanding to (tables_after_change one.change tables))) (sym same)
+    (subst (λ (x : Left). AllByRecursion (HasStanding to (tables_after_change x.change tables)) new) is
+    (c.forget_touched.ensures.stands to tables (subst (AllByRecursion (IsOfUsers tables)) (sym lent) (each_remove (IsOfUsers tables) all c.args.place users))
     (subst (λ (x : Left). (switch_of x.change).0 < length tables) (sym is) within)
-    (subst (AllByRecursion (HasStanding aim tables)) (sym lent) (each_remove (HasStanding aim tables) all c.args.place stands))))
+    (subst (AllByRecursion (HasStanding to tables)) (sym lent) (each_remove (HasStanding to tables) all c.args.place stands))))

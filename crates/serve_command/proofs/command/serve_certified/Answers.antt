@@ -1,5 +1,4 @@
 use Rattle.std.proofs.Common.{List, sym, subst}
-use Rattle.flow_rules.specs.Tables.{rules_of_all}
 use Rattle.update_model.specs.Mixtures.{Rollout}
 use Rattle.update_model.specs.declared.Change.{Change}
 use Rattle.certificates.specs.Updates.{rollout}
@@ -7,7 +6,7 @@ use Rattle.check_base.specs.Checks.{task_in}
 use Rattle.round_inverses.specs.Rounds.{inverse_rounds}
 use Rattle.two_way_driver.specs.Calls.{AreTurnable}
 use Rattle.serve_command.specs.Serving.{meaning_of}
-use Rattle.serve_command.proofs.PlanTables.{tables_range}
+use Rattle.plan_rules.proofs.UserRules.{tables_plan}
 use Rattle.serve_command.proofs.command.serve_certified.Goals as goal
 
 pub inverse_rounds-requires : goal.inverse_rounds-requires
@@ -21,7 +20,7 @@ serve_both_ways-status-requires g c =
       few = c.requires.valid.few_rounds;
       plan = c.requires.valid.rounds;
       count = c.each_takes_its_round_back.ensures.count u;
-      back_plan = c.inverses_are_in_range.ensures u.net u.old u.rounds (tables_range u.net c.keeps_rules.ensures u.old c.requires.old) c.requires.valid.rounds;
+      back_plan = c.inverses_are_in_range.ensures u.net u.old u.rounds (tables_plan u.net c.keeps_rules.ensures u.old c.requires.old) c.requires.valid.rounds;
       same = λ k s. c.each_takes_its_round_back.ensures.switches u k s;
     }
     in

@@ -4,7 +4,8 @@ use Rattle.round_messages.specs.Requests.{is_changed, switch_numbered}
 use Rattle.switch_session.specs.Channels.{is_open}
 use Rattle.two_way_driver.specs.PeerStates.{PeerState}
 use Rattle.two_way_driver.specs.Peers.{first_peer}
-use Rattle.two_way_driver.proofs.StepLaws.{found_from, not_first, both_fail, get_or_other}
+use Rattle.two_way_driver.proofs.StepLaws.{both_fail, get_or_other}
+use Rattle.round_messages.proofs.Marking.{found_from, not_first}
 use Rattle.two_way_driver.proofs.legs.first_not_open.Goals as goal
 use Rattle.two_way_driver.proofs.legs.first_not_open.Goals.{else-is_changed-via-then-is_changed+else-not-is_open, else-is_changed-via-else-is_changed}
 

@@ -2,7 +2,7 @@ use Rattle.std.proofs.Common.{◌≡◌, ◌-◌, not, get_or}
 use Rattle.round_messages.specs.Requests.{is_changed}
 use Rattle.switch_session.specs.Channels.{is_open}
 use Rattle.two_way_driver.specs.Peers.{first_peer}
-use Rattle.two_way_driver.proofs.StepLaws.{found_from}
+use Rattle.round_messages.proofs.Marking.{found_from}
 use Rattle.two_way_driver.proofs.legs.first_not_open.Given as goal
 
 abbrev pub invariant-loop-number : goal.invariant-loop-number

@@ -5,7 +5,8 @@ use Rattle.round_messages.specs.Requests.{switch_numbered}
 use Rattle.switch_session.specs.Channels.{ChannelState, first_channel, is_open}
 use Rattle.switch_session.specs.Seen.{ChannelView}
 use Rattle.update_driver.specs.Inside.{states_of}
-use Rattle.update_driver.proofs.StartLaws.{state_at, found_from, not_first}
+use Rattle.round_messages.proofs.Marking.{found_from, not_first}
+use Rattle.update_driver.proofs.StartLaws.{state_at}
 use Rattle.update_driver.proofs.starts.first_not_open.Goals as goal
 
 pub loop-number-preserved : goal.loop-number-preserved

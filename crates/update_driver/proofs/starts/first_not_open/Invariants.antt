@@ -2,7 +2,7 @@ use Rattle.std.proofs.Common.{◌≡◌, ◌-◌, not, length, get_or}
 use Rattle.net_base.specs.Switches.{has}
 use Rattle.switch_session.specs.Channels.{first_channel, is_open}
 use Rattle.update_driver.specs.Inside.{states_of}
-use Rattle.update_driver.proofs.StartLaws.{found_from}
+use Rattle.round_messages.proofs.Marking.{found_from}
 use Rattle.update_driver.proofs.starts.first_not_open.Given as goal
 
 abbrev pub invariant-loop-number : goal.invariant-loop-number

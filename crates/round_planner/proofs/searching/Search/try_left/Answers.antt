@@ -11,7 +11,7 @@ returns-then-is_some-clause-tried c = λ old changes user at i stands.
 
 pub returns-in-Some-clause-tried : goal.returns-in-Some-clause-tried
 returns-in-Some-clause-tried c = λ old changes user at i stands.
-    let aim = c.args.goal.now in
+    let to = c.args.goal.now in
     let change = c.args.left.now.change in
-    let (fails, here) = subst (IsTried aim old changes change c.try_change.new.self) c.in-Some.is (c.in_ok-try_change.ensures old changes user at i) in
-    ((fails_then aim (tables_after changes old) change c.in-Some.failure fails, here), fails)
+    let (fails, here) = subst (IsTried to old changes change c.try_change.new.self) c.in-Some.is (c.in_ok-try_change.ensures old changes user at i) in
+    ((fails_then to (tables_after changes old) change c.in-Some.failure fails, here), fails)

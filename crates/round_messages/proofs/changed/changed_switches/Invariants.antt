@@ -1,6 +1,6 @@
 use Rattle.std.proofs.Common.{take}
-use Rattle.update_driver.proofs.StartLaws.{HasChanged}
-use Rattle.update_driver.proofs.starts.changed_switches.Given as goal
+use Rattle.round_messages.proofs.Marking.{HasChanged}
+use Rattle.round_messages.proofs.changed.changed_switches.Given as goal
 
 abbrev pub invariant-loop-change : goal.invariant-loop-change
 invariant-loop-change l = HasChanged l.changed (take l.change-index l.changes)

@@ -1,24 +1,17 @@
--- What the rounds of an ordered plan are for.
+-- What is asked of the classes of a target, and of what the code keeps of one.
 use Rattle.std.specs.Prelude.{◌≡◌, ◌<◌, Bool, List, length}
 use Rattle.topology.specs.Networks.{Network}
 use Rattle.flow_rules.specs.Tables.{TableState, rules_of_all}
-use Rattle.flow_rules.specs.declared.rules.Rule.{Rule}
 use Rattle.path_walk.specs.UserConfigs.{IsUserConfig}
 use Rattle.dest_classes.specs.Classes.{ClassList, class_count, atom_count}
 use Rattle.dest_classes.specs.declared.Class.{Class}
-use Rattle.demands.specs.Duties.{DemandView, PacketDuties, ClassDuties, duties_of}
+use Rattle.demands.specs.Duties.{PacketDuties, ClassDuties, duties_of}
+use Rattle.table_difference.specs.Targets.{Target}
 use Rattle.class_watch.specs.Classes.{AreClasses}
 
--- what the rounds are for: a network, the new tables, demands, and the classes
-pub record Aim : Type 0 where
-  pub net : Network
-  pub new : List (List Rule)
-  pub demands : List DemandView
-  pub classes : ClassList
-
 -- what is asked of the packets of a class
-abbrev pub duties_in : Aim → Class → PacketDuties
-duties_in aim class = duties_of aim.demands class.entry class.first
+abbrev pub duties_in : Target → Class → PacketDuties
+duties_in to class = duties_of to.demands class.entry class.first
 
 -- the new tables are a user configuration, the classes are of the network, and the duties and the list are theirs
 pub record IsGoal (net : Network) (new : List TableState) (duties : ClassDuties) (classes : ClassList) (list : List Class) : Type 0 where

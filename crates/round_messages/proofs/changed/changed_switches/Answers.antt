@@ -1,7 +1,7 @@
-use Rattle.std.proofs.Common.{take, get_or, sym, subst, ◌∙◌}
-use Rattle.std.proofs.lemmas.List.{take_more, take_all}
-use Rattle.update_driver.proofs.StartLaws.{HasChanged, changed_more}
-use Rattle.update_driver.proofs.starts.changed_switches.Goals as goal
+use Rattle.std.proofs.Common.{subst}
+use Rattle.std.proofs.lemmas.List.{take_all}
+use Rattle.round_messages.proofs.Marking.{HasChanged}
+use Rattle.round_messages.proofs.changed.changed_switches.Goals as goal
 
 pub loop-change-init : goal.loop-change-init
 loop-change-init c = c.none-changed.ensures
