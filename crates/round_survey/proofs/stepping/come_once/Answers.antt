@@ -17,17 +17,17 @@ returns c =
     let u = update_of c.args.round in
     let k = c.args.round.number in
     IfOk-weaker c.are_passed_once.result _ _ (λ once told on m i.
-        subst (λ (dst : ℕ). NeverRepeats u k dst m.class.entry) (c.requires.alike m i).address
-        (told on u k c.args.class.first c.in_ok-walk_on.ensures.whole m.class.entry (c.in_ok-walk_on.ensures.kept m.class.entry (c.in_ok-put_entries.ensures.begins m i))))
+    subst (λ (dst : ℕ). NeverRepeats u k dst m.class.entry) (c.requires.alike m i).address
+    (told on u k c.args.class.first c.in_ok-walk_on.ensures.whole m.class.entry (c.in_ok-walk_on.ensures.kept m.class.entry (c.in_ok-put_entries.ensures.begins m i))))
     c.are_passed_once.ensures
 
 pub walk_on-requires-clause-so_far : goal.walk_on-requires-clause-so_far
 walk_on-requires-clause-so_far c =
     notes_none (update_of c.args.round) c.args.round.number c.args.class.first c.put_entries.new.noted
     (λ p i.
-        let (m, among, e) = c.in_ok-put_entries.ensures.each p i in
-        subst (λ (x : Place). x.switch.0 < switch_count c.args.round.net.now) (sym e)
-        (port_within c.args.round.net.now c.keeps_rules.ensures (stop_of m.class.entry) (c.requires.entries m among)))
+    let (m, among, e) = c.in_ok-put_entries.ensures.each p i in
+    subst (λ (x : Place). x.switch.0 < switch_count c.args.round.net.now) (sym e)
+    (port_within c.args.round.net.now c.keeps_rules.ensures (stop_of m.class.entry) (c.requires.entries m among)))
     c.in_ok-put_entries.ensures.steps
 
 pub are_passed_once-requires : goal.are_passed_once-requires
