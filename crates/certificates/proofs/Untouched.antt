@@ -1,11 +1,11 @@
--- Where a round changes no rule for an address, the possible outcomes are those of the tables before it.
-use Rattle.std.proofs.Common.{◌≡◌, ◌↔◌, ◌&&◌, ℕ, true, false, List, [], map, ◌∙◌, subst, ap, inl, inr}
+-- Where a round changes no rule for a packet, the possible outcomes are those of the tables before it.
+use Rattle.std.proofs.Common.{◌≡◌, ◌↔◌, ◌&&◌, ℕ, Bool, true, false, List, [], map, ◌∙◌, subst, ap, inl, inr}
 use Rattle.std.specs.Prelude.{◌==◌}
 use Rattle.std.specs.List.{AllByRecursion}
-use Rattle.std.proofs.lemmas.Bool.{both_ways, and_parts}
+use Rattle.std.proofs.lemmas.Bool.{both_ways, and_parts, cases_Bool}
 use Rattle.net_base.specs.Blocks.{in_block}
 use Rattle.net_base.specs.Members.{IsIn, IsSameSet, IsDistinct}
-use Rattle.net_base.proofs.MemberLaws.{in_filter, in_from_filter, in_from_map, in_from_subsequence, each_at}
+use Rattle.net_base.proofs.MemberLaws.{in_filter, in_from_filter, in_from_map, in_from_subsequence, each_at, each_from_in}
 use Rattle.net_base.specs.declared.ids.SwitchId.{SwitchId}
 use Rattle.net_base.specs.declared.ids.Place.{Place}
 use Rattle.flow_rules.specs.Patterns.{covers, admits_port, admits_vlan}
@@ -28,8 +28,12 @@ writes_rule r (Insert s q) w = w
 writes_rule r (Delete s q) w = absurd w
 writes_rule r (Replace s q) w = w
 
+-- no change at the place's switch covers a packet to the address there
+abbrev pub NoneCovers : Rollout → ℕ → ℕ → Place → Type 0
+NoneCovers u k dst place = AllByRecursion (λ c. covers (rule_of c).key.pattern (header_at place dst) ≡ false) (changes_at place.switch (round_after k u.rounds))
+
 module _ (u : Rollout) (k dst : ℕ) (good : IsGoodRound (tables_before u k) (round_after k u.rounds)) (clear : (s : SwitchId) (mixed : List Rule) → MayHold u k s mixed → IsClear mixed)
-    (untouched : AllByRecursion (λ c. in_block (rule_of c).key.pattern.dst dst ≡ false) (round_after k u.rounds)) (place : Place) where
+    (place : Place) (untouched : NoneCovers u k dst place) where
   -- the round at the place's switch, and the table there before it
   abbrev here : List Change
   here = changes_at place.switch (round_after k u.rounds)
@@ -37,13 +41,11 @@ module _ (u : Rollout) (k dst : ℕ) (good : IsGoodRound (tables_before u k) (ro
   abbrev before : List Rule
   before = rules_at (tables_before u k) place.switch
 
-  -- a rule that covers a packet to the address isn't named by the round
+  -- a rule that covers the packet isn't named by the round
   not_named : (r : Rule) (c : Change) → IsIn c here → covers r.key.pattern (header_at place dst) ≡ true → ¬ (r.key ≡ key_named c)
   not_named r c i covered same =
-      let in_round = in_from_filter (λ d. (switch_of d).0 == place.switch.0) c (round_after k u.rounds) i in
-      let off = each_at (λ d. in_block (rule_of d).key.pattern.dst dst ≡ false) (round_after k u.rounds) c untouched in_round.0 in
-      let on = (and_parts (admits_port r.key.pattern.in_port place.port && admits_vlan r.key.pattern.vlan place.vlan) (in_block r.key.pattern.dst dst) covered).1 in
-      both_ways (in_block (rule_of c).key.pattern.dst dst) off (subst (λ x. in_block x.pattern.dst dst ≡ true) same on)
+      let off = each_at (λ d. covers (rule_of d).key.pattern (header_at place dst) ≡ false) here c untouched i in
+      both_ways (covers (rule_of c).key.pattern (header_at place dst)) off (subst (λ x. covers x.pattern (header_at place dst) ≡ true) same covered)
 
   module _ (mixed : List Rule) (held : MayHold u k place.switch mixed) where
     applies : AllByRecursion (AppliesTo before) held.made
@@ -75,10 +77,30 @@ module _ (u : Rollout) (k dst : ℕ) (good : IsGoodRound (tables_before u k) (ro
   unchanged_held : MayHold u k place.switch before
   unchanged_held = record { made = []; some = tt; same = λ r. (λ i. i, λ i. i) }
 
-  pub unchanged : (found : Outcome) → IsPossible u k dst place found ↔ (found ≡ outcome_in u.net (tables_before u k) place dst)
-  unchanged found = (
+  -- so only the outcome in the tables before the round is possible there
+  pub unchanged_at : (found : Outcome) → IsPossible u k dst place found ↔ (found ≡ outcome_in u.net (tables_before u k) place dst)
+  unchanged_at found = (
     λ possible. possible.is ∙ ap (acted u.net place)
         (lookup_by_set (header_at place dst) possible.mixed before (clear place.switch possible.mixed possible.held) (clear place.switch before unchanged_held)
         (same_covering possible.mixed possible.held)),
     λ e. record { mixed = before; held = unchanged_held; is = e },
   )
+
+-- so it is everywhere where no change's prefix holds the address
+module _ (u : Rollout) (k dst : ℕ) (good : IsGoodRound (tables_before u k) (round_after k u.rounds)) (clear : (s : SwitchId) (mixed : List Rule) → MayHold u k s mixed → IsClear mixed)
+    (untouched : AllByRecursion (λ c. in_block (rule_of c).key.pattern.dst dst ≡ false) (round_after k u.rounds)) (place : Place) where
+  abbrev covers_here : Change → Bool
+  covers_here c = covers (rule_of c).key.pattern (header_at place dst)
+
+  not_covered : (c : Change) → IsIn c (changes_at place.switch (round_after k u.rounds)) → covers_here c ≡ false
+  not_covered c i =
+      let p = (rule_of c).key.pattern in
+      let in_round = in_from_filter (λ d. (switch_of d).0 == place.switch.0) c (round_after k u.rounds) i in
+      let off = each_at (λ d. in_block (rule_of d).key.pattern.dst dst ≡ false) (round_after k u.rounds) c untouched in_round.0 in
+      elim (cases_Bool (covers_here c)) [
+        | inl on ↦ absurd (both_ways (in_block p.dst dst) off (and_parts (admits_port p.in_port place.port && admits_vlan p.vlan place.vlan) (in_block p.dst dst) on).1)
+        | inr none ↦ none
+      ]
+
+  pub unchanged : (found : Outcome) → IsPossible u k dst place found ↔ (found ≡ outcome_in u.net (tables_before u k) place dst)
+  unchanged = unchanged_at u k dst good clear place (each_from_in (λ c. covers_here c ≡ false) (changes_at place.switch (round_after k u.rounds)) not_covered)

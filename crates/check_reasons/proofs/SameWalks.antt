@@ -1,30 +1,19 @@
 -- What a packet may meet on the walks of one round, in another round: the walks of both, and what keeps them safe.
-use Rattle.std.proofs.Common.{◌≡◌, ◌↔◌, ℕ, suc, ◌<◌, true, false, List, [], ◌∷◌, length, map, ◌∙◌, subst, ap, inl, inr}
-use Rattle.std.specs.List.{AllByRecursion}
-use Rattle.std.proofs.lemmas.Bool.{both_ways}
-use Rattle.net_base.specs.Members.{IsIn, IsSameSet, IsDistinct}
+use Rattle.std.proofs.Common.{◌≡◌, ◌↔◌, ℕ, suc, ◌<◌, List, [], ◌∷◌, length, ◌∙◌, subst, ap}
 use Rattle.net_base.specs.Walks.{IsWalk, end_of}
 use Rattle.net_base.specs.declared.ids.SwitchId.{SwitchId}
 use Rattle.net_base.specs.declared.ids.Place.{Place}
-use Rattle.net_base.proofs.MemberLaws.{IsSubsequence_refl, each_at, each_weaker, in_filter, in_from_filter, in_from_map, in_from_subsequence}
+use Rattle.net_base.proofs.MemberLaws.{IsSubsequence_refl, each_weaker}
 use Rattle.net_base.proofs.WalkLaws.{reached_start, reached_more}
-use Rattle.flow_rules.specs.Patterns.{covers}
-use Rattle.flow_rules.specs.Tables.{IsClear, rules_at, covering}
-use Rattle.flow_rules.specs.declared.rules.Rule.{Rule}
-use Rattle.flow_rules.proofs.LookupLaws.{lookup_by_set}
-use Rattle.path_walk.specs.Outcomes.{acted, header_at, outcome}
+use Rattle.flow_rules.specs.Tables.{rules_at}
+use Rattle.path_walk.specs.Outcomes.{outcome}
 use Rattle.path_walk.specs.Paths.{outcome_in}
 use Rattle.path_walk.specs.declared.Outcome.{Outcome}
 use Rattle.path_walk.specs.declared.Outcome.TheVariants.{Discard, Leave, Go}
 use Rattle.waypoint_evidence.specs.Befores.{IsGuard}
 use Rattle.demands.specs.Duties.{PacketDuties}
-use Rattle.update_model.specs.Changes.{rule_of, AppliesTo, IsGoodRound, changes_at, rules_after, round_after}
-use Rattle.update_model.specs.Mixtures.{Rollout, tables_before, IsPossible, MayHold, MayGo, IsOnMixedWalk}
-use Rattle.update_model.proofs.Matches.{Writes}
-use Rattle.update_model.specs.declared.Change.{Change}
-use Rattle.update_model.specs.declared.Change.TheVariants.{Insert, Delete, Replace}
-use Rattle.update_model.proofs.ChangeLaws.{key_named, stands_all_from_in, in_from_stands_all}
-use Rattle.update_model.proofs.MadeLaws.{distinct_some, keys_distinct, apply_there, each_some}
+use Rattle.update_model.specs.Changes.{IsGoodRound, changes_at, rules_after, round_after}
+use Rattle.update_model.specs.Mixtures.{Rollout, tables_before, IsPossible, MayGo, IsOnMixedWalk}
 use Rattle.update_model.proofs.OneRoundLaws.{next_tables}
 use Rattle.certificates.specs.Steps.{IsMixedStep, MayLeave, MayDrop}
 use Rattle.certificates.specs.Ordered.{Position, positions, IsSafe}
@@ -134,71 +123,6 @@ module _ (u v : Rollout) (k j dst : ℕ) (entry : Place)
   same_safe duties numbers sets = (
     safe_by v u j k dst entry still_step still_leaving still_dropping duties numbers sets,
     was_safe u v k j dst entry was duties numbers sets,
-  )
-
--- ---- a place where no change of the round covers a packet
-
-writes_rule : (r : Rule) (c : Change) → Writes r c → r ≡ rule_of c
-writes_rule r (Insert s q) w = w
-writes_rule r (Delete s q) w = absurd w
-writes_rule r (Replace s q) w = w
-
--- no change at the place's switch covers a packet to the address there
-abbrev pub NoneCovers : Rollout → ℕ → ℕ → Place → Type 0
-NoneCovers u k dst place = AllByRecursion (λ c. covers (rule_of c).key.pattern (header_at place dst) ≡ false) (changes_at place.switch (round_after k u.rounds))
-
-module _ (u : Rollout) (k dst : ℕ) (good : IsGoodRound (tables_before u k) (round_after k u.rounds)) (clear : (s : SwitchId) (mixed : List Rule) → MayHold u k s mixed → IsClear mixed)
-    (place : Place) (untouched : NoneCovers u k dst place) where
-  -- the round at the place's switch, and the table there before it
-  abbrev here : List Change
-  here = changes_at place.switch (round_after k u.rounds)
-
-  abbrev before : List Rule
-  before = rules_at (tables_before u k) place.switch
-
-  -- a rule that covers the packet isn't named by the round
-  not_named : (r : Rule) (c : Change) → IsIn c here → covers r.key.pattern (header_at place dst) ≡ true → ¬ (r.key ≡ key_named c)
-  not_named r c i covered same =
-      let off = each_at (λ d. covers (rule_of d).key.pattern (header_at place dst) ≡ false) here c untouched i in
-      both_ways (covers (rule_of c).key.pattern (header_at place dst)) off (subst (λ x. covers x.pattern (header_at place dst) ≡ true) same covered)
-
-  module _ (mixed : List Rule) (held : MayHold u k place.switch mixed) where
-    applies : AllByRecursion (AppliesTo before) held.made
-    applies = each_some (AppliesTo before) held.made here held.some (apply_there (tables_before u k) place.switch (round_after k u.rounds) good.applies)
-
-    distinct : IsDistinct (map key_named held.made)
-    distinct = distinct_some key_named held.made here held.some (keys_distinct place.switch (round_after k u.rounds) good.distinct)
-
-    same_covering : IsSameSet (covering (header_at place dst) mixed) (covering (header_at place dst) before)
-    same_covering r = (
-      λ i.
-          let (j, covered) = in_from_filter (λ q. covers q.key.pattern (header_at place dst)) r mixed i in
-          elim (stands_all_from_in before held.made r applies distinct ((held.same r).0 j)) [
-            | inl h ↦ in_filter (λ q. covers q.key.pattern (header_at place dst)) r before h.0 covered
-            | inr w ↦ absurd (not_named r w.0 (in_from_subsequence w.0 held.made here held.some w.1) covered (ap (λ q. q.key) (writes_rule r w.0 w.2)))
-          ],
-      λ i.
-          let (j, covered) = in_from_filter (λ q. covers q.key.pattern (header_at place dst)) r before i in
-          in_filter (λ q. covers q.key.pattern (header_at place dst)) r mixed
-          ((held.same r).1 (in_from_stands_all before held.made r applies distinct (inl (
-            j,
-            λ n.
-                let (c, m, e) = in_from_map key_named r.key held.made n in
-                not_named r c (in_from_subsequence c held.made here held.some m) covered e,
-          )))) covered,
-    )
-
-  -- the table before the round is a mixture
-  unchanged_held : MayHold u k place.switch before
-  unchanged_held = record { made = []; some = tt; same = λ r. (λ i. i, λ i. i) }
-
-  -- so only the outcome in the tables before the round is possible there
-  pub unchanged_at : (found : Outcome) → IsPossible u k dst place found ↔ (found ≡ outcome_in u.net (tables_before u k) place dst)
-  unchanged_at found = (
-    λ possible. possible.is ∙ ap (acted u.net place)
-        (lookup_by_set (header_at place dst) possible.mixed before (clear place.switch possible.mixed possible.held) (clear place.switch before unchanged_held)
-        (same_covering possible.mixed possible.held)),
-    λ e. record { mixed = before; held = unchanged_held; is = e },
   )
 
 -- the outcome in the tables before a round was possible in the round before, after all of its changes

@@ -22,9 +22,10 @@ use Rattle.update_model.specs.Mixtures.{Rollout, tables_before, MayBe, MayHold, 
 use Rattle.update_model.specs.declared.Change.{Change}
 use Rattle.update_model.proofs.OneRoundLaws.{next_tables}
 use Rattle.certificates.specs.Ordered.{IsSafe}
+use Rattle.certificates.proofs.Untouched.{NoneCovers, unchanged_at}
 use Rattle.check_reasons.specs.Touched.{touches, may_cover}
 use Rattle.check_reasons.proofs.TouchLaws.{not_covered}
-use Rattle.check_reasons.proofs.SameWalks.{was_on_walk, was_safe, same_on_walk, same_safe, NoneCovers, unchanged_at}
+use Rattle.check_reasons.proofs.SameWalks.{was_on_walk, was_safe, same_on_walk, same_safe}
 use Rattle.mixed_walks.specs.Walks.{KeepVlansUpTo, TablesKeepVlans}
 use Rattle.mixed_walks.proofs.PlaceLaws.{on_walk_in, on_walk_vlan, places_within}
 use Rattle.net_base.specs.Switches.{has}

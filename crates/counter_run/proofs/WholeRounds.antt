@@ -21,7 +21,7 @@ use Rattle.update_model.specs.declared.Phase.TheVariants.{Settled, Running}
 use Rattle.update_model.proofs.RoundLaws.{settled_start, settled_next}
 use Rattle.schedule_pilot.specs.Offered.{counted}
 use Rattle.counter_run.specs.Showing.{whole_round, whole_rounds}
-use Rattle.round_faults.proofs.RestLaws.{good_rest}
+use Rattle.update_model.proofs.RestLaws.{good_rest}
 
 -- a state without packets in which so many rounds are settled
 abbrev resting : ℕ → List (List Rule) → List Bool → State

@@ -1,22 +1,22 @@
 -- Where each switch is prepared for a round, what the round's other reasons are, and that it passes where there is none.
-use Rattle.std.proofs.Common.{◌≡◌, ◌⊎◌, ℕ, suc, ◌<◌, ◌≤◌, Bool, true, false, cond, List, [], ◌∷◌, ◌++◌, length, map, refl, sym, ◌∙◌, subst, ap, inl, inr, arith}
-use Rattle.std.specs.Prelude.{◌==◌, filter, Option, Some, None, IsSomeAnd, IfSome}
-use Rattle.std.proofs.lemmas.Bool.{eq-eqb, cases_lt, cond-true}
+use Rattle.std.proofs.Common.{◌≡◌, ◌⊎◌, ℕ, suc, ◌<◌, ◌≤◌, List, [], ◌∷◌, ◌++◌, length, refl, sym, ◌∙◌, subst, ap, inl, inr, arith}
+use Rattle.std.specs.Prelude.{filter, Option, Some, None, IsSomeAnd, IfSome}
+use Rattle.std.proofs.lemmas.Bool.{cases_lt}
 use Rattle.std.proofs.lemmas.List.{get_or_past}
 use Rattle.std.proofs.lemmas.Option.{get_or_from_slice_get, slice_get_within}
 use Rattle.net_base.specs.Members.{IsIn, IsSubsequence}
-use Rattle.net_base.proofs.MemberLaws.{in_map, in_from_map, in_filter, each_at, each_append, in_append_cases, in_append_left, in_append_right}
+use Rattle.net_base.proofs.MemberLaws.{each_at, each_append, in_append_cases, in_append_left, in_append_right}
 use Rattle.net_base.specs.declared.ids.SwitchId.{SwitchId}
 use Rattle.topology.specs.Networks.{switch_count, capacity_of}
 use Rattle.flow_rules.specs.Tables.{rules_at}
 use Rattle.flow_rules.specs.declared.rules.Rule.{Rule}
-use Rattle.update_model.specs.Changes.{switch_of, rule_of, EntryName, entry_named, changes_at, round_after, rules_after, IsGoodRound}
+use Rattle.update_model.specs.Changes.{switch_of, rule_of, changes_at, round_after, rules_after}
 use Rattle.update_model.specs.Mixtures.{tables_before, need_of, is_insert}
 use Rattle.update_model.specs.declared.Change.{Change}
-use Rattle.update_model.proofs.ChangeLaws.{key_named}
 use Rattle.round_mix.specs.Prepared.{MixedState, AreGood, AreClear, IsPrepared}
 use Rattle.round_mix.specs.declared.MarkedRule.{MarkedRule}
 use Rattle.round_mix.proofs.ClearLaws.{prepared_needed}
+use Rattle.round_mix.proofs.RoundLaws.{good_round}
 use Rattle.certificates.specs.Updates.{Task, rollout}
 use Rattle.certificates.specs.Certified.{KeepsVlan}
 use Rattle.certificates.specs.declared.OrderedEvidence.{OrderedEvidence}
@@ -73,30 +73,6 @@ rewrite_more round best c w found rewrites one given so_far =
     first : (best : Option SwitchId) → IsRewriteFound round best → IfSome best (λ b. w.0 ≤ b.0) → (o : Change) → IsIn o (round ++ c ∷ []) → (switch_of o).0 < w.0 → KeepsVlan (rule_of o).action
     first None all lower o i less = elim (in_append_cases o round (c ∷ []) i) [ inl j ↦ each_at (λ (d : Change). KeepsVlan (rule_of d).action) round o all j | inr j ↦ absurd (last o j less) ]
     first (Some b) found lower o i less = elim (in_append_cases o round (c ∷ []) i) [ inl j ↦ found.first o j (omega arith) | inr j ↦ absurd (last o j less) ]
-
--- the changes at a switch without those of the first change
-good_tail : (rules : List Rule) (b : Bool) (c : Change) (cs : List Change) → AreGood rules (cond b (c ∷ cs) cs) → AreGood rules cs
-good_tail rules true c cs good = record { applies = good.applies.1; distinct = good.distinct.1 }
-good_tail rules false c cs good = good
-
--- changes that are good at each switch are a good round
-pub good_round : (tables : List (List Rule)) (round : List Change) → AreWithin (length tables) round → ((s : SwitchId) → AreGood (rules_at tables s) (changes_at s round)) → IsGoodRound tables round
-good_round tables [] within good = record { applies = tt; distinct = tt }
-good_round tables (c ∷ cs) within good =
-    let s = switch_of c in
-    let rest = good_round tables cs within.1 (λ o. good_tail (rules_at tables o) ((switch_of c).0 == o.0) c (changes_at o cs) (good o)) in
-    let here : AreGood (rules_at tables s) (c ∷ changes_at s cs) =
-    subst (AreGood (rules_at tables s)) (cond-true ((switch_of c).0 == s.0) (c ∷ changes_at s cs) (changes_at s cs) (eq-eqb s.0 s.0 refl)) (good s) in
-    record {
-      applies = ((within.0, here.applies.0), rest.applies);
-      distinct = (
-        λ i.
-            let (d, j, e) = in_from_map entry_named (entry_named c) cs i in
-            let there : IsIn d (changes_at s cs) = in_filter (λ x. (switch_of x).0 == s.0) d cs j (eq-eqb _ _ (sym (ap (λ (n : EntryName). n.switch.0) e))) in
-            here.distinct.0 (subst (λ k. IsIn k (map key_named (changes_at s cs))) (sym (ap (λ (n : EntryName). n.key) e)) (in_map key_named d (changes_at s cs) there)),
-        rest.distinct,
-      );
-    }
 
 -- a reason of an ordered plan
 ordered_reason : (t : Task) (evidence : Evidence) (i : ℕ) (r : Reason) → IsOrdered evidence → ((e : OrderedEvidence) → IsOrderedReason t e i r) → IsReason t evidence i r

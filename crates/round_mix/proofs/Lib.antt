@@ -23,3 +23,4 @@ pub mod AmongLaws
 pub mod NearestLaws
 pub mod SweepLaws
 pub mod UnclearLaws
+pub mod RoundLaws

@@ -31,7 +31,8 @@ use Rattle.class_watch.specs.Walks.{meets}
 use Rattle.class_watch.specs.Alike.{covering_changes, AreAlike}
 use Rattle.class_watch.proofs.StandLaws.{alike_walks, alike_safe}
 use Rattle.table_difference.specs.Targets.{Target}
-use Rattle.round_trials.proofs.FitLaws.{at_more, part_longer, more_here, more_there, within_good}
+use Rattle.round_mix.proofs.RoundLaws.{within_good}
+use Rattle.round_trials.proofs.FitLaws.{at_more, part_longer, more_here, more_there}
 use Rattle.round_packer.specs.Kept.{HoldsClass, IsKept}
 
 -- a change that doesn't cover a header isn't among those that do

@@ -1,25 +1,25 @@
 -- One more change of a round, one less, and all of them made: whether they fit the tables.
-use Rattle.std.proofs.Common.{◌≡◌, ◌≢◌, ℕ, ◌+◌, ◌<◌, ◌≤◌, Bool, true, false, cond, List, [], ◌∷◌, ◌++◌, suc, length, map, refl, sym, ◌∙◌, subst, ap, inl, inr, arith, length-set, append-nil}
+use Rattle.std.proofs.Common.{◌≡◌, ◌≢◌, ℕ, ◌+◌, ◌<◌, ◌≤◌, true, false, cond, List, [], ◌∷◌, ◌++◌, suc, length, map, refl, sym, ◌∙◌, subst, ap, inl, inr, arith, append-nil}
 use Rattle.std.specs.Prelude.{◌==◌, filter, zero, take, slice_get, Some, None}
-use Rattle.std.specs.List.{AllByRecursion}
-use Rattle.std.proofs.lemmas.Bool.{eq-eqb, ne_eqb, cases_eq, cond-true, cond-false}
+use Rattle.std.proofs.lemmas.Bool.{cases_eq}
 use Rattle.net_base.specs.Members.{IsIn, IsDistinct, IsSubsequence}
 use Rattle.net_base.proofs.ItemLaws.{in_from_get}
-use Rattle.net_base.proofs.MemberLaws.{IsSubsequence_refl, in_map, in_from_map, in_filter, each_append, each_at, each_from_in}
+use Rattle.net_base.proofs.MemberLaws.{IsSubsequence_refl, in_map, each_append, each_at}
 use Rattle.net_base.specs.declared.ids.SwitchId.{SwitchId}
 use Rattle.topology.specs.Networks.{Network, switch_count, capacity_of}
 use Rattle.flow_rules.specs.Tables.{IsClear, rules_at}
 use Rattle.flow_rules.specs.declared.rules.Rule.{Rule}
-use Rattle.update_model.specs.Changes.{switch_of, EntryName, entry_named, changes_at, AppliesTo, tables_after, tables_after_change, Applies, IsGoodRound}
+use Rattle.update_model.specs.Changes.{switch_of, entry_named, changes_at, AppliesTo, tables_after, Applies}
 use Rattle.update_model.specs.Mixtures.{IsMixture, entries_needed, is_insert}
 use Rattle.update_model.specs.declared.Change.{Change}
-use Rattle.update_model.proofs.ChangeLaws.{IsWithin, key_named, applies_kept, rules_at-after, rules_at-after_change}
-use Rattle.update_model.proofs.MadeLaws.{apply_there, keys_distinct, distinct_some, each_some, same_entry}
+use Rattle.update_model.proofs.ChangeLaws.{IsWithin, key_named, rules_at-after}
+use Rattle.update_model.proofs.MadeLaws.{distinct_some, each_some}
 use Rattle.round_mix.specs.Prepared.{AreGood}
 use Rattle.round_mix.specs.Faults.{IsFault}
 use Rattle.round_mix.specs.declared.MixFault.{MixFault}
 use Rattle.round_mix.specs.declared.MixFault.TheVariants.{BadChange, Ambiguous}
 use Rattle.round_mix.proofs.TriedLaws.{clear_none}
+use Rattle.round_mix.proofs.RoundLaws.{good_round, good_there, within_good}
 use Rattle.round_tables.proofs.ApplyLaws.{rules_few}
 use Rattle.round_tables.proofs.TrialLaws.{changes_here, changes_there}
 use Rattle.round_trials.specs.Filling.{FitTables, FitTable}
@@ -52,65 +52,6 @@ each_more round c P here there s =
   where
     switch_same : (s t : SwitchId) → s.0 ≡ t.0 → s ≡ t
     switch_same s t e = ap (λ (n : ℕ). let x : SwitchId = record { 0 = n } in x) e
-
--- ---- good rounds, switch by switch
-
--- the changes at a switch without those of the first change
-good_tail : (rules : List Rule) (b : Bool) (c : Change) (cs : List Change) → AreGood rules (cond b (c ∷ cs) cs) → AreGood rules cs
-good_tail rules true c cs good = record { applies = good.applies.1; distinct = good.distinct.1 }
-good_tail rules false c cs good = good
-
--- changes that are good at each switch are a good round
-good_round : (tables : List (List Rule)) (round : List Change) → AllByRecursion (IsWithin (length tables)) round → ((s : SwitchId) → AreGood (rules_at tables s) (changes_at s round))
-    → IsGoodRound tables round
-good_round tables [] within good = record { applies = tt; distinct = tt }
-good_round tables (c ∷ cs) within good =
-    let s = switch_of c in
-    let rest = good_round tables cs within.1 (λ o. good_tail (rules_at tables o) ((switch_of c).0 == o.0) c (changes_at o cs) (good o)) in
-    let here : AreGood (rules_at tables s) (c ∷ changes_at s cs) =
-    subst (AreGood (rules_at tables s)) (cond-true ((switch_of c).0 == s.0) (c ∷ changes_at s cs) (changes_at s cs) (eq-eqb s.0 s.0 refl)) (good s) in
-    record {
-      applies = ((within.0, here.applies.0), rest.applies);
-      distinct = (
-        λ i.
-            let (d, j, e) = in_from_map entry_named (entry_named c) cs i in
-            let there : IsIn d (changes_at s cs) = in_filter (λ x. (switch_of x).0 == s.0) d cs j (eq-eqb _ _ (sym (ap (λ (n : EntryName). n.switch.0) e))) in
-            here.distinct.0 (subst (λ k. IsIn k (map key_named (changes_at s cs))) (sym (ap (λ (n : EntryName). n.key) e)) (in_map key_named d (changes_at s cs) there)),
-        rest.distinct,
-      );
-    }
-
--- each change of a good round is at a switch of the tables
-pub within_good : (tables : List (List Rule)) (round : List Change) → AllByRecursion (Applies tables) round → AllByRecursion (IsWithin (length tables)) round
-within_good tables [] applies = tt
-within_good tables (c ∷ round) applies = (applies.0.0, within_good tables round applies.1)
-
--- the changes of a good round at a switch are good
-pub good_there : (tables : List (List Rule)) (round : List Change) (s : SwitchId) → IsGoodRound tables round → AreGood (rules_at tables s) (changes_at s round)
-good_there tables round s good = record { applies = apply_there tables s round good.applies; distinct = keys_distinct s round good.distinct }
-
--- a change still applies to the tables after one that names another entry
-applies_next : (tables : List (List Rule)) (c d : Change) → Applies tables c → Applies tables d → ¬ (entry_named d ≡ entry_named c) → Applies (tables_after_change c tables) d
-applies_next tables c d first second differ =
-    let table = rules_at-after_change c tables (switch_of d) first.0 in (
-      subst (λ (n : ℕ). (switch_of d).0 < n) (sym (length-set tables (switch_of c).0 _)) second.0,
-      elim (cases_eq (switch_of c).0 (switch_of d).0) [
-        | inl e ↦ (
-            let same : switch_of c ≡ switch_of d = ap (λ (n : ℕ). let x : SwitchId = record { 0 = n } in x) e in
-            subst (λ (rs : List Rule). AppliesTo rs d) (sym (table ∙ cond-true ((switch_of c).0 == (switch_of d).0) _ _ (eq-eqb _ _ e)))
-            (applies_kept (rules_at tables (switch_of d)) c d (subst (λ (x : SwitchId). AppliesTo (rules_at tables x) c) same first.1) second.1
-            (λ k. differ (same_entry d c (sym e) k))))
-        | inr ne ↦ subst (λ (rs : List Rule). AppliesTo rs d) (sym (table ∙ cond-false ((switch_of c).0 == (switch_of d).0) _ _ (ne_eqb _ _ ne))) second.1
-      ],
-    )
-
--- the rest of a good round is good after its first change
-pub good_rest : (tables : List (List Rule)) (c : Change) (cs : List Change) → IsGoodRound tables (c ∷ cs) → IsGoodRound (tables_after_change c tables) cs
-good_rest tables c cs good = record {
-  applies = each_from_in (Applies (tables_after_change c tables)) cs (λ d i. applies_next tables c d good.applies.0 (each_at (Applies tables) cs d good.applies.1 i)
-      (λ e. good.distinct.0 (subst (λ n. IsIn n (map entry_named cs)) e (in_map entry_named d cs i))));
-  distinct = good.distinct.1;
-}
 
 -- ---- fitting
 

@@ -1,7 +1,8 @@
 use Rattle.std.proofs.Common.{◌≡◌, ◌+◌, ◌<◌, length, drop, sym, ap, ◌∙◌, subst, arith}
 use Rattle.flow_rules.specs.Tables.{rules_of_all}
 use Rattle.update_model.specs.Changes.{tables_after, tables_after_change, IsGoodRound}
-use Rattle.round_inverses.proofs.GoodLaws.{front, good_rest}
+use Rattle.update_model.proofs.RestLaws.{good_rest}
+use Rattle.round_inverses.proofs.GoodLaws.{front}
 use Rattle.round_inverses.proofs.inverses.apply_round.Goals as goal
 
 pub loop-change-preserved : goal.loop-change-preserved

@@ -4,7 +4,7 @@ use Rattle.flow_rules.specs.Tables.{rules_of_all}
 use Rattle.flow_rules.specs.declared.rules.Rule.{Rule}
 use Rattle.update_model.specs.Changes.{tables_after, tables_after_change, IsGoodRound}
 use Rattle.update_model.specs.declared.Change.{Change}
-use Rattle.round_trials.proofs.FitLaws.{good_rest}
+use Rattle.update_model.proofs.RestLaws.{good_rest}
 use Rattle.round_trials.proofs.preparing.change_all.Goals as goal
 
 pub loop-change-preserved : goal.loop-change-preserved
