@@ -2,9 +2,11 @@ pub mod TableLaws
 pub mod GatherLaws
 pub mod EndLaws
 pub mod LoadLaws
+pub mod OutsideLaws
 pub mod FaultLaws
 pub mod ApplyLaws
 pub mod AloneLaws
 pub mod TrialLaws
 pub mod ByKindLaws
 pub mod RoomLaws
+pub mod SoundLaws

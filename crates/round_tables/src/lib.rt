@@ -11,8 +11,10 @@ mod over;
 mod prepared;
 mod rollout;
 mod room;
+mod sound;
 mod trials;
 
 pub use loading::RoundFault;
 pub use prepared::PreparedTables;
 pub use rollout::Rollout;
+pub use sound::{SoundFault, sound_rounds};
