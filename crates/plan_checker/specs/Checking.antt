@@ -1,14 +1,12 @@
 -- How far a check has come.
-use Rattle.std.specs.Prelude.{◌≡◌, ℕ, suc, ◌<◌, length, if◌then◌else◌}
+use Rattle.std.specs.Prelude.{◌≡◌, ℕ, suc, ◌<◌, length}
 use Rattle.net_base.specs.Members.{IsSameSet}
 use Rattle.net_base.specs.declared.ids.SwitchId.{SwitchId}
 use Rattle.flow_rules.specs.Tables.{rules_at}
-use Rattle.path_walk.specs.UserConfigs.{IsUserConfig}
 use Rattle.demands.specs.Good.{HasGoodPaths}
 use Rattle.update_model.specs.Mixtures.{tables_before}
 use Rattle.certificates.specs.Updates.{Task, rollout}
 use Rattle.certificates.specs.Certified.{classes_for}
-use Rattle.certificates.specs.Valid.{IsValidPlan}
 use Rattle.certificates.specs.declared.Evidence.{Evidence}
 use Rattle.certificates.specs.declared.Evidence.TheVariants.{Ordered, TwoPhase}
 use Rattle.check_reasons.specs.Cases.{CaseView}
