@@ -2,9 +2,9 @@ use Rattle.std.proofs.Common.{arith}
 use Rattle.std.proofs.lemmas.Result.{IfOk-weaker}
 use Rattle.serde_json.specs.View.{view}
 use Rattle.flow_rules.specs.Tables.{rules_of_all}
-use Rattle.flow_stats.proofs.Shallow.{config_flat}
-use Rattle.flow_stats.proofs.ConfigAgain.{text_again}
-use Rattle.flow_stats.proofs.write.config_text.Goals as goal
+use Rattle.config_files.proofs.Shallow.{config_flat}
+use Rattle.config_files.proofs.ConfigAgain.{text_again}
+use Rattle.config_files.proofs.write.config_text.Goals as goal
 
 pub write_line-requires-clause-no_float : goal.write_line-requires-clause-no_float
 write_line-requires-clause-no_float c = rw c.in_ok-config_value.ensures (config_flat c.args.net.now (rules_of_all c.args.config.now)).no_float

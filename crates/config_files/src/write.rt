@@ -7,7 +7,8 @@ ghost use Rattle.topology.specs.Networks.{switch_count};
 ghost use Rattle.flow_rules.specs.Tables.{rules_of_all};
 ghost use Rattle.path_walk.specs.UserConfigs.{IsUserConfig};
 ghost use Rattle.config_files.specs.Configuration.{configuration_in};
-ghost use Rattle.flow_stats.specs.ConfigText as texts;
+ghost use Rattle.config_files.specs.RuleTrees as trees;
+ghost use Rattle.config_files.specs.ConfigText as texts;
 
 use flat_json::write_line;
 use flow_rules::{Action, Config, Rule, VlanTest};
@@ -24,7 +25,7 @@ fn put_some(
     value: Option<Value>,
 ) -> Result<(), Memory>
     ensures { OnOk result (members_view members.new.entries
-        ≡ texts.put_some name.now (option_map view value) (members_view members.old.entries)) }
+        ≡ trees.put_some name.now (option_map view value) (members_view members.old.entries)) }
 {
     match value {
         Some(value) => Ok(put(members, alloc, name, value)?),
@@ -47,7 +48,7 @@ fn name_of(net: &Net, switch: SwitchId) -> &str
 }
 
 fn in_port_value(port: Option<Port>) -> Option<Value>
-    ensures { option_map view result ≡ texts.in_port_tree port }
+    ensures { option_map view result ≡ trees.in_port_tree port }
 {
     match port {
         Some(port) => Some(Value::from(port.0)),
@@ -56,7 +57,7 @@ fn in_port_value(port: Option<Port>) -> Option<Value>
 }
 
 fn test_value(alloc: Global, test: VlanTest) -> Result<Option<Value>, Memory>
-    ensures { IfOk result (λ v. option_map view v ≡ texts.test_tree test) }
+    ensures { IfOk result (λ v. option_map view v ≡ trees.test_tree test) }
 {
     match test {
         VlanTest::Any => Ok(None),
@@ -66,7 +67,7 @@ fn test_value(alloc: Global, test: VlanTest) -> Result<Option<Value>, Memory>
 }
 
 fn out_value(alloc: Global, action: Action) -> Result<Value, Memory>
-    ensures { IfOk result (λ v. view v ≡ texts.out_tree action) }
+    ensures { IfOk result (λ v. view v ≡ trees.out_tree action) }
 {
     match action {
         Action::Discard => Ok(Value::try_from_str(alloc, "drop")?),
@@ -150,7 +151,7 @@ fn rule_values(alloc: Global, net: &Net, config: &Config) -> Result<Vec<Value>, 
 fn rules_value(alloc: Global, net: &Net, config: &Config) -> Result<Value, Memory>
     requires { length config.now ≡ switch_count net.now }
     ensures { IfOk result (λ v. view v
-        ≡ texts.list_tree (texts.rule_trees net.now 0 (rules_of_all config.now))) }
+        ≡ trees.list_tree (texts.rule_trees net.now 0 (rules_of_all config.now))) }
 {
     Ok(Value::Array(rule_values(alloc, net, config)?))
 }

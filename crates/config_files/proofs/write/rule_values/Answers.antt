@@ -1,6 +1,6 @@
 use Rattle.std.proofs.Common.{◌<◌, ◌≤◌, length, ◌∙◌}
-use Rattle.flow_stats.proofs.RuleTrees.{trees_added, all_trees}
-use Rattle.flow_stats.proofs.write.rule_values.Goals as goal
+use Rattle.config_files.proofs.RuleTrees.{trees_added, all_trees}
+use Rattle.config_files.proofs.write.rule_values.Goals as goal
 
 pub loop-s-preserved : goal.loop-s-preserved
 loop-s-preserved c =

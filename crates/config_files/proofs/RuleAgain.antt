@@ -1,22 +1,18 @@
 -- A rule that is written is read again.
-use Rattle.std.proofs.Common.{◌≡◌, ℕ, zero, suc, ◌<◌, true, false, List, [], ◌∷◌, length, get_or, codes, Option, Some, None, Ok, refl, sym, ap, subst, inl, inr, ◌∙◌, arith}
-use Rattle.std.specs.List.{position_or_len}
+use Rattle.std.proofs.Common.{◌≡◌, ℕ, ◌<◌, true, false, List, [], length, get_or, codes, Option, Some, None, Ok, refl, sym, ap, ◌∙◌}
 use Rattle.std.specs.Str.{bytes_eq}
-use Rattle.std.proofs.lemmas.Bool.{le-leb, lt-ltb, false≢true, false_from_ne_true}
-use Rattle.std.proofs.lemmas.Slice.Eq.{bytes_eq-Decides}
-use Rattle.serde_json.specs.Data.{Data, string, Members, no_members, put}
+use Rattle.std.proofs.lemmas.Bool.{le-leb, lt-ltb, false_from_ne_true}
 use Rattle.serde_json.specs.Find.{get_member}
-use Rattle.serde_json.proofs.Views.{get_member-put, get_member-put_other}
-use Rattle.net_base.specs.Members.{IsIn, IsDistinct}
+use Rattle.net_base.specs.Members.{IsDistinct}
 use Rattle.net_base.specs.declared.field.Field.{Field}
 use Rattle.net_base.specs.declared.field.Field.TheVariants as field
 use Rattle.net_base.specs.declared.ids.Port.{Port}
 use Rattle.net_base.specs.declared.ids.SwitchId.{SwitchId}
-use Rattle.net_base.specs.Text.{prefix_text}
 use Rattle.net_base.proofs.Prefixes.{prefix_in-text}
 use Rattle.topology.specs.Networks.{Network, switch_count, switch_named, IsUsed, is_used, is_tag, used_ports}
 use Rattle.topology.proofs.LinkLaws.{any_from_in}
 use Rattle.topology.proofs.EntryLaws.{tag_found}
+use Rattle.topology.proofs.NamedLaws.{named_at}
 use Rattle.flow_rules.specs.declared.rules.VlanTest.{VlanTest}
 use Rattle.flow_rules.specs.declared.rules.VlanTest.TheVariants as test
 use Rattle.flow_rules.specs.declared.rules.Action.{Action}
@@ -24,44 +20,26 @@ use Rattle.flow_rules.specs.declared.rules.Action.TheVariants.{Discard, Out}
 use Rattle.flow_rules.specs.declared.rules.Rule.{Rule}
 use Rattle.path_walk.specs.UserConfigs.{IsUserPort, IsUserVlan, IsUserAction, IsUserRule}
 use Rattle.config_files.specs.Configuration.{port_or, port_in, some_port, in_port_in, id_in, vlan_in, action_by, priority_in, dst_in, pattern_in, action_in, rule_in, switch_in}
-use Rattle.flow_stats.specs.ConfigText.{whole_tree, put_some, in_port_tree, test_tree, out_tree, rule_members, rule_tree}
+use Rattle.config_files.specs.RuleTrees.{whole_tree, in_port_tree, test_tree, out_tree, fixed_members}
+use Rattle.config_files.specs.ConfigText.{rule_members, rule_tree}
+use Rattle.config_files.proofs.PutLaws.{beside, there}
 
 -- ---- the members of a rule
 
--- those that are always there
-abbrev fixed : Network → SwitchId → Rule → Members
-fixed net s r =
-    put (codes "switch") (string (get_or net.names s.0 [])) (put (codes "priority") (whole_tree r.key.priority)
-    (put (codes "out") (out_tree r.action) (put (codes "dst") (string (prefix_text r.key.pattern.dst)) no_members)))
-
-same_bytes : (s : List ℕ) → bytes_eq s s ≡ true
-same_bytes s = (bytes_eq-Decides s s).1 refl
-
-apart : (q k : List ℕ) → bytes_eq q k ≡ false → q ≡ k → ⊥
-apart q k other same = false≢true (sym other ∙ subst (λ m. bytes_eq q m ≡ true) same (same_bytes q))
-
-beside : (q k : List ℕ) (o : Option Data) (ms : Members) → bytes_eq q k ≡ false → get_member q (put_some k o ms) ≡ get_member q ms
-beside q k None ms other = refl
-beside q k (Some d) ms other = get_member-put_other q k d ms (apart q k other)
-
-there : (k : List ℕ) (o : Option Data) (ms : Members) → get_member k ms ≡ None → get_member k (put_some k o ms) ≡ o
-there k None ms none = none
-there k (Some d) ms none = get_member-put k d ms
-
-fixed_again : (net : Network) (s : SwitchId) (r : Rule) (q : List ℕ) → bytes_eq q (codes "vlan") ≡ false → bytes_eq q (codes "in_port") ≡ false → get_member q (rule_members net s r) ≡ get_member q (fixed net s r)
+fixed_again : (net : Network) (s : SwitchId) (r : Rule) (q : List ℕ) → bytes_eq q (codes "vlan") ≡ false → bytes_eq q (codes "in_port") ≡ false → get_member q (rule_members net s r) ≡ get_member q (fixed_members (get_or net.names s.0 []) r)
 unfolding rule_members
 fixed_again net s r q vlan in_port =
-    beside q (codes "vlan") (test_tree r.key.pattern.vlan) _ vlan ∙ beside q (codes "in_port") (in_port_tree r.key.pattern.in_port) (fixed net s r) in_port
+    beside q (codes "vlan") (test_tree r.key.pattern.vlan) _ vlan ∙ beside q (codes "in_port") (in_port_tree r.key.pattern.in_port) (fixed_members (get_or net.names s.0 []) r) in_port
 
 in_port_again : (net : Network) (s : SwitchId) (r : Rule) → get_member (codes "in_port") (rule_members net s r) ≡ in_port_tree r.key.pattern.in_port
 unfolding rule_members
 in_port_again net s r =
-    beside (codes "in_port") (codes "vlan") (test_tree r.key.pattern.vlan) _ refl ∙ there (codes "in_port") (in_port_tree r.key.pattern.in_port) (fixed net s r) refl
+    beside (codes "in_port") (codes "vlan") (test_tree r.key.pattern.vlan) _ refl ∙ there (codes "in_port") (in_port_tree r.key.pattern.in_port) (fixed_members (get_or net.names s.0 []) r) refl
 
 vlan_again : (net : Network) (s : SwitchId) (r : Rule) → get_member (codes "vlan") (rule_members net s r) ≡ test_tree r.key.pattern.vlan
 unfolding rule_members
 vlan_again net s r =
-    there (codes "vlan") (test_tree r.key.pattern.vlan) _ (beside (codes "vlan") (codes "in_port") (in_port_tree r.key.pattern.in_port) (fixed net s r) refl)
+    there (codes "vlan") (test_tree r.key.pattern.vlan) _ (beside (codes "vlan") (codes "in_port") (in_port_tree r.key.pattern.in_port) (fixed_members (get_or net.names s.0 []) r) refl)
 
 -- ---- its parts
 
@@ -119,19 +97,6 @@ rule_again net place s r user =
     ) refl
 
 -- ---- its switch
-
-in_at : {A : Type 0} (xs : List A) (i : ℕ) (d : A) → i < length xs → IsIn (get_or xs i d) xs
-in_at [] i d lt = absurd (omega arith)
-in_at (x ∷ xs) zero d lt = inl refl
-in_at (x ∷ xs) (suc i) d lt = inr (in_at xs i d (omega arith))
-
-named_at : (names : List (List ℕ)) (n : ℕ) → IsDistinct names → n < length names → position_or_len (λ m. bytes_eq (get_or names n []) m) names ≡ n
-named_at [] n distinct lt = absurd (omega arith)
-named_at (x ∷ xs) zero distinct lt = rw (same_bytes x) refl
-named_at (x ∷ xs) (suc n) distinct lt =
-    let name : List ℕ = get_or xs n [] in
-    let other : bytes_eq name x ≡ false = false_from_ne_true (bytes_eq name x) (λ e. distinct.0 (subst (λ m. IsIn m xs) ((bytes_eq-Decides name x).0 e) (in_at xs n [] (omega arith)))) in
-    rw (other, named_at xs n distinct.1 (omega arith)) (omega arith)
 
 name_read : (net : Network) (n : ℕ) → IsDistinct net.names → n < switch_count net → switch_named net.names (get_or net.names n []) ≡ Some n
 name_read net n distinct lt = rw (named_at net.names n distinct lt, lt-ltb n (length net.names) lt) refl

@@ -8,7 +8,7 @@ use Rattle.serde_json.specs.declared.value.Value.{Value}
 use Rattle.topology.specs.Networks.{Network}
 use Rattle.flow_rules.specs.Tables.{TableState, rules_of_all}
 use Rattle.flow_rules.specs.declared.rules.Rule.{Rule}
-use Rattle.flow_stats.specs.ConfigText.{rule_tree, rule_trees}
+use Rattle.config_files.specs.ConfigText.{rule_tree, rule_trees}
 use Rattle.flow_rules.proofs.TableLaws.{rules_get}
 
 -- the rules of one switch more

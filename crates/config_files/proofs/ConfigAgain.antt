@@ -23,8 +23,8 @@ use Rattle.flow_rules.proofs.OverlapLaws.{meet_in}
 use Rattle.path_walk.specs.UserConfigs.{IsUserRule, IsUserConfig}
 use Rattle.config_files.specs.declared.fault.ConfigFault.{ConfigFault}
 use Rattle.config_files.specs.Configuration.{rules_with, with_rule, rule_to, rule_at, is_over, over_capacity, items_in, filled_in, tables_in, configuration_in}
-use Rattle.flow_stats.specs.ConfigText.{rule_tree, rule_trees, config_tree}
-use Rattle.flow_stats.proofs.RuleAgain.{rule_again, switch_again}
+use Rattle.config_files.specs.ConfigText.{rule_tree, rule_trees, config_tree}
+use Rattle.config_files.proofs.RuleAgain.{rule_again, switch_again}
 use Rattle.config_files.proofs.UserTables.{IsUserTable}
 
 -- ---- a rule of a table among those before it
