@@ -5,6 +5,7 @@ pub mod LoadLaws
 pub mod FaultLaws
 pub mod ApplyLaws
 pub mod AloneLaws
+pub mod GrowLaws
 pub mod TrialLaws
 pub mod ByKindLaws
 pub mod RoomLaws

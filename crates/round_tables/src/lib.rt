@@ -6,6 +6,7 @@ mod applying;
 mod changed;
 mod ends;
 mod gathering;
+mod growing;
 mod loading;
 mod over;
 mod prepared;
@@ -13,6 +14,8 @@ mod rollout;
 mod room;
 mod trials;
 
+pub use alone::all_alone;
+pub use growing::make_room;
 pub use loading::RoundFault;
 pub use prepared::PreparedTables;
 pub use rollout::Rollout;
