@@ -6,6 +6,7 @@ pub mod OutsideLaws
 pub mod FaultLaws
 pub mod ApplyLaws
 pub mod AloneLaws
+pub mod GrowLaws
 pub mod TrialLaws
 pub mod ByKindLaws
 pub mod RoomLaws

@@ -6,6 +6,7 @@ mod applying;
 mod changed;
 mod ends;
 mod gathering;
+mod growing;
 mod loading;
 mod over;
 mod prepared;
@@ -14,6 +15,8 @@ mod room;
 mod sound;
 mod trials;
 
+pub use alone::all_alone;
+pub use growing::make_room;
 pub use loading::RoundFault;
 pub use prepared::PreparedTables;
 pub use rollout::Rollout;

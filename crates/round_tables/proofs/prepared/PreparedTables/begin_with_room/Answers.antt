@@ -9,7 +9,7 @@ use Rattle.update_model.specs.Mixtures.{entries_needed}
 use Rattle.round_tables.specs.Trials.{HasRoomAlone}
 use Rattle.round_tables.specs.PreparedTables.{mix_at, IsMixed, rules_there}
 use Rattle.round_tables.proofs.TrialLaws.{trying, never_unclear, never_over, capacities_few}
-use Rattle.round_tables.proofs.prepared.PreparedTables.begin.Goals as goal
+use Rattle.round_tables.proofs.prepared.PreparedTables.begin_with_room.Goals as goal
 
 pub returns-then-not-load-clause-never : goal.returns-then-not-load-clause-never
 returns-then-not-load-clause-never c = λ _.

@@ -10,7 +10,7 @@ use Rattle.update_model.specs.declared.Change.{Change}
 use Rattle.round_mix.specs.Prepared.{MixedState}
 use Rattle.round_tables.specs.PreparedTables.{IsMixed, mix_at}
 use Rattle.round_trials.specs.Filling.{TrialState}
-use Rattle.round_trials.proofs.trial.RoundTrial.load.Goals as goal
+use Rattle.round_trials.proofs.trial.RoundTrial.load_with_room.Goals as goal
 
 pub returns-clause-prepared : goal.returns-clause-prepared
 returns-clause-prepared c =
