@@ -27,7 +27,7 @@ use Rattle.topology.specs.Networks.{capacity_of}
 use Rattle.update_model.specs.Changes.{switch_of, rule_of, Applies, entry_named, round_after, changes_at, settled_tables, tables_after, IsGoodRound}
 use Rattle.update_model.specs.Mixtures.{Rollout, tables_before, need_of, is_insert}
 use Rattle.update_model.specs.declared.Change.{Change}
-use Rattle.update_model.proofs.ChangeLaws.{length-tables_after}
+use Rattle.update_model.proofs.RoundLaws.{length-settled}
 use Rattle.certificates.specs.Ordered.{IsMeant, IsSafe, Position, positions, IsPickInForce}
 use Rattle.waypoint_evidence.specs.Befores.{Holds, IsFirst, IsGuard}
 use Rattle.certificates.specs.Steps.{IsMixedStep, MayLeave}
@@ -75,12 +75,6 @@ module _ (u : Rollout) (k : ℕ) (good : IsGoodRound (tables_before u k) (round_
         | inl applies_not ↦ applies_not (each_at (Applies (tables_before u k)) (round_after k u.rounds) bad.change good.applies (in_from_get (round_after k u.rounds) i bad.change bad.is))
         | inr (j, other, less, at, same) ↦ (let e : i ≡ j = named_once i j bad.change other bad.is at same in omega arith)
       ]
-
--- all tables stay as many
-pub length-settled : (rounds : List (List Change)) (k : ℕ) (tables : List (List Rule)) → length (settled_tables rounds k tables) ≡ length tables
-length-settled [] k tables = refl
-length-settled (round ∷ rounds) zero tables = refl
-length-settled (round ∷ rounds) (suc k) tables = length-settled rounds k (tables_after round tables) ∙ length-tables_after round tables
 
 module _ (u : Rollout) (k : ℕ) (count : length u.old ≡ switch_count u.net) (good : IsGoodRound (tables_before u k) (round_after k u.rounds)) (s : SwitchId) (past : switch_count u.net ≤ s.0) where
   none_there : changes_at s (round_after k u.rounds) ≡ []

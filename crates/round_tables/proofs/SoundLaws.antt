@@ -26,7 +26,7 @@ use Rattle.round_tables.specs.Loading.{ArePrepared, AreWithin, IsFirstBadChange,
 use Rattle.round_tables.specs.Sound.{IsRoundReason, IsFirstRoundReason, bad_change, ambiguous, IsFault, IsFaultIn}
 use Rattle.round_tables.specs.declared.sound.SoundFault.{SoundFault}
 use Rattle.round_tables.specs.declared.sound.SoundFault.TheVariants as fault
-use Rattle.round_tables.proofs.TableLaws.{length-settled}
+use Rattle.update_model.proofs.RoundLaws.{length-settled}
 use Rattle.round_tables.proofs.LoadLaws.{good_mixed, clear_mixed}
 use Rattle.round_tables.proofs.FaultLaws.{good_no_bad}
 use Rattle.round_tables.proofs.ApplyLaws.{none_past}

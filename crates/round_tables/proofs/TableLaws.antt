@@ -78,9 +78,3 @@ holds_next n rounds p q room tables same mixes marks touched lists lent limits s
   for_changes = λ s k less. let had = room.for_changes s k less in let now = lent s in omega arith;
   for_sorting = λ k. let had = room.for_sorting k in omega arith;
 }
-
--- the changes of rounds keep the number of tables
-pub length-settled : (rounds : List (List Change)) (k : ℕ) (tables : List (List Rule)) → length (settled_tables rounds k tables) ≡ length tables
-length-settled [] k tables = refl
-length-settled (round ∷ rounds) zero tables = refl
-length-settled (round ∷ rounds) (suc k) tables = length-settled rounds k (tables_after round tables) ∙ length-tables_after round tables
