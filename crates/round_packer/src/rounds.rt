@@ -40,7 +40,7 @@ fn keep_round(
     ensures trial { OnOk result (IsTrial net.now trial.new) }
 {
     rounds.push_round(Vec::from_slice(alloc, trial.round())?)?;
-    trial.make_round(net)
+    trial.make_round(alloc, net)
 }
 
 /// Packs rounds from the tables on. The answer is whether nothing remains at last.
