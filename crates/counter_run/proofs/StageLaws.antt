@@ -18,7 +18,7 @@ use Rattle.path_walk.specs.declared.Outcome.TheVariants.{Discard, Leave, Go}
 use Rattle.dest_classes.specs.declared.Class.{Class}
 use Rattle.demands.specs.Duties.{PacketDuties}
 use Rattle.breaking_walks.specs.Breaking.{BreaksBy}
-use Rattle.update_model.specs.Changes.{changes_at, tables_after, round_after, settled_tables}
+use Rattle.update_model.specs.Changes.{changes_at, round_after}
 use Rattle.update_model.specs.Mixtures.{Rollout, tables_before, MayBe, IsPossible, IsMixedWalk}
 use Rattle.update_model.specs.declared.Change.{Change}
 use Rattle.update_model.specs.declared.Event.{Event}

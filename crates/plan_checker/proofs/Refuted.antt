@@ -1,5 +1,5 @@
 -- What has passed refutes each reason of its stage.
-use Rattle.std.proofs.Common.{◌≡◌, ◌⊎◌, ℕ, zero, suc, ◌+◌, ◌<◌, ◌≤◌, ◌≢◌, IsTrue, List, [], ◌∷◌, map, length, refl, sym, ◌∙◌, subst, ap, inl, inr, arith}
+use Rattle.std.proofs.Common.{◌≡◌, ◌⊎◌, ℕ, suc, ◌+◌, ◌<◌, ◌≤◌, ◌≢◌, IsTrue, List, [], map, length, refl, sym, ◌∙◌, subst, ap, inl, inr, arith}
 use Rattle.std.specs.Prelude.{◌==◌, filter, flat_map, slice_get, Some}
 use Rattle.std.specs.Option.{option_map}
 use Rattle.std.proofs.lemmas.Bool.{cases_lt, eqb-true}
@@ -24,7 +24,7 @@ use Rattle.dest_classes.specs.Classes.{ClassList}
 use Rattle.topology.specs.Networks.{Network}
 use Rattle.config_check.specs.declared.Breaks.{Breaks}
 use Rattle.topology.specs.Networks.{capacity_of}
-use Rattle.update_model.specs.Changes.{switch_of, rule_of, Applies, entry_named, round_after, changes_at, settled_tables, tables_after, IsGoodRound}
+use Rattle.update_model.specs.Changes.{switch_of, rule_of, Applies, entry_named, round_after, changes_at, IsGoodRound}
 use Rattle.update_model.specs.Mixtures.{Rollout, tables_before, need_of, is_insert}
 use Rattle.update_model.specs.declared.Change.{Change}
 use Rattle.update_model.proofs.RoundLaws.{length-settled}

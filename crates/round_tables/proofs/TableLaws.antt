@@ -8,9 +8,7 @@ use Rattle.flow_rules.specs.Tables.{TableState, IsTable, keys_of, rules_at, rule
 use Rattle.flow_rules.specs.declared.rules.Rule.{Rule}
 use Rattle.update_model.specs.declared.Change.{Change}
 use Rattle.update_model.proofs.RoundLaws.{settled_start}
-use Rattle.update_model.specs.Changes.{settled_tables, tables_after}
 use Rattle.update_model.specs.Mixtures.{Rollout}
-use Rattle.update_model.proofs.ChangeLaws.{length-tables_after}
 use Rattle.round_tables.specs.PreparedTables.{PreparedState, HoldsRounds, StandsBefore, is_touched, limit_at, list_at, mix_at, room_of, table_at}
 
 -- a rule of a table has another key than those before it

@@ -15,7 +15,7 @@ pub record ChangesState : Type 0 where
   pub room : ℕ
 
 -- the tables, what is prepared of each switch, which switches are to be prepared anew, the changes of each in a round, how many rules each
--- may come to hold, and for how many rules of changes there is room beside
+-- may come to hold (for trials, for how many entries there is room at least), and for how many rules of changes there is room beside
 pub record PreparedState : Type 0 where
   pub tables : List TableState
   pub mixes : List MixedState

@@ -24,7 +24,7 @@ pub struct PreparedTables {
     pub(crate) touched: Vec<bool>,
     /// The changes of the round by switch.
     pub(crate) changes: Vec<SwitchChanges>,
-    /// For each switch how many rules its table may come to hold.
+    /// For each switch how many rules its table may come to hold; for trials, for how many entries there is room at least.
     pub(crate) limits: Vec<usize>,
     /// Room for the rules of changes, to sort them.
     pub(crate) rules: Vec<Rule>,
