@@ -1,6 +1,6 @@
 -- A failure of a change stands while nothing touches what it rests on.
 use Rattle.std.proofs.Common.{◌≡◌, ◌≢◌, ℕ, zero, suc, ◌<◌, ◌≤◌, List, [], ◌∷◌, length, refl, sym, ◌∙◌, subst, ap, inl, inr, arith, length-set, get_or-set_other}
-use Rattle.std.specs.Prelude.{◌==◌, not, IsTrue}
+use Rattle.std.specs.Prelude.{◌==◌, IsTrue}
 use Rattle.std.specs.List.{AllByRecursion}
 use Rattle.std.proofs.lemmas.Bool.{cases_eq, eq-eqb, and_from, cond-true}
 use Rattle.net_base.proofs.MemberLaws.{each_weaker}
