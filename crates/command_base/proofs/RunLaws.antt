@@ -1,5 +1,5 @@
 -- Where a source tells, what a dialogue leads to is the answer over its files.
-use Rattle.std.proofs.Common.{◌≡◌, ℕ, List, None, Some, inl, inr, subst}
+use Rattle.std.proofs.Common.{◌≡◌, ℕ, List, None, Some, inl, inr}
 use Rattle.std.specs.declared.option.Option.{Option}
 use Rattle.std.specs.Io.KnownBytes.{Appends}
 use Rattle.file_access.specs.Outside.{Files, AppendsFront}
@@ -8,7 +8,7 @@ use Rattle.command_base.specs.declared.status.Status.TheVariants as status
 use Rattle.command_base.specs.Answers.{Answer}
 use Rattle.command_base.specs.Dialogues.{Dialogue, Bad, Ends, Reads, FileRead, file_read, and_then, IsLedTo, LeadsTo}
 use Rattle.command_base.specs.Meanings.{IsAnswerOver}
-use Rattle.command_base.specs.Runs.{IsSettled, Answered, AnswersAll, AnswersFront}
+use Rattle.command_base.specs.Runs.{IsSettled, EndsAs, Answered, AnswersAll, AnswersFront}
 use Rattle.command_base.proofs.MeaningLaws.{over_as}
 
 leads_told : {E : Type 0} (says : E → Answer → Type 0) (files : Files) (last : Option FileRead) (d : Dialogue E) (answer : Answer) (selected : List ℕ) (taken : ℕ) → IsLedTo says (Some files) last d answer selected taken → IsAnswerOver says files d answer
@@ -47,3 +47,21 @@ answered_as says others f files d old new result same a =
 
 pub settled_not_a_run : (s : Status) → s ≡ status.NotARun → IsSettled s
 settled_not_a_run s is = record { read = λ e. cc; written = λ e. cc; memory = λ e. cc }
+
+-- how a run of a command that reads no file ends, whose dialogue ends at once with what is one of several commands' ends
+module _ {A B : Type 0} (says : A → Answer → Type 0) (others : B → Answer → Type 0) (f : A → B) (same : (v : A) (answer : Answer) → others (f v) answer → says v answer)
+    (held : Option Files) (end : A) (old new : Option (List ℕ)) (selected : List ℕ) (taken : ℕ) where
+  leads_at_once : (answer : Answer) → LeadsTo others held None (Ends (f end)) answer selected taken → LeadsTo says held None (Ends end) answer selected taken
+  leads_at_once answer leads = record { led = (same end answer leads.led.0, leads.led.1) }
+
+  pub ends_at_once : (result : Status) → EndsAs others held (Ends (f end)) old new selected taken result → EndsAs says held (Ends end) old new selected taken result
+  ends_at_once status.ReadFault ends = ends
+  ends_at_once status.Memory ends = ends
+  ends_at_once status.WriteFault (answer, leads, front) = (answer, leads_at_once answer leads, front)
+  ends_at_once status.Done (answer, leads, is, written) = (answer, leads_at_once answer leads, is, written)
+  ends_at_once status.Refused (answer, leads, is, written) = (answer, leads_at_once answer leads, is, written)
+  ends_at_once status.Usage (answer, leads, is, written) = (answer, leads_at_once answer leads, is, written)
+  ends_at_once status.BadFile (answer, leads, is, written) = (answer, leads_at_once answer leads, is, written)
+  ends_at_once status.TooFewTags (answer, leads, is, written) = (answer, leads_at_once answer leads, is, written)
+  ends_at_once status.TooSmall (answer, leads, is, written) = (answer, leads_at_once answer leads, is, written)
+  ends_at_once status.NotARun (answer, leads, is, written) = (answer, leads_at_once answer leads, is, written)

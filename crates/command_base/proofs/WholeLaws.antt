@@ -8,9 +8,9 @@ use Rattle.command_base.specs.declared.exit.Exit.{Exit}
 use Rattle.command_base.specs.declared.exit.Exit.TheVariants as exit
 use Rattle.command_base.specs.declared.reply.Reply.{Reply}
 use Rattle.command_base.specs.Answers.{Answer}
-use Rattle.command_base.specs.Dialogues.{Dialogue, FileRead, Gives, IsWhole}
+use Rattle.command_base.specs.Dialogues.{Dialogue, Ends, FileRead, Gives, IsWhole}
 use Rattle.command_base.specs.Replies.{answer_of, IsMet, Meets}
-use Rattle.command_base.proofs.DialogueLaws.{leads_whole, ends_for_memory}
+use Rattle.command_base.proofs.DialogueLaws.{gives_end, leads_whole, ends_for_memory}
 
 is_met_whole : {E : Type 0} (says : E → Answer → Type 0) (held : Option Files) (last : Option FileRead) (d : Dialogue E) (v : E) (before now : ℕ) (r : Result Reply Exit) (selected : List ℕ) (taken : ℕ)
     → Gives held None d v last → IsWhole last selected taken → IfOk r (λ reply. says v (answer_of reply)) → IfErr r (λ e. e ≡ exit.Memory)
@@ -24,3 +24,8 @@ pub meets_whole : {E : Type 0} {says : E → Answer → Type 0} {held : Option F
     → Meets says held d before now r selected taken
 meets_whole {E} {says} {held} {last} {d} {v} {before} {now} {r} {selected} {taken} gives whole said stops =
     record { met = is_met_whole says held last d v before now r selected taken gives whole said stops }
+
+-- the same of a command that reads no file: it meets the dialogue that ends at once, over every source
+pub meets_at_once : {E : Type 0} {says : E → Answer → Type 0} {held : Option Files} {v : E} {before now : ℕ} {r : Result Reply Exit} {selected : List ℕ} {taken : ℕ}
+    → IfOk r (λ reply. says v (answer_of reply)) → IfErr r (λ e. e ≡ exit.Memory) → Meets says held (Ends v) before now r selected taken
+meets_at_once {E} {says} {held} {v} said stops = meets_whole (gives_end held None v) (tt {0}) said stops

@@ -3,12 +3,14 @@
 
 mod breaking;
 mod checking;
+mod ends;
 pub mod laws;
 mod met;
 mod waypoints;
 
 pub use breaking::how_broken;
 pub use checking::check_config;
+pub use ends::{EndBreak, first_end_break};
 pub use met::MetPath;
 use net_base::SwitchId;
 
