@@ -1,7 +1,6 @@
 -- What `certify` says of the rounds of a plan.
-use Rattle.std.specs.Prelude.{◌≡◌, ◌≤◌, ℕ, List, Option, Ok, false}
+use Rattle.std.specs.Prelude.{◌≡◌, ℕ, List, Option, Ok, false}
 use Rattle.std.specs.Io.KnownBytes.{Appends}
-use Rattle.file_access.specs.Outside.{Files}
 use Rattle.dest_classes.specs.declared.Class.{Class}
 use Rattle.certificates.specs.Updates.{rollout}
 use Rattle.certificates.specs.Certified.{IsCertified, classes_for, is_two_phase}
@@ -13,9 +12,8 @@ use Rattle.check_reasons.specs.Cases.{CaseView}
 use Rattle.plan_format.specs.Plans.{plan_in}
 use Rattle.plan_text.specs.PlanText.{plan_text}
 use Rattle.command_base.specs.Answers.{Answer}
-use Rattle.command_base.specs.Judgements.{IsJudgement, most_classes}
-use Rattle.check_base.specs.Names.{CheckNames}
-use Rattle.check_base.specs.Checks.{CheckMeaning, FilesMeanPlan, IsNamed, check_count, task_in}
+use Rattle.command_base.specs.Judgements.{IsJudgement}
+use Rattle.check_base.specs.Checks.{CheckMeaning, IsNamed, check_count, task_in}
 use Rattle.round_judge.specs.Evidence.{IsSearchEvidence}
 use Rattle.round_certifier.specs.Refusals.{IsFirstRefusal}
 use Rattle.round_certifier.specs.Standing.{target_for}
@@ -58,28 +56,8 @@ pub record IsCauseLine (m : CheckMeaning) (line : List ℕ) : Type 0 where
 abbrev pub IsCertifyAnswer : CheckMeaning → Answer → Type 0
 IsCertifyAnswer m answer = IsJudgement (check_count m) (IsCertifiable m) (IsCertifiedText m answer.text) answer.text (IsCauseLine m) answer
 
--- the files are read, there are few enough classes, and some evidence certifies the rounds of the plan
-pub record FilesAreCertifiable (files : Files) (names : CheckNames) : Type 0 where
-  pub meaning : CheckMeaning
-  pub mean : FilesMeanPlan files names meaning
-  pub few : check_count meaning ≤ most_classes
-  pub certifiable : IsCertifiable meaning
-
--- the files are read, there are few enough classes, and no evidence certifies the rounds of the plan
-pub record FilesAreNotCertifiable (files : Files) (names : CheckNames) : Type 0 where
-  pub meaning : CheckMeaning
-  pub mean : FilesMeanPlan files names meaning
-  pub few : check_count meaning ≤ most_classes
-  pub refused : ¬ IsCertifiable meaning
-
 -- the text of a certified plan with these rounds was written
 pub record WritesCertifiedText (m : CheckMeaning) (old new : Option (List ℕ)) : Type 0 where
   pub text : List ℕ
   pub is_text : IsCertifiedText m text
   pub written : Appends old new text
-
--- the line that was written names the first cause
-pub record NamesFirstCause (m : CheckMeaning) (old new : Option (List ℕ)) : Type 0 where
-  pub line : List ℕ
-  pub names : IsCauseLine m line
-  pub written : Appends old new line

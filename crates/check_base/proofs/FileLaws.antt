@@ -5,7 +5,7 @@ use Rattle.plan_format.specs.Plans.{plan_in}
 use Rattle.command_base.specs.declared.kinds.FileKind.TheVariants as kind
 use Rattle.command_base.specs.Lines.{plan_words}
 use Rattle.command_base.specs.Meanings.{Means}
-use Rattle.command_base.proofs.MeaningLaws.{means_then, means_parts, means_read, read_means, means_update, update_means}
+use Rattle.command_base.proofs.MeaningLaws.{MeansOnly, means_then, means_parts, means_read, read_means, means_update, update_means}
 use Rattle.check_base.specs.Names.{CheckNames}
 use Rattle.check_base.specs.Checks.{CheckMeaning, check_dialogue, FilesMeanPlan}
 
@@ -26,3 +26,6 @@ check_means files names m means =
       plan_is = read_means files kind.Plan plan_words (plan_in u.net) names.plan p plan_is;
     } in
     subst (λ v. FilesMeanPlan files names v) same read
+
+pub check_meant : (files : Files) (names : CheckNames) → MeansOnly files (check_dialogue names) (FilesMeanPlan files names)
+check_meant files names = record { means = means_check files names; only = check_means files names }

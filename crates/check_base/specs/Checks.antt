@@ -1,6 +1,5 @@
 -- What the files of `check` mean, and why a plan is refused.
-use Rattle.std.specs.Prelude.{◌≡◌, ℕ, ◌<◌, ◌≤◌, List, Option, None, Some}
-use Rattle.std.specs.Io.KnownBytes.{Appends}
+use Rattle.std.specs.Prelude.{◌≡◌, ℕ, List, Option, None, Some}
 use Rattle.file_access.specs.Outside.{Files}
 use Rattle.dest_classes.specs.Classes.{ClassList, IsClass, class_count}
 use Rattle.dest_classes.specs.declared.Class.{Class}
@@ -12,7 +11,8 @@ use Rattle.check_reasons.specs.declared.reason.Reason.{Reason}
 use Rattle.check_reasons.specs.Reasons.{IsFirstReason}
 use Rattle.plan_format.specs.Plans.{plan_in}
 use Rattle.command_base.specs.declared.kinds.FileKind.TheVariants as kind
-use Rattle.command_base.specs.Judgements.{most_classes}
+use Rattle.command_base.specs.declared.status.Status.{Status}
+use Rattle.command_base.specs.JudgedFiles.{FilesAreGood, RefusalPromise}
 use Rattle.command_base.specs.Dialogues.{Dialogue, Ends, and_then}
 use Rattle.command_base.specs.Meanings.{IsReadAs}
 use Rattle.command_base.specs.Readings.{reading_update, reading_plan}
@@ -65,28 +65,18 @@ pub record FilesMeanPlan (files : Files) (names : CheckNames) (m : CheckMeaning)
 abbrev pub check_count : CheckMeaning → ℕ
 check_count m = class_count (classes_for (task_in m))
 
+-- the plan is certified
+abbrev pub IsCertifiedPlan : CheckMeaning → Type 0
+IsCertifiedPlan m = IsCertified (task_in m) m.plan.evidence
+
+-- the line names the first reason why the plan isn't certified
+abbrev pub IsReasonLine : CheckMeaning → List ℕ → Type 0
+IsReasonLine m line = IsRefusedLine (task_in m) m.plan.evidence line
+
 -- the files are read, there are few enough classes, and the plan is certified
-pub record FilesAreCertified (files : Files) (names : CheckNames) : Type 0 where
-  pub meaning : CheckMeaning
-  pub mean : FilesMeanPlan files names meaning
-  pub few : check_count meaning ≤ most_classes
-  pub certified : IsCertified (task_in meaning) meaning.plan.evidence
+abbrev pub FilesAreCertified : Files → CheckNames → Type 0
+FilesAreCertified files names = FilesAreGood (FilesMeanPlan files names) check_count IsCertifiedPlan
 
--- the files are read, there are few enough classes, and the plan isn't certified
-pub record FilesAreRefused (files : Files) (names : CheckNames) : Type 0 where
-  pub meaning : CheckMeaning
-  pub mean : FilesMeanPlan files names meaning
-  pub few : check_count meaning ≤ most_classes
-  pub refused : ¬ IsCertified (task_in meaning) meaning.plan.evidence
-
--- the files are read, and there are too many classes
-pub record PlanMakesTooMany (files : Files) (names : CheckNames) : Type 0 where
-  pub meaning : CheckMeaning
-  pub mean : FilesMeanPlan files names meaning
-  pub many : most_classes < check_count meaning
-
--- the line that was written names the first reason why the plan isn't certified
-pub record NamesFirstReason (m : CheckMeaning) (old new : Option (List ℕ)) : Type 0 where
-  pub line : List ℕ
-  pub names : IsRefusedLine (task_in m) m.plan.evidence line
-  pub written : Appends old new line
+-- The run refuses exactly the plans that aren't certified, by a line that names the first reason, and too many classes.
+abbrev pub RefusesUncertified : Files → CheckNames → Option (List ℕ) → Option (List ℕ) → Status → Type 0
+RefusesUncertified files names old new result = RefusalPromise (FilesMeanPlan files names) check_count IsCertifiedPlan IsReasonLine old new result

@@ -1,15 +1,13 @@
 -- What a run of `check` promises over the files of a source that tells.
-use Rattle.std.specs.Prelude.{◌≡◌, ◌↔◌, ℕ, List, Option, Some}
-use Rattle.std.specs.Io.KnownBytes.{Appends}
+use Rattle.std.specs.Prelude.{◌≡◌, ◌↔◌, ℕ, List, Option}
 use Rattle.file_access.specs.Outside.{Files}
 use Rattle.certificates.specs.Certified.{is_two_phase}
 use Rattle.certificates.specs.Consistent.{IsConsistent}
 use Rattle.command_base.specs.declared.status.Status.{Status}
 use Rattle.command_base.specs.declared.status.Status.TheVariants as status
-use Rattle.command_base.specs.Lines.{classes_line}
 use Rattle.command_base.specs.Runs.{IsSettled}
 use Rattle.check_base.specs.Names.{CheckNames}
-use Rattle.check_base.specs.Checks.{CheckMeaning, FilesMeanPlan, FilesAreCertified, FilesAreRefused, PlanMakesTooMany, NamesFirstReason, check_count}
+use Rattle.check_base.specs.Checks.{CheckMeaning, FilesMeanPlan, FilesAreCertified, RefusesUncertified}
 
 -- the files and their names, what was written before and after the run, and how it ended
 pub record CheckPromise (files : Files) (names : CheckNames) (old new : Option (List ℕ)) (result : Status) : Type 0 where
@@ -18,9 +16,5 @@ pub record CheckPromise (files : Files) (names : CheckNames) (old new : Option (
   -- The headline. Then in every state of every run, in which the changes of each round come in any order between the hops of
   -- packets, each packet's trace meets the demands, and under two phases it is the old or the new path.
   pub keeps : (m : CheckMeaning) → FilesMeanPlan files names m → result ≡ status.Done → IsConsistent m.update m.plan.rounds (is_two_phase m.plan.evidence)
-  -- Refused comes exactly where the plan isn't certified; the line names the first reason.
-  pub refused : IsSettled result → ((result ≡ status.Refused) ↔ FilesAreRefused files names)
-  pub first : (m : CheckMeaning) → FilesMeanPlan files names m → result ≡ status.Refused → NamesFirstReason m old new
-  -- Too many classes are a bad file, and their line is written for no other cause.
-  pub classes : IsSettled result → (many : PlanMakesTooMany files names) → (result ≡ status.BadFile) × Appends old new (classes_line (check_count many.meaning))
-  pub classes_only : (before : List ℕ) (classes : ℕ) → old ≡ Some before → result ≡ status.BadFile → Appends old new (classes_line classes) → PlanMakesTooMany files names
+  -- Refused comes exactly where the plan isn't certified, and the line names the first reason; too many classes are a bad file.
+  pub refusals : RefusesUncertified files names old new result

@@ -1,5 +1,6 @@
 pub mod DialogueLaws
 pub mod MeaningLaws
 pub mod RunLaws
+pub mod AnswerLaws
 pub mod JudgementLaws
 pub mod WholeLaws

@@ -37,6 +37,11 @@ long_is kind answer says = record { rest = _; is = says }
 bytes_same : (files : Files) (name a b : List ℕ) → files name ≡ Some a → files name ≡ Some b → a ≡ b
 bytes_same files name a b p q = let e : Some a ≡ Some b = sym p ∙ q in cc
 
+-- over the files the dialogue means what `Mean` says, and nothing else
+pub record MeansOnly {D : Type 0} (files : Files) (dialogue : Dialogue D) (Mean : D → Type 0) : Type 0 where
+  pub means : (d : D) → Mean d → Means files dialogue d
+  pub only : (d : D) → Means files dialogue d → Mean d
+
 -- over files that mean something, the answer is what is said of it
 pub said_over : {E : Type 0} (says : E → Answer → Type 0) (files : Files) (d : Dialogue E) (answer : Answer) (v : E) → IsAnswerOver says files d answer → Means files d v → says v answer
 said_over says files (Bad kind words) answer v over means = absurd means
@@ -126,6 +131,9 @@ update_means files names u means =
     } in
     subst (λ v. FilesMeanUpdate files names v) same read
 
+pub update_meant : (files : Files) (names : UpdateNames) → MeansOnly files (reading_update names) (FilesMeanUpdate files names)
+update_meant files names = record { means = means_update files names; only = update_means files names }
+
 -- the files of a network and a plan
 pub means_plan_files : (files : Files) (names : PlanNames) (m : PlanMeaning) → FilesMeanOnePlan files names m → Means files (reading_plan_files names) m
 unfolding reading_plan_files
@@ -143,3 +151,6 @@ plan_files_mean files names m means =
       plan_is = read_means files kind.Plan plan_words (plan_in net) names.plan plan plan_is;
     } in
     subst (λ v. FilesMeanOnePlan files names v) same read
+
+pub plan_files_meant : (files : Files) (names : PlanNames) → MeansOnly files (reading_plan_files names) (FilesMeanOnePlan files names)
+plan_files_meant files names = record { means = means_plan_files files names; only = plan_files_mean files names }

@@ -7,5 +7,6 @@ pub mod Meanings
 pub mod Readings
 pub mod Replies
 pub mod Runs
+pub mod JudgedFiles
 pub mod Names
 pub mod Updates

@@ -1,13 +1,13 @@
 -- What a run of `config` promises over the files of a source that tells.
-use Rattle.std.specs.Prelude.{◌≡◌, ◌↔◌, ℕ, List, Option, Some}
-use Rattle.std.specs.Io.KnownBytes.{Appends}
+use Rattle.std.specs.Prelude.{◌≡◌, ◌↔◌, ℕ, List, Option}
 use Rattle.file_access.specs.Outside.{Files}
 use Rattle.command_base.specs.declared.status.Status.{Status}
 use Rattle.command_base.specs.declared.status.Status.TheVariants as status
-use Rattle.command_base.specs.Lines.{classes_line}
+use Rattle.command_base.specs.JudgedFiles.{RefusalPromise}
 use Rattle.command_base.specs.Runs.{IsSettled}
 use Rattle.config_command.specs.Names.{ConfigNames}
-use Rattle.config_command.specs.Configs.{ConfigMeaning, FilesMean, FilesHold, FilesBreak, FilesMakeTooMany, NamesFirstBreak, KeepsPacketsGood, config_count}
+use Rattle.config_command.specs.Configs.{ConfigMeaning, FilesMean, Holds, FilesHold, KeepsPacketsGood, config_count}
+use Rattle.config_command.specs.Verdicts.{IsBreaksLine}
 
 -- the files and their names, what was written before and after the run, and how it ended
 pub record ConfigPromise (files : Files) (names : ConfigNames) (old new : Option (List ℕ)) (result : Status) : Type 0 where
@@ -15,9 +15,5 @@ pub record ConfigPromise (files : Files) (names : ConfigNames) (old new : Option
   pub done : IsSettled result → ((result ≡ status.Done) ↔ FilesHold files names)
   -- Then every packet of every run over the configuration, in which nothing is changed, meets the demands.
   pub keeps : (m : ConfigMeaning) → FilesMean files names m → result ≡ status.Done → KeepsPacketsGood m.net m.tables m.demands
-  -- Refused comes exactly where some class has no good path; the line names the first of them.
-  pub refused : IsSettled result → ((result ≡ status.Refused) ↔ FilesBreak files names)
-  pub first : (m : ConfigMeaning) → FilesMean files names m → result ≡ status.Refused → NamesFirstBreak m old new
-  -- Too many classes are a bad file, and their line is written for no other cause.
-  pub classes : IsSettled result → (many : FilesMakeTooMany files names) → (result ≡ status.BadFile) × Appends old new (classes_line (config_count many.meaning))
-  pub classes_only : (before : List ℕ) (classes : ℕ) → old ≡ Some before → result ≡ status.BadFile → Appends old new (classes_line classes) → FilesMakeTooMany files names
+  -- Refused comes exactly where some class has no good path, and the line names the first of them; too many classes are a bad file.
+  pub refusals : RefusalPromise (FilesMean files names) config_count Holds (λ m. IsBreaksLine m.net m.tables m.demands) old new result

@@ -8,7 +8,6 @@ use Rattle.net_base.specs.declared.ids.SwitchId.{SwitchId}
 use Rattle.topology.specs.Networks.{Network, switch_count}
 use Rattle.update_model.specs.Mixtures.{Rollout}
 use Rattle.update_model.specs.Runs.{IsRun}
-use Rattle.certificates.specs.Certified.{IsCertified}
 use Rattle.schedule_replay.specs.Schedules.{schedule_in, numbered}
 use Rattle.driver_input.specs.Faults as input_fault
 use Rattle.driver_input.specs.Inputs.{inputs_in}
@@ -25,7 +24,7 @@ use Rattle.command_base.specs.Judgements.{SaysTooMany, SaysWhyNot, most_classes}
 use Rattle.command_base.specs.Lines.{FaultWords}
 use Rattle.command_base.specs.Meanings.{IsReadAs}
 use Rattle.command_base.specs.Readings.{reading}
-use Rattle.check_base.specs.Checks.{CheckMeaning, FilesMeanPlan, IsRefusedLine, check_count, check_dialogue, task_in}
+use Rattle.check_base.specs.Checks.{CheckMeaning, FilesMeanPlan, IsCertifiedPlan, IsReasonLine, check_count, check_dialogue, task_in}
 use Rattle.replay_command.specs.Replayed.{not_a_run_line}
 use Rattle.drive_command.specs.declared.driving.DriveFault.{DriveFault}
 use Rattle.drive_command.specs.declared.driving.DriveFault.TheVariants.{NotARun}
@@ -90,17 +89,24 @@ pub record SaysRefusedStart (u : Rollout) (inputs : List InputLine) (answer : An
 abbrev pub IsDriven : Rollout → List InputLine → Answer → Type 0
 IsDriven u inputs answer = SaysReport u inputs answer ⊎ SaysRefusedStart u inputs answer
 
+-- how many classes the update has by the plan
+abbrev pub drive_count : DriveMeaning → ℕ
+drive_count m = check_count m.check
+
+-- the plan is certified
+abbrev pub IsCertifiedDrive : DriveMeaning → Type 0
+IsCertifiedDrive m = IsCertifiedPlan m.check
+
 -- the plan is certified, over few enough classes, and the answer is that on the inputs
 pub record SaysDriven (m : DriveMeaning) (answer : Answer) : Type 0 where
-  pub few : check_count m.check ≤ most_classes
-  pub certified : IsCertified (task_in m.check) m.check.plan.evidence
+  pub few : drive_count m ≤ most_classes
+  pub certified : IsCertifiedDrive m
   pub driven : IsDriven (rollout (task_in m.check)) m.inputs answer
 
 -- the answer of `drive`: too many classes; over a certified plan, what its driver does with the inputs; or why the plan isn't certified
 abbrev pub IsDriveAnswer : DriveMeaning → Answer → Type 0
 IsDriveAnswer m answer =
-    SaysTooMany (check_count m.check) answer
-    ⊎ (SaysDriven m answer ⊎ SaysWhyNot (check_count m.check) (IsCertified (task_in m.check) m.check.plan.evidence) (IsRefusedLine (task_in m.check) m.check.plan.evidence) answer)
+    SaysTooMany (drive_count m) answer ⊎ (SaysDriven m answer ⊎ SaysWhyNot (drive_count m) (IsCertifiedDrive m) (IsReasonLine m.check) answer)
 
 -- the files mean this update and plan, and these inputs
 pub record FilesMeanDrive (files : Files) (names : DriveNames) (m : DriveMeaning) : Type 0 where
@@ -110,8 +116,8 @@ pub record FilesMeanDrive (files : Files) (names : DriveNames) (m : DriveMeaning
 -- all files are read, there are few enough classes, and the plan is certified
 pub record FilesAreDrivable (files : Files) (names : DriveNames) (m : DriveMeaning) : Type 0 where
   pub mean : FilesMeanDrive files names m
-  pub few : check_count m.check ≤ most_classes
-  pub certified : IsCertified (task_in m.check) m.check.plan.evidence
+  pub few : drive_count m ≤ most_classes
+  pub certified : IsCertifiedDrive m
 
 -- the plan can be driven, and its driver takes all inputs
 pub record FilesAreDriven (files : Files) (names : DriveNames) : Type 0 where
@@ -126,19 +132,6 @@ pub record StartIsRefused (files : Files) (names : DriveNames) : Type 0 where
   pub drivable : FilesAreDrivable files names meaning
   pub line : ℕ
   pub refused : driven_by meaning.check.update.net meaning.check.plan.rounds meaning.inputs ≡ Err (NotARun line)
-
--- all files are read, there are few enough classes, and the plan isn't certified
-pub record FilesAreNotCertified (files : Files) (names : DriveNames) : Type 0 where
-  pub meaning : DriveMeaning
-  pub mean : FilesMeanDrive files names meaning
-  pub few : check_count meaning.check ≤ most_classes
-  pub refused : ¬ IsCertified (task_in meaning.check) meaning.check.plan.evidence
-
--- all files are read, and there are too many classes
-pub record FilesMakeTooMany (files : Files) (names : DriveNames) : Type 0 where
-  pub meaning : DriveMeaning
-  pub mean : FilesMeanDrive files names meaning
-  pub many : most_classes < check_count meaning.check
 
 -- a report was written
 pub record WritesReport (m : DriveMeaning) (old new : Option (List ℕ)) : Type 0 where

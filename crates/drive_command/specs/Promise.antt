@@ -1,16 +1,15 @@
 -- What a run of `drive` promises over the files of a source that tells.
-use Rattle.std.specs.Prelude.{◌≡◌, ◌↔◌, ℕ, List, Option, Some}
-use Rattle.std.specs.Io.KnownBytes.{Appends}
+use Rattle.std.specs.Prelude.{◌≡◌, ◌↔◌, ℕ, List, Option}
 use Rattle.file_access.specs.Outside.{Files}
 use Rattle.command_base.specs.declared.status.Status.{Status}
 use Rattle.command_base.specs.declared.status.Status.TheVariants as status
-use Rattle.command_base.specs.Lines.{classes_line}
+use Rattle.command_base.specs.JudgedFiles.{RefusalPromise}
 use Rattle.command_base.specs.Runs.{IsSettled}
-use Rattle.check_base.specs.Checks.{NamesFirstReason, check_count}
+use Rattle.check_base.specs.Checks.{IsReasonLine}
 use Rattle.driver_input.specs.declared.inputs.InputLine.{InputLine}
 use Rattle.drive_command.specs.Driving.{DifferInPieces}
 use Rattle.drive_command.specs.Names.{DriveNames}
-use Rattle.drive_command.specs.Driven.{DriveMeaning, FilesMeanDrive, FilesAreDriven, StartIsRefused, FilesAreNotCertified, FilesMakeTooMany, NamesRefusedStart, WritesReport}
+use Rattle.drive_command.specs.Driven.{DriveMeaning, FilesMeanDrive, FilesAreDriven, StartIsRefused, NamesRefusedStart, WritesReport, IsCertifiedDrive, drive_count}
 
 -- the files and their names, what was written before and after the run, and how it ended
 pub record DrivePromise (files : Files) (names : DriveNames) (old new : Option (List ℕ)) (result : Status) : Type 0 where
@@ -25,9 +24,6 @@ pub record DrivePromise (files : Files) (names : DriveNames) (old new : Option (
   -- NotARun comes exactly where a start of the inputs of a certified plan is refused; the line names that of the first one.
   pub not_a_run : IsSettled result → ((result ≡ status.NotARun) ↔ StartIsRefused files names)
   pub first_start : (m : DriveMeaning) → FilesMeanDrive files names m → result ≡ status.NotARun → NamesRefusedStart m old new
-  -- Refused comes exactly where all files are read and the plan isn't certified; the line names the first reason.
-  pub refused : IsSettled result → ((result ≡ status.Refused) ↔ FilesAreNotCertified files names)
-  pub first : (m : DriveMeaning) → FilesMeanDrive files names m → result ≡ status.Refused → NamesFirstReason m.check old new
-  -- Too many classes are a bad file, and their line is written for no other cause.
-  pub classes : IsSettled result → (many : FilesMakeTooMany files names) → (result ≡ status.BadFile) × Appends old new (classes_line (check_count many.meaning.check))
-  pub classes_only : (before : List ℕ) (classes : ℕ) → old ≡ Some before → result ≡ status.BadFile → Appends old new (classes_line classes) → FilesMakeTooMany files names
+  -- Refused comes exactly where all files are read and the plan isn't certified, and the line names the first reason; too many
+  -- classes are a bad file.
+  pub refusals : RefusalPromise (FilesMeanDrive files names) drive_count IsCertifiedDrive (λ m. IsReasonLine m.check) old new result

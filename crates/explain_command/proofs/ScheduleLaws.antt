@@ -12,7 +12,7 @@ use Rattle.schedule_replay.specs.EventTexts.{schedule_text}
 use Rattle.schedule_replay.specs.Schedules.{schedule_in, numbered, events_of}
 use Rattle.counter_run.specs.Explaining.{IsFirstBreakingRun}
 use Rattle.counter_run.specs.Showing.{whole_rounds}
-use Rattle.command_base.proofs.JudgementLaws.{first_byte}
+use Rattle.command_base.proofs.AnswerLaws.{first_byte}
 use Rattle.explain_command.specs.Explained.{IsBreakingSchedule}
 
 -- what holds of two facts of a value in its place

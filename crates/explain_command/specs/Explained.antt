@@ -1,7 +1,6 @@
 -- What is said of the mixed walks of a plan.
-use Rattle.std.specs.Prelude.{◌≡◌, ◌⊎◌, ℕ, ◌<◌, ◌≤◌, true, false, List, [], ◌∷◌, length, Option, None, Ok, codes}
+use Rattle.std.specs.Prelude.{◌≡◌, ◌⊎◌, ℕ, ◌<◌, true, false, List, [], ◌∷◌, length, Option, None, Ok, codes}
 use Rattle.std.specs.Io.KnownBytes.{Appends}
-use Rattle.file_access.specs.Outside.{Files}
 use Rattle.dest_classes.specs.Classes.{IsClass}
 use Rattle.dest_classes.specs.declared.Class.{Class}
 use Rattle.update_model.specs.Mixtures.{AreGoodRounds, AreClearRounds}
@@ -19,9 +18,8 @@ use Rattle.schedule_replay.specs.Schedules.{schedule_in, numbered, events_of}
 use Rattle.counter_run.specs.Explaining.{ClassBreaks, NoneBreaks, IsFirstBreakingRun}
 use Rattle.counter_run.specs.Showing.{HasGoodTrace}
 use Rattle.command_base.specs.Answers.{Answer}
-use Rattle.command_base.specs.Judgements.{IsJudgement, most_classes}
-use Rattle.check_base.specs.Checks.{CheckMeaning, FilesMeanPlan, IsRefusedLine, check_count, task_in}
-use Rattle.check_base.specs.Names.{CheckNames}
+use Rattle.command_base.specs.Judgements.{IsJudgement}
+use Rattle.check_base.specs.Checks.{CheckMeaning, IsRefusedLine, check_count, task_in}
 use Rattle.check_base.specs.ReasonLines.{refused_line}
 
 -- on a two-phase plan
@@ -100,25 +98,17 @@ pub record SaysTwoPhase (t : Task) (evidence : Evidence) (line : List ℕ) : Typ
 abbrev pub IsWhyNot : Task → Evidence → List ℕ → Type 0
 IsWhyNot t evidence line = SaysEndBreaks t evidence line ⊎ (SaysUnsoundRound t line ⊎ SaysTwoPhase t evidence line)
 
+-- the mixed walks of the plan that was read can be looked at
+abbrev pub CanBeExplained : CheckMeaning → Type 0
+CanBeExplained m = IsExplainable (task_in m) m.plan.evidence
+
+-- the line says why they can't
+abbrev pub IsCauseLine : CheckMeaning → List ℕ → Type 0
+IsCauseLine m line = IsWhyNot (task_in m) m.plan.evidence line
+
 -- the answer of `explain`: too many classes; what is said of the mixed walks; or why they aren't looked at
 abbrev pub IsExplainAnswer : CheckMeaning → Answer → Type 0
-IsExplainAnswer m answer =
-    IsJudgement (check_count m) (IsExplainable (task_in m) m.plan.evidence) (IsExplanation (task_in m) answer.text)
-    answer.text (IsWhyNot (task_in m) m.plan.evidence) answer
-
--- the files are read, there are few enough classes, and the mixed walks can be looked at
-pub record FilesAreExplainable (files : Files) (names : CheckNames) : Type 0 where
-  pub meaning : CheckMeaning
-  pub mean : FilesMeanPlan files names meaning
-  pub few : check_count meaning ≤ most_classes
-  pub explainable : IsExplainable (task_in meaning) meaning.plan.evidence
-
--- the files are read, there are few enough classes, and the mixed walks can't be looked at
-pub record FilesAreNotExplainable (files : Files) (names : CheckNames) : Type 0 where
-  pub meaning : CheckMeaning
-  pub mean : FilesMeanPlan files names meaning
-  pub few : check_count meaning ≤ most_classes
-  pub refused : ¬ IsExplainable (task_in meaning) meaning.plan.evidence
+IsExplainAnswer m answer = IsJudgement (check_count m) (CanBeExplained m) (IsExplanation (task_in m) answer.text) answer.text (IsCauseLine m) answer
 
 -- the schedule of a run in which a packet breaks its duties was written
 pub record WritesBreakingRun (m : CheckMeaning) (old new : Option (List ℕ)) : Type 0 where
@@ -130,9 +120,3 @@ pub record WritesBreakingRun (m : CheckMeaning) (old new : Option (List ℕ)) : 
 pub record WritesNothingBreaks (m : CheckMeaning) (old new : Option (List ℕ)) : Type 0 where
   pub none : NothingBreaks (task_in m)
   pub written : Appends old new nothing_line
-
--- the line that was written names the first cause why the mixed walks aren't looked at
-pub record NamesFirstCause (m : CheckMeaning) (old new : Option (List ℕ)) : Type 0 where
-  pub line : List ℕ
-  pub names : IsWhyNot (task_in m) m.plan.evidence line
-  pub written : Appends old new line

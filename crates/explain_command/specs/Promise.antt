@@ -4,17 +4,17 @@ use Rattle.std.specs.Io.KnownBytes.{Appends}
 use Rattle.file_access.specs.Outside.{Files}
 use Rattle.command_base.specs.declared.status.Status.{Status}
 use Rattle.command_base.specs.declared.status.Status.TheVariants as status
-use Rattle.command_base.specs.Lines.{classes_line}
+use Rattle.command_base.specs.JudgedFiles.{FilesAreGood, RefusalPromise}
 use Rattle.command_base.specs.Runs.{IsSettled}
 use Rattle.check_base.specs.Names.{CheckNames}
-use Rattle.check_base.specs.Checks.{CheckMeaning, FilesMeanPlan, PlanMakesTooMany, check_count, task_in}
-use Rattle.explain_command.specs.Explained.{FilesAreExplainable, FilesAreNotExplainable, SomethingBreaks, NothingBreaks, WritesBreakingRun, WritesNothingBreaks, NamesFirstCause, nothing_line}
+use Rattle.check_base.specs.Checks.{CheckMeaning, FilesMeanPlan, check_count, task_in}
+use Rattle.explain_command.specs.Explained.{CanBeExplained, IsCauseLine, SomethingBreaks, NothingBreaks, WritesBreakingRun, WritesNothingBreaks, nothing_line}
 
 -- the files and their names, what was written before and after the run, and how it ended
 pub record ExplainPromise (files : Files) (names : CheckNames) (old new : Option (List ℕ)) (result : Status) : Type 0 where
   -- Done comes exactly where the five files mean an update and an ordered plan of it, with at most 8192 classes, where both
   -- configurations have good paths for each class, and every round is good and clear.
-  pub done : IsSettled result → ((result ≡ status.Done) ↔ FilesAreExplainable files names)
+  pub done : IsSettled result → ((result ≡ status.Done) ↔ FilesAreGood (FilesMeanPlan files names) check_count CanBeExplained)
   -- Then either the schedule of a run was written that `replay` carries out, and at whose end a packet breaks its duties; or the line that
   -- every mixed walk is good, and no class breaks in any round.
   pub run : (m : CheckMeaning) → FilesMeanPlan files names m → result ≡ status.Done → WritesBreakingRun m old new ⊎ WritesNothingBreaks m old new
@@ -23,9 +23,6 @@ pub record ExplainPromise (files : Files) (names : CheckNames) (old new : Option
   pub nothing : (m : CheckMeaning) → FilesMeanPlan files names m → result ≡ status.Done → (WritesNothingBreaks m old new ↔ NothingBreaks (task_in m))
   -- The line is written for no other cause.
   pub nothing_only : (m : CheckMeaning) → FilesMeanPlan files names m → (before : List ℕ) → old ≡ Some before → result ≡ status.Done → Appends old new nothing_line → NothingBreaks (task_in m)
-  -- Refused comes exactly where one of these fails; the line names the first: a configuration, a round, or that the plan is of two phases.
-  pub refused : IsSettled result → ((result ≡ status.Refused) ↔ FilesAreNotExplainable files names)
-  pub first : (m : CheckMeaning) → FilesMeanPlan files names m → result ≡ status.Refused → NamesFirstCause m old new
-  -- Too many classes are a bad file, and their line is written for no other cause.
-  pub classes : IsSettled result → (many : PlanMakesTooMany files names) → (result ≡ status.BadFile) × Appends old new (classes_line (check_count many.meaning))
-  pub classes_only : (before : List ℕ) (classes : ℕ) → old ≡ Some before → result ≡ status.BadFile → Appends old new (classes_line classes) → PlanMakesTooMany files names
+  -- Refused comes exactly where one of these fails, and the line names the first: a configuration, a round, or that the plan is of two
+  -- phases; too many classes are a bad file.
+  pub refusals : RefusalPromise (FilesMeanPlan files names) check_count CanBeExplained IsCauseLine old new result

@@ -54,11 +54,6 @@ pub record FilesMeanImport (files : Files) (names : ImportNames) (m : ImportMean
   pub topology_is : IsReadAs files kind.Topology network_in names.topology m.net
   pub replies_are : IsReadAs files kind.Replies (replies_in m.net) names.replies m.tables
 
--- both files are read
-pub record FilesAreImported (files : Files) (names : ImportNames) : Type 0 where
-  pub meaning : ImportMeaning
-  pub mean : FilesMeanImport files names meaning
-
 -- the text that was written is read as a configuration with these tables
 pub record WritesConfig (net : Network) (tables : List (List Rule)) (old new : Option (List ℕ)) : Type 0 where
   pub text : List ℕ

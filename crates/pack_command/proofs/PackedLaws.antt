@@ -22,7 +22,7 @@ use Rattle.packed_trees.specs.Bounds.{AreBounds}
 use Rattle.round_planner.specs.Search.{single_rounds}
 use Rattle.round_planner.proofs.StandingLaws.{length_rounds}
 use Rattle.round_planner.proofs.UserTables.{user_start, remaining_count}
-use Rattle.round_planner.specs.Updates.{update_target, bare_task}
+use Rattle.round_planner.specs.Updates.{update_count, update_target, bare_task}
 use Rattle.tag_allocator.specs.Tags.{available_tags}
 use Rattle.topology.specs.Networks.{Network}
 use Rattle.two_phase.specs.Depths.{depth_rounds, depth_count}
@@ -35,14 +35,14 @@ use Rattle.command_base.specs.Answers.{Answer}
 use Rattle.command_base.specs.Readings.{reading_update}
 use Rattle.command_base.specs.Runs.{IsSettled, Answered}
 use Rattle.command_base.specs.Updates.{FilesMeanUpdate, WritesPlan}
-use Rattle.command_base.proofs.MeaningLaws.{said_over, over_splits, means_update, update_means}
-use Rattle.command_base.proofs.JudgementLaws.{status_of}
-use Rattle.command_base.proofs.RunLaws.{settled_done, settled_refused, settled_bad}
+use Rattle.command_base.proofs.AnswerLaws.{meant, status_of}
+use Rattle.command_base.proofs.JudgementLaws.{SaysOfGood, refusals}
+use Rattle.command_base.proofs.RunLaws.{settled_done}
 use Rattle.plan_command.specs.NoPlanLines.{too_few_lines, too_small_lines}
 use Rattle.plan_command.specs.NewPlans.{FilesMeanTrees, FilesMeanGoodEnds, IsStuck, FilesHavePlan}
-use Rattle.plan_command.specs.Planned.{SaysTooFew, SaysTooSmall}
+use Rattle.plan_command.specs.Planned.{BothEndsAreGood, SaysTooFew, SaysTooSmall}
 use Rattle.plan_command.proofs.UpdateAnswers as law
-use Rattle.plan_command.proofs.UpdateAnswers.{AreApart, IsOneStuck, AnswersUpdate, SaysGoodPlan, tree_ends, plan_status, none_not_done, none_not_refused, none_not_bad, few_by_status, small_by_status, none_fits, few_of_none, small_of_none, fits_tags, fits_room}
+use Rattle.plan_command.proofs.UpdateAnswers.{AreApart, IsOneStuck, AnswersUpdate, answers_by, SaysGoodPlan, tree_ends, plan_status, none_not_done, none_not_refused, none_not_bad, few_by_status, small_by_status, none_fits, few_of_none, small_of_none, fits_tags, fits_room}
 use Rattle.pack_command.specs.Chosen.{IsPackedPlan, IsPackingStuck, IsOrderedPlan, HasNoOrderedPlan, phased_plan, phased_count, IsPackPlan}
 use Rattle.pack_command.specs.Packed.{SaysPackPlan, SaysNoPlan, PacksInFewRounds, SaysPacked, IsPacked}
 use Rattle.pack_command.specs.PackFiles.{IsPackingOrdered, EndsInOrder, HasPackPlan, FilesHavePackPlan, FilesPackNoTags, FilesPackNoRoom, WritesPackPlan, AreFull}
@@ -219,26 +219,18 @@ module _ (u : Update) (answer : Answer) where
   good_plan : SaysPackPlan u answer → SaysGoodPlan u answer
   good_plan v = record { plan = v.plan; says = v.says; certified = v.certified; consistent = v.consistent; classes = v.classes }
 
+of_good_ends : (u : Update) (answer : Answer) → SaysPacked u answer → SaysOfGood (update_count u) (BothEndsAreGood u) answer
+of_good_ends u answer says = record { few = says.few; holds = says.good; not_refused = not_refused u answer says.chosen; not_bad = not_bad u answer says.chosen }
+
+plan_of : (u : Update) (answer : Answer) → SaysPacked u answer → answer.status ≡ status.Done → SaysGoodPlan u answer
+plan_of u answer says is = good_plan u answer (done_chosen u answer says.chosen is)
+
 -- ---- a run
 
 -- of a settled run of `pack` over a source that tells
 module _ (files : Files) (names : UpdateNames) (old new : Option (List ℕ)) (result : Status) (a : Answered IsPacked files (reading_update names) old new result) where
   abbrev run : AnswersUpdate SaysPacked files names old new result
-  run = record {
-    answer = a.answer;
-    said = λ u mean. said_over IsPacked files (reading_update names) a.answer u a.over (means_update files names u mean);
-    splits = elim (over_splits IsPacked files (reading_update names) a.answer a.over) [
-      | inl bad ↦ inl bad
-      | inr (u, means, says) ↦ inr (u, update_means files names u means, says)
-    ];
-    status_is = a.status_is;
-    written = a.written;
-    few = λ u says. says.few;
-    good = λ u says. says.good;
-    plan = λ u says is. good_plan u a.answer (done_chosen u a.answer says.chosen is);
-    not_refused = λ u says. not_refused u a.answer says.chosen;
-    not_bad = λ u says. not_bad u a.answer says.chosen;
-  }
+  run = answers_by SaysPacked files names old new result a of_good_ends plan_of
 
   packed : (u : Update) → FilesMeanUpdate files names u → result ≢ status.BadFile → result ≢ status.Refused → SaysPacked u a.answer
   packed = law.says SaysPacked files names old new result run
@@ -286,7 +278,7 @@ module _ (files : Files) (names : UpdateNames) (old new : Option (List ℕ)) (re
     pub done : (result ≡ status.Done) ↔ FilesHavePackPlan files names
     done = (
       λ is.
-          let (u, mean) = law.meant SaysPacked files names old new result run status.Done (λ e. cc) is in
+          let (u, mean) = meant run.judged.run status.Done (λ e. cc) is in
           let v = pack_plan is u mean in
           record { update = u; mean = law.good_ends SaysPacked files names old new result run u mean (packed u mean (λ e. cc) (λ e. cc)); packed = has_pack u v.plan v.is_pack },
       λ h. sym a.status_is ∙ done_at h.update h.packed (of_good h.update h.mean),
@@ -327,7 +319,7 @@ module _ (files : Files) (names : UpdateNames) (old new : Option (List ℕ)) (re
     pub too_few : (result ≡ status.TooFewTags) ↔ FilesPackNoTags files names
     too_few = (
       λ is.
-          let (u, mean) = law.meant SaysPacked files names old new result run status.TooFewTags (λ e. cc) is in
+          let (u, mean) = meant run.judged.run status.TooFewTags (λ e. cc) is in
           let says = packed u mean (λ e. cc) (λ e. cc) in
           let (packing, v) = few_chosen u a.answer says.chosen (a.status_is ∙ is) in
           record { lack = law.lack_tags SaysPacked files names old new result run u (law.good_ends SaysPacked files names old new result run u mean says) v; packing = packing },
@@ -337,7 +329,7 @@ module _ (files : Files) (names : UpdateNames) (old new : Option (List ℕ)) (re
     pub too_small : (result ≡ status.TooSmall) ↔ FilesPackNoRoom files names
     too_small = (
       λ is.
-          let (u, mean) = law.meant SaysPacked files names old new result run status.TooSmall (λ e. cc) is in
+          let (u, mean) = meant run.judged.run status.TooSmall (λ e. cc) is in
           let says = packed u mean (λ e. cc) (λ e. cc) in
           let (packing, v) = small_chosen u a.answer says.chosen (a.status_is ∙ is) in
           record { lack = law.lack_room SaysPacked files names old new result run u (law.good_ends SaysPacked files names old new result run u mean says) v; packing = packing },
@@ -378,12 +370,9 @@ promised files names old new result apart one packing_apart packing_one full eno
   tree_rounds = λ before u p told is trees text most dropped unmet bounds.
       tree_rounds_of apart packing_apart u counted packing_one (in_few files names old new result (answered (settled_done _ is)) u trees) p
       (chosen files names old new result (answered (settled_done _ is)) before told is u p trees.mean text) most dropped unmet bounds;
-  refused = λ settled. law.refused SaysPacked files names old new result (run files names old new result (answered settled));
-  first = λ u mean is. law.first_break SaysPacked files names old new result (run files names old new result (answered (settled_refused _ is))) is u mean;
+  refusals = refusals (λ settled. (run files names old new result (answered settled)).judged);
   too_few = λ settled. too_few files names old new result (answered settled) apart packing_apart;
   too_few_lines = λ settled none. too_few_written files names old new result (answered settled) apart packing_apart one none;
   too_small = λ settled. too_small files names old new result (answered settled) apart packing_apart;
   too_small_lines = λ settled none. too_small_written files names old new result (answered settled) apart packing_apart one none;
-  classes = λ settled many. law.too_many SaysPacked files names old new result (run files names old new result (answered settled)) many;
-  classes_only = λ before n told is line. law.only_too_many SaysPacked files names old new result (run files names old new result (answered (settled_bad _ is))) before told n is line;
 }

@@ -9,7 +9,7 @@ use Rattle.certificates.specs.declared.Plan.{Plan}
 use Rattle.packed_rounds.specs.Packing.{CanStand, PacksOrdered}
 use Rattle.packed_trees.specs.Bounds.{AreBounds}
 use Rattle.round_planner.specs.Search.{single_rounds}
-use Rattle.round_planner.specs.Updates.{update_count, update_target, bare_task, KeepsConsistent}
+use Rattle.round_planner.specs.Updates.{update_target, bare_task, KeepsConsistent}
 use Rattle.tag_allocator.specs.Tags.{available_tags}
 use Rattle.two_phase.specs.Depths.{depth_count}
 use Rattle.two_phase.specs.Laws.{FitsTwoPhase}
@@ -17,13 +17,12 @@ use Rattle.command_base.specs.declared.status.Status.{Status}
 use Rattle.command_base.specs.declared.status.Status.TheVariants as status
 use Rattle.command_base.specs.declared.kinds.FileKind.TheVariants as kind
 use Rattle.command_base.specs.Kinds.{limit_of}
-use Rattle.command_base.specs.Lines.{classes_line}
 use Rattle.command_base.specs.Names.{UpdateNames}
 use Rattle.command_base.specs.Updates.{FilesMeanUpdate, WritesPlan}
 use Rattle.command_base.specs.Runs.{IsSettled}
 use Rattle.check_base.specs.Checks.{FilesAreCertified}
 use Rattle.plan_command.specs.NoPlanLines as lines
-use Rattle.plan_command.specs.NewPlans.{FilesHavePlan, FilesBreakAnEnd, UpdateMakesTooMany, FilesMeanTrees, NamesFirstEndBreak, HoldBeside}
+use Rattle.plan_command.specs.NewPlans.{FilesHavePlan, FilesMeanTrees, RefusesBadEnds, HoldBeside}
 use Rattle.pack_command.specs.PackFiles.{IsPackingOrdered, EndsInOrder, FilesHavePackPlan, FilesPackNoTags, FilesPackNoRoom, WritesPackPlan, AreFull}
 
 -- the files and their names, what was written before and after the run, and how it ended
@@ -62,9 +61,8 @@ pub record PackPromise (files : Files) (names : UpdateNames) (old new : Option (
   -- another action in the new tables is picked by the lookup at no place of a class's new path.
   pub tree_rounds : (before : List ℕ) (u : Update) (p : Plan) → old ≡ Some before → result ≡ status.Done → FilesMeanTrees files names u → WritesPlan u.net p old new
       → (most dropped unmet : ℕ) → AreBounds (bare_task u) u.old most dropped unmet → length p.rounds ≤ most + dropped + unmet
-  -- Refused comes exactly where an end isn't good; the line names the first break.
-  pub refused : IsSettled result → ((result ≡ status.Refused) ↔ FilesBreakAnEnd files names)
-  pub first : (u : Update) → FilesMeanUpdate files names u → result ≡ status.Refused → NamesFirstEndBreak u old new
+  -- Refused comes exactly where an end isn't good, and the line names the first break; too many classes are a bad file.
+  pub refusals : RefusesBadEnds files names old new result
   -- Too few tags, and a switch that is too small, come exactly where packing and the search end stuck; the lines have the numbers and
   -- the rounds of the search.
   pub too_few : IsSettled result → ((result ≡ status.TooFewTags) ↔ FilesPackNoTags files names)
@@ -73,6 +71,3 @@ pub record PackPromise (files : Files) (names : UpdateNames) (old new : Option (
   pub too_small : IsSettled result → ((result ≡ status.TooSmall) ↔ FilesPackNoRoom files names)
   pub too_small_lines : IsSettled result → (none : FilesPackNoRoom files names)
       → Appends old new (lines.too_small_lines none.lack.update.net none.lack.switch none.lack.need none.lack.capacity (single_rounds none.lack.stuck.changes))
-  -- Too many classes are a bad file, and their line is written for no other cause.
-  pub classes : IsSettled result → (many : UpdateMakesTooMany files names) → (result ≡ status.BadFile) × Appends old new (classes_line (update_count many.update))
-  pub classes_only : (before : List ℕ) (classes : ℕ) → old ≡ Some before → result ≡ status.BadFile → Appends old new (classes_line classes) → UpdateMakesTooMany files names

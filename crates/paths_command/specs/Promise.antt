@@ -6,13 +6,14 @@ use Rattle.config_check.specs.declared.Breaks as breaking
 use Rattle.config_check.specs.Broken.{IsFirstBreak}
 use Rattle.command_base.specs.declared.status.Status.{Status}
 use Rattle.command_base.specs.declared.status.Status.TheVariants as status
-use Rattle.command_base.specs.Lines.{classes_line}
+use Rattle.command_base.specs.JudgedFiles.{RefusalPromise}
 use Rattle.command_base.specs.Runs.{IsSettled}
 use Rattle.config_command.specs.Names.{ConfigNames}
-use Rattle.config_command.specs.Configs.{ConfigMeaning, FilesMean, FilesHold, FilesBreak, FilesMakeTooMany, config_count}
+use Rattle.config_command.specs.Configs.{ConfigMeaning, FilesMean, Holds, FilesHold, config_count}
 use Rattle.config_command.specs.Promise.{ConfigPromise}
 use Rattle.config_command.specs.Verdicts.{classes_under}
 use Rattle.paths_command.specs.declared.marks.Mark.TheVariants.{Breaks}
+use Rattle.paths_command.specs.Listed.{IsPathsText}
 use Rattle.paths_command.specs.Rows.{ClassRow, AreRows}
 use Rattle.paths_command.specs.Lines.{paths_text, is_break}
 
@@ -46,8 +47,8 @@ pub record PathsPromise (files : Files) (names : ConfigNames) (old new : Option 
     (result : Status) : Type 0 where
   -- Done comes exactly where the files are read, with at most 8192 classes, each with a good path.
   pub done : IsSettled result → ((result ≡ status.Done) ↔ FilesHold files names)
-  -- Refused comes exactly where some class has no good path.
-  pub refused : IsSettled result → ((result ≡ status.Refused) ↔ FilesBreak files names)
+  -- Refused comes exactly where some class has no good path, with the listing; too many classes are a bad file.
+  pub refusals : RefusalPromise (FilesMean files names) config_count Holds IsPathsText old new result
   -- In both cases the listing is written: of each class the path and the verdict, and the counts.
   pub lists : (m : ConfigMeaning) → FilesMean files names m
       → (result ≡ status.Done) ⊎ (result ≡ status.Refused) → WritesPaths m old new
@@ -59,8 +60,3 @@ pub record PathsPromise (files : Files) (names : ConfigNames) (old new : Option 
   -- So the run ends as a run of `config` over the same words does.
   pub as_config : IsSettled result → (before after : Option (List ℕ)) (other : Status)
       → IsSettled other → ConfigPromise files names before after other → EndAlike result other
-  -- Too many classes are a bad file, and their line is written for no other cause.
-  pub classes : IsSettled result → (many : FilesMakeTooMany files names)
-      → (result ≡ status.BadFile) × Appends old new (classes_line (config_count many.meaning))
-  pub classes_only : (before : List ℕ) (classes : ℕ) → old ≡ Some before → result ≡ status.BadFile
-      → Appends old new (classes_line classes) → FilesMakeTooMany files names

@@ -1,84 +1,26 @@
 //! The command that writes where every class of a configuration goes.
-ghost use Rattle.std.specs.Prelude.{◌≡◌, ◌≤◌, IfOk, IfErr, Option};
+ghost use Rattle.std.specs.Prelude.{◌≡◌, ◌≤◌, IfOk, IfErr};
 ghost use Rattle.flow_rules.specs.Tables.{rules_of_all};
 ghost use Rattle.path_walk.specs.UserConfigs.{IsUserConfig};
-ghost use Rattle.command_base.specs.Dialogues.{FileRead, IsWhole, LeadsTo};
-ghost use Rattle.command_base.specs.Replies.{answer_of, EndsEarly, Meets};
+ghost use Rattle.command_base.specs.Replies.{answer_of, Meets};
 ghost use Rattle.config_command.specs.Names.{names_seen};
-ghost use Rattle.config_command.specs.Configs.{behind_tables, behind_topology, config_dialogue};
+ghost use Rattle.config_command.specs.Configs.{config_dialogue, config_meaning_of};
 ghost use Rattle.paths_command.specs.Listed.{IsPathsAnswer};
 
 use crate::listing::listing_of;
-use command_base::{Exit, FileKind, Reply, read_configuration, read_policy, read_topology};
-use config_command::ConfigNames;
-use demands::Demands;
+use command_base::{Exit, Reply};
+use config_command::{ConfigFiles, ConfigNames, read_config_files};
 use file_access::Source;
-use flow_rules::Config;
 use std::alloc::Global;
-use topology::Net;
 
 /// The listing of the classes as the end of the command.
-fn say_paths(alloc: Global, net: &Net, tables: &Config, demands: &Demands) -> Result<Reply, Exit>
-    requires user { IsUserConfig net.now (rules_of_all tables.now) }
-    ensures said { IfOk result (λ r. IsPathsAnswer (record {
-      net = net.now;
-      tables = rules_of_all tables.now;
-      demands = demands.now;
-    }) (answer_of r)) }
+fn say_paths(alloc: Global, files: &ConfigFiles) -> Result<Reply, Exit>
+    requires user { IsUserConfig files.now.net (rules_of_all files.now.tables) }
+    ensures said { IfOk result
+        (λ r. IsPathsAnswer (config_meaning_of files.now) (answer_of r)) }
     ensures stops { IfErr result (λ e. e ≡ Exit.Memory) }
 {
-    Ok(listing_of(alloc, net, tables, demands)?)
-}
-
-/// Fetches the policy, if one is named, and lists the classes under it.
-fn paths_policy<S: Source>(
-    alloc: Global,
-    source: &mut S,
-    names: &ConfigNames<'_>,
-    net: &Net,
-    tables: &Config,
-) -> Result<Reply, Exit>
-    requires user { IsUserConfig net.now (rules_of_all tables.now) }
-    ensures leads { (last : Option FileRead)
-        → IsWhole last (S.selected source.old) (S.taken source.old)
-        → IfOk result (λ r. LeadsTo IsPathsAnswer (S.held source.old) last
-        (behind_tables (names_seen names.now) net.now (rules_of_all tables.now))
-        (answer_of r) (S.selected source.new) (S.taken source.new)) }
-    ensures stops { IfErr result (λ e. (last : Option FileRead) → EndsEarly (S.held source.old) last
-        (behind_tables (names_seen names.now) net.now (rules_of_all tables.now))
-        (S.faults source.old) (S.faults source.new) e
-        (S.selected source.new) (S.taken source.new)) }
-    ensures held { S.held source.new ≡ S.held source.old }
-    ensures later { S.faults source.old ≤ S.faults source.new }
-{
-    let demands = read_policy(alloc, source, net, names.policy)?;
-    let reply = say_paths(alloc, net, tables, &demands);
-    drop(demands);
-    reply
-}
-
-/// Fetches the configuration and the policy, and lists the classes.
-fn paths_tables<S: Source>(
-    alloc: Global,
-    source: &mut S,
-    names: &ConfigNames<'_>,
-    net: &Net,
-) -> Result<Reply, Exit>
-    ensures leads { IfOk result (λ r. (last : Option FileRead)
-        → LeadsTo IsPathsAnswer (S.held source.old) last
-        (behind_topology (names_seen names.now) net.now)
-        (answer_of r) (S.selected source.new) (S.taken source.new)) }
-    ensures stops { IfErr result (λ e. (last : Option FileRead) → EndsEarly (S.held source.old) last
-        (behind_topology (names_seen names.now) net.now)
-        (S.faults source.old) (S.faults source.new) e
-        (S.selected source.new) (S.taken source.new)) }
-    ensures held { S.held source.new ≡ S.held source.old }
-    ensures later { S.faults source.old ≤ S.faults source.new }
-{
-    let tables = read_configuration(alloc, source, FileKind::Config, net, names.config)?;
-    let reply = paths_policy(alloc, source, names, net, &tables);
-    drop(tables);
-    reply
+    Ok(listing_of(alloc, &files.net, &files.tables, &files.demands)?)
 }
 
 /// Writes of each class of the configuration its path and whether it is good under the policy, or under no demands.
@@ -93,8 +35,8 @@ pub fn paths<S: Source>(
     ensures held { S.held source.new ≡ S.held source.old }
     ensures later { S.faults source.old ≤ S.faults source.new }
 {
-    let net = read_topology(alloc, source, names.topology)?;
-    let reply = paths_tables(alloc, source, names, &net);
-    drop(net);
+    let files = read_config_files(alloc, source, names)?;
+    let reply = say_paths(alloc, &files);
+    drop(files);
     reply
 }

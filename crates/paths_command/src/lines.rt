@@ -6,27 +6,10 @@ ghost use Rattle.paths_command.specs.Rows.{row_seen};
 ghost use Rattle.paths_command.specs.Lines as lines;
 
 use crate::marks::{Counts, Mark, Row};
-use command_base::{class_text, how_text, switch_name};
+use command_base::{add_made, add_word, class_text, how_text, switch_name};
 use net_base::{Memory, Place, Port, SwitchId, Vlan, vlan_text};
 use path_places::PlacesEnd;
 use topology::Net;
-
-/// Adds a word.
-fn add_word(text: &mut Vec<u8>, word: &str) -> Result<(), Memory>
-    ensures { OnOk result (text.new.items ≡ text.old.items ++ word.now) }
-{
-    text.extend_from_slice(word.as_bytes())?;
-    Ok(())
-}
-
-/// Adds a text that was made for it.
-fn add_made(text: &mut Vec<u8>, made: Vec<u8>) -> Result<(), Memory>
-    ensures { OnOk result (text.new.items ≡ text.old.items ++ made.items) }
-{
-    let added = text.extend_from_slice(&made);
-    drop(made);
-    Ok(added?)
-}
 
 /// Adds a port of a switch: `SWITCH:PORT`.
 fn add_stop(text: &mut Vec<u8>, net: &Net, switch: SwitchId, port: Port) -> Result<(), Memory>

@@ -6,7 +6,7 @@ use Rattle.file_access.specs.Outside.{Files}
 use Rattle.net_base.specs.declared.ids.SwitchId.{SwitchId}
 use Rattle.certificates.specs.Updates.{Update}
 use Rattle.round_planner.specs.Search.{single_rounds}
-use Rattle.round_planner.specs.Updates.{update_target}
+use Rattle.round_planner.specs.Updates.{update_count, update_target}
 use Rattle.two_phase.specs.Plans.{IsFirstTooSmall}
 use Rattle.tag_allocator.specs.Tags.{available_tags}
 use Rattle.command_base.specs.declared.status.Status.{Status}
@@ -16,15 +16,15 @@ use Rattle.command_base.specs.Answers.{Answer}
 use Rattle.command_base.specs.Readings.{reading_update}
 use Rattle.command_base.specs.Runs.{IsSettled, Answered}
 use Rattle.command_base.specs.Updates.{FilesMeanUpdate}
-use Rattle.command_base.proofs.MeaningLaws.{said_over, over_splits, means_update, update_means}
-use Rattle.command_base.proofs.JudgementLaws.{status_of}
-use Rattle.command_base.proofs.RunLaws.{settled_done, settled_refused, settled_bad}
+use Rattle.command_base.proofs.AnswerLaws.{meant, status_of}
+use Rattle.command_base.proofs.JudgementLaws.{SaysOfGood, refusals}
+use Rattle.command_base.proofs.RunLaws.{settled_done}
 use Rattle.plan_command.specs.NoPlanLines.{too_few_lines, too_small_lines}
 use Rattle.plan_command.specs.NewPlans.{FilesMeanTrees, WritesOrderedPlan, FilesMeanGoodEnds, IsStuck, HasPlan, FilesHavePlan, FilesLackTags, FilesLackRoom, WritesNewPlan}
-use Rattle.plan_command.specs.Planned.{SaysNewPlan, SaysTooFew, SaysTooSmall, SaysSearched, SaysPlanned, IsPlanned}
+use Rattle.plan_command.specs.Planned.{BothEndsAreGood, SaysNewPlan, SaysTooFew, SaysTooSmall, SaysSearched, SaysPlanned, IsPlanned}
 use Rattle.plan_command.specs.Promise.{PlanPromise}
 use Rattle.plan_command.proofs.UpdateAnswers as law
-use Rattle.plan_command.proofs.UpdateAnswers.{AreApart, IsOneStuck, AnswersUpdate, SaysGoodPlan, tree_ends, plan_status, none_not_done, none_not_refused, none_not_bad, few_by_status, small_by_status, none_fits, few_of_none, small_of_none, fits_tags, fits_room}
+use Rattle.plan_command.proofs.UpdateAnswers.{AreApart, IsOneStuck, AnswersUpdate, answers_by, SaysGoodPlan, tree_ends, plan_status, none_not_done, none_not_refused, none_not_bad, few_by_status, small_by_status, none_fits, few_of_none, small_of_none, fits_tags, fits_room}
 
 -- what is said of an update, in each of its statuses
 module _ (u : Update) (answer : Answer) where
@@ -51,24 +51,16 @@ module _ (u : Update) (answer : Answer) where
   good_plan : SaysNewPlan u answer → SaysGoodPlan u answer
   good_plan v = record { plan = v.plan; says = v.says; certified = v.certified; consistent = v.consistent; classes = v.classes }
 
+of_good_ends : (u : Update) (answer : Answer) → SaysPlanned u answer → SaysOfGood (update_count u) (BothEndsAreGood u) answer
+of_good_ends u answer says = record { few = says.few; holds = says.good; not_refused = not_refused u answer says.searched; not_bad = not_bad u answer says.searched }
+
+plan_of : (u : Update) (answer : Answer) → SaysPlanned u answer → answer.status ≡ status.Done → SaysGoodPlan u answer
+plan_of u answer says is = good_plan u answer (done_searched u answer says.searched is)
+
 -- of a settled run of `plan` over a source that tells
 module _ (files : Files) (names : UpdateNames) (old new : Option (List ℕ)) (result : Status) (a : Answered IsPlanned files (reading_update names) old new result) where
   abbrev run : AnswersUpdate SaysPlanned files names old new result
-  run = record {
-    answer = a.answer;
-    said = λ u mean. said_over IsPlanned files (reading_update names) a.answer u a.over (means_update files names u mean);
-    splits = elim (over_splits IsPlanned files (reading_update names) a.answer a.over) [
-      | inl bad ↦ inl bad
-      | inr (u, means, says) ↦ inr (u, update_means files names u means, says)
-    ];
-    status_is = a.status_is;
-    written = a.written;
-    few = λ u says. says.few;
-    good = λ u says. says.good;
-    plan = λ u says is. good_plan u a.answer (done_searched u a.answer says.searched is);
-    not_refused = λ u says. not_refused u a.answer says.searched;
-    not_bad = λ u says. not_bad u a.answer says.searched;
-  }
+  run = answers_by SaysPlanned files names old new result a of_good_ends plan_of
 
   planned : (u : Update) → FilesMeanUpdate files names u → result ≢ status.BadFile → result ≢ status.Refused → SaysPlanned u a.answer
   planned = law.says SaysPlanned files names old new result run
@@ -110,7 +102,7 @@ module _ (files : Files) (names : UpdateNames) (old new : Option (List ℕ)) (re
     pub done : (result ≡ status.Done) ↔ FilesHavePlan files names
     done = (
       λ is.
-          let (u, mean) = law.meant SaysPlanned files names old new result run status.Done (λ e. cc) is in
+          let (u, mean) = meant run.judged.run status.Done (λ e. cc) is in
           record { update = u; mean = law.good_ends SaysPlanned files names old new result run u mean (planned u mean (λ e. cc) (λ e. cc)); planned = has_plan u (new_plan is u mean) },
       λ h. sym a.status_is ∙ done_at h.update h.planned (of_good h.update h.mean).searched,
     )
@@ -139,7 +131,7 @@ module _ (files : Files) (names : UpdateNames) (old new : Option (List ℕ)) (re
     pub too_few : (result ≡ status.TooFewTags) ↔ FilesLackTags files names
     too_few = (
       λ is.
-          let (u, mean) = law.meant SaysPlanned files names old new result run status.TooFewTags (λ e. cc) is in
+          let (u, mean) = meant run.judged.run status.TooFewTags (λ e. cc) is in
           let says = planned u mean (λ e. cc) (λ e. cc) in
           law.lack_tags SaysPlanned files names old new result run u (law.good_ends SaysPlanned files names old new result run u mean says) (few_searched u a.answer says.searched (a.status_is ∙ is)),
       λ h. sym a.status_is ∙ status_of a.answer _ _ (few_of h).answer_is,
@@ -148,7 +140,7 @@ module _ (files : Files) (names : UpdateNames) (old new : Option (List ℕ)) (re
     pub too_small : (result ≡ status.TooSmall) ↔ FilesLackRoom files names
     too_small = (
       λ is.
-          let (u, mean) = law.meant SaysPlanned files names old new result run status.TooSmall (λ e. cc) is in
+          let (u, mean) = meant run.judged.run status.TooSmall (λ e. cc) is in
           let says = planned u mean (λ e. cc) (λ e. cc) in
           law.lack_room SaysPlanned files names old new result run u (law.good_ends SaysPlanned files names old new result run u mean says) (small_searched u a.answer says.searched (a.status_is ∙ is)),
       λ h. sym a.status_is ∙ status_of a.answer _ _ (small_of h).answer_is,
@@ -170,12 +162,9 @@ promised files names old new result apart one answered =
       keeps = λ before u p told is mean text. law.keeps SaysPlanned files names old new result (runs (settled_done _ is)) before told is u p mean text;
       checked = λ others before plan text told is there within beside. law.checked SaysPlanned files names old new result (runs (settled_done _ is)) before told is others plan text there within beside;
       tree = λ settled u trees. tree files names old new result (answered settled) u trees;
-      refused = λ settled. law.refused SaysPlanned files names old new result (runs settled);
-      first = λ u mean is. law.first_break SaysPlanned files names old new result (runs (settled_refused _ is)) is u mean;
+      refusals = refusals (λ settled. (runs settled).judged);
       too_few = λ settled. too_few files names old new result (answered settled) apart;
       too_few_lines = λ settled lack. too_few_written files names old new result (answered settled) apart one lack;
       too_small = λ settled. too_small files names old new result (answered settled) apart;
       too_small_lines = λ settled lack. too_small_written files names old new result (answered settled) apart one lack;
-      classes = λ settled many. law.too_many SaysPlanned files names old new result (runs settled) many;
-      classes_only = λ before n told is line. law.only_too_many SaysPlanned files names old new result (runs (settled_bad _ is)) before told n is line;
     }

@@ -1,6 +1,6 @@
 -- A run of a command that plans an update, over a source that tells: there are too many classes, an end isn't good, or it says
 -- something of an update with good ends.
-use Rattle.std.proofs.Common.{◌≡◌, ◌≢◌, ◌⊎◌, ◌↔◌, ℕ, ◌*◌, ◌<◌, ◌≤◌, List, ◌∷◌, length, Some, Ok, sym, ap, ◌∙◌, subst, inl, inr, arith}
+use Rattle.std.proofs.Common.{◌≡◌, ◌≢◌, ◌⊎◌, ℕ, ◌*◌, ◌<◌, ◌≤◌, List, length, Some, Ok, sym, ap, ◌∙◌, subst, inl, inr, arith}
 use Rattle.std.specs.declared.option.Option.{Option}
 use Rattle.std.specs.declared.result.Result.{Result}
 use Rattle.std.specs.Io.KnownBytes.{Appends}
@@ -30,18 +30,20 @@ use Rattle.command_base.specs.declared.status.Status.TheVariants as status
 use Rattle.command_base.specs.declared.kinds.FileKind.{FileKind}
 use Rattle.command_base.specs.declared.kinds.FileKind.TheVariants as kind
 use Rattle.command_base.specs.Kinds.{limit_of}
-use Rattle.command_base.specs.Lines.{classes_line}
 use Rattle.command_base.specs.Names.{UpdateNames}
 use Rattle.command_base.specs.Answers.{Answer}
 use Rattle.command_base.specs.Judgements.{SaysTooMany, SaysWhyNot, most_classes}
 use Rattle.command_base.specs.Meanings.{IsReadAs}
 use Rattle.command_base.specs.Updates.{FilesMeanUpdate, WritesPlan}
-use Rattle.command_base.proofs.MeaningLaws.{IsBadLine}
-use Rattle.command_base.proofs.JudgementLaws.{status_of, text_of, texts_same, first_byte}
+use Rattle.command_base.specs.Readings.{reading_update}
+use Rattle.command_base.specs.Runs.{Answered}
+use Rattle.command_base.proofs.MeaningLaws.{update_meant}
+use Rattle.command_base.proofs.AnswerLaws.{meant, wrote, status_of, text_of, texts_same}
+use Rattle.command_base.proofs.JudgementLaws.{IsAnswerOn, SaysOfGood, JudgesFiles, judges_by, says_of, says_good}
 use Rattle.check_base.specs.Checks.{FilesAreCertified}
 use Rattle.upgrade_command.specs.Texts.{SaysPlan}
 use Rattle.plan_command.specs.NoPlanLines.{too_few_lines, too_small_lines}
-use Rattle.plan_command.specs.NewPlans.{FilesMeanGoodEnds, IsStuck, FilesBreakAnEnd, FilesLackTags, FilesLackRoom, UpdateMakesTooMany, NamesFirstEndBreak, HoldBeside}
+use Rattle.plan_command.specs.NewPlans.{FilesMeanGoodEnds, IsStuck, FilesLackTags, FilesLackRoom, HoldBeside}
 use Rattle.plan_command.specs.Planned.{BothEndsAreGood, IsEndLine, SaysTooFew, SaysTooSmall}
 
 -- both ends of an update of destination trees are good
@@ -173,130 +175,60 @@ pub record SaysGoodPlan (u : Update) (answer : Answer) : Type 0 where
   pub consistent : IsConsistent u plan.rounds (is_two_phase plan.evidence)
   pub classes : HasSameClasses (classes_for (task_for u plan)) (update_classes u)
 
--- the answer of a settled run, and what is known where something is said of an update with good ends
+-- each part in its place
+pub answer_on : (Says : Update → Answer → Type 0) (u : Update) (answer : Answer) → IsAnswerBy Says u answer → IsAnswerOn (update_count u) (BothEndsAreGood u) (Says u answer) (IsEndLine u) answer
+answer_on Says u answer (inl many) = inl many
+answer_on Says u answer (inr (inl why)) = inr (inr why)
+answer_on Says u answer (inr (inr says)) = inr (inl says)
+
+-- a settled run, and what is known where something is said of an update with good ends
 pub record AnswersUpdate (Says : Update → Answer → Type 0) (files : Files) (names : UpdateNames) (old new : Option (List ℕ)) (result : Status) : Type 0 where
-  pub answer : Answer
-  pub said : (u : Update) → FilesMeanUpdate files names u → IsAnswerBy Says u answer
-  pub splits : IsBadLine answer ⊎ ((u : Update) × FilesMeanUpdate files names u × IsAnswerBy Says u answer)
-  pub status_is : answer.status ≡ result
-  pub written : Appends old new answer.text
-  pub few : (u : Update) → Says u answer → update_count u ≤ most_classes
-  pub good : (u : Update) → Says u answer → BothEndsAreGood u
-  pub plan : (u : Update) → Says u answer → answer.status ≡ status.Done → SaysGoodPlan u answer
-  pub not_refused : (u : Update) → Says u answer → answer.status ≢ status.Refused
-  pub not_bad : (u : Update) → Says u answer → answer.status ≢ status.BadFile
+  pub judged : JudgesFiles (FilesMeanUpdate files names) update_count BothEndsAreGood Says IsEndLine old new result
+  pub plan : (u : Update) → Says u judged.run.answer → judged.run.answer.status ≡ status.Done → SaysGoodPlan u judged.run.answer
 
--- what is said of an update, by the status
-module _ (Says : Update → Answer → Type 0) (u : Update) (answer : Answer) where
-  other_says : IsAnswerBy Says u answer → answer.status ≢ status.BadFile → answer.status ≢ status.Refused → Says u answer
-  other_says (inl v) other broken = absurd (other (status_of answer _ _ v.answer_is))
-  other_says (inr (inl v)) other broken = absurd (broken (status_of answer _ _ v.answer_is))
-  other_says (inr (inr v)) other broken = v
-
-  refused_says : (Says u answer → answer.status ≢ status.Refused) → IsAnswerBy Says u answer → answer.status ≡ status.Refused → SaysWhyNot (update_count u) (BothEndsAreGood u) (IsEndLine u) answer
-  refused_says never (inl v) is = absurd (let e = status_of answer _ _ v.answer_is in cc)
-  refused_says never (inr (inl v)) is = v
-  refused_says never (inr (inr v)) is = absurd (never v is)
-
-  bad_says : (Says u answer → answer.status ≢ status.BadFile) → IsAnswerBy Says u answer → answer.status ≡ status.BadFile → SaysTooMany (update_count u) answer
-  bad_says never (inl v) is = v
-  bad_says never (inr (inl v)) is = absurd (let e = status_of answer _ _ v.answer_is in cc)
-  bad_says never (inr (inr v)) is = absurd (never v is)
-
-  good_says : IsAnswerBy Says u answer → update_count u ≤ most_classes → BothEndsAreGood u → Says u answer
-  good_says (inl v) few good = absurd (omega (arith, few, v.many))
-  good_says (inr (inl v)) few good = absurd (v.fails good)
-  good_says (inr (inr v)) few good = v
-
-  broken_says : (Says u answer → BothEndsAreGood u) → IsAnswerBy Says u answer → update_count u ≤ most_classes → ¬ BothEndsAreGood u → SaysWhyNot (update_count u) (BothEndsAreGood u) (IsEndLine u) answer
-  broken_says good (inl v) few broken = absurd (omega (arith, few, v.many))
-  broken_says good (inr (inl v)) few broken = v
-  broken_says good (inr (inr v)) few broken = absurd (broken (good v))
-
-  many_says : (Says u answer → update_count u ≤ most_classes) → IsAnswerBy Says u answer → most_classes < update_count u → SaysTooMany (update_count u) answer
-  many_says few (inl v) many = v
-  many_says few (inr (inl v)) many = absurd (omega (arith, v.few, many))
-  many_says few (inr (inr v)) many = absurd (let le = few v in omega (arith, le, many))
+-- the run of a command's dialogue is one
+abbrev pub answers_by : (Says : Update → Answer → Type 0) (files : Files) (names : UpdateNames) (old new : Option (List ℕ)) (result : Status) → Answered (IsAnswerBy Says) files (reading_update names) old new result
+    → ((u : Update) (answer : Answer) → Says u answer → SaysOfGood (update_count u) (BothEndsAreGood u) answer) → ((u : Update) (answer : Answer) → Says u answer → answer.status ≡ status.Done → SaysGoodPlan u answer)
+    → AnswersUpdate Says files names old new result
+answers_by Says files names old new result a of_good plan = record {
+  judged = judges_by (update_meant files names) a (answer_on Says) of_good;
+  plan = λ u says is. plan u a.answer says is;
+}
 
 -- of a settled run over a source that tells
 module _ (Says : Update → Answer → Type 0) (files : Files) (names : UpdateNames) (old new : Option (List ℕ)) (result : Status) (a : AnswersUpdate Says files names old new result) where
-  pub meant : (s : Status) → s ≢ status.BadFile → result ≡ s → (u : Update) × FilesMeanUpdate files names u
-  meant s other is = elim a.splits [
-    | inl bad ↦ absurd (other (sym is ∙ sym a.status_is ∙ status_of a.answer _ _ bad.is))
-    | inr (u, mean, says) ↦ (u, mean)
-  ]
-
-  -- the answer has this status
-  pub has : (s : Status) → result ≡ s → a.answer.status ≡ s
-  has s is = a.status_is ∙ is
-
-  -- what is said of the update
-  pub says : (u : Update) → FilesMeanUpdate files names u → result ≢ status.BadFile → result ≢ status.Refused → Says u a.answer
-  says u mean other broken = other_says Says u a.answer (a.said u mean) (λ e. other (sym a.status_is ∙ e)) (λ e. broken (sym a.status_is ∙ e))
-
-  pub wrote : (text : List ℕ) → a.answer.text ≡ text → Appends old new text
-  wrote text is = subst (λ t. Appends old new t) is a.written
-
-  pub refused : (result ≡ status.Refused) ↔ FilesBreakAnEnd files names
-  refused = (
-    λ is.
-        let (u, mean) = meant status.Refused (λ e. cc) is in
-        let why = refused_says Says u a.answer (a.not_refused u) (a.said u mean) (has status.Refused is) in
-        record { update = u; mean = mean; few = why.few; broken = why.fails },
-    λ h.
-        let why = broken_says Says h.update a.answer (a.good h.update) (a.said h.update h.mean) h.few h.broken in
-        sym a.status_is ∙ status_of a.answer _ _ why.answer_is,
-  )
-
-  pub first_break : result ≡ status.Refused → (u : Update) → FilesMeanUpdate files names u → NamesFirstEndBreak u old new
-  first_break is u mean =
-      let why = refused_says Says u a.answer (a.not_refused u) (a.said u mean) (has status.Refused is) in
-      record { line = why.line; names = why.is_why; written = wrote why.line (text_of a.answer _ _ why.answer_is) }
-
-  pub too_many : (h : UpdateMakesTooMany files names) → (result ≡ status.BadFile) × Appends old new (classes_line (update_count h.update))
-  too_many h =
-      let many = many_says Says h.update a.answer (a.few h.update) (a.said h.update h.mean) h.many in (
-        sym a.status_is ∙ status_of a.answer _ _ many.answer_is,
-        wrote (classes_line (update_count h.update)) (text_of a.answer _ _ many.answer_is),
-      )
-
-  pub only_too_many : (before : List ℕ) → old ≡ Some before → (n : ℕ) → result ≡ status.BadFile → Appends old new (classes_line n) → UpdateMakesTooMany files names
-  only_too_many before told n is line = elim a.splits [
-    | inl bad ↦ (
-        let other : a.answer.text ≡ 98 ∷ bad.rest = text_of a.answer _ _ bad.is in
-        let there : Appends (Some before) new a.answer.text = subst (λ o. Appends o new a.answer.text) told a.written in
-        let same : classes_line n ≡ 98 ∷ bad.rest = texts_same before new (classes_line n) a.answer.text (subst (λ o. Appends o new (classes_line n)) told line) there ∙ other in
-        let letters : 116 ≡ 98 = ap first_byte same in
-        absurd (omega (arith, letters)))
-    | inr (u, mean, said) ↦ record { update = u; mean = mean; many = (bad_says Says u a.answer (a.not_bad u) said (has status.BadFile is)).many }
-  ]
+  -- what is said of an update
+  pub says : (u : Update) → FilesMeanUpdate files names u → result ≢ status.BadFile → result ≢ status.Refused → Says u a.judged.run.answer
+  says u mean other broken = says_of a.judged u mean other broken
 
   -- what is said where the ends are good
-  pub of_good : (u : Update) → FilesMeanGoodEnds files names u → Says u a.answer
-  of_good u good = good_says Says u a.answer (a.said u good.mean) good.few good.good
+  pub of_good : (u : Update) → FilesMeanGoodEnds files names u → Says u a.judged.run.answer
+  of_good u good = says_good a.judged u good.mean good.few good.good
 
-  pub good_ends : (u : Update) → FilesMeanUpdate files names u → Says u a.answer → FilesMeanGoodEnds files names u
-  good_ends u mean said = record { mean = mean; few = a.few u said; good = a.good u said }
+  pub good_ends : (u : Update) → FilesMeanUpdate files names u → Says u a.judged.run.answer → FilesMeanGoodEnds files names u
+  good_ends u mean said =
+      let v = a.judged.of_good u said in
+      record { mean = mean; few = v.few; good = v.holds }
 
   -- ---- the plan that was written
 
-  pub wrote_plan : (u : Update) (p : Plan) → SaysPlan u.net p a.answer → Appends old new (plan_text u.net p)
-  wrote_plan u p said = wrote (plan_text u.net p) (text_of a.answer _ _ said.answer_is)
+  pub wrote_plan : (u : Update) (p : Plan) → SaysPlan u.net p a.judged.run.answer → Appends old new (plan_text u.net p)
+  wrote_plan u p said = wrote a.judged.run (plan_text u.net p) (text_of a.judged.run.answer _ _ said.answer_is)
 
-  text_is : (before : List ℕ) → old ≡ Some before → (u : Update) (p : Plan) → SaysPlan u.net p a.answer → (text : List ℕ) → Appends old new text → text ≡ plan_text u.net p
+  text_is : (before : List ℕ) → old ≡ Some before → (u : Update) (p : Plan) → SaysPlan u.net p a.judged.run.answer → (text : List ℕ) → Appends old new text → text ≡ plan_text u.net p
   text_is before told u p said text there =
       texts_same before new text (plan_text u.net p) (subst (λ o. Appends o new text) told there)
       (subst (λ o. Appends o new (plan_text u.net p)) told (wrote_plan u p said))
 
   -- the plan that was written is the one that the answer has
-  pub written_is : (before : List ℕ) → old ≡ Some before → (u : Update) (q : Plan) → SaysPlan u.net q a.answer → (p : Plan) → WritesPlan u.net p old new → q ≡ p
+  pub written_is : (before : List ℕ) → old ≡ Some before → (u : Update) (q : Plan) → SaysPlan u.net q a.judged.run.answer → (p : Plan) → WritesPlan u.net p old new → q ≡ p
   written_is before told u q said p writes =
       let same = text_is before told u q said writes.text writes.written in
       let plans : Ok p ≡ Ok q = sym writes.means ∙ ap (λ t. plan_in u.net t) same ∙ said.means in
       cc
 
-  plan_of : result ≡ status.Done → (u : Update) → FilesMeanUpdate files names u → SaysGoodPlan u a.answer
-  plan_of is u mean = a.plan u (says u mean (λ e. cc) (λ e. cc)) (has status.Done is)
+  plan_of : result ≡ status.Done → (u : Update) → FilesMeanUpdate files names u → SaysGoodPlan u a.judged.run.answer
+  plan_of is u mean = a.plan u (says u mean (λ e. cc) (λ e. cc)) (a.judged.run.status_is ∙ is)
 
   pub keeps : (before : List ℕ) → old ≡ Some before → result ≡ status.Done → (u : Update) (p : Plan) → FilesMeanUpdate files names u → WritesPlan u.net p old new → KeepsConsistent u p
   keeps before told is u p mean writes =
@@ -305,7 +237,7 @@ module _ (Says : Update → Answer → Type 0) (files : Files) (names : UpdateNa
 
   pub checked : (before : List ℕ) → old ≡ Some before → result ≡ status.Done → (others : Files) (plan text : List ℕ) → Appends old new text → length text ≤ limit_of kind.Plan → HoldBeside files others names plan text → FilesAreCertified others (record { update = names; plan = plan })
   checked before told is others plan text there within beside =
-      let (u, mean) = meant status.Done (λ e. cc) is in
+      let (u, mean) = meant a.judged.run status.Done (λ e. cc) is in
       let v = plan_of is u mean in
       let same = text_is before told u v.plan v.says text there in
       let count = count_same (classes_for (task_for u v.plan)) (update_classes u) v.classes in
@@ -315,13 +247,13 @@ module _ (Says : Update → Answer → Type 0) (files : Files) (names : UpdateNa
           update_is = update_beside files others names plan text u beside mean;
           plan_is = record { bytes = text; held = beside.plan_is; within = within; means = ap (λ t. plan_in u.net t) same ∙ v.says.means };
         };
-        few = subst (λ n. n ≤ most_classes) (sym count) (a.few u (says u mean (λ e. cc) (λ e. cc)));
-        certified = v.certified;
+        few = subst (λ n. n ≤ most_classes) (sym count) (good_ends u mean (says u mean (λ e. cc) (λ e. cc))).few;
+        holds = v.certified;
       }
 
   -- ---- why none was written
 
-  abbrev pub lack_tags : (u : Update) → FilesMeanGoodEnds files names u → SaysTooFew u a.answer → FilesLackTags files names
+  abbrev pub lack_tags : (u : Update) → FilesMeanGoodEnds files names u → SaysTooFew u a.judged.run.answer → FilesLackTags files names
   lack_tags u mean v = record {
     update = u;
     mean = mean;
@@ -329,7 +261,7 @@ module _ (Says : Update → Answer → Type 0) (files : Files) (names : UpdateNa
     fewer = let need = v.few.need_is in let has = v.few.has_is in let fewer = v.few.fewer in omega (arith, need, has, fewer);
   }
 
-  abbrev pub lack_room : (u : Update) → FilesMeanGoodEnds files names u → SaysTooSmall u a.answer → FilesLackRoom files names
+  abbrev pub lack_room : (u : Update) → FilesMeanGoodEnds files names u → SaysTooSmall u a.judged.run.answer → FilesLackRoom files names
   lack_room u mean v = record {
     update = u;
     mean = mean;
@@ -340,21 +272,21 @@ module _ (Says : Update → Answer → Type 0) (files : Files) (names : UpdateNa
     small = v.small;
   }
 
-  pub too_few_written : IsOneStuck → (u : Update) (stuck : IsStuck u) → SaysTooFew u a.answer
+  pub too_few_written : IsOneStuck → (u : Update) (stuck : IsStuck u) → SaysTooFew u a.judged.run.answer
       → Appends old new (too_few_lines u.net (length u.net.vlans) (length (available_tags u.net)) (single_rounds stuck.changes))
   too_few_written one u stuck v =
       let changes = one (update_target u) u.old v.stuck.changes stuck.changes v.stuck.ends stuck.ends in
       let rounds = v.stuck.rounds_are ∙ ap (λ cs. single_rounds cs) changes in
-      wrote _ (text_of a.answer _ _ v.answer_is
+      wrote a.judged.run _ (text_of a.judged.run.answer _ _ v.answer_is
       ∙ ap (λ n. too_few_lines u.net n v.has v.rounds) v.few.need_is
       ∙ ap (λ n. too_few_lines u.net (length u.net.vlans) n v.rounds) v.few.has_is
       ∙ ap (λ rs. too_few_lines u.net (length u.net.vlans) (length (available_tags u.net)) rs) rounds)
 
-  pub too_small_written : IsOneStuck → (u : Update) (stuck : IsStuck u) (s : SwitchId) (need capacity : ℕ) → IsFirstTooSmall u.net u.old u.new s need capacity → SaysTooSmall u a.answer
+  pub too_small_written : IsOneStuck → (u : Update) (stuck : IsStuck u) (s : SwitchId) (need capacity : ℕ) → IsFirstTooSmall u.net u.old u.new s need capacity → SaysTooSmall u a.judged.run.answer
       → Appends old new (too_small_lines u.net s need capacity (single_rounds stuck.changes))
   too_small_written one u stuck s need capacity small v =
       let changes = one (update_target u) u.old v.stuck.changes stuck.changes v.stuck.ends stuck.ends in
       let rounds = v.stuck.rounds_are ∙ ap (λ cs. single_rounds cs) changes in
-      wrote _ (text_of a.answer _ _ v.answer_is
+      wrote a.judged.run _ (text_of a.judged.run.answer _ _ v.answer_is
       ∙ small_lines_same u.net u.old u.new v.switch s v.need v.capacity need capacity v.rounds v.small small
       ∙ ap (λ rs. too_small_lines u.net s need capacity rs) rounds)

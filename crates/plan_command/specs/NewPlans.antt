@@ -16,6 +16,8 @@ use Rattle.tag_allocator.specs.Tags.{available_tags}
 use Rattle.two_phase.specs.Laws.{FitsTwoPhase}
 use Rattle.two_phase.specs.Plans.{IsFirstTooSmall}
 use Rattle.command_base.specs.Names.{UpdateNames}
+use Rattle.command_base.specs.declared.status.Status.{Status}
+use Rattle.command_base.specs.JudgedFiles.{RefusalPromise}
 use Rattle.command_base.specs.Judgements.{most_classes}
 use Rattle.certificates.specs.Updates.{Update}
 use Rattle.command_base.specs.Updates.{FilesMeanUpdate}
@@ -53,12 +55,9 @@ pub record FilesHavePlan (files : Files) (names : UpdateNames) : Type 0 where
   pub mean : FilesMeanGoodEnds files names update
   pub planned : HasPlan update
 
--- the files are read, there are few enough classes, and an end isn't good
-pub record FilesBreakAnEnd (files : Files) (names : UpdateNames) : Type 0 where
-  pub update : Update
-  pub mean : FilesMeanUpdate files names update
-  pub few : update_count update ≤ most_classes
-  pub broken : ¬ BothEndsAreGood update
+-- The run refuses exactly the updates of which an end isn't good, by a line that names the first break, and too many classes.
+abbrev pub RefusesBadEnds : Files → UpdateNames → Option (List ℕ) → Option (List ℕ) → Status → Type 0
+RefusesBadEnds files names old new result = RefusalPromise (FilesMeanUpdate files names) update_count BothEndsAreGood IsEndLine old new result
 
 -- the files mean an update with good ends whose search ends stuck, and there are too few tags
 pub record FilesLackTags (files : Files) (names : UpdateNames) : Type 0 where
@@ -77,12 +76,6 @@ pub record FilesLackRoom (files : Files) (names : UpdateNames) : Type 0 where
   pub capacity : ℕ
   pub small : IsFirstTooSmall update.net update.old update.new switch need capacity
 
--- the files are read, and there are too many classes
-pub record UpdateMakesTooMany (files : Files) (names : UpdateNames) : Type 0 where
-  pub update : Update
-  pub mean : FilesMeanUpdate files names update
-  pub many : most_classes < update_count update
-
 -- the text of a new plan was written, and reading it gives this plan
 pub record WritesNewPlan (u : Update) (old new : Option (List ℕ)) : Type 0 where
   pub plan : Plan
@@ -97,12 +90,6 @@ pub record WritesOrderedPlan (u : Update) (old new : Option (List ℕ)) : Type 0
   pub count : length plan.rounds ≡ length (remaining u.old u.new)
   pub means : plan_in u.net (plan_text u.net plan) ≡ Ok plan
   pub written : Appends old new (plan_text u.net plan)
-
--- the line that was written names the first break of an end
-pub record NamesFirstEndBreak (u : Update) (old new : Option (List ℕ)) : Type 0 where
-  pub line : List ℕ
-  pub names : IsEndLine u line
-  pub written : Appends old new line
 
 -- the other files are the same under the names of an update, and hold this text under a further name
 pub record HoldBeside (files others : Files) (names : UpdateNames) (plan text : List ℕ) : Type 0 where

@@ -4,20 +4,19 @@ use Rattle.std.specs.Io.KnownBytes.{Appends}
 use Rattle.file_access.specs.Outside.{Files}
 use Rattle.certificates.specs.declared.Plan.{Plan}
 use Rattle.round_planner.specs.Search.{single_rounds}
-use Rattle.round_planner.specs.Updates.{update_count, KeepsConsistent}
+use Rattle.round_planner.specs.Updates.{KeepsConsistent}
 use Rattle.tag_allocator.specs.Tags.{available_tags}
 use Rattle.command_base.specs.declared.status.Status.{Status}
 use Rattle.command_base.specs.declared.status.Status.TheVariants as status
 use Rattle.command_base.specs.declared.kinds.FileKind.TheVariants as kind
 use Rattle.command_base.specs.Kinds.{limit_of}
-use Rattle.command_base.specs.Lines.{classes_line}
 use Rattle.command_base.specs.Names.{UpdateNames}
 use Rattle.certificates.specs.Updates.{Update}
 use Rattle.command_base.specs.Updates.{FilesMeanUpdate, WritesPlan}
 use Rattle.command_base.specs.Runs.{IsSettled}
 use Rattle.check_base.specs.Checks.{FilesAreCertified}
 use Rattle.plan_command.specs.NoPlanLines as lines
-use Rattle.plan_command.specs.NewPlans.{FilesHavePlan, FilesBreakAnEnd, FilesLackTags, FilesLackRoom, UpdateMakesTooMany, FilesMeanTrees, WritesNewPlan, WritesOrderedPlan, NamesFirstEndBreak, HoldBeside}
+use Rattle.plan_command.specs.NewPlans.{FilesHavePlan, FilesLackTags, FilesLackRoom, FilesMeanTrees, WritesNewPlan, WritesOrderedPlan, RefusesBadEnds, HoldBeside}
 
 -- the files and their names, what was written before and after the run, and how it ended
 pub record PlanPromise (files : Files) (names : UpdateNames) (old new : Option (List ℕ)) (result : Status) : Type 0 where
@@ -35,9 +34,8 @@ pub record PlanPromise (files : Files) (names : UpdateNames) (old new : Option (
   -- On an update of destination trees it says Done and writes an ordered plan, with one round for each rule that is replaced: never two
   -- phases, too few tags or a switch that is too small.
   pub tree : IsSettled result → (u : Update) → FilesMeanTrees files names u → (result ≡ status.Done) × WritesOrderedPlan u old new
-  -- Refused comes exactly where an end isn't good; the line names the first break.
-  pub refused : IsSettled result → ((result ≡ status.Refused) ↔ FilesBreakAnEnd files names)
-  pub first : (u : Update) → FilesMeanUpdate files names u → result ≡ status.Refused → NamesFirstEndBreak u old new
+  -- Refused comes exactly where an end isn't good, and the line names the first break; too many classes are a bad file.
+  pub refusals : RefusesBadEnds files names old new result
   -- Too few tags, and a switch that is too small, come exactly where the search ended stuck; the lines have the numbers and the
   -- rounds of the search.
   pub too_few : IsSettled result → ((result ≡ status.TooFewTags) ↔ FilesLackTags files names)
@@ -46,6 +44,3 @@ pub record PlanPromise (files : Files) (names : UpdateNames) (old new : Option (
   pub too_small : IsSettled result → ((result ≡ status.TooSmall) ↔ FilesLackRoom files names)
   pub too_small_lines : IsSettled result → (lack : FilesLackRoom files names)
       → Appends old new (lines.too_small_lines lack.update.net lack.switch lack.need lack.capacity (single_rounds lack.stuck.changes))
-  -- Too many classes are a bad file, and their line is written for no other cause.
-  pub classes : IsSettled result → (many : UpdateMakesTooMany files names) → (result ≡ status.BadFile) × Appends old new (classes_line (update_count many.update))
-  pub classes_only : (before : List ℕ) (classes : ℕ) → old ≡ Some before → result ≡ status.BadFile → Appends old new (classes_line classes) → UpdateMakesTooMany files names

@@ -1,5 +1,5 @@
 -- What a run of `replay`, or of a command that writes another text of a recorded run, says of the files of a source that tells.
-use Rattle.std.proofs.Common.{◌≡◌, ◌⊎◌, ◌↔◌, ◌≢◌, ℕ, List, [], ◌∷◌, ◌++◌, map, Some, refl, sym, ap, ◌∙◌, subst, inl, inr}
+use Rattle.std.proofs.Common.{◌≡◌, ◌↔◌, ℕ, List, [], ◌∷◌, ◌++◌, refl, sym, ◌∙◌, subst, inl, inr}
 use Rattle.std.specs.declared.option.Option.{Option}
 use Rattle.std.specs.Io.KnownBytes.{Appends}
 use Rattle.file_access.specs.Outside.{Files}
@@ -8,11 +8,9 @@ use Rattle.topology_files.specs.Topology.{network_in}
 use Rattle.config_files.specs.Configuration.{configuration_in}
 use Rattle.plan_format.specs.Plans.{plan_in}
 use Rattle.update_model.specs.declared.Change.{Change}
-use Rattle.update_model.specs.declared.Event.{Event}
 use Rattle.update_model.specs.Runs.{IsRun, AreEnabled, state_after}
 use Rattle.update_model.specs.States.{State, IsEnabled, state_after_event}
 use Rattle.schedule_replay.specs.Schedules.{schedule_in, events_of}
-use Rattle.schedule_replay.specs.Replays.{StopsAt}
 use Rattle.schedule_replay.specs.declared.schedule.ScheduleLine.{ScheduleLine}
 use Rattle.command_base.specs.declared.status.Status.{Status}
 use Rattle.command_base.specs.declared.status.Status.TheVariants as status
@@ -21,8 +19,8 @@ use Rattle.command_base.specs.Lines.{net_words, config_words, plan_words}
 use Rattle.command_base.specs.Answers.{Answer}
 use Rattle.command_base.specs.Meanings.{Means}
 use Rattle.command_base.specs.Runs.{IsSettled, Answered}
-use Rattle.command_base.proofs.MeaningLaws.{said_over, over_splits, means_then, means_parts, means_read, read_means}
-use Rattle.command_base.proofs.JudgementLaws.{status_of, text_of}
+use Rattle.command_base.proofs.MeaningLaws.{MeansOnly, means_then, means_parts, means_read, read_means}
+use Rattle.command_base.proofs.AnswerLaws.{SaysOfFiles, says_of_files, meant, wrote, status_of, text_of}
 use Rattle.command_base.proofs.RunLaws.{settled_done, settled_not_a_run}
 use Rattle.replay_command.specs.Names.{ReplayNames}
 use Rattle.replay_command.specs.Replayed.{ReplayMeaning, replay_dialogue, schedule_words, traces_of, IsRunAnswer, IsReplayAnswer, SaysOfRun, SaysNotARun, FilesMeanReplay, FilesAreARun, FilesAreNoRun, FirstStopsAt, NamesFirstLine, update_in, begun}
@@ -84,43 +82,38 @@ module _ (text : ReplayMeaning → List ℕ) (m : ReplayMeaning) (answer : Answe
   no_run_says (inl v) none = absurd (none v.run)
   no_run_says (inr v) none = v
 
+pub replay_meant : (files : Files) (names : ReplayNames) → MeansOnly files (replay_dialogue names) (FilesMeanReplay files names)
+replay_meant files names = record { means = means_replay files names; only = replay_means files names }
+
 -- of a settled run, over a source that tells, of a command that writes this text of a run
 module _ (text : ReplayMeaning → List ℕ) (files : Files) (names : ReplayNames) (old new : Option (List ℕ)) (result : Status) (a : Answered (IsRunAnswer text) files (replay_dialogue names) old new result) where
-  said : (m : ReplayMeaning) → FilesMeanReplay files names m → IsRunAnswer text m a.answer
-  said m mean = said_over (IsRunAnswer text) files (replay_dialogue names) a.answer m a.over (means_replay files names m mean)
-
-  meant : (s : Status) → s ≢ status.BadFile → result ≡ s → (m : ReplayMeaning) × FilesMeanReplay files names m
-  meant s other is = elim (over_splits (IsRunAnswer text) files (replay_dialogue names) a.answer a.over) [
-    | inl bad ↦ absurd (other (sym is ∙ sym a.status_is ∙ status_of a.answer _ _ bad.is))
-    | inr (m, means, says) ↦ (m, replay_means files names m means)
-  ]
+  abbrev run : SaysOfFiles (FilesMeanReplay files names) (IsRunAnswer text) old new result
+  run = says_of_files (replay_meant files names) a
 
   pub done : (result ≡ status.Done) ↔ FilesAreARun files names
   done = (
     λ is.
-        let (m, mean) = meant status.Done (λ e. cc) is in
-        record { meaning = m; mean = mean; run = (done_says text m a.answer (said m mean) (a.status_is ∙ is)).run },
-    λ h. sym a.status_is ∙ status_of a.answer _ _ (run_says text h.meaning a.answer (said h.meaning h.mean) h.run).answer_is,
+        let (m, mean) = meant run status.Done (λ e. cc) is in
+        record { meaning = m; mean = mean; run = (done_says text m a.answer (run.said m mean) (a.status_is ∙ is)).run },
+    λ h. sym a.status_is ∙ status_of a.answer _ _ (run_says text h.meaning a.answer (run.said h.meaning h.mean) h.run).answer_is,
   )
 
   pub written_of : result ≡ status.Done → (m : ReplayMeaning) → FilesMeanReplay files names m → Appends old new (text m)
-  written_of is m mean =
-      let says = done_says text m a.answer (said m mean) (a.status_is ∙ is) in
-      subst (λ t. Appends old new t) (text_of a.answer _ _ says.answer_is) a.written
+  written_of is m mean = wrote run (text m) (text_of a.answer _ _ (done_says text m a.answer (run.said m mean) (a.status_is ∙ is)).answer_is)
 
   pub not_a_run : (result ≡ status.NotARun) ↔ FilesAreNoRun files names
   not_a_run = (
     λ is.
-        let (m, mean) = meant status.NotARun (λ e. cc) is in
-        let says = stop_says text m a.answer (said m mean) (a.status_is ∙ is) in
+        let (m, mean) = meant run status.NotARun (λ e. cc) is in
+        let says = stop_says text m a.answer (run.said m mean) (a.status_is ∙ is) in
         record { meaning = m; mean = mean; stops = stops_no_run m says.line says.first },
-    λ h. sym a.status_is ∙ status_of a.answer _ _ (no_run_says text h.meaning a.answer (said h.meaning h.mean) h.stops).answer_is,
+    λ h. sym a.status_is ∙ status_of a.answer _ _ (no_run_says text h.meaning a.answer (run.said h.meaning h.mean) h.stops).answer_is,
   )
 
   pub first_line : result ≡ status.NotARun → (m : ReplayMeaning) → FilesMeanReplay files names m → NamesFirstLine m old new
   first_line is m mean =
-      let says = stop_says text m a.answer (said m mean) (a.status_is ∙ is) in
-      record { line = says.line; first = says.first; written = subst (λ t. Appends old new t) (text_of a.answer _ _ says.answer_is) a.written }
+      let says = stop_says text m a.answer (run.said m mean) (a.status_is ∙ is) in
+      record { line = says.line; first = says.first; written = wrote run _ (text_of a.answer _ _ says.answer_is) }
 
 pub promised : (files : Files) (names : ReplayNames) (old new : Option (List ℕ)) (result : Status) → (IsSettled result → Answered IsReplayAnswer files (replay_dialogue names) old new result) → ReplayPromise files names old new result
 promised files names old new result answered = record {

@@ -8,7 +8,7 @@ use Rattle.command_base.specs.declared.status.Status.TheVariants as status
 use Rattle.command_base.specs.Answers.{Answer}
 use Rattle.command_base.specs.Dialogues.{Ends}
 use Rattle.command_base.specs.Runs.{EndsAs}
-use Rattle.command_base.proofs.JudgementLaws.{status_of, text_of}
+use Rattle.command_base.proofs.AnswerLaws.{status_of, text_of}
 use Rattle.dest_classes.specs.Classes.{ClassList, class_count, boundaries}
 use Rattle.certificates.specs.declared.OrderedEvidence.{OrderedEvidence}
 use Rattle.certificates.specs.declared.Evidence.TheVariants.{Ordered}

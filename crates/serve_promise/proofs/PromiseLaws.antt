@@ -1,24 +1,21 @@
 -- What a run of `serve` says of the files of a source that tells.
-use Rattle.std.proofs.Common.{◌≡◌, ◌⊎◌, ◌↔◌, ℕ, ◌≤◌, List, [], None, Some, refl, sym, ap, subst, inl, inr, arith}
+use Rattle.std.proofs.Common.{◌≡◌, ◌⊎◌, ℕ, ◌≤◌, List, [], None, Some, refl, sym, subst, inl, inr, arith}
 use Rattle.std.specs.declared.option.Option.{Option}
 use Rattle.std.specs.Io.KnownBytes.{Appends, Keeps}
 use Rattle.file_access.specs.Outside.{Files}
-use Rattle.certificates.specs.Certified.{IsCertified}
 use Rattle.command_base.specs.declared.status.Status.{Status}
 use Rattle.command_base.specs.declared.status.Status.TheVariants as status
 use Rattle.command_base.specs.Answers.{Answer}
 use Rattle.command_base.specs.Dialogues.{Dialogue, Bad, Ends, Reads}
-use Rattle.command_base.specs.Judgements.{IsJudgement, most_classes}
-use Rattle.command_base.specs.Lines.{classes_line}
+use Rattle.command_base.specs.Judgements.{most_classes}
 use Rattle.command_base.specs.Meanings.{IsAnswerOver}
 use Rattle.command_base.specs.Runs.{IsSettled, EndsAs, Answered, AnswersFront}
-use Rattle.command_base.proofs.JudgementLaws as law
-use Rattle.command_base.proofs.JudgementLaws.{IsJudged}
-use Rattle.command_base.proofs.MeaningLaws.{IsBadLine, said_over, over_splits}
-use Rattle.command_base.proofs.RunLaws.{told_all, told_front, settled_done, settled_refused, settled_bad}
+use Rattle.command_base.proofs.JudgementLaws.{IsAnswerOn, SaysOfGood, JudgesFiles, done, refusals, judges_by}
+use Rattle.command_base.proofs.MeaningLaws.{said_over}
+use Rattle.command_base.proofs.RunLaws.{told_all, told_front, settled_done}
 use Rattle.check_base.specs.Names.{CheckNames}
-use Rattle.check_base.specs.Checks.{CheckMeaning, check_dialogue, check_count, task_in, IsRefusedLine, FilesMeanPlan, FilesAreCertified, FilesAreRefused, PlanMakesTooMany, NamesFirstReason}
-use Rattle.check_base.proofs.FileLaws.{means_check, check_means}
+use Rattle.check_base.specs.Checks.{CheckMeaning, check_dialogue, check_count, IsCertifiedPlan, IsReasonLine, FilesMeanPlan, FilesAreCertified}
+use Rattle.check_base.proofs.FileLaws.{means_check, check_meant}
 use Rattle.check_command.specs.Checks.{IsCheckAnswer}
 use Rattle.serve_lines.specs.Lines.{lines_in}
 use Rattle.serve_command.specs.Serving.{text_on, SaysRefusal, IsServeEnd, ServesFiles}
@@ -87,54 +84,29 @@ checks_over says others files (Reads kind name next) answer more (bytes, held, i
 
 -- ---- the answer of a settled run
 
+-- a certified plan is served to the end
+record SaysServed (m : CheckMeaning) (answer : Answer) : Type 0 where
+  pub few : check_count m ≤ most_classes
+  pub certified : IsCertifiedPlan m
+  pub done : answer.status ≡ status.Done
+
 -- a refusal, or the end of a driver that was served
 abbrev Says : CheckMeaning → Answer → Type 0
-Says m answer = SaysRefusal m answer ⊎ ((check_count m ≤ most_classes) × IsCertified (task_in m) m.plan.evidence × (answer.status ≡ status.Done))
+Says m answer = SaysRefusal m answer ⊎ SaysServed m answer
 
-module _ (files : Files) (names : CheckNames) (old new : Option (List ℕ)) (result : Status) (a : Answered Says files (check_dialogue names) old new result) where
-  splits : IsBadLine a.answer ⊎ ((m : CheckMeaning) × FilesMeanPlan files names m)
-  splits = elim (over_splits Says files (check_dialogue names) a.answer a.over) [
-    | inl bad ↦ inl bad
-    | inr (m, means, said) ↦ inr (m, check_means files names m means)
-  ]
+says_on : (m : CheckMeaning) (answer : Answer) → Says m answer → IsAnswerOn (check_count m) (IsCertifiedPlan m) (SaysServed m answer) (IsReasonLine m) answer
+says_on m answer (inl (inl many)) = inl many
+says_on m answer (inl (inr why)) = inr (inr why)
+says_on m answer (inr served) = inr (inl served)
 
-  judgement : (m : CheckMeaning) → Says m a.answer → IsJudgement (check_count m) (IsCertified (task_in m) m.plan.evidence) (Unit {0}) a.answer.text (IsRefusedLine (task_in m) m.plan.evidence) a.answer
-  judgement m (inl (inl many)) = inl many
-  judgement m (inl (inr why)) = inr (inr why)
-  judgement m (inr (few, certified, is)) = inr (inl (record { few = few; holds = certified; follows = tt; answer_is = ap (λ (s : Status). record { status = s; text = a.answer.text }) is }))
+served_good : (m : CheckMeaning) (answer : Answer) → SaysServed m answer → SaysOfGood (check_count m) (IsCertifiedPlan m) answer
+served_good m answer v =
+    let done = v.done in
+    record { few = v.few; holds = v.certified; not_refused = λ is. cc; not_bad = λ is. cc }
 
-  judged : IsJudged {D = CheckMeaning} (λ m. FilesMeanPlan files names m) (λ m. check_count m) (λ m. IsCertified (task_in m) m.plan.evidence) (λ m. Unit {0}) (λ m. a.answer.text) (λ m. IsRefusedLine (task_in m) m.plan.evidence) a.answer
-  judged = record {
-    over = λ m means. judgement m (said_over Says files (check_dialogue names) a.answer m a.over (means_check files names m means));
-    splits = splits;
-  }
-
-  pub done : (result ≡ status.Done) ↔ FilesAreCertified files names
-  done =
-      let both = law.done _ _ _ _ _ _ a.answer judged old new result a.status_is a.written in (
-        λ is. let (m, means, few, certified) = both.0 is in record { meaning = m; mean = means; few = few; certified = certified },
-        λ h. both.1 (h.meaning, h.mean, h.few, h.certified),
-      )
-
-  pub refused : (result ≡ status.Refused) ↔ FilesAreRefused files names
-  refused =
-      let both = law.refused _ _ _ _ _ _ a.answer judged old new result a.status_is a.written in (
-        λ is. let (m, means, few, fails) = both.0 is in record { meaning = m; mean = means; few = few; refused = fails },
-        λ h. both.1 (h.meaning, h.mean, h.few, h.refused),
-      )
-
-  pub first_reason : result ≡ status.Refused → (m : CheckMeaning) → FilesMeanPlan files names m → NamesFirstReason m old new
-  first_reason is m mean =
-      let (line, why, written) = law.refused_why _ _ _ _ _ _ a.answer judged old new result a.status_is a.written is m mean in
-      record { line = line; names = why; written = written }
-
-  pub too_many : (h : PlanMakesTooMany files names) → (result ≡ status.BadFile) × Appends old new (classes_line (check_count h.meaning))
-  too_many h = law.too_many _ _ _ _ _ _ a.answer judged old new result a.status_is a.written h.meaning h.mean h.many
-
-  pub only_too_many : (before : List ℕ) → old ≡ Some before → (n : ℕ) → result ≡ status.BadFile → Appends old new (classes_line n) → PlanMakesTooMany files names
-  only_too_many before told n is line =
-      let (m, means, many) = law.only_too_many _ _ _ _ _ _ a.answer judged old new result a.status_is a.written before told n is line in
-      record { meaning = m; mean = means; many = many }
+judges_served : (files : Files) (names : CheckNames) (old new : Option (List ℕ)) (result : Status) → Answered Says files (check_dialogue names) old new result
+    → JudgesFiles (FilesMeanPlan files names) check_count IsCertifiedPlan SaysServed IsReasonLine old new result
+judges_served files names old new result a = judges_by (check_meant files names) a says_on served_good
 
 -- ---- a run of `serve`
 
@@ -150,12 +122,12 @@ module _ (files : Files) (names : CheckNames) (old new : Option (List ℕ)) (sel
 
   -- what is served is certified
   abbrev served_certified : IsServed → FilesAreCertified files names
-  served_certified s = record { meaning = s.meaning; mean = given_plan files names s.meaning _ s.gives; few = s.serves.few; certified = s.serves.certified }
+  served_certified s = record { meaning = s.meaning; mean = given_plan files names s.meaning _ s.gives; few = s.serves.few; holds = s.serves.certified }
 
   -- and a certified plan is served, up to an end for want of a file or of memory
   refusal_fails : (c : FilesAreCertified files names) (answer : Answer) → SaysRefusal c.meaning answer → ⊥
   refusal_fails c answer (inl many) = absurd (let few = c.few in let more = many.many in omega arith)
-  refusal_fails c answer (inr why) = why.fails c.certified
+  refusal_fails c answer (inr why) = why.fails c.holds
 
   over_fails : (c : FilesAreCertified files names) (answer : Answer) → IsAnswerOver SaysRefusal files dialogue answer → ⊥
   over_fails c answer over = refusal_fails c answer (said_over SaysRefusal files dialogue answer c.meaning over (means_check files names c.meaning c.mean))
@@ -177,7 +149,7 @@ module _ (files : Files) (names : CheckNames) (old new : Option (List ℕ)) (sel
         let answer : Answer = record { status = status.Done; text = text_on s.meaning (lines_in end.taken) } in
         record {
           answer = answer;
-          over = means_over Says files dialogue answer s.meaning (means_check files names s.meaning c.mean) (inr (c.few, c.certified, refl));
+          over = means_over Says files dialogue answer s.meaning (means_check files names s.meaning c.mean) (inr (record { few = c.few; certified = c.holds; done = refl }));
           status_is = sym end.done;
           written = end.written;
         })
@@ -276,11 +248,8 @@ module _ (files : Files) (names : CheckNames) (old new : Option (List ℕ)) (sel
 
   pub promised : ServePromise files names old new taken result
   promised = record {
-    done = λ settled. done files names old new result (answered_says settled);
-    refused = λ settled. refused files names old new result (answered_says settled);
-    first = λ m mean is. first_reason files names old new result (answered_says (settled_refused _ is)) is m mean;
-    classes = λ settled many. too_many files names old new result (answered_says settled) many;
-    classes_only = λ before n told is line. only_too_many files names old new result (answered_says (settled_bad _ is)) before told n is line;
+    done = λ settled. done (judges_served files names old new result (answered_says settled)) (λ m says. says.done);
+    refusals = refusals (λ settled. judges_served files names old new result (answered_says settled));
     as_check = as_check;
     as_check_front = as_check_front;
     as_check_nothing = as_check_nothing;
@@ -290,12 +259,12 @@ module _ (files : Files) (names : CheckNames) (old new : Option (List ℕ)) (sel
     write_fault = λ c is. write_fault c is;
     blocks = λ c lines. text_is c.meaning lines;
     fronts = λ c lines more. told_behind c.meaning lines more;
-    is_run = λ c lines. tells_run files names c.meaning c.mean c.certified lines;
-    phases = λ c lines line. tells_phase files names c.meaning c.mean c.certified lines line;
-    both_ways = λ c. both_ways files names c.meaning c.mean c.certified;
+    is_run = λ c lines. tells_run files names c.meaning c.mean c.holds lines;
+    phases = λ c lines line. tells_phase files names c.meaning c.mean c.holds lines line;
+    both_ways = λ c. both_ways files names c.meaning c.mean c.holds;
     greets = λ c s less. greets files names c.meaning c.mean s less;
     sends = λ c lines line. sends_as_asked files names c.meaning c.mean lines line;
-    as_drive = λ c lines inputs one are same driven. as_drive files names c.meaning c.mean c.certified lines inputs one are same driven;
-    drive_takes = λ c lines inputs are same taken. drive_takes files names c.meaning c.mean c.certified lines inputs are same taken;
+    as_drive = λ c lines inputs one are same driven. as_drive files names c.meaning c.mean c.holds lines inputs one are same driven;
+    drive_takes = λ c lines inputs are same taken. drive_takes files names c.meaning c.mean c.holds lines inputs are same taken;
     cut_anywhere = λ c lines front rest all cut. cut_says files names c.meaning c.mean lines front rest all cut;
   }

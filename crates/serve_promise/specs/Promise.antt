@@ -16,10 +16,9 @@ use Rattle.driver_agreement.specs.Agreement.{two_way_call}
 use Rattle.serve_lines.specs.Lines.{ended_lines, lines_in}
 use Rattle.command_base.specs.declared.status.Status.{Status}
 use Rattle.command_base.specs.declared.status.Status.TheVariants as status
-use Rattle.command_base.specs.Lines.{classes_line}
 use Rattle.command_base.specs.Runs.{IsSettled, Answered, AnswersFront}
 use Rattle.check_base.specs.Names.{CheckNames}
-use Rattle.check_base.specs.Checks.{CheckMeaning, check_dialogue, check_count, FilesMeanPlan, FilesAreCertified, FilesAreRefused, PlanMakesTooMany, NamesFirstReason}
+use Rattle.check_base.specs.Checks.{CheckMeaning, check_dialogue, FilesAreCertified, RefusesUncertified}
 use Rattle.check_command.specs.Checks.{IsCheckAnswer}
 use Rattle.drive_command.specs.Driving.{driven_by, calls_of}
 use Rattle.serve_command.specs.Serving.{text_on}
@@ -52,12 +51,8 @@ pub record StopsUnwritten (m : CheckMeaning) (input old new : Option (List ℕ))
 pub record ServePromise (files : Files) (names : CheckNames) (old new : Option (List ℕ)) (taken : ℕ) (result : Status) : Type 0 where
   -- Done comes exactly where the five files mean an update and a plan of it that is certified, with at most 8192 classes.
   pub done : IsSettled result → ((result ≡ status.Done) ↔ FilesAreCertified files names)
-  -- Refused comes exactly where the plan isn't certified; the line names the first reason.
-  pub refused : IsSettled result → ((result ≡ status.Refused) ↔ FilesAreRefused files names)
-  pub first : (m : CheckMeaning) → FilesMeanPlan files names m → result ≡ status.Refused → NamesFirstReason m old new
-  -- Too many classes are a bad file, and their line is written for no other cause.
-  pub classes : IsSettled result → (many : PlanMakesTooMany files names) → (result ≡ status.BadFile) × Appends old new (classes_line (check_count many.meaning))
-  pub classes_only : (before : List ℕ) (classes : ℕ) → old ≡ Some before → result ≡ status.BadFile → Appends old new (classes_line classes) → PlanMakesTooMany files names
+  -- Refused comes exactly where the plan isn't certified, and the line names the first reason; too many classes are a bad file.
+  pub refusals : RefusesUncertified files names old new result
   -- Where the files mean no certified plan, the answer is that of `check`; at most a front of it is written where writing fails, and else nothing.
   pub as_check : ¬ FilesAreCertified files names → IsSettled result → Answered IsCheckAnswer files (check_dialogue names) old new result
   pub as_check_front : ¬ FilesAreCertified files names → result ≡ status.WriteFault → AnswersFront IsCheckAnswer (Some files) (check_dialogue names) old new

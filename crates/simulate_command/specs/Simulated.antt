@@ -1,17 +1,15 @@
 -- What is said of the plan that is simulated.
 use Rattle.std.specs.Prelude.{ℕ, List, Option}
 use Rattle.std.specs.Io.KnownBytes.{Appends}
-use Rattle.certificates.specs.Certified.{IsCertified}
 use Rattle.command_base.specs.Answers.{Answer}
 use Rattle.command_base.specs.Judgements.{IsJudgement}
-use Rattle.check_base.specs.Checks.{CheckMeaning, IsRefusedLine, check_count, task_in}
+use Rattle.check_base.specs.Checks.{CheckMeaning, IsCertifiedPlan, IsReasonLine, check_count, task_in}
 use Rattle.simulate_command.specs.Simulations.{IsRecord}
 
 -- the answer of `simulate`: too many classes; over a certified plan, the record of a simulation; or why the plan isn't certified
 abbrev pub IsSimulateAnswer : ℕ → ℕ → CheckMeaning → Answer → Type 0
 IsSimulateAnswer start count m answer =
-    IsJudgement (check_count m) (IsCertified (task_in m) m.plan.evidence) (IsRecord start count (task_in m) answer.text)
-    answer.text (IsRefusedLine (task_in m) m.plan.evidence) answer
+    IsJudgement (check_count m) (IsCertifiedPlan m) (IsRecord start count (task_in m) answer.text) answer.text (IsReasonLine m) answer
 
 -- the record of a simulation was written
 pub record WritesRecord (start count : ℕ) (m : CheckMeaning) (old new : Option (List ℕ)) : Type 0 where

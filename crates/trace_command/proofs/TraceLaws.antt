@@ -1,5 +1,5 @@
 -- What a run of `trace` says of the files of a source that tells.
-use Rattle.std.proofs.Common.{◌≡◌, ◌↔◌, ◌≢◌, ℕ, List, refl, sym, ap, ◌∙◌, subst, inl, inr}
+use Rattle.std.proofs.Common.{◌≡◌, ◌↔◌, ℕ, List, refl, sym, ap, ◌∙◌, subst, inl, inr}
 use Rattle.std.specs.declared.option.Option.{Option}
 use Rattle.std.specs.Io.KnownBytes.{Appends}
 use Rattle.file_access.specs.Outside.{Files}
@@ -13,8 +13,8 @@ use Rattle.command_base.specs.Lines.{net_words, config_words}
 use Rattle.command_base.specs.Answers.{Answer}
 use Rattle.command_base.specs.Meanings.{Means}
 use Rattle.command_base.specs.Runs.{IsSettled, Answered}
-use Rattle.command_base.proofs.MeaningLaws.{said_over, over_splits, means_then, means_parts, means_read, read_means}
-use Rattle.command_base.proofs.JudgementLaws.{status_of, text_of}
+use Rattle.command_base.proofs.MeaningLaws.{MeansOnly, means_then, means_parts, means_read, read_means}
+use Rattle.command_base.proofs.AnswerLaws.{SaysOfFiles, says_of_files, meant, wrote, status_of, text_of}
 use Rattle.command_base.proofs.RunLaws.{settled_done, settled_refused}
 use Rattle.trace_command.specs.Names.{TraceNames}
 use Rattle.trace_command.specs.Traced.{TraceMeaning, trace_dialogue, NamesEntry, NamesNoEntry, no_entry_line, IsTraceAnswer, SaysTrace, SaysNoEntry, FilesMeanTrace, FilesHaveEntry, FilesLackEntry, WritesTrace}
@@ -60,48 +60,42 @@ module _ (m : TraceMeaning) (answer : Answer) where
   none_says (inl v) none = absurd (none v.trace.place v.trace.named)
   none_says (inr v) none = v
 
+trace_meant : (files : Files) (names : TraceNames) → MeansOnly files (trace_dialogue names) (FilesMeanTrace files names)
+trace_meant files names = record { means = means_trace files names; only = trace_means files names }
+
 -- of a settled run of `trace` over a source that tells
-module _ (files : Files) (names : TraceNames) (old new : Option (List ℕ)) (result : Status) (a : Answered IsTraceAnswer files (trace_dialogue names) old new result) where
-  said : (m : TraceMeaning) → FilesMeanTrace files names m → IsTraceAnswer m a.answer
-  said m mean = said_over IsTraceAnswer files (trace_dialogue names) a.answer m a.over (means_trace files names m mean)
-
-  meant : (s : Status) → s ≢ status.BadFile → result ≡ s → (m : TraceMeaning) × FilesMeanTrace files names m
-  meant s other is = elim (over_splits IsTraceAnswer files (trace_dialogue names) a.answer a.over) [
-    | inl bad ↦ absurd (other (sym is ∙ sym a.status_is ∙ status_of a.answer _ _ bad.is))
-    | inr (m, means, says) ↦ (m, trace_means files names m means)
-  ]
-
+module _ (files : Files) (names : TraceNames) (old new : Option (List ℕ)) (result : Status) (r : SaysOfFiles (FilesMeanTrace files names) IsTraceAnswer old new result) where
   done : (result ≡ status.Done) ↔ FilesHaveEntry files names
   done = (
     λ is.
-        let (m, mean) = meant status.Done (λ e. cc) is in
-        let says = done_says m a.answer (said m mean) (a.status_is ∙ is) in
+        let (m, mean) = meant r status.Done (λ e. cc) is in
+        let says = done_says m r.answer (r.said m mean) (r.status_is ∙ is) in
         record { meaning = m; mean = mean; place = says.trace.place; named = says.trace.named },
-    λ h. sym a.status_is ∙ status_of a.answer _ _ (entry_says h.meaning a.answer (said h.meaning h.mean) h.place h.named).answer_is,
+    λ h. sym r.status_is ∙ status_of r.answer _ _ (entry_says h.meaning r.answer (r.said h.meaning h.mean) h.place h.named).answer_is,
   )
 
   trace : result ≡ status.Done → (m : TraceMeaning) → FilesMeanTrace files names m → WritesTrace m old new
   trace is m mean =
-      let says = done_says m a.answer (said m mean) (a.status_is ∙ is) in
-      record { text = says.text; trace = says.trace; written = subst (λ t. Appends old new t) (text_of a.answer _ _ says.answer_is) a.written }
+      let says = done_says m r.answer (r.said m mean) (r.status_is ∙ is) in
+      record { text = says.text; trace = says.trace; written = wrote r says.text (text_of r.answer _ _ says.answer_is) }
 
   refused : (result ≡ status.Refused) ↔ FilesLackEntry files names
   refused = (
     λ is.
-        let (m, mean) = meant status.Refused (λ e. cc) is in
-        record { meaning = m; mean = mean; none = (refused_says m a.answer (said m mean) (a.status_is ∙ is)).none },
-    λ h. sym a.status_is ∙ status_of a.answer _ _ (none_says h.meaning a.answer (said h.meaning h.mean) h.none).answer_is,
+        let (m, mean) = meant r status.Refused (λ e. cc) is in
+        record { meaning = m; mean = mean; none = (refused_says m r.answer (r.said m mean) (r.status_is ∙ is)).none },
+    λ h. sym r.status_is ∙ status_of r.answer _ _ (none_says h.meaning r.answer (r.said h.meaning h.mean) h.none).answer_is,
   )
 
   no_entry : result ≡ status.Refused → (m : TraceMeaning) → FilesMeanTrace files names m → Appends old new (no_entry_line m.entry)
-  no_entry is m mean =
-      let says = refused_says m a.answer (said m mean) (a.status_is ∙ is) in
-      subst (λ t. Appends old new t) (text_of a.answer _ _ says.answer_is) a.written
+  no_entry is m mean = wrote r (no_entry_line m.entry) (text_of r.answer _ _ (refused_says m r.answer (r.said m mean) (r.status_is ∙ is)).answer_is)
 
 pub promised : (files : Files) (names : TraceNames) (old new : Option (List ℕ)) (result : Status) → (IsSettled result → Answered IsTraceAnswer files (trace_dialogue names) old new result) → TracePromise files names old new result
-promised files names old new result answered = record {
-  done = λ settled. done files names old new result (answered settled);
-  trace = λ m mean is. trace files names old new result (answered (settled_done _ is)) is m mean;
-  refused = λ settled. refused files names old new result (answered settled);
-  no_entry = λ m mean is. no_entry files names old new result (answered (settled_refused _ is)) is m mean;
-}
+promised files names old new result answered =
+    let says : IsSettled result → SaysOfFiles (FilesMeanTrace files names) IsTraceAnswer old new result = λ settled. says_of_files (trace_meant files names) (answered settled) in
+    record {
+      done = λ settled. done files names old new result (says settled);
+      trace = λ m mean is. trace files names old new result (says (settled_done _ is)) is m mean;
+      refused = λ settled. refused files names old new result (says settled);
+      no_entry = λ m mean is. no_entry files names old new result (says (settled_refused _ is)) is m mean;
+    }

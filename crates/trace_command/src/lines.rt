@@ -9,29 +9,12 @@ ghost use Rattle.trace_command.specs.Names.{entry_seen};
 ghost use Rattle.trace_command.specs.Traced as texts;
 
 use crate::names::EntryName;
-use command_base::switch_name;
+use command_base::{add_made, add_word, switch_name};
 use flow_rules::{Action, Config, Rule, VlanTest};
 use net_base::{Memory, Place, Port, SwitchId, prefix_string, vlan_text};
 use path_places::PlacesEnd;
 use std::alloc::Global;
 use topology::Net;
-
-/// Adds a word to a text.
-fn add_word(text: &mut Vec<u8>, word: &str) -> Result<(), Memory>
-    ensures { OnOk result (text.new.items ≡ text.old.items ++ word.now) }
-{
-    text.extend_from_slice(word.as_bytes())?;
-    Ok(())
-}
-
-/// Adds a text that was made for it.
-fn add_made(text: &mut Vec<u8>, made: Vec<u8>) -> Result<(), Memory>
-    ensures { OnOk result (text.new.items ≡ text.old.items ++ made.items) }
-{
-    let added = text.extend_from_slice(&made);
-    drop(made);
-    Ok(added?)
-}
 
 /// Adds a named entry: `NAME:PORT VLAN`.
 fn add_entry(text: &mut Vec<u8>, alloc: Global, named: EntryName<'_>) -> Result<(), Memory>
