@@ -4,7 +4,6 @@ use Rattle.flow_rules.specs.declared.rules.Rule.{Rule}
 use Rattle.dest_classes.specs.Classes.{ClassList, IsClass, class_count}
 use Rattle.dest_classes.proofs.MapLaws.{number_fits}
 use Rattle.dest_classes.specs.declared.Class.{Class}
-use Rattle.demands.specs.Duties.{ClassDuties, DemandView}
 use Rattle.config_check.specs.declared.Breaks.{Breaks}
 use Rattle.config_check.specs.Broken.{IsFirstBreak}
 use Rattle.update_model.specs.declared.Change.{Change}
@@ -48,8 +47,3 @@ module _ (u : Update) where
   module _ (classes : ClassList) (are : classes ≡ update_classes u) where
     pub break_fits : (tables : List (List Rule)) (b : Breaks) → IsFirstBreak u.net tables u.demands (update_classes u) b → b.class < class_count classes
     break_fits tables b first = subst (λ c. b.class < class_count c) (sym are) (number_fits (update_classes u) b.class first.class first.is_class)
-
-  -- what holds for the classes and the duties that were made holds for those of the update
-  module _ (classes : ClassList) (are : classes ≡ update_classes u) (duties : ClassDuties) (made : duties ≡ record { demands = u.demands; classes = classes }) where
-    pub for_update : (P : List DemandView → ClassList → Type 0) → P duties.demands classes → P u.demands (update_classes u)
-    for_update P holds = subst (λ c. P u.demands c) are (subst (λ (d : ClassDuties). P d.demands classes) made holds)
