@@ -295,8 +295,10 @@ pub fn run<S: Source, K: Sink>(
         → ServePromise files names (K.written sink.old) (K.written sink.new) (S.taken source.new)
         result }
 
-    // Words that name no file leave the source as it is, and the promise of a command that reads none holds over every source.
+    // Words that name no file leave the source as it is.
     ensures unread { NamesNoFile (asked (map string_bytes words.now)) → source.new ≡ source.old }
+
+    // The promise of a command that reads no file holds over every source.
     ensures sample { (n : ℕ) → asked (map string_bytes words.now) ≡ Some (Sample n)
         → SamplePromise n (K.written sink.old) (K.written sink.new) result }
 {
