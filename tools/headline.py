@@ -290,9 +290,6 @@ class Specs:
             raise LookupError(f"{name} is defined {len(found)} times in crates/*/specs: {', '.join(it.file for it in found) or 'nowhere'}")
         return found[0]
 
-    def crate_of(self, path):
-        return path.split(".")[1]
-
     def resolve(self, path, name, by):
         """Returns the definitions behind a name of a module. A word of a library is noted."""
         parts = path.split(".")

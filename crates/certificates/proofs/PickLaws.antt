@@ -1,9 +1,10 @@
 -- The pick in force for a class is one, and it means one numbering and one list of before sets.
-use Rattle.std.proofs.Common.{◌≡◌, ℕ, zero, suc, List, [], ◌∷◌, Some, refl, sym, ap, ◌∙◌, subst, inl, inr, arith}
+use Rattle.std.proofs.Common.{◌≡◌, ℕ, zero, suc, List, [], ◌∷◌, Some, refl, sym, ap, ◌∙◌, subst, inl, inr, arith, ◌++◌}
 use Rattle.std.specs.Prelude.{slice_get}
 use Rattle.std.specs.List.{AllByRecursion, AllZip}
 use Rattle.std.proofs.lemmas.Option.{same_Some, none-some}
 use Rattle.net_base.specs.Members.{IsIn}
+use Rattle.net_base.proofs.MemberLaws.{in_append_cases}
 use Rattle.certificates.specs.Ordered.{IsPickInForce, IsMeant}
 use Rattle.certificates.specs.Valid.{IsChain, IsPickBefore}
 use Rattle.certificates.specs.declared.OrderedPick.{OrderedPick}
@@ -70,3 +71,11 @@ pub at_place : {A : Type 0} (P : A → Type 0) (xs : List A) (i : ℕ) (x : A) �
 at_place P [] i x h is = absurd (none-some x is)
 at_place P (y ∷ xs) zero x h is = subst P (same_Some y x is) h.0
 at_place P (y ∷ xs) (suc i) x h is = at_place P xs i x h.1 is
+
+-- one more pick is of its class alone
+pub other_class : (front : List OrderedPick) (p other : OrderedPick) (n : ℕ) → ¬ (n ≡ p.class) → other.class ≡ n → IsIn other (front ++ p ∷ []) → IsIn other front
+other_class front p other n ne of_class i =
+    elim (in_append_cases other front (p ∷ []) i) [
+      | inl j ↦ j
+      | inr j ↦ absurd (elim j [ inl e ↦ ne (sym of_class ∙ ap (λ (q : OrderedPick). q.class) e) | inr none ↦ none ])
+    ]

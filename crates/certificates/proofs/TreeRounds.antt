@@ -53,7 +53,7 @@ module _ (t : Task) (tree : IsTreeUpdate t) (old_once : (s : SwitchId) → IsTab
   abbrev pub blocks : List Block
   blocks = table_blocks t.update.old ++ table_blocks t.update.new
 
-  alone_at : (s : SwitchId) → AllByRecursion MatchesPrefixAlone (rules_at t.update.new s)
+  pub alone_at : (s : SwitchId) → AllByRecursion MatchesPrefixAlone (rules_at t.update.new s)
   alone_at s = each_get_or (AllByRecursion MatchesPrefixAlone) t.update.new s.0 [] tree.new_alone tt
 
   pub within_at : (s : SwitchId) (r : Rule) → IsIn r (rules_at t.update.new s) → IsIn r.key.pattern.dst blocks

@@ -204,6 +204,34 @@ fine_same out other same arrive entry fine = record {
 abbrev pub SomeKeepsSafe : Rollout → ℕ → ℕ → Place → PacketDuties → Type 0
 SomeKeepsSafe u k dst entry duties = (numbers : List ℕ) × (sets : List (List ℕ)) × IsSafe u k dst entry duties numbers sets
 
+-- the place has the stop of one of these
+abbrev pub HasStopOf : List Place → Place → Type 0
+HasStopOf places p = (q : Place) × IsIn q places × (p.switch ≡ q.switch) × (p.port ≡ q.port)
+
+-- the tail of a path by the new actions, which isn't dropped at its end
+module _ (net : Network) (new : SwitchId → Action) (first : Place) (after : List Place) (tail_walk : IsWalk (Steps (λ p. acted net p (new p.switch))) first after)
+    (tail_ends : (next : Place) → ¬ (acted net (end_of first after) (new (end_of first after).switch) ≡ Go next))
+    (tail_leaves : ¬ (acted net (end_of first after) (new (end_of first after).switch) ≡ Discard)) where
+  -- nowhere on it does the new action drop
+  pub tail_stays : (q : Place) → IsIn q (first ∷ after) → ¬ (acted net q (new q.switch) ≡ Discard)
+  tail_stays q i drops = tail_leaves (drop_at_end (λ p. acted net p (new p.switch)) first after tail_walk q i drops)
+
+  -- a step by the new action from where the tail has a place
+  pub tail_step : (p q z : Place) → IsIn z (first ∷ after) → p.switch ≡ z.switch → acted net p (new z.switch) ≡ Go q → HasStopOf after q × IsNext (switches_along first after) p.switch q.switch
+  tail_step p q z i same goes =
+      let (other, e, f, g) = same_go net (new z.switch) p z q same goes (tail_stays z i) in
+      let (j, next) = path_next (λ x. acted net x (new x.switch)) first after tail_walk tail_ends z other i e in
+      ((other, j, f, g), subst (λ x. IsNext (switches_along first after) x q.switch) (sym same) (subst (IsNext (switches_along first after) z.switch) (sym f) next))
+
+  -- a packet that comes back to its first switch isn't dropped there, where the action that sent it is new on the tail
+  pub tail_not_back : IsNetwork net → (r p : Place) (a : Action) → acted net r a ≡ Go p → p.switch ≡ first.switch → acted net p (new p.switch) ≡ Discard
+      → ((next : Place) → IsIn next after → next.switch ≡ r.switch → a ≡ new next.switch) → ⊥
+  tail_not_back is_net r p a goes here drops is_new =
+      let here_drops : acted net p (new first.switch) ≡ Discard = ap (λ x. acted net p (new x)) (sym here) ∙ drops in
+      let (next, e, f, g) = step_back net is_net r p first a (new first.switch) goes here_drops here (tail_stays first (inl refl)) in
+      let (j, _) = path_next (λ x. acted net x (new x.switch)) first after tail_walk tail_ends first next (inl refl) e in
+      tail_stays next (inr j) (ap (acted net next) (sym (is_new next j f)) ∙ g)
+
 module _ (u : Rollout) (k dst : ℕ) (entry : Place) (duties : PacketDuties) (no_chains : duties.chains ≡ []) where
   -- what holds of the entry, and after each step along which the numbers fall
   module _ (numbers : List ℕ) (Holds : Place → Type 0) (begins : Holds entry)
@@ -227,7 +255,8 @@ module _ (u : Rollout) (k dst : ℕ) (entry : Place) (duties : PacketDuties) (no
     guarded : AreGuarded u k dst entry duties.chains []
     guarded = subst (λ chains. AreGuarded u k dst entry chains []) (sym no_chains) (record { count = refl; guards = tt })
 
-    safe_by : SomeKeepsSafe u k dst entry duties
+    -- by these numbers the class is safe
+    pub safe_by : SomeKeepsSafe u k dst entry duties
     safe_by = (numbers, [], record { falls = falls; arrives = arrives; guarded = guarded })
 
   -- a class is safe whose possible outcomes along a path are the path's, or end it where it needn't arrive
@@ -262,20 +291,6 @@ module _ (u : Rollout) (k dst : ℕ) (entry : Place) (duties : PacketDuties) (no
     abbrev new_out : Place → Outcome
     new_out p = acted net p (new p.switch)
 
-    tail_stays : (q : Place) → IsIn q (first ∷ after) → ¬ (new_out q ≡ Discard)
-    tail_stays q i drops = tail_leaves (drop_at_end new_out first after tail_walk q i drops)
-
-    -- the place has the stop of one of the tail
-    abbrev OnTail : Place → Type 0
-    OnTail p = (q : Place) × IsIn q after × (p.switch ≡ q.switch) × (p.port ≡ q.port)
-
-    -- a step by the new action from where the tail has a place
-    tail_step : (p q z : Place) → IsIn z (first ∷ after) → p.switch ≡ z.switch → acted net p (new z.switch) ≡ Go q → OnTail q × IsNext (switches_along first after) p.switch q.switch
-    tail_step p q z i same goes =
-        let (other, e, f, g) = same_go net (new z.switch) p z q same goes (tail_stays z i) in
-        let (j, next) = path_next new_out first after tail_walk tail_ends z other i e in
-        ((other, j, f, g), subst (λ x. IsNext (switches_along first after) x q.switch) (sym same) (subst (IsNext (switches_along first after) z.switch) (sym f) next))
-
     -- on the tail the actions of now are new
     as_new : (p z : Place) → IsIn z after → p.switch ≡ z.switch → now p.switch ≡ new z.switch
     as_new p z i same = ap now same ∙ each_at (λ q. now q.switch ≡ new q.switch) after z agree i
@@ -285,7 +300,7 @@ module _ (u : Rollout) (k dst : ℕ) (entry : Place) (duties : PacketDuties) (no
         let (p, q, j, goes, e, f) = next_places now_out entry fine.rest fine.walk a b next in
         let (z, l, g) = in_from_map (λ (x : Place). x.switch) a after i in
         let same = sym e ∙ g in
-        let step = tail_step p q z (inr l) same (ap (acted net p) (sym (as_new p z l same)) ∙ goes) in
+        let step = tail_step net new first after tail_walk tail_ends tail_leaves p q z (inr l) same (ap (acted net p) (sym (as_new p z l same)) ∙ goes) in
         subst (λ x. IsNext (switches_along first after) x b) (sym e) (subst (IsNext (switches_along first after) p.switch) (sym f) step.1)
 
     off_tail : (p z : Place) → IsIn z after → p.switch ≡ z.switch → p.switch ≡ first.switch → ⊥
@@ -296,33 +311,30 @@ module _ (u : Rollout) (k dst : ℕ) (entry : Place) (duties : PacketDuties) (no
     not_dropped must p (inl e) here drops = enters must (subst (λ x. new_out x ≡ Discard) e drops)
     not_dropped must p (inr i) here drops =
         let (r, goes) = step_before now_out entry fine.rest fine.walk p i in
-        let here_drops : acted net p (new first.switch) ≡ Discard = ap (λ x. acted net p (new x)) (sym here) ∙ drops in
-        let (next, e, f, g) = step_back net is_net r p first (now r.switch) (new first.switch) goes here_drops here (tail_stays first (inl refl)) in
-        let (j, _) = path_next new_out first after tail_walk tail_ends first next (inl refl) e in
-        tail_stays next (inr j) (ap (acted net next) (sym (each_at (λ q. now q.switch ≡ new q.switch) after next agree j) ∙ ap now f) ∙ g)
+        tail_not_back net new first after tail_walk tail_ends tail_leaves is_net r p (now r.switch) goes here drops (λ next j f. ap now (sym f) ∙ each_at (λ q. now q.switch ≡ new q.switch) after next agree j)
 
     pub safe_with_tail : SomeKeepsSafe u k dst entry duties
     safe_with_tail =
         let (numbers, along, path_along) = numbers_both first.switch (map (λ q. q.switch) after) tail_distinct (switches_along entry fine.rest) fine.distinct follows in
-        safe_by numbers (λ p. IsIn p (entry ∷ fine.rest) ⊎ OnTail p) (inl (inl refl)) (goes numbers along path_along) stays
+        safe_by numbers (λ p. IsIn p (entry ∷ fine.rest) ⊎ HasStopOf after p) (inl (inl refl)) (goes numbers along path_along) stays
       where
         goes : (numbers : List ℕ) → FallsAlong numbers (switches_along first after) → FallsAlong numbers (switches_along entry fine.rest)
-            → (p q : Place) → IsIn p (entry ∷ fine.rest) ⊎ OnTail p → MayGo u k dst p q → (IsIn q (entry ∷ fine.rest) ⊎ OnTail q) × IsLower numbers p.switch q.switch
+            → (p q : Place) → IsIn p (entry ∷ fine.rest) ⊎ HasStopOf after p → MayGo u k dst p q → (IsIn q (entry ∷ fine.rest) ⊎ HasStopOf after q) × IsLower numbers p.switch q.switch
         goes numbers along path_along p q (inl i) may = elim (possible p (Go q) may) [
           | inl e ↦ (let (j, next) = path_next now_out entry fine.rest fine.walk fine.ends p q i (sym e) in (inl (inr j), path_along p.switch q.switch next))
-          | inr h ↦ (let step = tail_step p q first (inl refl) h.0 (ap (λ x. acted net p (new x)) (sym h.0) ∙ sym h.1) in (inr step.0, along p.switch q.switch step.1))
+          | inr h ↦ (let step = tail_step net new first after tail_walk tail_ends tail_leaves p q first (inl refl) h.0 (ap (λ x. acted net p (new x)) (sym h.0) ∙ sym h.1) in (inr step.0, along p.switch q.switch step.1))
         ]
         goes numbers along path_along p q (inr (z, i, same, port)) may = elim (possible p (Go q) may) [
-          | inl e ↦ (let step = tail_step p q z (inr i) same (ap (acted net p) (sym (as_new p z i same)) ∙ sym e) in (inr step.0, along p.switch q.switch step.1))
+          | inl e ↦ (let step = tail_step net new first after tail_walk tail_ends tail_leaves p q z (inr i) same (ap (acted net p) (sym (as_new p z i same)) ∙ sym e) in (inr step.0, along p.switch q.switch step.1))
           | inr h ↦ absurd (off_tail p z i same h.0)
         ]
 
-        stays : IsTrue duties.arrive → (p : Place) → IsIn p (entry ∷ fine.rest) ⊎ OnTail p → ¬ IsPossible u k dst p Discard
+        stays : IsTrue duties.arrive → (p : Place) → IsIn p (entry ∷ fine.rest) ⊎ HasStopOf after p → ¬ IsPossible u k dst p Discard
         stays must p (inl i) may = elim (possible p Discard may) [
           | inl e ↦ fine.arrives must (drop_at_end now_out entry fine.rest fine.walk p i (sym e))
           | inr h ↦ not_dropped must p i h.0 (sym h.1)
         ]
         stays must p (inr (z, i, same, port)) may = elim (possible p Discard may) [
-          | inl e ↦ same_stays net (new z.switch) p z same port (tail_stays z (inr i)) (ap (acted net p) (sym (as_new p z i same)) ∙ sym e)
+          | inl e ↦ same_stays net (new z.switch) p z same port (tail_stays net new first after tail_walk tail_ends tail_leaves z (inr i)) (ap (acted net p) (sym (as_new p z i same)) ∙ sym e)
           | inr h ↦ absurd (off_tail p z i same h.0)
         ]

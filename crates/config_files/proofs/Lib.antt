@@ -4,3 +4,9 @@ pub mod TableUpdates
 pub mod UserRules
 pub mod UserTables
 pub mod KeyClashes
+pub mod RuleTrees
+pub mod Flat
+pub mod Shallow
+pub mod PutLaws
+pub mod RuleAgain
+pub mod ConfigAgain

@@ -1,2 +1,4 @@
 pub mod Faults
 pub mod Configuration
+pub mod RuleTrees
+pub mod ConfigText

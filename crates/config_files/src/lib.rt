@@ -1,9 +1,11 @@
-//! Reading a configuration: the flow tables of all switches, as a file of JSON lists them.
+//! Configurations as files of JSON, which list the rules of all switches: the reader, and the writer.
 #![tactic(auto)]
 
 mod fault;
 mod read;
 mod rules;
+mod write;
 
 pub use fault::ConfigFault;
 pub use read::read_config;
+pub use write::config_text;

@@ -18,11 +18,11 @@ use Rattle.path_walk.specs.declared.Outcome.TheVariants.{Discard, Leave, Go}
 use Rattle.dest_classes.specs.declared.Class.{Class}
 use Rattle.demands.specs.Duties.{PacketDuties}
 use Rattle.breaking_walks.specs.Breaking.{BreaksBy}
-use Rattle.update_model.specs.Changes.{changes_at, tables_after, round_after, settled_tables}
+use Rattle.update_model.specs.Changes.{changes_at, round_after}
 use Rattle.update_model.specs.Mixtures.{Rollout, tables_before, MayBe, IsPossible, IsMixedWalk}
 use Rattle.update_model.specs.declared.Change.{Change}
 use Rattle.update_model.specs.declared.Event.{Event}
-use Rattle.update_model.proofs.ChangeLaws.{length-tables_after}
+use Rattle.update_model.proofs.RoundLaws.{length-settled}
 use Rattle.update_model.proofs.MadeLaws.{keys_distinct, apply_there}
 use Rattle.round_mix.specs.Prepared.{AreGood, AreClear}
 use Rattle.certificates.specs.Steps.{switches_along}
@@ -34,11 +34,6 @@ use Rattle.counter_run.specs.declared.showing.Stage.{Stage}
 use Rattle.counter_run.proofs.ShownLaws.{along_stops, end_in}
 
 -- ---- the tables of a stage
-
-pub length_settled : (rounds : List (List Change)) (k : ℕ) (tables : List (List Rule)) → length (settled_tables rounds k tables) ≡ length tables
-length_settled [] k tables = refl
-length_settled (r ∷ rounds) zero tables = refl
-length_settled (r ∷ rounds) (suc k) tables = length_settled rounds k (tables_after r tables) ∙ length-tables_after r tables
 
 pub length_all : (tables : List TableState) → length (rules_of_all tables) ≡ length tables
 length_all [] = refl
@@ -59,7 +54,7 @@ module _ (stage : Stage) (is : IsStage stage) where
 
   pub table_count : length stage.tables.now ≡ switch_count stage.round.net.now
   table_count =
-      sym (length_all stage.tables.now) ∙ ap length is.before ∙ length_settled stage.round.rounds.now stage.round.number (rules_of_all stage.round.old.now) ∙ length_all stage.round.old.now ∙ is.tables
+      sym (length_all stage.tables.now) ∙ ap length is.before ∙ length-settled stage.round.rounds.now stage.round.number (rules_of_all stage.round.old.now) ∙ length_all stage.round.old.now ∙ is.tables
 
   pub rules_here : (s : SwitchId) (t : TableState) → slice_get stage.tables.now s.0 ≡ Some t → rules_at tables s ≡ t.rules
   rules_here s t at = ap (λ (all : List (List Rule)). get_or all s.0 []) (sym is.before) ∙ rules_of_one stage.tables.now s.0 t at

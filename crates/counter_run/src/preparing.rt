@@ -23,7 +23,6 @@ fn rollout<'a>(update: ClassedUpdate<'a>) -> Rollout<'a>
 
 /// Room for the tables and rounds, whatever the capacities.
 pub(crate) fn make(alloc: Global, update: ClassedUpdate<'_>) -> Result<PreparedTables, Memory>
-    requires { IsClassed update }
     ensures { IfOk result (HasRoomForAll (rollout_of update.entry)) }
 {
     PreparedTables::make_for_all(alloc, &rollout(update))
@@ -31,8 +30,7 @@ pub(crate) fn make(alloc: Global, update: ClassedUpdate<'_>) -> Result<PreparedT
 
 /// Puts the tables before the update in the place of what is there. No switch is prepared.
 pub(crate) fn start(update: ClassedUpdate<'_>, tables: &mut PreparedTables)
-    requires classed { IsClassed update }
-    requires room { HasRoomForAll (rollout_of update) tables.old }
+    requires { HasRoomForAll (rollout_of update) tables.old }
     ensures stands { StandsBefore (rollout_of update.entry) 0 tables.new }
     ensures room { HasRoomForAll (rollout_of update.entry) tables.new }
 {
@@ -59,7 +57,7 @@ const MOST_ENTRIES: u64 = 8192;
 
 /// Whether the switches, which are prepared for round k, need few enough entries for a survey.
 pub(crate) fn need_few(update: ClassedUpdate<'_>, k: usize, tables: &PreparedTables) -> bool
-    requires room { HasRoomForAll (rollout_of update) tables.now }
+    requires classed { IsClassed update }
     requires prepared { ArePrepared (rollout_of update) k tables.now }
     ensures { result ≡ true → AreLoaded (rollout_of update.entry) k tables.now.mixes }
 {
@@ -68,7 +66,6 @@ pub(crate) fn need_few(update: ClassedUpdate<'_>, k: usize, tables: &PreparedTab
 
 /// Makes the changes of round k, for which the switches are prepared.
 pub(crate) fn apply(update: ClassedUpdate<'_>, k: usize, tables: &mut PreparedTables)
-    requires classed { IsClassed update }
     requires round { k < length update.rounds.now }
     requires room { HasRoomForAll (rollout_of update) tables.old }
     requires prepared { ArePrepared (rollout_of update) k tables.old }

@@ -100,7 +100,6 @@ fn search_round(
 ) -> Result<Option<Events>, Memory>
     requires classed { IsClassed update }
     requires round { k < length update.rounds.now }
-    requires tables { HasRoomForAll (rollout_of update) tables.now }
     requires prepared { ArePrepared (rollout_of update) k tables.now }
     requires loaded { by_survey ≡ true → AreLoaded (rollout_of update) k tables.now.mixes }
     requires keeps { by_survey ≡ true
@@ -148,7 +147,7 @@ fn search_round(
 
 /// Whether rounds are still surveyed in round k: they were before, and no switch needs too many entries for it.
 fn goes_on(update: ClassedUpdate<'_>, k: usize, tables: &PreparedTables, before: bool) -> bool
-    requires tables { HasRoomForAll (rollout_of update) tables.now }
+    requires classed { IsClassed update }
     requires prepared { ArePrepared (rollout_of update) k tables.now }
     ensures before { result ≡ true → before ≡ true }
     ensures loaded { result ≡ true → AreLoaded (rollout_of update.entry) k tables.now.mixes }

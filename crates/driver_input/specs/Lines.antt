@@ -1,20 +1,14 @@
 -- The inputs that the lines of a file spell.
-use Rattle.std.specs.Prelude.{ℕ, ◌<◌, List, [], ◌∷◌, codes, Option, None, Result, Ok, Err, if◌then◌else◌}
-use Rattle.std.specs.Result.{result_ok}
+use Rattle.std.specs.Prelude.{ℕ, ◌<◌, List, codes, Result, Ok, Err, if◌then◌else◌}
 use Rattle.std.specs.Str.{bytes_eq, is_utf8}
-use Rattle.hex.specs.Hex.{decode_of}
 use Rattle.net_base.specs.Reading.{◌>>=◌, need}
 use Rattle.net_base.specs.Text.{cut_first}
+pub use Rattle.text_lines.specs.Words.{bytes_in}
 use Rattle.topology.specs.Networks.{Network, switch_count, switch_named}
 use Rattle.driver_input.specs.declared.fault.InputFault.{InputFault}
 use Rattle.driver_input.specs.declared.fault.InputFault.TheVariants.{BadLine}
 use Rattle.driver_input.specs.declared.inputs.Input.{Input}
 use Rattle.driver_input.specs.declared.inputs.Input.TheVariants.{Start, Feed}
-
--- the bytes of pairs of hexadecimal digits of either case, at least one pair
-abbrev pub bytes_in : List ℕ → Option (List ℕ)
-bytes_in [] = None
-bytes_in (d ∷ ds) = result_ok (decode_of (d ∷ ds))
 
 -- the piece in a text: the name of a switch of the network, one space, and digits
 unfoldable pub fed_in : Network → ℕ → List ℕ → Result Input InputFault

@@ -1,14 +1,14 @@
 //! The input that a line spells: `start`, or `feed`, the name of a switch and bytes in hexadecimal digits.
 ghost use Rattle.std.specs.Prelude.{◌≡◌, ◌==◌, IfOk};
-ghost use Rattle.net_base.specs.Reading.{Gives, need};
-ghost use Rattle.driver_input.specs.declared.fault.InputFault.TheVariants.{BadLine, Memory};
+ghost use Rattle.net_base.specs.Reading.{Gives};
+ghost use Rattle.driver_input.specs.declared.fault.InputFault.TheVariants.{Memory};
 ghost use Rattle.driver_input.specs.Lines as lines;
 
 use crate::fault::InputFault;
 use crate::inputs::{Input, Piece};
-use hex::FromHexError;
 use net_base::cut_first;
 use std::alloc::Global;
+use text_lines::read_digits;
 use topology::Net;
 
 /// Whether a byte ends a line.
@@ -16,20 +16,6 @@ pub fn is_line_end(byte: &u8) -> bool
     ensures { result ≡ (byte.now == 10) }
 {
     *byte == b'\n'
-}
-
-/// Reads pairs of hexadecimal digits, at least one.
-fn read_piece(alloc: Global, number: u32, digits: &str) -> Result<Piece, InputFault>
-    ensures { Gives Memory (λ p. p) result (need (lines.bytes_in digits.now) (BadLine number)) }
-{
-    if digits.is_empty() {
-        return Err(InputFault::BadLine(number));
-    }
-    match hex::decode(alloc, digits) {
-        Ok(bytes) => Ok(Piece::make(bytes)),
-        Err(FromHexError::OutOfMemory) => Err(InputFault::Memory),
-        Err(_) => Err(InputFault::BadLine(number)),
-    }
 }
 
 /// Reads a switch's name and a piece.
@@ -40,8 +26,8 @@ fn read_fed(alloc: Global, net: &Net, number: u32, text: &str) -> Result<Input, 
 {
     let (name, digits) = cut_first(text, ' ').ok_or(InputFault::BadLine(number))?;
     let switch = net.find(name).ok_or(InputFault::BadLine(number))?;
-    let piece = read_piece(alloc, number, digits)?;
-    Ok(Input::Feed(switch, piece))
+    let bytes = read_digits(alloc, digits)?.ok_or(InputFault::BadLine(number))?;
+    Ok(Input::Feed(switch, Piece::make(bytes)))
 }
 
 /// Reads the input of a word with what stands behind it.

@@ -46,32 +46,9 @@ fn keeps_range(_numbers: &[u16])
 
 /// Evidence that keeps the class safe in the round whose mixed walks of it were walked last: the heights of the switches
 /// and the least before sets. None where no numbering and no before sets keep it safe: the steps have a cycle, or a packet
-/// that must arrive may be discarded, or may leave without having met a waypoint. Takes time by the switches times the
-/// steps for each position, and for the heights by the steps where these stand in the order of a walk.
-pub fn evidence_of(
-    alloc: Global,
-    net: &Net,
-    walk: &WalkRoom,
-    duties: &Duties,
-    numbered: NumberedClass,
-) -> Result<Option<ClassEvidence>, Memory>
-    requires number { numbered.number < class_count duties.now.classes }
-    requires class { IsNumbered duties.now.classes numbered }
-    requires entry { numbered.class.entry.switch.0 < switch_count net.now }
-    requires walked { (u : Rollout) × (k : ℕ) × (u.net ≡ net.now)
-        × IsWalked u k numbered.class.first numbered.class.entry walk.now }
-    ensures { IfOk result
-        (λ found. (u : Rollout) (k : ℕ) → u.net ≡ net.now
-        → IsWalked u k numbered.class.first numbered.class.entry walk.now
-        → IsFound u k numbered.class
-        (duties_of duties.now.demands numbered.class.entry numbered.class.first) found) }
-{
-    let mut last = LastSets::none();
-    evidence_by_last(alloc, net, walk, duties, numbered, &mut last)
-}
-
-/// The evidence of `evidence_of`. Where the class has the start, the duties and the walks of the one for which the least
-/// before sets were found last, it takes these.
+/// that must arrive may be discarded, or may leave without having met a waypoint. Where the class has the start, the duties
+/// and the walks of the one for which the least before sets were found last, it takes these. Otherwise it takes time by the
+/// switches times the steps for each position; for the heights by the steps where these stand in the order of a walk.
 pub fn evidence_by_last(
     alloc: Global,
     net: &Net,

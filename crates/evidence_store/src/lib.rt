@@ -23,7 +23,7 @@ use crate::keys::Keys;
 use crate::uses::add_use;
 use acyclic_numbering::Numbering;
 use certificates::{Befores, Numberings, OrderedEvidence, OrderedPick, OrderedPicks, Uses};
-pub use class_evidence::{ClassEvidence, NamedEvidence, evidence_by_last, evidence_of, keeps_safe};
+pub use class_evidence::{ClassEvidence, NamedEvidence, evidence_by_last, keeps_safe};
 pub use last_sets::LastSets;
 use net_base::Memory;
 use std::alloc::Global;

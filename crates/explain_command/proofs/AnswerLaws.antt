@@ -6,7 +6,7 @@ use Rattle.dest_classes.specs.declared.Class.{Class}
 use Rattle.certificates.specs.Certified.{classes_for}
 use Rattle.check_reasons.specs.Reasons.{IsFirstReason}
 use Rattle.check_reasons.specs.declared.reason.Reason.{Reason}
-use Rattle.round_faults.specs.Sound.{IsFirstRoundReason}
+use Rattle.round_tables.specs.Sound.{IsFirstRoundReason}
 use Rattle.plan_checker.specs.Checking.{EndsAreGood}
 use Rattle.command_base.specs.Answers.{Answer}
 use Rattle.command_base.specs.Judgements.{most_classes}

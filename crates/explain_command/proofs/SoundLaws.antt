@@ -3,7 +3,7 @@ use Rattle.update_model.specs.Changes.{round_after}
 use Rattle.update_model.specs.Mixtures.{Rollout, AreGoodRounds, AreClearRounds}
 use Rattle.net_base.proofs.ItemLaws.{in_from_get}
 use Rattle.check_reasons.specs.declared.reason.Reason.{Reason}
-use Rattle.round_faults.specs.Sound.{IsRoundReason, bad_change, ambiguous}
+use Rattle.round_tables.specs.Sound.{IsRoundReason, bad_change, ambiguous}
 use Rattle.plan_checker.proofs.Refuted.{within_rounds, bad_change_refuted}
 
 pub reason_unsound : (u : Rollout) (r : Reason) → IsRoundReason u r → AreGoodRounds u → AreClearRounds u → ⊥

@@ -12,7 +12,7 @@ use Rattle.certificates.specs.Updates.{Task, rollout}
 use Rattle.certificates.specs.Certified.{classes_for, is_two_phase}
 use Rattle.certificates.specs.declared.Evidence.{Evidence}
 use Rattle.check_reasons.specs.declared.reason.Reason.{Reason}
-use Rattle.round_faults.specs.Sound.{IsFirstRoundReason}
+use Rattle.round_tables.specs.Sound.{IsFirstRoundReason}
 use Rattle.plan_checker.specs.Checking.{EndsAreGood}
 use Rattle.schedule_replay.specs.EventTexts.{schedule_text}
 use Rattle.schedule_replay.specs.Schedules.{schedule_in, numbered, events_of}

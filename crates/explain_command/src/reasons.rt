@@ -3,14 +3,14 @@ ghost use Rattle.certificates.specs.Updates.{rollout, task_for};
 ghost use Rattle.std.specs.Prelude.{IfOk, IfNone, IfSome};
 ghost use Rattle.certificates.specs.Valid.{IsValidPlan};
 ghost use Rattle.update_model.specs.Mixtures.{AreGoodRounds, AreClearRounds};
-ghost use Rattle.round_faults.specs.Sound.{IsFirstRoundReason};
+ghost use Rattle.round_tables.specs.Sound.{IsFirstRoundReason};
 ghost use Rattle.command_base.specs.Updates.{meaning_of};
 
 use certificates::Plan;
 use command_base::UpdateFiles;
 use net_base::Memory;
 use plan_checker::Reason;
-use round_faults::{SoundFault, sound_rounds};
+use round_tables::{SoundFault, sound_rounds};
 use std::alloc::Global;
 
 /// The first bad change of the rounds, or the first switch with a mixture that isn't clear.

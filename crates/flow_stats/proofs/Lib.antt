@@ -6,7 +6,3 @@ pub mod IndexLaws
 pub mod TableUpdates
 pub mod UserRules
 pub mod UserTables
-pub mod Shallow
-pub mod RuleAgain
-pub mod ConfigAgain
-pub mod RuleTrees

@@ -7,4 +7,3 @@ pub mod Profile
 pub mod Tables
 pub mod Index
 pub mod Replies
-pub mod ConfigText

@@ -1,4 +1,4 @@
-//! The tables that switches have, read from their flow statistics (OpenFlow 1.0), and the text of a configuration.
+//! The tables that switches have, read from their flow statistics (OpenFlow 1.0).
 #![tactic(auto)]
 
 mod adding;
@@ -11,8 +11,6 @@ mod lines;
 mod messages;
 mod profile;
 mod read;
-mod write;
 
 pub use fault::{StatsFault, StatsField};
 pub use read::read_replies;
-pub use write::config_text;

@@ -6,9 +6,9 @@ use Rattle.topology.specs.Networks.{Network}
 use Rattle.topology_files.specs.Topology.{network_in}
 use Rattle.flow_rules.specs.declared.rules.Rule.{Rule}
 use Rattle.config_files.specs.Configuration.{configuration_in}
+use Rattle.config_files.specs.ConfigText.{config_text}
 use Rattle.flow_stats.specs.Faults as stats_fault
 use Rattle.flow_stats.specs.Replies.{replies_in}
-use Rattle.flow_stats.specs.ConfigText.{config_text}
 use Rattle.flow_stats.specs.declared.fault.StatsFault.{StatsFault}
 use Rattle.command_base.specs.declared.kinds.FileKind.TheVariants as kind
 use Rattle.command_base.specs.declared.status.Status.TheVariants as status

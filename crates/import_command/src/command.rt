@@ -10,9 +10,9 @@ ghost use Rattle.import_command.specs.Imported.{behind_topology, import_dialogue
 use crate::names::ImportNames;
 use crate::readings::read_replies_file;
 use command_base::{Exit, Reply, Status, read_topology};
+use config_files::config_text;
 use file_access::Source;
 use flow_rules::Config;
-use flow_stats::config_text;
 use net_base::Memory;
 use std::alloc::Global;
 use topology::Net;

@@ -1,9 +1,9 @@
 //! Flow statistics replies that are spelled by hand, field by field, from the structs of OpenFlow 1.0.0, and what they become.
 ghost use Rattle.std.specs.Prelude.{◌≤◌};
 
-use config_files::read_config;
+use config_files::{config_text, read_config};
 use flow_stats::StatsField::Actions;
-use flow_stats::{StatsFault, config_text, read_replies};
+use flow_stats::{StatsFault, read_replies};
 use net_base::SwitchId;
 use std::alloc::Global;
 use std::process::Abort;

@@ -16,7 +16,7 @@ use Rattle.check_reasons.specs.Reasons.{wrong_end}
 use Rattle.check_reasons.specs.Passed.{IsFirstFrom}
 use Rattle.check_reasons.specs.declared.reason.Reason.TheVariants.{WrongEnd}
 use Rattle.round_tables.specs.Ends.{AreSameAt}
-use Rattle.round_tables.proofs.TableLaws.{length-settled}
+use Rattle.update_model.proofs.RoundLaws.{length-settled}
 use Rattle.plan_checker.proofs.FirstReasons.{first_at_end}
 
 module _ (t : Task) (evidence : Evidence) (tables new : List TableState) (before : rules_of_all tables ≡ tables_before (rollout t) (length t.rounds)) (is_new : rules_of_all new ≡ t.update.new) where

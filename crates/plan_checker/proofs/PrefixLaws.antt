@@ -1,17 +1,11 @@
 -- The prefixes of an update.
 use Rattle.std.proofs.Common.{◌++◌, map}
-use Rattle.net_base.specs.Blocks.{Block}
-use Rattle.net_base.specs.Members.{IsIn}
 use Rattle.net_base.proofs.MemberLaws.{in_append_left, in_append_right}
-use Rattle.flow_rules.specs.Tables.{TableState, rules_of_all, table_blocks}
-use Rattle.flow_rules.specs.declared.rules.Rule.{Rule}
+use Rattle.flow_rules.specs.Tables.{table_blocks}
 use Rattle.demands.specs.Duties.{DemandView}
 use Rattle.demands.proofs.RowLaws.{each_there}
 use Rattle.demands.specs.OfClass.{AreCovered}
-use Rattle.dest_classes.specs.Classes.{classes_of}
-use Rattle.topology.specs.Networks.{Network}
-use Rattle.update_model.specs.Changes.{rule_of, round_blocks, round_after}
-use Rattle.update_model.specs.declared.Change.{Change}
+use Rattle.update_model.specs.Changes.{round_blocks}
 use Rattle.certificates.specs.Updates.{Task}
 use Rattle.certificates.specs.Certified.{blocks_of, classes_for}
 

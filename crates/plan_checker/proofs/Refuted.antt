@@ -1,19 +1,17 @@
 -- What has passed refutes each reason of its stage.
-use Rattle.std.proofs.Common.{◌≡◌, ◌⊎◌, ℕ, zero, suc, ◌+◌, ◌<◌, ◌≤◌, ◌≢◌, IsTrue, List, [], ◌∷◌, map, length, get_or, refl, sym, ◌∙◌, subst, ap, inl, inr, arith}
-use Rattle.std.specs.Prelude.{◌==◌, filter, flat_map, slice_get, Some, None}
+use Rattle.std.proofs.Common.{◌≡◌, ◌⊎◌, ℕ, suc, ◌+◌, ◌<◌, ◌≤◌, ◌≢◌, IsTrue, List, [], map, length, refl, sym, ◌∙◌, subst, ap, inl, inr, arith}
+use Rattle.std.specs.Prelude.{◌==◌, filter, flat_map, slice_get, Some}
 use Rattle.std.specs.Option.{option_map}
-use Rattle.std.specs.List.{AllByRecursion}
 use Rattle.std.proofs.lemmas.Bool.{cases_lt, eqb-true}
 use Rattle.std.proofs.lemmas.List.{get_or_past}
-use Rattle.std.proofs.lemmas.Option.{slice_get-map, slice_get_within, same_Some}
-use Rattle.net_base.specs.Members.{IsIn, IsDistinct}
+use Rattle.std.proofs.lemmas.Option.{slice_get-map, same_Some}
+use Rattle.net_base.specs.Members.{IsIn}
 use Rattle.net_base.specs.Walks.{end_of}
 use Rattle.net_base.proofs.MemberLaws.{each_at, in_from_filter, empty_from_none}
 use Rattle.net_base.specs.declared.ids.SwitchId.{SwitchId}
 use Rattle.topology.specs.Networks.{switch_count}
-use Rattle.flow_rules.specs.Tables.{IsClear, rules_at}
+use Rattle.flow_rules.specs.Tables.{rules_at}
 use Rattle.flow_rules.specs.declared.rules.Rule.{Rule}
-use Rattle.path_walk.specs.Paths.{Forwards}
 use Rattle.path_walk.specs.declared.Outcome.TheVariants.{Go}
 use Rattle.dest_classes.specs.Classes.{IsClass}
 use Rattle.dest_classes.specs.declared.Class.{Class}
@@ -21,21 +19,21 @@ use Rattle.dest_classes.proofs.MapLaws.{distinct_place}
 use Rattle.demands.specs.Good.{HasGoodPaths}
 use Rattle.config_check.specs.Broken.{IsFirstBreak}
 use Rattle.config_check.proofs.BreakLaws.{break_is_bad}
-use Rattle.demands.specs.Duties.{DemandView, duties_of}
+use Rattle.demands.specs.Duties.{DemandView}
 use Rattle.dest_classes.specs.Classes.{ClassList}
 use Rattle.topology.specs.Networks.{Network}
 use Rattle.config_check.specs.declared.Breaks.{Breaks}
 use Rattle.topology.specs.Networks.{capacity_of}
-use Rattle.update_model.specs.Changes.{switch_of, rule_of, Applies, entry_named, round_after, changes_at, settled_tables, tables_after, IsGoodRound}
+use Rattle.update_model.specs.Changes.{switch_of, rule_of, Applies, entry_named, round_after, changes_at, IsGoodRound}
 use Rattle.update_model.specs.Mixtures.{Rollout, tables_before, need_of, is_insert}
 use Rattle.update_model.specs.declared.Change.{Change}
-use Rattle.update_model.proofs.ChangeLaws.{length-tables_after}
+use Rattle.update_model.proofs.RoundLaws.{length-settled}
 use Rattle.certificates.specs.Ordered.{IsMeant, IsSafe, Position, positions, IsPickInForce}
 use Rattle.waypoint_evidence.specs.Befores.{Holds, IsFirst, IsGuard}
-use Rattle.certificates.specs.Steps.{IsMixedStep, MayLeave, MayDrop}
+use Rattle.certificates.specs.Steps.{IsMixedStep, MayLeave}
 use Rattle.certificates.specs.Updates.{Task, rollout}
 use Rattle.certificates.specs.Certified.{KeepsVlan, classes_for}
-use Rattle.certificates.specs.TwoPhase.{TwoPhaseCertificate, tables_of, Agrees, carrying, outcome_carrying}
+use Rattle.certificates.specs.TwoPhase.{tables_of, Agrees}
 use Rattle.certificates.specs.Valid.{IsChain, IsPickBefore}
 use Rattle.certificates.specs.declared.OrderedPick.{OrderedPick}
 use Rattle.certificates.specs.declared.OrderedEvidence.{OrderedEvidence}
@@ -44,7 +42,7 @@ use Rattle.certificates.specs.declared.Evidence.{Evidence}
 use Rattle.certificates.specs.declared.Evidence.TheVariants.{Ordered, TwoPhase}
 use Rattle.certificates.specs.declared.Label.{Label}
 use Rattle.check_reasons.specs.Reasons.{IsBadChange, IsUnclear, HasRewrite, IsInForce, HasBadStep, DropsAt, IsBypassed, class_duties, IsTableInForce, IsMixedAtEntry, StraysAt}
-use Rattle.check_reasons.specs.Passed.{ChangesPass, ClassesPass, RoundKeepsVlans}
+use Rattle.check_reasons.specs.Passed.{ChangesPass, ClassesPass}
 use Rattle.plan_checker.proofs.InForce.{one_pick, one_label_pick, one_meaning}
 use Rattle.net_base.proofs.ItemLaws.{in_from_get}
 
@@ -77,12 +75,6 @@ module _ (u : Rollout) (k : ℕ) (good : IsGoodRound (tables_before u k) (round_
         | inl applies_not ↦ applies_not (each_at (Applies (tables_before u k)) (round_after k u.rounds) bad.change good.applies (in_from_get (round_after k u.rounds) i bad.change bad.is))
         | inr (j, other, less, at, same) ↦ (let e : i ≡ j = named_once i j bad.change other bad.is at same in omega arith)
       ]
-
--- all tables stay as many
-pub length-settled : (rounds : List (List Change)) (k : ℕ) (tables : List (List Rule)) → length (settled_tables rounds k tables) ≡ length tables
-length-settled [] k tables = refl
-length-settled (round ∷ rounds) zero tables = refl
-length-settled (round ∷ rounds) (suc k) tables = length-settled rounds k (tables_after round tables) ∙ length-tables_after round tables
 
 module _ (u : Rollout) (k : ℕ) (count : length u.old ≡ switch_count u.net) (good : IsGoodRound (tables_before u k) (round_after k u.rounds)) (s : SwitchId) (past : switch_count u.net ≤ s.0) where
   none_there : changes_at s (round_after k u.rounds) ≡ []

@@ -1,5 +1,5 @@
 -- The rooms of a check, and when they fit what is checked.
-use Rattle.std.specs.Prelude.{◌≡◌, ℕ, ◌<◌}
+use Rattle.std.specs.Prelude.{◌≡◌, ◌<◌}
 use Rattle.topology.specs.Networks.{switch_count}
 use Rattle.path_walk.specs.Walked.{RoomState}
 use Rattle.dest_classes.specs.Classes.{ClassList, class_count}

@@ -13,7 +13,7 @@ ghost use Rattle.check_reasons.specs.Passed.{ChangesPass, IsFirstFrom};
 ghost use Rattle.check_reasons.specs.Ranks.{end_start, round_start, stage_of};
 ghost use Rattle.plan_checker.specs.Checking.{IsOfChanges};
 ghost use Rattle.round_tables.specs.PreparedTables.{HasRoom, StandsBefore};
-ghost use Rattle.round_tables.specs.Loading.{ArePrepared, AreWithin, IsFirstRoundFault};
+ghost use Rattle.round_tables.specs.Loading.{ArePrepared, IsFirstRoundFault};
 
 use crate::rewriting::rewrite_of;
 use check_reasons::{Case, Reason};
@@ -35,7 +35,6 @@ fn rollout_of<'a>(case: &Case<'a>) -> Rollout<'a>
 fn round_of<'a>(case: &'a Case, k: usize) -> &'a [Change]
     requires { k < length case.now.task.rounds }
     ensures value { result.now ≡ round_after k case.now.task.rounds }
-    ensures within { AreWithin (switch_count case.now.task.update.net) result.now }
     ensures few { length result.now < 2 ^ 32 }
 {
     case.plan.rounds.round(k)
@@ -51,10 +50,12 @@ fn round_number(case: &Case, k: usize) -> u32
     k as u32 + 1
 }
 
-/// Does nothing: its contract says that no capacity is above 8192.
-fn keeps_capacities(case: &Case)
-    ensures { (s : Switch) → capacity_of case.now.task.update.net s ≤ 8192 }
+/// Does nothing: its contract says that there is a table for each switch, and no capacity is above 8192.
+fn keeps_tables(case: &Case)
+    ensures count { length case.now.task.update.old ≡ switch_count case.now.task.update.net }
+    ensures few { (s : Switch) → capacity_of case.now.task.update.net s ≤ 8192 }
 {
+    case.keeps_rules();
     case.net.keeps_rules();
 }
 
@@ -100,7 +101,7 @@ fn late_reason(case: &Case, k: usize, tables: &PreparedTables) -> Option<Reason>
     ensures some { IfSome result (IsFirstFrom case.now.task case.now.evidence (round_start k)) }
     ensures place { IfSome result (IsOfChanges k) }
 {
-    keeps_capacities(case);
+    keeps_tables(case);
     let changes = round_of(case, k);
     let round = round_number(case, k);
     if let Some((switch, need)) = tables.first_over(&rollout_of(case), k) {
@@ -129,7 +130,6 @@ pub fn load_round(case: &Case, k: usize, tables: &mut PreparedTables) -> Option<
     ensures place { IfSome result (IsOfChanges k) }
     ensures room { HasRoom (rollout case.now.task) tables.new }
 {
-    let _ = round_of(case, k);
     match tables.load_round(&rollout_of(case), k) {
         Ok(()) => late_reason(case, k, tables),
         Err(fault) => Some(fault_reason(case, k, fault)),
@@ -145,7 +145,7 @@ pub fn apply_round(case: &Case, k: usize, tables: &mut PreparedTables)
     ensures stands { StandsBefore (rollout case.now.task) (suc k) tables.new }
     ensures room { HasRoom (rollout case.now.task) tables.new }
 {
-    let _ = round_of(case, k);
+    case.keeps_rules();
     tables.apply_round(&rollout_of(case), k);
 }
 

@@ -8,7 +8,7 @@ use Rattle.json.specs.Written.{Written, Writes}
 use Rattle.serde_json.specs.Data.{Data}
 use Rattle.serde_json.specs.View.{items_of}
 use Rattle.serde_json.specs.Written.{items_outline}
-use Rattle.plan_text.specs.PlanText.{list_tree}
+use Rattle.config_files.specs.RuleTrees.{list_tree}
 use Rattle.plan_text.specs.Tokens.{tokens_of, all_tokens, Adds}
 
 both : (a b c : Written) (xs ys : List Token) → Adds a b xs → Adds b c ys → Adds a c (xs ++ ys)

@@ -1,29 +1,30 @@
 -- The rules and the changes that are written are read again.
-use Rattle.std.proofs.Common.{◌≡◌, ℕ, suc, ◌+◌, ◌<◌, ◌≤◌, Bool, true, false, List, [], ◌∷◌, ◌++◌, length, map, sum_by, slice_get, codes, Option, Some, None, option_map, Ok, refl, sym, ap, subst, ◌∙◌, append_assoc, arith}
+use Rattle.std.proofs.Common.{◌≡◌, ℕ, suc, ◌+◌, ◌<◌, ◌≤◌, Bool, true, false, List, [], ◌∷◌, ◌++◌, length, map, sum_by, slice_get, codes, Option, Some, None, option_map, Ok, refl, sym, ap, ◌∙◌, append_assoc, arith}
 use Rattle.std.specs.List.{AllByRecursion}
 use Rattle.std.specs.Option.{unwrap_or}
 use Rattle.std.specs.Str.{bytes_eq}
-use Rattle.std.proofs.lemmas.Bool.{le-leb, lt-ltb, and_from, false≢true}
+use Rattle.std.proofs.lemmas.Bool.{le-leb, lt-ltb, and_from}
 use Rattle.std.proofs.lemmas.List.{append-nil, length-map}
 use Rattle.std.proofs.lemmas.List.Sums.{sum_by_push, sum_by-append}
 use Rattle.std.proofs.lemmas.Option.{unwrap_or-slice_get}
-use Rattle.serde_json.specs.Data.{Data, string, object, Members, no_members, put}
+use Rattle.serde_json.specs.Data.{object, Members}
 use Rattle.serde_json.specs.Find.{get_member}
-use Rattle.serde_json.proofs.Views.{get_member-put, get_member-put_other}
 use Rattle.net_base.specs.Members.{IsDistinct}
 use Rattle.net_base.specs.declared.field.Field.{Field}
 use Rattle.net_base.specs.declared.ids.Port.{Port}
 use Rattle.net_base.specs.Fields.{field_name}
 use Rattle.net_base.specs.Reading.{in_turn, place_of}
-use Rattle.net_base.specs.Text.{prefix_text}
 use Rattle.net_base.proofs.Prefixes.{prefix_in-text}
 use Rattle.flat_json.proofs.JsonTree.{list_of-items_of}
 use Rattle.topology.specs.Networks.{Network, switch_count, switch_named, IsPortNumber}
+use Rattle.topology.proofs.NamedLaws.{named_at}
 use Rattle.flow_rules.specs.declared.rules.VlanTest.{VlanTest}
 use Rattle.flow_rules.specs.declared.rules.VlanTest.TheVariants as test
 use Rattle.flow_rules.specs.declared.rules.Rewrite.TheVariants.{Keep, Set, Strip}
 use Rattle.flow_rules.specs.declared.rules.Action.{Action}
 use Rattle.flow_rules.specs.declared.rules.Action.TheVariants.{Discard, Out}
+use Rattle.config_files.specs.RuleTrees.{list_tree, in_port_tree, test_tree, out_tree, fixed_members}
+use Rattle.config_files.proofs.PutLaws.{beside, there}
 use Rattle.update_model.specs.declared.Change.{Change}
 use Rattle.update_model.specs.declared.Change.TheVariants as change
 use Rattle.update_model.specs.Ranges.{IsPlanPort, IsPlanVlan, IsPlanAction, IsPlanChange}
@@ -33,60 +34,42 @@ use Rattle.plan_format.specs.declared.rules.RuleWords.{RuleWords}
 use Rattle.plan_format.specs.declared.rules.PlanRule.{PlanRule}
 use Rattle.plan_format.specs.declared.changes.Spelling.TheVariants.{Numbers}
 use Rattle.plan_format.specs.Changes.{in_port_word, vlan_word, out_word, set_word, strip_word, is_port, port_choice, test_of, action_of, rule_of, rule_in, numbered_change, change_at, round_in, round_at, rounds_in, rule_at, rules_in}
-use Rattle.plan_text.specs.PlanText.{whole_tree, list_tree, put_some, name_of, in_port_tree, test_tree, out_tree, set_tree, strip_tree, rule_members, rule_tree, plan_rule_of, rule_number, numbered_change_tree, numbered_round_tree, numbered_rounds_tree}
+use Rattle.plan_text.specs.PlanText.{name_of, set_tree, strip_tree, rule_members, rule_tree, plan_rule_of, rule_number, numbered_change_tree, numbered_round_tree, numbered_rounds_tree}
 use Rattle.plan_text.proofs.InTurn.{turns_again}
-use Rattle.topology.proofs.NamedLaws.{named_at, same_bytes}
 
 -- ---- the members of a rule
 
--- those that are always there
-abbrev fixed : Network → PlanRule → Members
-fixed net p =
-    put (codes "switch") (string (name_of net p.switch)) (put (codes "priority") (whole_tree p.rule.key.priority)
-    (put (codes "out") (out_tree p.rule.action) (put (codes "dst") (string (prefix_text p.rule.key.pattern.dst)) no_members)))
-
-apart : (q k : List ℕ) → bytes_eq q k ≡ false → q ≡ k → ⊥
-apart q k other same = false≢true (sym other ∙ subst (λ m. bytes_eq q m ≡ true) same (same_bytes q))
-
-beside : (q k : List ℕ) (o : Option Data) (ms : Members) → bytes_eq q k ≡ false → get_member q (put_some k o ms) ≡ get_member q ms
-beside q k None ms other = refl
-beside q k (Some d) ms other = get_member-put_other q k d ms (apart q k other)
-
-there : (k : List ℕ) (o : Option Data) (ms : Members) → get_member k ms ≡ None → get_member k (put_some k o ms) ≡ o
-there k None ms none = none
-there k (Some d) ms none = get_member-put k d ms
-
 fixed_again : (net : Network) (p : PlanRule) (q : List ℕ) → bytes_eq q (codes "vlan") ≡ false → bytes_eq q (codes "strip") ≡ false → bytes_eq q (codes "set") ≡ false → bytes_eq q (codes "in_port") ≡ false
-    → get_member q (rule_members net p) ≡ get_member q (fixed net p)
+    → get_member q (rule_members net p) ≡ get_member q (fixed_members (name_of net p.switch) p.rule)
 unfolding rule_members
 fixed_again net p q vlan strip set in_port =
     beside q (codes "vlan") (test_tree p.rule.key.pattern.vlan) _ vlan ∙ beside q (codes "strip") (strip_tree p.rule.action) _ strip
-    ∙ beside q (codes "set") (set_tree p.rule.action) _ set ∙ beside q (codes "in_port") (in_port_tree p.rule.key.pattern.in_port) (fixed net p) in_port
+    ∙ beside q (codes "set") (set_tree p.rule.action) _ set ∙ beside q (codes "in_port") (in_port_tree p.rule.key.pattern.in_port) (fixed_members (name_of net p.switch) p.rule) in_port
 
 in_port_again : (net : Network) (p : PlanRule) → get_member (codes "in_port") (rule_members net p) ≡ in_port_tree p.rule.key.pattern.in_port
 unfolding rule_members
 in_port_again net p =
     beside (codes "in_port") (codes "vlan") (test_tree p.rule.key.pattern.vlan) _ refl ∙ beside (codes "in_port") (codes "strip") (strip_tree p.rule.action) _ refl
-    ∙ beside (codes "in_port") (codes "set") (set_tree p.rule.action) _ refl ∙ there (codes "in_port") (in_port_tree p.rule.key.pattern.in_port) (fixed net p) refl
+    ∙ beside (codes "in_port") (codes "set") (set_tree p.rule.action) _ refl ∙ there (codes "in_port") (in_port_tree p.rule.key.pattern.in_port) (fixed_members (name_of net p.switch) p.rule) refl
 
 set_again : (net : Network) (p : PlanRule) → get_member (codes "set") (rule_members net p) ≡ set_tree p.rule.action
 unfolding rule_members
 set_again net p =
     beside (codes "set") (codes "vlan") (test_tree p.rule.key.pattern.vlan) _ refl ∙ beside (codes "set") (codes "strip") (strip_tree p.rule.action) _ refl
-    ∙ there (codes "set") (set_tree p.rule.action) _ (beside (codes "set") (codes "in_port") (in_port_tree p.rule.key.pattern.in_port) (fixed net p) refl)
+    ∙ there (codes "set") (set_tree p.rule.action) _ (beside (codes "set") (codes "in_port") (in_port_tree p.rule.key.pattern.in_port) (fixed_members (name_of net p.switch) p.rule) refl)
 
 strip_again : (net : Network) (p : PlanRule) → get_member (codes "strip") (rule_members net p) ≡ strip_tree p.rule.action
 unfolding rule_members
 strip_again net p =
     beside (codes "strip") (codes "vlan") (test_tree p.rule.key.pattern.vlan) _ refl
     ∙ there (codes "strip") (strip_tree p.rule.action) _ (beside (codes "strip") (codes "set") (set_tree p.rule.action) _ refl
-    ∙ beside (codes "strip") (codes "in_port") (in_port_tree p.rule.key.pattern.in_port) (fixed net p) refl)
+    ∙ beside (codes "strip") (codes "in_port") (in_port_tree p.rule.key.pattern.in_port) (fixed_members (name_of net p.switch) p.rule) refl)
 
 vlan_again : (net : Network) (p : PlanRule) → get_member (codes "vlan") (rule_members net p) ≡ test_tree p.rule.key.pattern.vlan
 unfolding rule_members
 vlan_again net p =
     there (codes "vlan") (test_tree p.rule.key.pattern.vlan) _ (beside (codes "vlan") (codes "strip") (strip_tree p.rule.action) _ refl
-    ∙ beside (codes "vlan") (codes "set") (set_tree p.rule.action) _ refl ∙ beside (codes "vlan") (codes "in_port") (in_port_tree p.rule.key.pattern.in_port) (fixed net p) refl)
+    ∙ beside (codes "vlan") (codes "set") (set_tree p.rule.action) _ refl ∙ beside (codes "vlan") (codes "in_port") (in_port_tree p.rule.key.pattern.in_port) (fixed_members (name_of net p.switch) p.rule) refl)
 
 -- ---- its words
 

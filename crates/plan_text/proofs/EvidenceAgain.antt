@@ -12,13 +12,14 @@ use Rattle.net_base.specs.declared.ids.Vlan.TheVariants as vlan
 use Rattle.net_base.specs.Reading.{place_of}
 use Rattle.flat_json.proofs.JsonTree.{list_of-items_of}
 use Rattle.topology.specs.Networks.{Network, switch_count, IsVlan}
+use Rattle.config_files.specs.RuleTrees.{whole_tree, list_tree}
 use Rattle.certificates.specs.declared.Shared.{Shared}
 use Rattle.certificates.specs.declared.OrderedPick.{OrderedPick}
 use Rattle.certificates.specs.declared.Label.{Label}
 use Rattle.certificates.specs.declared.LabelPick.{LabelPick}
 use Rattle.certificates.specs.Valid.{IsChain, IsPickBefore, IsVlanBefore, IsValidNumbering, IsValidBefore, IsValidUse, IsValidPick, IsValidTable, IsValidLabelPick}
 use Rattle.plan_format.specs.Evidence.{number_at, all_below, numbers_in, is_round, is_index, height_at, numbering_in, numbering_at, numberings_in, before_at, befores_in, shared_in, use_at, uses_in, pick_before, picks_with, pick_at, picks_in, vlan_in, version_in, vlan_before, label_before, label_at, table_in, table_at, labels_in, label_picks_with, label_pick_at, label_picks_in, follows}
-use Rattle.plan_text.specs.PlanText.{whole_tree, list_tree, numbers_tree, use_tree, pick_tree, vlan_tree, version_text, label_tree, table_tree, label_pick_tree}
+use Rattle.plan_text.specs.PlanText.{numbers_tree, use_tree, pick_tree, vlan_tree, version_text, label_tree, table_tree, label_pick_tree}
 use Rattle.plan_text.proofs.InTurn.{each_again, chain_again, ascends_again, below_again}
 
 -- ---- lists of numbers

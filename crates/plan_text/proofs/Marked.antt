@@ -4,8 +4,9 @@ use Rattle.std.proofs.lemmas.Grind.{flat_map-append}
 use Rattle.std.proofs.lemmas.List.{take_all}
 use Rattle.json.specs.Token.{begin_array, end_array}
 use Rattle.json.specs.Written.{Written}
+use Rattle.config_files.specs.RuleTrees.{whole_tree}
 use Rattle.waypoint_evidence.specs.Befores.{marked_from}
-use Rattle.plan_text.specs.PlanText.{whole_tree, numbers_tree}
+use Rattle.plan_text.specs.PlanText.{numbers_tree}
 use Rattle.plan_text.specs.Tokens.{tokens_of, all_tokens, Adds}
 use Rattle.plan_text.proofs.Adding.{and_more, list_added}
 

@@ -4,12 +4,13 @@ use Rattle.json.specs.Token.{Token, end_object}
 use Rattle.serde_json.specs.Data.{Data, string, Members, no_members, member, put}
 use Rattle.net_base.specs.Text.{prefix_text}
 use Rattle.topology.specs.Networks.{Network}
+use Rattle.config_files.specs.RuleTrees.{whole_tree, put_some, in_port_tree, test_tree, out_tree}
 use Rattle.certificates.specs.declared.Plan.{Plan}
 use Rattle.certificates.specs.declared.OrderedEvidence.{OrderedEvidence}
 use Rattle.certificates.specs.declared.TwoPhaseEvidence.{TwoPhaseEvidence}
 use Rattle.certificates.specs.declared.Evidence.TheVariants.{Ordered, TwoPhase}
 use Rattle.plan_format.specs.declared.rules.PlanRule.{PlanRule}
-use Rattle.plan_text.specs.PlanText.{whole_tree, put_some, name_of, in_port_tree, test_tree, out_tree, set_tree, strip_tree, rule_members, with_evidence, plan_members}
+use Rattle.plan_text.specs.PlanText.{name_of, set_tree, strip_tree, rule_members, with_evidence, plan_members}
 use Rattle.plan_text.specs.Tokens.{closed_tokens, member_tokens, some_tokens, ordered_members, two_phase_members}
 
 -- a member before others, where there is a value for it

@@ -13,6 +13,7 @@ use Rattle.json.specs.Print.{print}
 use Rattle.json.specs.Written.{Written}
 use Rattle.std.specs.Str.{IsUtf8}
 use Rattle.topology.specs.Networks.{Network, IsNetwork, switch_count}
+use Rattle.config_files.specs.RuleTrees.{whole_tree, list_tree}
 use Rattle.plan_text.specs.Tokens.{tokens_of, before_count, Adds}
 use Rattle.plan_text.proofs.Order.{ordered_is, two_phase_is}
 use Rattle.plan_text.proofs.Shallow.{plan_flat}
@@ -27,7 +28,7 @@ use Rattle.certificates.specs.declared.Plan.{Plan}
 use Rattle.certificates.specs.Valid.{IsValidOrdered, IsValidTwoPhase, IsValidEvidence, IsValidPlan}
 use Rattle.plan_format.specs.Evidence.{uses_and_picks_in}
 use Rattle.plan_format.specs.Plans.{spelling_in, ordered_in, two_phase_in, evidence_in, plan_at, plan_in}
-use Rattle.plan_text.specs.PlanText.{whole_tree, list_tree, numbers_tree, rule_tree, use_tree, pick_tree, table_tree, label_pick_tree, numbered_rounds_tree, with_evidence, plan_members, plan_tree, used_rules, tried_of, once, rules_of}
+use Rattle.plan_text.specs.PlanText.{numbers_tree, rule_tree, use_tree, pick_tree, table_tree, label_pick_tree, numbered_rounds_tree, with_evidence, plan_members, plan_tree, used_rules, tried_of, once, rules_of}
 use Rattle.plan_format.specs.declared.rules.PlanRule.{PlanRule}
 use Rattle.plan_text.proofs.ChangesAgain.{IsInRange, HasNumber, rules_again, rounds_again}
 use Rattle.plan_text.proofs.EvidenceAgain.{numberings_again, befores_again, uses_again, picks_again, labels_again, label_picks_again}

@@ -26,6 +26,7 @@ use Rattle.flow_rules.specs.declared.rules.VlanTest.TheVariants as test
 use Rattle.flow_rules.specs.declared.rules.Rewrite.TheVariants.{Keep, Set, Strip}
 use Rattle.flow_rules.specs.declared.rules.Action.{Action}
 use Rattle.flow_rules.specs.declared.rules.Action.TheVariants.{Discard, Out}
+use Rattle.config_files.specs.RuleTrees.{whole_tree, list_tree, in_port_tree, test_tree, out_tree}
 use Rattle.update_model.specs.declared.Change.{Change}
 use Rattle.update_model.specs.Ranges.{IsPlanPort, IsPlanVlan, IsPlanAction}
 use Rattle.certificates.specs.declared.Shared.{Shared}
@@ -36,7 +37,7 @@ use Rattle.certificates.specs.declared.OrderedEvidence.{OrderedEvidence}
 use Rattle.certificates.specs.declared.TwoPhaseEvidence.{TwoPhaseEvidence}
 use Rattle.certificates.specs.Valid.{IsValidNumbering, IsValidBefore, IsValidUse, IsValidPick, IsValidTable, IsValidLabelPick, IsValidOrdered, IsValidTwoPhase}
 use Rattle.plan_format.specs.declared.rules.PlanRule.{PlanRule}
-use Rattle.plan_text.specs.PlanText.{whole_tree, list_tree, numbers_tree, name_of, in_port_tree, test_tree, out_tree, set_tree, strip_tree, rule_members, rule_tree, plan_rule_eq, plan_rule_of, rule_number, word_of, numbered_change_tree, numbered_round_tree, numbered_rounds_tree, use_tree, pick_tree, vlan_tree, version_text, label_tree, table_tree, label_pick_tree}
+use Rattle.plan_text.specs.PlanText.{numbers_tree, name_of, set_tree, strip_tree, rule_members, rule_tree, plan_rule_eq, plan_rule_of, rule_number, word_of, numbered_change_tree, numbered_round_tree, numbered_rounds_tree, use_tree, pick_tree, vlan_tree, version_text, label_tree, table_tree, label_pick_tree}
 use Rattle.plan_text.specs.Tokens.{tokens_of, ordered_members, two_phase_members, Adds}
 use Rattle.plan_text.proofs.Order.{member_if, in_order, put_all, all_in_order, rule_in_order, rule_is}
 use Rattle.plan_text.proofs.ChangesAgain.{IsInRange}

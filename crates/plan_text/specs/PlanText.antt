@@ -1,20 +1,16 @@
 -- The text of a plan, in format 2, and that of rounds.
 use Rattle.std.specs.Prelude.{ℕ, ◌==◌, ◌&&◌, Bool, true, false, not, List, [], ◌∷◌, ◌++◌, map, flat_map, filter, position, slice_get, unwrap_or, Option, Some, None, codes}
-use Rattle.serde_json.specs.Data.{Data, number, unsigned, boolean, string, array, object, Members, no_members, put}
-use Rattle.serde_json.specs.View.{items_of}
+use Rattle.serde_json.specs.Data.{Data, boolean, string, object, Members, no_members, put}
 use Rattle.serde_json.specs.Written.{compact_text}
-use Rattle.net_base.specs.Text.{prefix_text}
-use Rattle.net_base.specs.declared.ids.Port.{Port}
 use Rattle.net_base.specs.declared.ids.SwitchId.{SwitchId}
 use Rattle.net_base.specs.declared.ids.Vlan.{Vlan}
 use Rattle.net_base.specs.declared.ids.Vlan.TheVariants as vlan
 use Rattle.topology.specs.Networks.{Network}
 use Rattle.flow_rules.specs.Same.{rule_eq}
-use Rattle.flow_rules.specs.declared.rules.VlanTest.{VlanTest}
-use Rattle.flow_rules.specs.declared.rules.VlanTest.TheVariants as test
 use Rattle.flow_rules.specs.declared.rules.Rewrite.TheVariants.{Set, Strip}
 use Rattle.flow_rules.specs.declared.rules.Action.{Action}
-use Rattle.flow_rules.specs.declared.rules.Action.TheVariants.{Discard, Out}
+use Rattle.flow_rules.specs.declared.rules.Action.TheVariants.{Out}
+use Rattle.config_files.specs.RuleTrees.{whole_tree, list_tree, put_some, in_port_tree, test_tree, fixed_members}
 use Rattle.update_model.specs.Changes.{switch_of, rule_of}
 use Rattle.update_model.specs.declared.Change.{Change}
 use Rattle.update_model.specs.declared.Change.TheVariants.{Insert, Delete, Replace}
@@ -29,44 +25,15 @@ use Rattle.plan_format.specs.declared.rules.PlanRule.{PlanRule}
 
 -- ---- values
 
--- a whole number
-abbrev pub whole_tree : ℕ → Data
-whole_tree n = number (unsigned n)
-
--- a list
-abbrev pub list_tree : List Data → Data
-list_tree ds = array (items_of ds)
-
 -- a list of whole numbers
 abbrev pub numbers_tree : List ℕ → Data
 numbers_tree ns = list_tree (map whole_tree ns)
-
--- the members with one more, where there is a value for it; `put` keeps members in the order of their names' bytes
-abbrev pub put_some : List ℕ → Option Data → Members → Members
-put_some name None ms = ms
-put_some name (Some d) ms = put name d ms
 
 -- ---- rules at switches
 
 -- the name of a switch; empty where there is none
 abbrev pub name_of : Network → SwitchId → List ℕ
 name_of net s = unwrap_or (slice_get net.names s.0) []
-
--- the ingress port; nothing where any is meant
-abbrev pub in_port_tree : Option Port → Option Data
-in_port_tree None = None
-in_port_tree (Some port) = Some (whole_tree port.0)
-
--- the VLAN test; nothing where any VLAN is meant
-abbrev pub test_tree : VlanTest → Option Data
-test_tree test.Any = None
-test_tree test.Untagged = Some (string (codes "untagged"))
-test_tree (test.Id id) = Some (whole_tree id)
-
--- the port of the output, or the word for none
-abbrev pub out_tree : Action → Data
-out_tree Discard = string (codes "drop")
-out_tree (Out port rewrite) = whole_tree port.0
 
 -- the id that is set, where one is
 abbrev pub set_tree : Action → Option Data
@@ -83,8 +50,7 @@ unfoldable pub rule_members : Network → PlanRule → Members
 rule_members net p =
     put_some (codes "vlan") (test_tree p.rule.key.pattern.vlan) (put_some (codes "strip") (strip_tree p.rule.action)
     (put_some (codes "set") (set_tree p.rule.action) (put_some (codes "in_port") (in_port_tree p.rule.key.pattern.in_port)
-    (put (codes "switch") (string (name_of net p.switch)) (put (codes "priority") (whole_tree p.rule.key.priority)
-    (put (codes "out") (out_tree p.rule.action) (put (codes "dst") (string (prefix_text p.rule.key.pattern.dst)) no_members)))))))
+    (fixed_members (name_of net p.switch) p.rule))))
 
 -- a rule at its switch, as an object
 abbrev pub rule_tree : Network → PlanRule → Data

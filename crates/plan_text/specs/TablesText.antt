@@ -3,9 +3,10 @@ use Rattle.std.specs.Prelude.{List, ℕ, [], ◌∷◌, ◌++◌, map, codes}
 use Rattle.serde_json.specs.Data.{Data, object, no_members, put}
 use Rattle.serde_json.specs.Written.{compact_text}
 use Rattle.topology.specs.Networks.{Network}
+use Rattle.config_files.specs.RuleTrees.{list_tree}
 use Rattle.update_model.specs.declared.Change.{Change}
 use Rattle.plan_format.specs.declared.rules.PlanRule.{PlanRule}
-use Rattle.plan_text.specs.PlanText.{list_tree, rule_tree, round_tree}
+use Rattle.plan_text.specs.PlanText.{rule_tree, round_tree}
 
 -- the rules that stand in tables, each at its switch, and the changes of a running round that aren't made yet
 abbrev pub tables_tree : Network → List PlanRule → List Change → Data

@@ -6,13 +6,14 @@ use Rattle.json.specs.Written.{Written}
 use Rattle.serde_json.specs.Data.{Data, string, Members, no_members, member}
 use Rattle.serde_json.specs.Written.{outline, members_outline}
 use Rattle.topology.specs.Networks.{Network}
+use Rattle.config_files.specs.RuleTrees.{whole_tree, list_tree}
 use Rattle.update_model.specs.declared.Change.{Change}
 use Rattle.certificates.specs.declared.OrderedEvidence.{OrderedEvidence}
 use Rattle.certificates.specs.declared.TwoPhaseEvidence.{TwoPhaseEvidence}
 use Rattle.certificates.specs.declared.Evidence.{Evidence}
 use Rattle.certificates.specs.declared.Evidence.TheVariants.{Ordered, TwoPhase}
 use Rattle.plan_format.specs.declared.rules.PlanRule.{PlanRule}
-use Rattle.plan_text.specs.PlanText.{whole_tree, list_tree, numbers_tree, rule_tree, numbered_rounds_tree, use_tree, pick_tree, table_tree, label_pick_tree}
+use Rattle.plan_text.specs.PlanText.{numbers_tree, rule_tree, numbered_rounds_tree, use_tree, pick_tree, table_tree, label_pick_tree}
 
 -- the tokens of a value
 abbrev pub tokens_of : Data → List Token

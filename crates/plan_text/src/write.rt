@@ -1,7 +1,8 @@
 //! The text of plans and of rounds.
 ghost use Rattle.std.specs.Prelude.{◌≡◌, ◌<◌, ◌^◌, Ok, IfOk, OnOk, codes, map};
+ghost use Rattle.config_files.specs.RuleTrees.{list_tree};
 ghost use Rattle.certificates.specs.Valid.{IsValidPlan};
-ghost use Rattle.plan_text.specs.PlanText.{list_tree, rule_tree, numbered_change_tree, numbered_round_tree, numbered_rounds_tree, plan_members, plan_tree, plan_text};
+ghost use Rattle.plan_text.specs.PlanText.{rule_tree, numbered_change_tree, numbered_round_tree, numbered_rounds_tree, plan_members, plan_tree, plan_text};
 ghost use Rattle.plan_text.specs.PlanText as texts;
 ghost use Rattle.plan_text.specs.Tokens.{tokens_of, closed_tokens, member_tokens, ordered_members, two_phase_members, before_count, Adds};
 ghost use Rattle.plan_format.specs.Plans.{plan_in};

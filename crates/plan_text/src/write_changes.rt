@@ -2,7 +2,8 @@
 ghost use Rattle.std.specs.Prelude.{◌≡◌, IfOk, OnOk, true, codes, map};
 ghost use Rattle.serde_json.specs.Data.{boolean, string, object, put};
 ghost use Rattle.net_base.specs.Text.{prefix_text};
-ghost use Rattle.plan_text.specs.PlanText.{whole_tree, list_tree, name_of, in_port_tree, test_tree, out_tree, set_tree, strip_tree, rule_members, rule_tree, word_of, plan_rule_of, change_tree, round_tree, rounds_tree};
+ghost use Rattle.config_files.specs.RuleTrees.{whole_tree, list_tree, in_port_tree, test_tree, out_tree};
+ghost use Rattle.plan_text.specs.PlanText.{name_of, set_tree, strip_tree, rule_members, rule_tree, word_of, plan_rule_of, change_tree, round_tree, rounds_tree};
 ghost use Rattle.plan_text.specs.Tokens.{tokens_of, closed_tokens, member_tokens, some_tokens, Adds};
 
 use crate::write_lists::{write_number_at, write_text_at};

@@ -1,7 +1,7 @@
 //! Lists and members, as JSON tokens.
 ghost use Rattle.std.specs.Prelude.{◌≡◌, OnOk, map};
 ghost use Rattle.serde_json.specs.Data.{Data, string};
-ghost use Rattle.plan_text.specs.PlanText.{whole_tree, list_tree};
+ghost use Rattle.config_files.specs.RuleTrees.{whole_tree, list_tree};
 ghost use Rattle.plan_text.specs.Tokens.{tokens_of, member_tokens, Adds};
 
 use json::Writer;

@@ -5,6 +5,7 @@ use crate::empty_tables::no_rules;
 use flow_rules::{Action, Config, Key, Pattern, Rewrite, Rule, VlanTest};
 use net_base::{Port, Prefix, SwitchId};
 use round_tables::PreparedTables;
+use std::alloc::Global;
 use std::process::Abort;
 use topology::Net;
 use topology_files::read_net;
@@ -62,6 +63,7 @@ fn turned() -> Rule {
 /// Whether a change may be made. Then it is made, or given up.
 fn tries(
     rt: &impl Abort,
+    alloc: Global,
     trial: &mut PreparedTables,
     net: &Net,
     change: &Change,
@@ -70,7 +72,7 @@ fn tries(
     requires { IsSettled net.now trial.old }
     ensures { IsSettled net.now trial.new }
 {
-    if !applies(trial.tables(), change) || !trial.begin(net, change) {
+    if !applies(trial.tables(), change) || !trial.begin(alloc, net, change).expect(rt, "room") {
         return false;
     }
     if is_kept {
@@ -84,6 +86,7 @@ fn tries(
 /// The position of the first change of which it is wrong whether it may be made. All before it are made, or given up.
 fn first_wrong(
     rt: &impl Abort,
+    alloc: Global,
     trial: &mut PreparedTables,
     net: &Net,
     steps: &[(Change, bool, bool)],
@@ -91,7 +94,7 @@ fn first_wrong(
     requires { IsSettled net.now trial.old }
 {
     for (i, (change, is_kept, want)) in steps.iter().enumerate() {
-        if tries(rt, trial, net, change, *is_kept) != *want {
+        if tries(rt, alloc, trial, net, change, *is_kept) != *want {
             return Some(i);
         }
     }
@@ -128,7 +131,10 @@ fn a_change_is_made_only_where_it_is_clear_and_has_room(rt: HostRuntime) {
         &rt,
         "trial tables",
     );
-    assert_eq!(rt; first_wrong(&rt, &mut trial, &net, &steps()), None);
+    assert_eq!(rt;
+        first_wrong(&rt, rt.alloc(), &mut trial, &net, &steps()),
+        None
+    );
     assert!(rt; trial.mixes().len() == 2);
     has_rules(&rt, trial.tables());
 }

@@ -3,6 +3,7 @@ use Rattle.std.proofs.Common.{◌≡◌, ◌≢◌, ◌⊎◌, ◌↔◌, ℕ, z
 use Rattle.std.specs.Prelude.{slice_get, IfOk, IsOkAnd}
 use Rattle.std.specs.List.{AllByRecursion, AllZip}
 use Rattle.std.proofs.lemmas.Option.{same_Some, slice_get-get_or}
+use Rattle.std.proofs.lemmas.List.{get_or_default}
 use Rattle.std.proofs.lemmas.Bool.{cases_lt}
 use Rattle.net_base.specs.Members.{IsIn}
 use Rattle.topology.specs.Networks.{Network, IsNetwork, switch_count}
@@ -36,6 +37,7 @@ use Rattle.class_watch.specs.Walks.{HoldsTables, meets_any}
 use Rattle.class_watch.proofs.StandLaws.{safe_after}
 use Rattle.round_judge.proofs.VisitLaws.{safe_still}
 use Rattle.round_judge.specs.Evidence.{IsCertifiedClass}
+use Rattle.round_judge.specs.Visits.{marks_at}
 use Rattle.round_judge.specs.Judged.{IsNextRound, IsJudged, IsJudgedIfMet, HasFound, HasNotFound, AreSafeBelow, CanBeSafeBelow, IsNewlySafe, IsUnsafe, HasUnsafe, IsNoted, verdict_of}
 use Rattle.round_judge.specs.declared.judging.Verdict.{Verdict}
 
@@ -309,6 +311,10 @@ round_here net other is mixes u k round = subst (λ (n : Network). IsRoundOf n m
 -- the class that was made for a number is each class with the number
 pub numbered_class : (classes : ClassList) (n : ℕ) (numbered : NumberedClass) → numbered.number ≡ n → IsNumbered classes numbered → (class : Class) → IsClass classes n class → numbered.class ≡ class
 numbered_class classes n numbered number is class is_n = same_class classes n numbered.class class (subst (λ (i : ℕ). IsClass classes i numbered.class) number is) is_n
+
+-- a member that was read, whatever would stand past the end
+pub read_as : (came : List ℕ) (n read : ℕ) → n < length came → read ≡ get_or came n read → read ≡ marks_at came n
+read_as came n read within is = is ∙ get_or_default came n read 0 within
 
 -- its class enters at a switch of the network
 pub numbered_within : (net : Network) → IsNetwork net → (there here : ClassList) → here ≡ there → here.hosts ≡ net.hosts → (numbered : NumberedClass) → IsNumbered there numbered

@@ -6,7 +6,7 @@ use Rattle.dest_classes.specs.Classes.{ClassList}
 use Rattle.demands.specs.Duties.{ClassDuties}
 use Rattle.evidence_store.specs.Last.{SetsState, HoldsLast}
 use Rattle.table_difference.specs.Targets.{Target}
-use Rattle.round_judge.specs.Judged.{HoldsLastOf}
+use Rattle.round_judge.specs.Goals.{HoldsLastOf}
 
 module _ (to : Target) (net : Network) (new : List TableState) (d : ClassDuties) (classes : ClassList)
     (is : (let a : Target = record { net = net; new = rules_of_all new; demands = d.demands; classes = classes } in a) ≡ to) (of : d.classes ≡ classes) (last : Option SetsState) where

@@ -1,3 +1,4 @@
+pub mod KeepLaws
 pub mod GrowthLaws
 pub mod EvidenceLaws
 pub mod VisitLaws

@@ -18,7 +18,6 @@ use Rattle.round_mix.specs.Prepared.{MixedState}
 use Rattle.mixed_walks.specs.Walks.{IsRoundOf}
 use Rattle.evidence_store.specs.Found.{IsSafeEvidence}
 use Rattle.evidence_store.specs.State.{StoreState}
-use Rattle.evidence_store.specs.Last.{SetsState, HoldsLast}
 use Rattle.evidence_store.specs.Stored.{IsWithPick}
 use Rattle.class_watch.specs.Walks.{HoldsWalks}
 use Rattle.round_judge.specs.declared.judging.Found.{Found}
@@ -52,10 +51,6 @@ pub record IsReady (to : Target) (mixes : List MixedState) (store : StoreState) 
 pub record IsUnsafe (to : Target) (u : Rollout) (k : ℕ) (f : UnsafeClass) : Type 0 where
   pub never : (numbers : List ℕ) (sets : List (List ℕ)) → ¬ IsSafe u k f.class.first f.class.entry (duties_in to f.class) numbers sets
   pub visits : HoldsWalks u k f.class f.visited
-
--- the least before sets that were found last, if any were, are those of a class
-abbrev pub HoldsLastOf : Target → Option SetsState → Type 0
-HoldsLastOf to last = HoldsLast to.net (record { demands = to.demands; classes = to.classes }) last
 
 -- what is found for a class in round k: the pick in force keeps it safe, or it fails and new evidence does, or nothing does
 abbrev pub IsJudged : Target → Rollout → OrderedEvidence → ℕ → ℕ → Class → Judged → Type 0

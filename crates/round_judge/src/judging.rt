@@ -2,7 +2,6 @@
 ghost use Rattle.std.specs.Prelude.{◌≡◌, ◌≢◌, ◌↔◌, ℕ, ◌<◌, ◌≤◌, suc, List, [], length, IsTrue, IfOk, IfSome, IsOkAnd, OnOk, slice_get, Some};
 ghost use Rattle.net_base.specs.Members.{IsIn};
 ghost use Rattle.std.specs.List.{AllByRecursion};
-ghost use Rattle.topology.specs.Networks.{switch_count};
 ghost use Rattle.dest_classes.specs.Classes.{class_count, IsClass};
 ghost use Rattle.dest_classes.specs.declared.Class.{Class};
 ghost use Rattle.update_model.specs.Mixtures.{Rollout, tables_before};
@@ -11,13 +10,12 @@ ghost use Rattle.certificates.specs.Valid.{IsValidNumbering, IsValidUse};
 ghost use Rattle.certificates.specs.declared.OrderedPick.{OrderedPick};
 ghost use Rattle.dest_classes.specs.Numbered.{IsNumbered};
 ghost use Rattle.mixed_walks.specs.Walks.{IsRoundOf, IsWalked};
-ghost use Rattle.round_judge.specs.Goals.{duties_in};
+ghost use Rattle.round_judge.specs.Goals.{HasAtoms, HoldsLastOf, duties_in};
 ghost use Rattle.round_judge.specs.declared.judging.Found.{Found as FoundOf};
 ghost use Rattle.check_reasons.specs.AtomMarks.{AreTouched};
 ghost use Rattle.class_watch.specs.Walks.{HoldsWalks, HoldsTables};
 ghost use Rattle.round_judge.specs.Evidence.{IsCertifiedClass};
-ghost use Rattle.round_judge.specs.Judged.{IsReady, IsNextRound, IsJudged, IsJudgedIfMet, IsNewlySafe, IsNoted, AreJudged, AreFirstJudged, AreMetJudged, HoldsLastOf, verdict_of};
-ghost use Rattle.round_judge.specs.Goals.{HasAtoms};
+ghost use Rattle.round_judge.specs.Judged.{IsReady, IsNextRound, IsJudged, IsJudgedIfMet, IsNewlySafe, IsNoted, AreJudged, AreFirstJudged, AreMetJudged, verdict_of};
 ghost use Rattle.round_judge.specs.Visits.{marks_at, HoldTables, HoldRound, HoldAfter};
 
 use crate::goal::Goal;
@@ -26,9 +24,7 @@ use acyclic_numbering::Numbering;
 use certificates::{OrderedEvidence, Shared};
 use class_watch::{ClassWatch, LookedAtoms, meets_any};
 use dest_classes::NumberedClass;
-use evidence_store::{
-    ClassEvidence, EvidenceStore, LastSets, NamedEvidence, evidence_by_last, keeps_safe,
-};
+use evidence_store::{ClassEvidence, EvidenceStore, LastSets, NamedEvidence, keeps_safe};
 use mixed_walks::WalkRoom;
 use net_base::Memory;
 use round_mix::Mixed;
@@ -92,7 +88,6 @@ fn use_keeps(
 ) -> bool
     requires number { numbered.number < class_count goal.now.classes }
     requires class { IsNumbered goal.now.classes numbered }
-    requires entry { numbered.class.entry.switch.0 < switch_count goal.now.net }
     requires there { use_ < length evidence.now.uses }
     requires uses { AllByRecursion (IsValidUse (length evidence.now.numberings)
         (length evidence.now.befores)) evidence.now.uses }
@@ -107,6 +102,7 @@ fn use_keeps(
         ↔ IsSafe u k numbered.class.first numbered.class.entry
         (duties_in goal.now numbered.class) numbers sets }
 {
+    goal.net.keeps_rules();
     let shared = use_at(evidence, use_);
     keeps_safe(
         goal.net,
@@ -125,7 +121,6 @@ fn use_keeps(
 fn is_kept(goal: &Goal, walk: &WalkRoom, store: &EvidenceStore, numbered: NumberedClass) -> bool
     requires number { numbered.number < class_count goal.now.classes }
     requires class { IsNumbered goal.now.classes numbered }
-    requires entry { numbered.class.entry.switch.0 < switch_count goal.now.net }
     requires numberings { AllByRecursion (IsValidNumbering goal.now.net)
         store.now.evidence.numberings }
     requires classes { store.now.classes ≡ class_count goal.now.classes }
@@ -172,12 +167,11 @@ fn judge_class(
         → marks_at watch.new.came.items n ≡ marks_at watch.old.came.items n }
     ensures last { OnOk result (HoldsLastOf goal.now last.new) }
 {
-    goal.net.keeps_rules();
-    let visited = watch.walk(goal.net, tried.mixes, numbered);
+    let visited = goal.walk(watch, tried.mixes, numbered);
     if is_kept(goal, &watch.walk, tried.store, numbered) {
         return Ok(Judged::Kept);
     }
-    match evidence_by_last(alloc, goal.net, &watch.walk, goal.duties, numbered, last)? {
+    match goal.find_evidence(alloc, &watch.walk, numbered, last)? {
         Some(evidence) => Ok(Judged::New(evidence)),
         None => Ok(Judged::Unsafe(UnsafeClass {
             number: numbered.number,
@@ -282,7 +276,7 @@ fn judge_touched(
     ensures count { length watch.new.came.items ≡ length watch.old.came.items }
 {
     let alloc = *found.allocator();
-    let end = goal.classes.count();
+    let end = goal.count();
     let mut number = looked.next_number(0, end);
     'judging: while number < end {
         let judged = judge_if_met(alloc, goal, watch, tried, last, number)?;
@@ -391,7 +385,7 @@ fn judge_each(
         → AreJudged goal.now u tried.now.store.now.evidence k (verdict_of found.new failing)
         × HoldAfter goal.now u k (verdict_of found.new failing) watch.new.came.items) }
 {
-    for number in 0..goal.classes.count() {
+    for number in 0..goal.count() {
         let judged = judge_next(goal, watch, tried, last, before, number)?;
         if let Some(failing) = note(number, judged, found)? {
             return Ok(Some(failing));
@@ -489,7 +483,7 @@ fn judge_every(
         × HoldAfter goal.now u k (verdict_of found.new failing) watch.new.came.items) }
 {
     let alloc = *found.allocator();
-    for number in 0..goal.classes.count() {
+    for number in 0..goal.count() {
         let numbered = goal.numbered(number);
         let judged = judge_class(alloc, goal, watch, tried, last, numbered)?;
         if let Some(failing) = note(number, judged, found)? {

@@ -1,11 +1,12 @@
 -- A failure stands while more changes are taken, and after a round no change of which meets its class.
-use Rattle.std.proofs.Common.{◌≡◌, ℕ, Bool, true, false, List, [], ◌∷◌, ◌++◌, refl, sym, ◌∙◌, subst, ap, inl, inr}
-use Rattle.std.specs.Prelude.{◌&&◌, ◌==◌, not, IsTrue}
+use Rattle.std.proofs.Common.{◌≡◌, ℕ, Bool, true, false, List, [], ◌∷◌, ◌++◌, refl, sym, ◌∙◌, subst, ap}
+use Rattle.std.specs.Prelude.{◌&&◌, ◌==◌, not}
 use Rattle.std.specs.List.{AllByRecursion, list_any}
-use Rattle.std.proofs.lemmas.Bool.{both_ways, and_from, and_parts, or_parts, cond_both, not-true, false≢true, cond-false, eqb-true}
+use Rattle.std.proofs.lemmas.Bool.{and_parts, or_parts, cond_both, not-true, false≢true, eqb-true}
 use Rattle.std.proofs.lemmas.List.{append-nil, append_assoc}
+use Rattle.std.proofs.lemmas.List.Elements.{filter-append}
 use Rattle.net_base.specs.Members.{IsSubsequence}
-use Rattle.net_base.proofs.MemberLaws.{each_at, each_from_in, each_weaker, in_from_filter}
+use Rattle.net_base.proofs.MemberLaws.{IsSubsequence-append, IsSubsequence-push, IsSubsequence_refl, each_weaker, each_append, each_first}
 use Rattle.net_base.proofs.NameLaws.{same_switch}
 use Rattle.net_base.specs.declared.ids.SwitchId.{SwitchId}
 use Rattle.net_base.specs.declared.ids.Place.{Place}
@@ -17,7 +18,7 @@ use Rattle.flow_rules.proofs.TableLaws.{rule_eq-true}
 use Rattle.path_walk.specs.Outcomes.{header_at}
 use Rattle.dest_classes.specs.declared.Class.{Class}
 use Rattle.demands.specs.Duties.{duties_of}
-use Rattle.update_model.specs.Changes.{switch_of, rule_of, changes_at, rules_after, rules_after_change, tables_after, IsGoodRound}
+use Rattle.update_model.specs.Changes.{rule_of, changes_at, rules_after, rules_after_change, tables_after, IsGoodRound}
 use Rattle.update_model.specs.Mixtures.{Rollout, IsOnMixedWalk}
 use Rattle.update_model.specs.declared.Change.{Change}
 use Rattle.update_model.specs.declared.Change.TheVariants.{Insert, Delete, Replace}
@@ -25,11 +26,8 @@ use Rattle.update_model.proofs.ChangeLaws.{rules_at-after}
 use Rattle.certificates.specs.Certified.{KeepsVlan}
 use Rattle.certificates.specs.Rounds.{one_round_of, IsSafeByEvidence}
 use Rattle.certificates.proofs.Fewer.{safe_fewer}
-use Rattle.check_reasons.specs.Touched.{may_cover}
-use Rattle.check_reasons.proofs.TouchLaws.{not_covered}
 use Rattle.mixed_walks.specs.Walks.{TablesKeepVlans}
 use Rattle.mixed_walks.proofs.PlaceLaws.{on_walk_vlan}
-use Rattle.net_base.specs.Switches.{has}
 use Rattle.class_watch.specs.Walks.{meets, meets_any}
 use Rattle.class_watch.specs.Alike.{covering_changes, AreAlike}
 use Rattle.class_watch.proofs.CoveringLaws.{covering_kept}
@@ -41,7 +39,7 @@ use Rattle.round_trials.proofs.FitLaws.{at_more}
 use Rattle.round_packer.specs.declared.failing.Failure.{Failure}
 use Rattle.round_packer.specs.Kept.{HoldsClass, IsFailing, change_eq, unmet}
 use Rattle.round_packer.specs.Filling.{HasFailed}
-use Rattle.round_packer.proofs.KeptLaws.{keeps_round}
+use Rattle.round_packer.proofs.KeptLaws.{keeps_round, none_covering, uncovered}
 
 -- ---- changes that are the same
 
@@ -61,25 +59,10 @@ change_eq-true (Replace s r) (Insert t q) e = absurd (false≢true e)
 change_eq-true (Replace s r) (Delete t q) e = absurd (false≢true e)
 change_eq-true (Replace s r) (Replace t q) e = same_parts (λ x y. Replace x y) s t r q e
 
--- ---- lists
-
--- the first ones and another one are some of the first, of those between, and of the other one
-first_and_last : {A : Type 0} (early late : List A) (x : A) → IsSubsequence (early ++ x ∷ []) ((early ++ late) ++ x ∷ [])
-first_and_last [] [] x = inl (refl, tt)
-first_and_last [] (y ∷ late) x = inr (first_and_last [] late x)
-first_and_last (y ∷ early) late x = inl (refl, first_and_last early late x)
-
+-- where none passes a test, each fails it
 none_any : {A : Type 0} (p : A → Bool) (xs : List A) → list_any p xs ≡ false → AllByRecursion (λ x. p x ≡ false) xs
 none_any p [] off = tt
 none_any p (x ∷ xs) off = (let both = or_parts (p x) (list_any p xs) off in (both.0, none_any p xs both.1))
-
-each_front : {A : Type 0} (P : A → Type 0) (xs ys : List A) → AllByRecursion P (xs ++ ys) → AllByRecursion P xs
-each_front P [] ys all = tt
-each_front P (x ∷ xs) ys all = (all.0, each_front P xs ys all.1)
-
-pub each_both : {A : Type 0} (P : A → Type 0) (xs : List A) (y : A) → AllByRecursion P xs → P y → AllByRecursion P (xs ++ y ∷ [])
-each_both P [] y all this = (this, tt)
-each_both P (x ∷ xs) y all this = (all.0, each_both P xs y all.1 this)
 
 -- ---- more changes are taken
 
@@ -89,7 +72,7 @@ module _ (to : Target) (tables : List (List Rule)) (taken : List Change) where
   never_beside f h can =
       let by = can.safe h.failing.number f.class h.failing.is_class in
       let some : IsSubsequence (h.early ++ f.change ∷ []) (taken ++ f.change ∷ []) =
-      subst (λ (cs : List Change). IsSubsequence (h.early ++ f.change ∷ []) (cs ++ f.change ∷ [])) (sym h.are) (first_and_last h.early h.late f.change) in
+      subst (λ (cs : List Change). IsSubsequence (h.early ++ f.change ∷ []) (cs ++ f.change ∷ [])) (sym h.are) (IsSubsequence-push h.early (h.early ++ h.late) f.change (IsSubsequence-append h.early h.early h.late (IsSubsequence_refl h.early))) in
       h.failing.never (record {
         numbers = by.numbers;
         sets = by.sets;
@@ -120,22 +103,6 @@ covering_all : (h : Header) (made : List Change) (rules : List Rule) → AllByRe
 covering_all h [] rules off = refl
 covering_all h (c ∷ made) rules off = covering_all h made (rules_after_change c rules) off.1 ∙ covering_kept h c off.0 rules
 
--- and may be left out before others
-none_before : (h : Header) (made rest : List Change) → AllByRecursion (λ c. covers (rule_of c).key.pattern h ≡ false) made → covering_changes h (made ++ rest) ≡ covering_changes h rest
-none_before h [] rest off = refl
-none_before h (c ∷ made) rest off =
-    cond-false (covers (rule_of c).key.pattern h) (c ∷ covering_changes h (made ++ rest)) (covering_changes h (made ++ rest)) off.0 ∙ none_before h made rest off.1
-
--- changes that don't meet the class cover none of its packets at a switch of the set
-uncovered : (changes : List Change) (class : Class) (set : ℕ) (place : Place) → place.vlan ≡ class.entry.vlan → IsTrue (has set place.switch) → AllByRecursion (λ d. meets d class set ≡ false) changes
-    → AllByRecursion (λ d. covers (rule_of d).key.pattern (header_at place class.first) ≡ false) (changes_at place.switch changes)
-uncovered changes class set place vlan there off =
-    each_from_in (λ d. covers (rule_of d).key.pattern (header_at place class.first) ≡ false) (changes_at place.switch changes) (λ d i.
-    let (among, here) = in_from_filter (λ (e : Change). (switch_of e).0 == place.switch.0) d changes i in
-    let at : has set (switch_of d) ≡ true = subst (λ n. has set (record { 0 = n }) ≡ true) (sym (eqb-true (switch_of d).0 place.switch.0 here)) there in
-    not_covered d class place vlan
-    (λ covered. both_ways (may_cover d class && has set (switch_of d)) (each_at (λ (e : Change). meets e class set ≡ false) changes d off among) (and_from (may_cover d class) (has set (switch_of d)) covered at)))
-
 module _ (to : Target) (tables : List (List Rule)) (rules : TablesKeepVlans tables) (early late : List Change) (good : IsGoodRound tables (early ++ late)) (c : Change)
     (keeps : AllByRecursion (λ d. KeepsVlan (rule_of d).action) (early ++ c ∷ [])) (class : Class) (set : ℕ) (held : HoldsClass to.net tables (early ++ c ∷ []) class set)
     (off : AllByRecursion (λ d. meets d class set ≡ false) (early ++ late)) where
@@ -158,9 +125,9 @@ module _ (to : Target) (tables : List (List Rule)) (rules : TablesKeepVlans tabl
         record {
           rules = sym (ap (covering h) (rules_at-after (early ++ late) tables s (within_good tables (early ++ late) good.applies))
               ∙ covering_all h (changes_at s (early ++ late)) (rules_at tables s) (uncovered (early ++ late) class set place (vlan_is place on) (held place on) off));
-          changes = ap (covering_changes h) (at_more s early c)
-              ∙ none_before h (changes_at s early) (changes_at s (c ∷ []))
-              (uncovered early class set place (vlan_is place on) (held place on) (each_front (λ d. meets d class set ≡ false) early late off));
+          changes = ap (covering_changes h) (at_more s early c) ∙ filter-append (λ (d : Change). covers (rule_of d).key.pattern h) (changes_at s early) (changes_at s (c ∷ []))
+              ∙ ap (λ (ds : List Change). ds ++ covering_changes h (changes_at s (c ∷ [])))
+              (none_covering h (changes_at s early) (uncovered early class set place (vlan_is place on) (held place on) (each_first (λ d. meets d class set ≡ false) early late off)));
         };
   }
 
@@ -184,8 +151,8 @@ failed_after to tables rules round keeps good f off h =
     let off_parts : AllByRecursion (λ d. meets d f.class f.visited ≡ false) (early ++ late) =
     subst (AllByRecursion (λ d. meets d f.class f.visited ≡ false)) h.are (none_any (λ (d : Change). meets d f.class f.visited) round off) in
     let keep : AllByRecursion (λ d. KeepsVlan (rule_of d).action) (early ++ f.change ∷ []) =
-    each_both (λ (d : Change). KeepsVlan (rule_of d).action) early f.change
-    (each_front (λ (d : Change). KeepsVlan (rule_of d).action) early late (subst (AllByRecursion (λ (d : Change). KeepsVlan (rule_of d).action)) h.are keeps)) h.keeps in
+    each_append (λ (d : Change). KeepsVlan (rule_of d).action) early (f.change ∷ [])
+    (each_first (λ (d : Change). KeepsVlan (rule_of d).action) early late (subst (AllByRecursion (λ (d : Change). KeepsVlan (rule_of d).action)) h.are keeps)) (h.keeps, tt) in
     record {
       early = [];
       late = [];

@@ -1,5 +1,5 @@
 -- A change that is tried beside those that are taken.
-use Rattle.std.proofs.Common.{◌≡◌, ℕ, zero, suc, ◌<◌, ◌≤◌, Bool, List, [], ◌∷◌, ◌++◌, length, drop, get_or, refl, sym, ◌∙◌, subst, ap, inl, inr, arith}
+use Rattle.std.proofs.Common.{◌≡◌, ℕ, Bool, List, [], ◌∷◌, ◌++◌, refl, sym, ◌∙◌, subst, ap, inl, inr}
 use Rattle.std.specs.List.{AllByRecursion}
 use Rattle.net_base.specs.Members.{IsIn}
 use Rattle.net_base.proofs.MemberLaws.{each_append, each_at}
@@ -15,11 +15,12 @@ use Rattle.mixed_walks.specs.Walks.{TablesKeepVlans}
 use Rattle.table_difference.specs.Targets.{Target}
 use Rattle.packed_rounds.specs.Packing.{CanStand, IsFilled}
 use Rattle.round_trials.specs.Filling.{TrialState, FitTables, IsTrial}
+use Rattle.round_judge.specs.Goals.{HasAtoms}
 use Rattle.round_packer.specs.declared.failing.Failure.{Failure}
-use Rattle.round_packer.specs.Kept.{AreKept, HasAtoms, ArePreparedFor, IsFailing, IsFailureOf}
+use Rattle.round_packer.specs.Kept.{AreKept, ArePreparedFor, IsFailing, IsFailureOf}
 use Rattle.round_packer.specs.Filling.{IsPlain, IsFilling, IsTried, HasFailed}
 use Rattle.round_packer.proofs.KeptLaws.{keeps_round}
-use Rattle.round_packer.proofs.FailureLaws.{never_beside, all_more, failed_here, each_both}
+use Rattle.round_packer.proofs.FailureLaws.{never_beside, all_more, failed_here}
 
 -- the switches are prepared for the taken changes, as walks want it
 pub prepared_here : (net : Network) (mixes : List MixedState) (tables : List (List Rule)) (round : List Change) → TablesKeepVlans tables → AllByRecursion (λ c. KeepsVlan (rule_of c).action) round
@@ -108,7 +109,7 @@ module _ (to : Target) (tables : List (List Rule)) (taken changes : List Change)
           so_far = λ last filled. gone.so_far last
               (inr (subst (λ (d : Change). ¬ CanStand to tables (gone.now ++ d ∷ [])) of_it (never_beside to tables gone.now f failed), filled));
           known_failed = gone.known_failed;
-          found_failed = each_both (HasFailed to tables gone.now) found f gone.found_failed failed;
+          found_failed = each_append (HasFailed to tables gone.now) found (f ∷ []) gone.found_failed (failed, tt);
         }
 
     module _ (q : TrialState) (new : List ℕ) (marks : List Bool) where
@@ -136,25 +137,12 @@ module _ (to : Target) (tables : List (List Rule)) (taken changes : List Change)
         filling = filling;
         so_far = λ last filled. gone.so_far last (inl (can, filled));
         known_failed = all_more to tables gone.now c known gone.known_failed;
-        found_failed = all_more to tables gone.now c (found ++ f ∷ []) (each_both (HasFailed to tables gone.now) found f gone.found_failed failed);
+        found_failed = all_more to tables gone.now c (found ++ f ∷ []) (each_append (HasFailed to tables gone.now) found (f ∷ []) gone.found_failed (failed, tt));
       }
       gone_failed (inr (never, filling)) f failed = record {
         now = gone.now;
         filling = filling;
         so_far = λ last filled. gone.so_far last (inr (never, filled));
         known_failed = gone.known_failed;
-        found_failed = each_both (HasFailed to tables gone.now) found f gone.found_failed failed;
+        found_failed = each_append (HasFailed to tables gone.now) found (f ∷ []) gone.found_failed (failed, tt);
       }
-
--- a member of a list, of which all hold
-pub each_there : {A : Type 0} (P : A → Type 0) (xs : List A) (i : ℕ) (x : A) → i < length xs → x ≡ get_or xs i x → AllByRecursion P xs → P x
-each_there P [] i x less is all = absurd (omega arith)
-each_there P (y ∷ xs) zero x less is all = subst P (sym is) all.0
-each_there P (y ∷ xs) (suc i) x less is all = each_there P xs i x (omega arith) is all.1
-
--- nothing stands past the end
-pub drop_past : {A : Type 0} (xs : List A) (i : ℕ) → length xs ≤ i → drop i xs ≡ []
-drop_past [] zero le = refl
-drop_past [] (suc i) le = refl
-drop_past (x ∷ xs) zero le = absurd (omega arith)
-drop_past (x ∷ xs) (suc i) le = drop_past xs i (omega arith)

@@ -1,33 +1,32 @@
 -- What is told of the classes, class by class.
-use Rattle.std.proofs.Common.{◌≡◌, ◌≢◌, ◌↔◌, ℕ, ◌%◌, ◌<◌, Bool, true, false, List, [], ◌∷◌, ◌++◌, length, get_or, refl, sym, ◌∙◌, subst, ap, inl, inr, arith}
-use Rattle.std.specs.Prelude.{◌&&◌, IsSome, Option, Some, None}
-use Rattle.std.specs.List.{AllByRecursion}
+use Rattle.std.proofs.Common.{◌≡◌, ◌≢◌, ◌↔◌, ℕ, ◌%◌, Bool, true, false, List, [], ◌∷◌, ◌++◌, length, get_or, refl, sym, ◌∙◌, subst, inl, inr, arith}
+use Rattle.std.specs.Prelude.{IsSome, Option, Some, None}
 use Rattle.std.proofs.lemmas.Bool.{cases_eq, cases_Bool, or_parts, false≢true}
-use Rattle.std.proofs.lemmas.List.{get_or_default}
-use Rattle.net_base.specs.Blocks.{in_block}
-use Rattle.flow_rules.specs.Patterns.{admits_vlan}
+use Rattle.net_base.proofs.MemberLaws.{each_first}
 use Rattle.flow_rules.specs.declared.rules.Rule.{Rule}
 use Rattle.topology.specs.Networks.{Network}
-use Rattle.dest_classes.specs.Classes.{ClassList, IsClass, class_count}
+use Rattle.dest_classes.specs.Classes.{IsClass, class_count}
 use Rattle.dest_classes.specs.Numbered.{IsNumbered}
 use Rattle.dest_classes.specs.declared.Class.{Class}
 use Rattle.dest_classes.specs.declared.NumberedClass.{NumberedClass}
-use Rattle.dest_classes.proofs.MapLaws.{number_fits, class_is as same_class}
 use Rattle.demands.specs.Duties.{DemandView, duties_of}
-use Rattle.update_model.specs.Changes.{rule_of, switch_of}
+use Rattle.update_model.specs.Changes.{rule_of}
 use Rattle.update_model.specs.declared.Change.{Change}
 use Rattle.certificates.specs.Certified.{KeepsVlan}
 use Rattle.certificates.specs.Rounds.{one_round_of, IsSafeByEvidence}
 use Rattle.check_reasons.specs.AtomMarks.{AreTouched}
-use Rattle.check_reasons.specs.Touched.{touches}
-use Rattle.mixed_walks.specs.Walks.{TablesKeepVlans}
-use Rattle.net_base.specs.Switches.{has}
+use Rattle.round_mix.specs.Prepared.{MixedState}
 use Rattle.class_watch.specs.Walks.{meets}
+use Rattle.class_watch.proofs.StandLaws.{untouched_walk}
 use Rattle.evidence_store.specs.Found.{IsFound}
 use Rattle.evidence_store.specs.declared.class_evidence.ClassEvidence.{ClassEvidence}
 use Rattle.table_difference.specs.Targets.{Target}
+use Rattle.round_judge.specs.Goals.{HasAtoms}
+use Rattle.round_judge.specs.Visits.{marks_at}
+use Rattle.round_judge.proofs.JudgingLaws.{numbered_class}
+use Rattle.round_judge.proofs.MetLaws.{passed_over}
 use Rattle.round_packer.specs.declared.failing.Failure.{Failure}
-use Rattle.round_packer.specs.Kept.{HoldsClass, IsKept, AreKept, AreWatched, HasAtoms, IsTold, AreTold, AreJudgedBeside, enters_at, set_at}
+use Rattle.round_packer.specs.Kept.{ArePreparedFor, HoldsClass, IsKept, AreKept, AreWatched, IsTold, AreTold, AreJudgedBeside, enters_at}
 use Rattle.round_packer.proofs.KeptLaws.{held_without, kept_unmet}
 
 -- ---- one class
@@ -38,18 +37,14 @@ pub found_decides : (net : Network) (demands : List DemandView) (tables : List (
 found_decides net demands tables changes class (Some e) h = (λ _. record { numbers = e.numbering; sets = e.befores; safe = h.safe }, λ _. refl)
 found_decides net demands tables changes class None h = (λ some. absurd (false≢true some), λ by. absurd (h by.numbers by.sets by.safe))
 
--- the class that was made for a number is each class with the number
-pub numbered_class : (classes : ClassList) (n : ℕ) (numbered : NumberedClass) → numbered.number ≡ n → IsNumbered classes numbered → (class : Class) → IsClass classes n class → numbered.class ≡ class
-numbered_class classes n numbered number is class is_n = same_class classes n numbered.class class (subst (λ (i : ℕ). IsClass classes i numbered.class) number is) is_n
-
 -- a class that was found safe is kept
 pub told_safe : (to : Target) (tables : List (List Rule)) (changes : List Change) (c : Change) (own : Bool) (n : ℕ) (came : List ℕ) (numbered : NumberedClass) → numbered.number ≡ n → IsNumbered to.classes numbered
-    → HoldsClass to.net tables changes numbered.class (set_at came numbered.number) → IsSafeByEvidence to.net to.demands tables changes numbered.class → IsTold to tables changes c own n came None
+    → HoldsClass to.net tables changes numbered.class (marks_at came numbered.number) → IsSafeByEvidence to.net to.demands tables changes numbered.class → IsTold to tables changes c own n came None
 told_safe to tables changes c own n came numbered number is held safe = λ class is_n at.
     let same = numbered_class to.classes n numbered number is class is_n in
     record {
       safe = subst (λ (x : Class). IsSafeByEvidence to.net to.demands tables changes x) same safe;
-      held = subst (λ (x : Class). HoldsClass to.net tables changes x (set_at came n)) same (subst (λ (i : ℕ). HoldsClass to.net tables changes numbered.class (set_at came i)) number held);
+      held = subst (λ (x : Class). HoldsClass to.net tables changes x (marks_at came n)) same (subst (λ (i : ℕ). HoldsClass to.net tables changes numbered.class (marks_at came i)) number held);
     }
 
 -- ---- the sets
@@ -71,19 +66,19 @@ module _ (to : Target) (tables : List (List Rule)) (changes : List Change) where
   }
 
   -- where one class is watched anew
-  pub watched_one : (old new : List ℕ) (n : ℕ) → length new ≡ length old → ((m : ℕ) → m ≢ n → set_at new m ≡ set_at old m)
-      → ((class : Class) → IsClass to.classes n class → HoldsClass to.net tables changes class (set_at new n)) → AreWatched to tables changes old new
+  pub watched_one : (old new : List ℕ) (n : ℕ) → length new ≡ length old → ((m : ℕ) → m ≢ n → marks_at new m ≡ marks_at old m)
+      → ((class : Class) → IsClass to.classes n class → HoldsClass to.net tables changes class (marks_at new n)) → AreWatched to tables changes old new
   watched_one old new n count others held = record {
     count = count;
     each = λ m class is. elim (cases_eq m n) [
-      | inl e ↦ inr (subst (λ (i : ℕ). HoldsClass to.net tables changes class (set_at new i)) (sym e) (held class (subst (λ (i : ℕ). IsClass to.classes i class) e is)))
+      | inl e ↦ inr (subst (λ (i : ℕ). HoldsClass to.net tables changes class (marks_at new i)) (sym e) (held class (subst (λ (i : ℕ). IsClass to.classes i class) e is)))
       | inr ne ↦ inl (others m ne)
     ];
   }
 
   -- a class that is kept goes on to be
-  pub kept_on : (old new : List ℕ) → AreWatched to tables changes old new → (n : ℕ) (class : Class) → IsClass to.classes n class → IsKept to tables changes class (set_at old n)
-      → IsKept to tables changes class (set_at new n)
+  pub kept_on : (old new : List ℕ) → AreWatched to tables changes old new → (n : ℕ) (class : Class) → IsClass to.classes n class → IsKept to tables changes class (marks_at old n)
+      → IsKept to tables changes class (marks_at new n)
   kept_on old new watched n class is kept = record {
     safe = kept.safe;
     held = elim (watched.each n class is) [
@@ -116,33 +111,21 @@ module _ (to : Target) (tables : List (List Rule)) (taken : List Change) (c : Ch
       safe = had.safe;
       held = elim (watched.each n class is) [
         | inl same ↦ subst (HoldsClass to.net tables taken class) (sym same) had.held
-        | inr held ↦ held_without to.net tables taken c class (set_at new n) held
+        | inr held ↦ held_without to.net tables taken c class (marks_at new n) held
       ];
     });
   }
 
-  module _ (rules : TablesKeepVlans tables) (keeps : AllByRecursion (λ d. KeepsVlan (rule_of d).action) taken) where
+  module _ (mixes : List MixedState) (prepared : ArePreparedFor to.net mixes tables (taken ++ c ∷ [])) where
     -- a class that the change meets nowhere
-    pub told_unmet : (own : Bool) (n : ℕ) (came : List ℕ) → AreKept to tables taken came → ((class : Class) → IsClass to.classes n class → enters_at c class ≡ own → meets c class (set_at came n) ≡ false)
+    pub told_unmet : (own : Bool) (n : ℕ) (came : List ℕ) → AreKept to tables taken came → ((class : Class) → IsClass to.classes n class → enters_at c class ≡ own → meets c class (marks_at came n) ≡ false)
         → IsTold to tables (taken ++ c ∷ []) c own n came None
-    told_unmet own n came kept off = λ class is at. kept_unmet to tables taken c rules keeps class (set_at came n) (off class is at) (kept.each n class is)
+    told_unmet own n came kept off = λ class is at.
+        kept_unmet to tables taken c prepared.keeps_old (each_first (λ d. KeepsVlan (rule_of d).action) taken (c ∷ []) (prepared.keeps 0 (omega arith))) class (marks_at came n) (off class is at) (kept.each n class is)
 
     -- the classes of atoms that the change doesn't touch
     pub told_passed : (own : Bool) (looked : List Bool) → HasAtoms to.classes looked → AreTouched to.classes (c ∷ []) looked → (n : ℕ) → get_or looked (n % length looked) false ≡ false
         → (came : List ℕ) → AreKept to tables taken came → IsTold to tables (taken ++ c ∷ []) c own n came None
     told_passed own looked atoms touched n off came kept =
         told_unmet own n came kept (λ class is at.
-        let within = number_fits to.classes n class is in
-        let none : touches (c ∷ []) class.first ≡ false = sym (touched n class is) ∙ subst (λ (m : ℕ). get_or looked (n % m) false ≡ false) (atoms (omega arith)) off in
-        let out = (or_parts (in_block (rule_of c).key.pattern.dst class.first) false none).0 in
-        ap (λ b. (b && admits_vlan (rule_of c).key.pattern.vlan class.entry.vlan) && has (set_at came n) (switch_of c)) out)
-
--- ---- the front of changes that keep the VLANs
-
-pub keeps_front : (xs ys : List Change) → AllByRecursion (λ d. KeepsVlan (rule_of d).action) (xs ++ ys) → AllByRecursion (λ d. KeepsVlan (rule_of d).action) xs
-keeps_front [] ys all = tt
-keeps_front (x ∷ xs) ys all = (all.0, keeps_front xs ys all.1)
-
--- a member that was read, whatever would stand past the end
-pub read_as : (came : List ℕ) (n read : ℕ) → n < length came → read ≡ get_or came n read → read ≡ set_at came n
-read_as came n read within is = is ∙ get_or_default came n read 0 within
+        (or_parts (meets c class (marks_at came n)) false (untouched_walk (c ∷ []) class (marks_at came n) (passed_over to (c ∷ []) looked atoms touched n off class is))).0)

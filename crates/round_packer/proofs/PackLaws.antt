@@ -1,16 +1,15 @@
 -- One packed round more, and where packing ends.
-use Rattle.std.proofs.Common.{◌≡◌, ◌≢◌, ℕ, ◌<◌, Bool, true, false, cond, not, map, List, [], ◌∷◌, ◌++◌, length, refl, sym, ◌∙◌, subst, ap, inr, arith}
+use Rattle.std.proofs.Common.{◌≡◌, ◌≢◌, ℕ, ◌<◌, Bool, true, false, List, [], ◌∷◌, ◌++◌, length, refl, sym, ◌∙◌, subst, ap, inr, arith}
 use Rattle.std.specs.Prelude.{◌==◌}
 use Rattle.std.specs.List.{AllByRecursion}
-use Rattle.std.proofs.lemmas.Bool.{cond_both, both_ways, eq-eqb, eqb-true}
+use Rattle.std.proofs.lemmas.Bool.{both_ways, eq-eqb, eqb-true}
 use Rattle.net_base.specs.Members.{IsIn}
-use Rattle.net_base.proofs.MemberLaws.{each_append, each_at, each_filter, each_from_in, each_get_or, each_set}
+use Rattle.net_base.proofs.MemberLaws.{each_at, each_from_in, each_get_or}
 use Rattle.net_base.specs.declared.ids.SwitchId.{SwitchId}
 use Rattle.topology.specs.Networks.{Network, switch_count}
-use Rattle.flow_rules.specs.Patterns.{key_eq}
 use Rattle.flow_rules.specs.Tables.{rules_at}
 use Rattle.flow_rules.specs.declared.rules.Rule.{Rule}
-use Rattle.update_model.specs.Changes.{switch_of, rule_of, rules_after_change, tables_after_change, tables_after, IsGoodRound}
+use Rattle.update_model.specs.Changes.{rule_of, tables_after, IsGoodRound}
 use Rattle.update_model.specs.Remaining.{remaining}
 use Rattle.update_model.specs.declared.Change.{Change}
 use Rattle.update_model.specs.declared.Change.TheVariants.{Insert, Delete, Replace}
@@ -26,39 +25,19 @@ use Rattle.table_difference.specs.Targets.{Target}
 use Rattle.packed_rounds.specs.Packing.{CanStand, IsFilled, IsPackedRound, ArePacked, PacksOrdered, PacksStuck, tables_past}
 use Rattle.packed_rounds.proofs.Packed.{packed_part, part_made, some_more}
 use Rattle.round_trials.specs.Filling.{TrialState, IsTrial}
+use Rattle.round_judge.specs.Goals.{HasAtoms}
+use Rattle.round_judge.proofs.KeepLaws.{keeps_all}
 use Rattle.round_packer.specs.declared.failing.Failure.{Failure}
-use Rattle.round_packer.specs.Kept.{HasUnsafe, HasAtoms, AreKept, unmet}
+use Rattle.round_packer.specs.Kept.{HasUnsafe, AreKept, unmet}
 use Rattle.round_packer.specs.Filling.{IsPlain, IsFilling, IsFilledBy, IsPackedTo, EndsAt, HasFailed}
 use Rattle.round_packer.proofs.KeptLaws.{kept_after}
 use Rattle.round_packer.proofs.FailureLaws.{unmet_stand}
 
--- ---- tables that keep the VLANs
-
-abbrev Keeps : Rule → Type 0
-Keeps r = KeepsVlan r.action
-
-replaced : (r : Rule) (rules : List Rule) → AllByRecursion Keeps rules → Keeps r → AllByRecursion Keeps (map (λ q. cond (key_eq q.key r.key) r q) rules)
-replaced r [] all this = tt
-replaced r (q ∷ rules) all this = (cond_both (key_eq q.key r.key) r q Keeps (λ _. this) (λ _. all.0), replaced r rules all.1 this)
-
-each_after : (d : Change) (rules : List Rule) → AllByRecursion Keeps rules → Keeps (rule_of d) → AllByRecursion Keeps (rules_after_change d rules)
-each_after (Insert s r) rules all this = each_append Keeps rules (r ∷ []) all (this, tt)
-each_after (Delete s r) rules all this = each_filter Keeps (λ q. not (key_eq q.key r.key)) rules all
-each_after (Replace s r) rules all this = replaced r rules all this
-
-keeps_after : (d : Change) (tables : List (List Rule)) → TablesKeepVlans tables → KeepsVlan (rule_of d).action → TablesKeepVlans (tables_after_change d tables)
-keeps_after d tables all keeps =
-    each_set (AllByRecursion Keeps) tables (switch_of d).0 (rules_after_change d (rules_at tables (switch_of d))) all
-    (each_after d (rules_at tables (switch_of d)) (each_get_or (AllByRecursion Keeps) tables (switch_of d).0 [] all tt) keeps)
-
--- they do after changes that keep them
-keeps_all : (changes : List Change) (tables : List (List Rule)) → TablesKeepVlans tables → AllByRecursion (λ d. KeepsVlan (rule_of d).action) changes → TablesKeepVlans (tables_after changes tables)
-keeps_all [] tables all keeps = all
-keeps_all (d ∷ changes) tables all keeps = keeps_all changes (tables_after_change d tables) (keeps_after d tables all keeps.0) keeps.1
+-- ---- changes that remain keep the VLANs
 
 module _ (net : Network) (tables new : List (List Rule)) (keeps : TablesKeepVlans tables) (keeps_new : TablesKeepVlans new) where
   keeps_at : (ts : List (List Rule)) → TablesKeepVlans ts → (s : SwitchId) (r : Rule) → IsIn r (rules_at ts s) → KeepsVlan r.action
-  keeps_at ts all s r i = each_at Keeps (rules_at ts s) r (each_get_or (AllByRecursion Keeps) ts s.0 [] all tt) i
+  keeps_at ts all s r i = each_at (λ (q : Rule). KeepsVlan q.action) (rules_at ts s) r (each_get_or (AllByRecursion (λ (q : Rule). KeepsVlan q.action)) ts s.0 [] all tt) i
 
   difference_keeps : (s : SwitchId) (c : Change) → IsDifference s (rules_at tables s) (rules_at new s) c → KeepsVlan (rule_of c).action
   difference_keeps s (Delete t r) h = keeps_at tables keeps s r h.1

@@ -13,8 +13,9 @@ use Rattle.mixed_walks.specs.Walks.{TablesKeepVlans}
 use Rattle.table_difference.specs.Targets.{Target}
 use Rattle.packed_rounds.specs.Packing.{CanStand, IsFilled, ArePacked, PacksOrdered, PacksStuck, tables_past}
 use Rattle.round_trials.specs.Filling.{TrialState, IsTrial}
+use Rattle.round_judge.specs.Goals.{HasAtoms}
 use Rattle.round_packer.specs.declared.failing.Failure.{Failure}
-use Rattle.round_packer.specs.Kept.{AreKept, HasAtoms, IsFailing}
+use Rattle.round_packer.specs.Kept.{AreKept, IsFailing}
 
 -- a change at a switch of the network that neither sets nor strips a tag
 pub record IsPlain (net : Network) (c : Change) : Type 0 where

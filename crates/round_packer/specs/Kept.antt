@@ -1,42 +1,24 @@
 -- Classes that stay safe while changes are made, and the switches that their mixed walks come to.
-use Rattle.std.specs.Prelude.{◌≡◌, ◌⊎◌, ◌==◌, ◌&&◌, ℕ, ◌<◌, Bool, true, false, List, length, filter, not, slice_index_or, Option, Some, None}
+use Rattle.std.specs.Prelude.{◌≡◌, ◌⊎◌, ◌==◌, ◌&&◌, ℕ, Bool, true, false, List, length, filter, not, Option, Some, None}
 use Rattle.topology.specs.Networks.{Network}
-use Rattle.flow_rules.specs.Tables.{TableState, rules_of_all}
 use Rattle.flow_rules.specs.declared.rules.Rule.{Rule}
 use Rattle.flow_rules.specs.Same.{rule_eq}
-use Rattle.path_walk.specs.UserConfigs.{IsUserConfig}
-use Rattle.dest_classes.specs.Classes.{ClassList, IsClass, class_count, atom_count}
+use Rattle.dest_classes.specs.Classes.{IsClass, class_count}
 use Rattle.dest_classes.specs.declared.Class.{Class}
-use Rattle.demands.specs.Duties.{ClassDuties}
 use Rattle.update_model.specs.Changes.{switch_of}
 use Rattle.update_model.specs.declared.Change.{Change}
 use Rattle.update_model.specs.declared.Change.TheVariants.{Insert, Delete, Replace}
 use Rattle.certificates.specs.Rounds.{one_round_of, IsSafeByEvidence}
 use Rattle.round_mix.specs.Prepared.{MixedState}
 use Rattle.mixed_walks.specs.Walks.{IsRoundOf}
-use Rattle.class_watch.specs.Classes.{AreClasses}
 use Rattle.class_watch.specs.Walks.{HoldsWalks, meets_any}
 use Rattle.table_difference.specs.Targets.{Target}
+use Rattle.round_judge.specs.Visits.{marks_at}
 use Rattle.round_packer.specs.declared.failing.Failure.{Failure}
-
--- what is packed for, by the new tables and by the duties of classes
-abbrev pub target_of : Network → List TableState → ClassDuties → Target
-target_of net new duties = record { net = net; new = rules_of_all new; demands = duties.demands; classes = duties.classes }
-
--- the new tables are a user configuration, the classes are of the network, and the duties and the list are theirs
-pub record IsGoal (net : Network) (new : List TableState) (duties : ClassDuties) (classes : ClassList) (list : List Class) : Type 0 where
-  pub user : IsUserConfig net (rules_of_all new)
-  pub duties_of_them : duties.classes ≡ classes
-  pub hosts : classes.hosts ≡ net.hosts
-  pub listed : AreClasses classes list
 
 -- the switches are prepared for these changes of the tables
 abbrev pub ArePreparedFor : Network → List MixedState → List (List Rule) → List Change → Type 0
 ArePreparedFor net mixes tables changes = IsRoundOf net mixes (one_round_of net tables changes) 0
-
--- the set of the class with a number
-abbrev pub set_at : List ℕ → ℕ → ℕ
-set_at came n = slice_index_or came n 0
 
 -- while the changes are made the set has each switch that mixed walks of the class come to
 abbrev pub HoldsClass : Network → List (List Rule) → List Change → Class → ℕ → Type 0
@@ -50,7 +32,7 @@ pub record IsKept (to : Target) (tables : List (List Rule)) (changes : List Chan
 -- so it is with each class
 pub record AreKept (to : Target) (tables : List (List Rule)) (changes : List Change) (came : List ℕ) : Type 0 where
   pub count : length came ≡ class_count to.classes
-  pub each : (n : ℕ) (class : Class) → IsClass to.classes n class → IsKept to tables changes class (set_at came n)
+  pub each : (n : ℕ) (class : Class) → IsClass to.classes n class → IsKept to tables changes class (marks_at came n)
 
 -- no evidence keeps one of the classes safe while the changes are made
 pub record HasUnsafe (to : Target) (tables : List (List Rule)) (changes : List Change) : Type 0 where
@@ -84,7 +66,7 @@ unmet round failures = filter (λ f. not (meets_any round f.class f.visited)) fa
 -- the set of each class is as it was, or has the switches that its mixed walks come to while the changes are made
 pub record AreWatched (to : Target) (tables : List (List Rule)) (changes : List Change) (old new : List ℕ) : Type 0 where
   pub count : length new ≡ length old
-  pub each : (n : ℕ) (class : Class) → IsClass to.classes n class → (set_at new n ≡ set_at old n) ⊎ HoldsClass to.net tables changes class (set_at new n)
+  pub each : (n : ℕ) (class : Class) → IsClass to.classes n class → (marks_at new n ≡ marks_at old n) ⊎ HoldsClass to.net tables changes class (marks_at new n)
 
 -- whether the class enters at the change's own switch
 abbrev pub enters_at : Change → Class → Bool
@@ -92,7 +74,7 @@ enters_at c class = class.entry.switch.0 == (switch_of c).0
 
 -- what is told of the class with a number, if it enters at the change's own switch or if it doesn't: it is kept, or the change fails
 abbrev pub IsTold : Target → List (List Rule) → List Change → Change → Bool → ℕ → List ℕ → Option Failure → Type 0
-IsTold to tables changes c own n came None = (class : Class) → IsClass to.classes n class → enters_at c class ≡ own → IsKept to tables changes class (set_at came n)
+IsTold to tables changes c own n came None = (class : Class) → IsClass to.classes n class → enters_at c class ≡ own → IsKept to tables changes class (marks_at came n)
 IsTold to tables changes c own n came (Some f) = IsFailureOf to tables changes c f
 
 -- so of all classes
@@ -109,7 +91,3 @@ AreJudged to tables changes came false = HasUnsafe to tables changes
 abbrev pub AreJudgedBeside : Target → List (List Rule) → List Change → Change → List ℕ → Option Failure → Type 0
 AreJudgedBeside to tables changes c came None = AreKept to tables changes came
 AreJudgedBeside to tables changes c came (Some f) = IsFailureOf to tables changes c f
-
--- where there are classes, there is a mark for each atom
-abbrev pub HasAtoms : ClassList → List Bool → Type 0
-HasAtoms classes looked = 0 < class_count classes → length looked ≡ atom_count classes

@@ -3,14 +3,13 @@ ghost use Rattle.std.specs.Prelude.{◌≡◌, List, IfOk, IfSome, OnOk};
 ghost use Rattle.std.specs.List.{AllByRecursion};
 ghost use Rattle.flow_rules.specs.declared.rules.Rule.{Rule};
 ghost use Rattle.update_model.specs.declared.Change.{Change as ChangeOf};
-ghost use Rattle.round_packer.specs.Kept.{IsGoal, target_of};
 ghost use Rattle.round_packer.specs.Filling.{IsFilling, IsFilledBy, IsPlain, IsTried, HasFailed};
 
 use crate::failing::{Failure, Left, known};
-use crate::goal::Goal;
 use crate::judging::{Tried, failure_beside};
 use class_watch::{ClassWatch, LookedAtoms};
 use net_base::Memory;
+use round_judge::Goal;
 use round_trials::RoundTrial;
 use std::alloc::Global;
 use update_model::Change;
@@ -25,28 +24,21 @@ fn try_change(
     looked: &mut LookedAtoms,
     change: &Change,
 ) -> Result<Option<Failure>, Memory>
-    requires goal { IsGoal goal.now.net.now goal.now.new.now goal.now.duties.now
-        goal.now.classes.now goal.now.list.now }
-    requires plain { IsPlain goal.now.net.now change.now }
+    requires plain { IsPlain goal.now.net change.now }
     requires filling { (tables : List (List Rule)) × (round : List ChangeOf)
-        × IsFilling (target_of goal.now.net.now goal.now.new.now goal.now.duties.now) tables
-        round trial.old watch.old.came.items looked.old }
+        × IsFilling goal.now tables round trial.old watch.old.came.items looked.old }
     ensures tried { OnOk result ((tables : List (List Rule)) (round : List ChangeOf)
-        → IsFilling (target_of goal.now.net.now goal.now.new.now goal.now.duties.now) tables
-        round trial.old watch.old.came.items looked.old
-        → IsTried (target_of goal.now.net.now goal.now.new.now goal.now.duties.now) tables
-        round change.now trial.new watch.new.came.items looked.new) }
+        → IsFilling goal.now tables round trial.old watch.old.came.items looked.old
+        → IsTried goal.now tables round change.now trial.new watch.new.came.items looked.new) }
     ensures failed { IfOk result (λ failure. (tables : List (List Rule)) (round : List ChangeOf)
-        → IsFilling (target_of goal.now.net.now goal.now.new.now goal.now.duties.now) tables
-        round trial.old watch.old.came.items looked.old
-        → IfSome failure (HasFailed
-        (target_of goal.now.net.now goal.now.new.now goal.now.duties.now) tables round)) }
+        → IsFilling goal.now tables round trial.old watch.old.came.items looked.old
+        → IfSome failure (HasFailed goal.now tables round)) }
 {
     goal.net.keeps_rules();
     if !trial.take(alloc, goal.net, change)? {
         return Ok(None);
     }
-    looked.look_at_touched(goal.list, change);
+    goal.look_at_touched(looked, change);
     let tried = Tried {
         alloc,
         change,
@@ -71,32 +63,19 @@ pub(crate) fn fill(
     looked: &mut LookedAtoms,
     left: &Left,
 ) -> Result<Vec<Failure>, Memory>
-    requires goal { IsGoal goal.now.net.now goal.now.new.now goal.now.duties.now
-        goal.now.classes.now goal.now.list.now }
-    requires plain { AllByRecursion (IsPlain goal.now.net.now) left.now.changes.now }
+    requires plain { AllByRecursion (IsPlain goal.now.net) left.now.changes.now }
     requires filling { (tables : List (List Rule)) × (round : List ChangeOf)
-        × IsFilling (target_of goal.now.net.now goal.now.new.now goal.now.duties.now) tables
-        round trial.old watch.old.came.items looked.old
-        × AllByRecursion (HasFailed
-        (target_of goal.now.net.now goal.now.new.now goal.now.duties.now) tables round)
-        left.now.failed.now }
+        × IsFilling goal.now tables round trial.old watch.old.came.items looked.old
+        × AllByRecursion (HasFailed goal.now tables round) left.now.failed.now }
     ensures filled { OnOk result ((tables : List (List Rule)) (round : List ChangeOf)
-        → IsFilling (target_of goal.now.net.now goal.now.new.now goal.now.duties.now) tables
-        round trial.old watch.old.came.items looked.old
-        → AllByRecursion (HasFailed
-        (target_of goal.now.net.now goal.now.new.now goal.now.duties.now) tables round)
-        left.now.failed.now
-        → IsFilledBy (target_of goal.now.net.now goal.now.new.now goal.now.duties.now) tables
-        round left.now.changes.now trial.new watch.new.came.items looked.new) }
+        → IsFilling goal.now tables round trial.old watch.old.came.items looked.old
+        → AllByRecursion (HasFailed goal.now tables round) left.now.failed.now
+        → IsFilledBy goal.now tables round left.now.changes.now trial.new watch.new.came.items
+        looked.new) }
     ensures failed { IfOk result (λ failures. (tables : List (List Rule)) (round : List ChangeOf)
-        → IsFilling (target_of goal.now.net.now goal.now.new.now goal.now.duties.now) tables
-        round trial.old watch.old.came.items looked.old
-        → AllByRecursion (HasFailed
-        (target_of goal.now.net.now goal.now.new.now goal.now.duties.now) tables round)
-        left.now.failed.now
-        → AllByRecursion (HasFailed
-        (target_of goal.now.net.now goal.now.new.now goal.now.duties.now) tables
-        trial.new.round) failures.items) }
+        → IsFilling goal.now tables round trial.old watch.old.came.items looked.old
+        → AllByRecursion (HasFailed goal.now tables round) left.now.failed.now
+        → AllByRecursion (HasFailed goal.now tables trial.new.round) failures.items) }
 {
     let mut failures = Vec::new(alloc);
     let mut place = 0;

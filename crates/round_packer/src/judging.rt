@@ -1,21 +1,21 @@
 //! Whether all classes stay safe while changes are made.
 ghost use Rattle.std.specs.Prelude.{◌≡◌, ◌≢◌, ◌↔◌, ◌<◌, ℕ, List, ◌∷◌, ◌++◌, [], length, IsTrue, IsSome, IfOk, OnOk};
-ghost use Rattle.topology.specs.Networks.{switch_count};
 ghost use Rattle.flow_rules.specs.declared.rules.Rule.{Rule};
 ghost use Rattle.dest_classes.specs.Classes.{class_count};
 ghost use Rattle.dest_classes.specs.Numbered.{IsNumbered};
 ghost use Rattle.update_model.specs.declared.Change.{Change as ChangeOf};
 ghost use Rattle.certificates.specs.Rounds.{IsSafeByEvidence};
 ghost use Rattle.check_reasons.specs.AtomMarks.{AreTouched};
-ghost use Rattle.evidence_store.specs.Last.{HoldsLast};
-ghost use Rattle.round_packer.specs.Kept.{IsGoal, ArePreparedFor, AreKept, AreWatched, AreJudged, AreJudgedBeside, AreTold, HasAtoms, HoldsClass, IsTold, set_at, target_of};
+ghost use Rattle.round_judge.specs.Goals.{HasAtoms, HoldsLastOf};
+ghost use Rattle.round_judge.specs.Visits.{marks_at};
+ghost use Rattle.round_packer.specs.Kept.{ArePreparedFor, AreKept, AreWatched, AreJudged, AreJudgedBeside, AreTold, HoldsClass, IsTold};
 
 use crate::failing::Failure;
-use crate::goal::{Goal, numbered};
 use class_watch::{ClassWatch, LookedAtoms, meets};
 use dest_classes::NumberedClass;
-use evidence_store::{ClassEvidence, LastSets, evidence_by_last};
+use evidence_store::{ClassEvidence, LastSets};
 use net_base::Memory;
+use round_judge::Goal;
 use round_mix::Mixed;
 use std::alloc::Global;
 use update_model::Change;
@@ -45,28 +45,26 @@ fn is_safe(
     last: &mut LastSets,
     class: NumberedClass,
 ) -> Result<bool, Memory>
-    requires number { class.number < class_count goal.now.duties.now.classes }
-    requires class { IsNumbered goal.now.duties.now.classes class }
-    requires entry { class.class.entry.switch.0 < switch_count goal.now.net.now }
+    requires number { class.number < class_count goal.now.classes }
+    requires class { IsNumbered goal.now.classes class }
     requires prepared { (tables : List (List Rule)) × (changes : List ChangeOf)
-        × ArePreparedFor goal.now.net.now mixes.now tables changes }
-    requires came { length watch.old.came.items ≡ class_count goal.now.duties.now.classes }
-    requires last { HoldsLast goal.now.net.now goal.now.duties.now last.old }
+        × ArePreparedFor goal.now.net mixes.now tables changes }
+    requires came { length watch.old.came.items ≡ class_count goal.now.classes }
+    requires last { HoldsLastOf goal.now last.old }
     ensures safe { IfOk result (λ safe. (tables : List (List Rule)) (changes : List ChangeOf)
-        → ArePreparedFor goal.now.net.now mixes.now tables changes → IsTrue safe
-        ↔ IsSafeByEvidence goal.now.net.now goal.now.duties.now.demands tables changes
-        class.class) }
+        → ArePreparedFor goal.now.net mixes.now tables changes → IsTrue safe
+        ↔ IsSafeByEvidence goal.now.net goal.now.demands tables changes class.class) }
     ensures held { OnOk result ((tables : List (List Rule)) (changes : List ChangeOf)
-        → ArePreparedFor goal.now.net.now mixes.now tables changes
-        → HoldsClass goal.now.net.now tables changes class.class
-        (set_at watch.new.came.items class.number)) }
+        → ArePreparedFor goal.now.net mixes.now tables changes
+        → HoldsClass goal.now.net tables changes class.class
+        (marks_at watch.new.came.items class.number)) }
     ensures others { (n : ℕ) → n ≢ class.number
-        → set_at watch.new.came.items n ≡ set_at watch.old.came.items n }
+        → marks_at watch.new.came.items n ≡ marks_at watch.old.came.items n }
     ensures count { length watch.new.came.items ≡ length watch.old.came.items }
-    ensures last { OnOk result (HoldsLast goal.now.net.now goal.now.duties.now last.new) }
+    ensures last { OnOk result (HoldsLastOf goal.now last.new) }
 {
-    let _ = watch.walk(goal.net, mixes, class);
-    let found = evidence_by_last(alloc, goal.net, &watch.walk, goal.duties, class, last)?;
+    let _ = goal.walk(watch, mixes, class);
+    let found = goal.find_evidence(alloc, &watch.walk, class, last)?;
     Ok(is_found(found))
 }
 
@@ -80,29 +78,23 @@ fn class_failure(
     number: u32,
     own: bool,
 ) -> Result<Option<Failure>, Memory>
-    requires goal { IsGoal goal.now.net.now goal.now.new.now goal.now.duties.now
-        goal.now.classes.now goal.now.list.now }
-    requires number { number < class_count goal.now.duties.now.classes }
+    requires number { number < class_count goal.now.classes }
     requires prepared { (tables : List (List Rule)) × (changes : List ChangeOf)
-        × ArePreparedFor goal.now.net.now tried.now.mixes.now tables changes }
-    requires came { length watch.old.came.items ≡ class_count goal.now.duties.now.classes }
-    requires last { HoldsLast goal.now.net.now goal.now.duties.now last.old }
+        × ArePreparedFor goal.now.net tried.now.mixes.now tables changes }
+    requires came { length watch.old.came.items ≡ class_count goal.now.classes }
+    requires last { HoldsLastOf goal.now last.old }
     ensures told { IfOk result (λ failure. (tables : List (List Rule)) (taken : List ChangeOf)
-        → ArePreparedFor goal.now.net.now tried.now.mixes.now tables
-        (taken ++ tried.now.change.now ∷ [])
-        → AreKept (target_of goal.now.net.now goal.now.new.now goal.now.duties.now) tables taken
-        watch.old.came.items
-        → IsTold (target_of goal.now.net.now goal.now.new.now goal.now.duties.now) tables
-        (taken ++ tried.now.change.now ∷ []) tried.now.change.now own number
-        watch.new.came.items failure) }
+        → ArePreparedFor goal.now.net tried.now.mixes.now tables
+        (taken ++ tried.now.change.now ∷ []) → AreKept goal.now tables taken watch.old.came.items
+        → IsTold goal.now tables (taken ++ tried.now.change.now ∷ []) tried.now.change.now own
+        number watch.new.came.items failure) }
     ensures watched { OnOk result ((tables : List (List Rule)) (changes : List ChangeOf)
-        → ArePreparedFor goal.now.net.now tried.now.mixes.now tables changes
-        → AreWatched (target_of goal.now.net.now goal.now.new.now goal.now.duties.now) tables
-        changes watch.old.came.items watch.new.came.items) }
+        → ArePreparedFor goal.now.net tried.now.mixes.now tables changes
+        → AreWatched goal.now tables changes watch.old.came.items watch.new.came.items) }
     ensures count { length watch.new.came.items ≡ length watch.old.came.items }
-    ensures last { OnOk result (HoldsLast goal.now.net.now goal.now.duties.now last.new) }
+    ensures last { OnOk result (HoldsLastOf goal.now last.new) }
 {
-    let class = numbered(goal, number);
+    let class = goal.numbered(number);
     let enters = class.class.entry.switch.0 == tried.change.switch().0;
     if enters != own {
         return Ok(None);
@@ -130,31 +122,24 @@ fn classes_failure(
     last: &mut LastSets,
     own: bool,
 ) -> Result<Option<Failure>, Memory>
-    requires goal { IsGoal goal.now.net.now goal.now.new.now goal.now.duties.now
-        goal.now.classes.now goal.now.list.now }
     requires prepared { (tables : List (List Rule)) × (changes : List ChangeOf)
-        × ArePreparedFor goal.now.net.now tried.now.mixes.now tables changes }
-    requires came { length watch.old.came.items ≡ class_count goal.now.duties.now.classes }
-    requires last { HoldsLast goal.now.net.now goal.now.duties.now last.old }
-    requires atoms { HasAtoms goal.now.duties.now.classes looked.now }
-    requires touched { AreTouched goal.now.duties.now.classes (tried.now.change.now ∷ [])
-        looked.now }
+        × ArePreparedFor goal.now.net tried.now.mixes.now tables changes }
+    requires came { length watch.old.came.items ≡ class_count goal.now.classes }
+    requires last { HoldsLastOf goal.now last.old }
+    requires atoms { HasAtoms goal.now.classes looked.now }
+    requires touched { AreTouched goal.now.classes (tried.now.change.now ∷ []) looked.now }
     ensures told { IfOk result (λ failure. (tables : List (List Rule)) (taken : List ChangeOf)
-        → ArePreparedFor goal.now.net.now tried.now.mixes.now tables
-        (taken ++ tried.now.change.now ∷ [])
-        → AreKept (target_of goal.now.net.now goal.now.new.now goal.now.duties.now) tables taken
-        watch.old.came.items
-        → AreTold (target_of goal.now.net.now goal.now.new.now goal.now.duties.now) tables
-        (taken ++ tried.now.change.now ∷ []) tried.now.change.now own
+        → ArePreparedFor goal.now.net tried.now.mixes.now tables
+        (taken ++ tried.now.change.now ∷ []) → AreKept goal.now tables taken watch.old.came.items
+        → AreTold goal.now tables (taken ++ tried.now.change.now ∷ []) tried.now.change.now own
         watch.new.came.items failure) }
     ensures watched { OnOk result ((tables : List (List Rule)) (changes : List ChangeOf)
-        → ArePreparedFor goal.now.net.now tried.now.mixes.now tables changes
-        → AreWatched (target_of goal.now.net.now goal.now.new.now goal.now.duties.now) tables
-        changes watch.old.came.items watch.new.came.items) }
+        → ArePreparedFor goal.now.net tried.now.mixes.now tables changes
+        → AreWatched goal.now tables changes watch.old.came.items watch.new.came.items) }
     ensures count { length watch.new.came.items ≡ length watch.old.came.items }
-    ensures last { OnOk result (HoldsLast goal.now.net.now goal.now.duties.now last.new) }
+    ensures last { OnOk result (HoldsLastOf goal.now last.new) }
 {
-    let end = goal.classes.count();
+    let end = goal.count();
     let mut number = looked.next_number(0, end);
     'judging: while number < end {
         if let Some(failure) = class_failure(goal, watch, tried, last, number, own)? {
@@ -173,25 +158,19 @@ pub(crate) fn failure_beside(
     tried: &Tried,
     looked: &LookedAtoms,
 ) -> Result<Option<Failure>, Memory>
-    requires goal { IsGoal goal.now.net.now goal.now.new.now goal.now.duties.now
-        goal.now.classes.now goal.now.list.now }
     requires prepared { (tables : List (List Rule)) × (changes : List ChangeOf)
-        × ArePreparedFor goal.now.net.now tried.now.mixes.now tables changes }
-    requires came { length watch.old.came.items ≡ class_count goal.now.duties.now.classes }
-    requires atoms { HasAtoms goal.now.duties.now.classes looked.now }
-    requires touched { AreTouched goal.now.duties.now.classes (tried.now.change.now ∷ [])
-        looked.now }
+        × ArePreparedFor goal.now.net tried.now.mixes.now tables changes }
+    requires came { length watch.old.came.items ≡ class_count goal.now.classes }
+    requires atoms { HasAtoms goal.now.classes looked.now }
+    requires touched { AreTouched goal.now.classes (tried.now.change.now ∷ []) looked.now }
     ensures judged { IfOk result (λ failure. (tables : List (List Rule)) (taken : List ChangeOf)
-        → ArePreparedFor goal.now.net.now tried.now.mixes.now tables
-        (taken ++ tried.now.change.now ∷ [])
-        → AreKept (target_of goal.now.net.now goal.now.new.now goal.now.duties.now) tables taken
-        watch.old.came.items
-        → AreJudgedBeside (target_of goal.now.net.now goal.now.new.now goal.now.duties.now) tables
-        (taken ++ tried.now.change.now ∷ []) tried.now.change.now watch.new.came.items failure) }
+        → ArePreparedFor goal.now.net tried.now.mixes.now tables
+        (taken ++ tried.now.change.now ∷ []) → AreKept goal.now tables taken watch.old.came.items
+        → AreJudgedBeside goal.now tables (taken ++ tried.now.change.now ∷ []) tried.now.change.now
+        watch.new.came.items failure) }
     ensures watched { OnOk result ((tables : List (List Rule)) (changes : List ChangeOf)
-        → ArePreparedFor goal.now.net.now tried.now.mixes.now tables changes
-        → AreWatched (target_of goal.now.net.now goal.now.new.now goal.now.duties.now) tables
-        changes watch.old.came.items watch.new.came.items) }
+        → ArePreparedFor goal.now.net tried.now.mixes.now tables changes
+        → AreWatched goal.now tables changes watch.old.came.items watch.new.came.items) }
     ensures count { length watch.new.came.items ≡ length watch.old.came.items }
 {
     let mut last = LastSets::none();
@@ -210,19 +189,16 @@ pub(crate) fn all_safe(
     watch: &mut ClassWatch,
     mixes: &[Mixed],
 ) -> Result<bool, Memory>
-    requires goal { IsGoal goal.now.net.now goal.now.new.now goal.now.duties.now
-        goal.now.classes.now goal.now.list.now }
     requires prepared { (tables : List (List Rule)) × (changes : List ChangeOf)
-        × ArePreparedFor goal.now.net.now mixes.now tables changes }
-    requires came { length watch.old.came.items ≡ class_count goal.now.duties.now.classes }
+        × ArePreparedFor goal.now.net mixes.now tables changes }
+    requires came { length watch.old.came.items ≡ class_count goal.now.classes }
     ensures { IfOk result (λ safe. (tables : List (List Rule)) (changes : List ChangeOf)
-        → ArePreparedFor goal.now.net.now mixes.now tables changes
-        → AreJudged (target_of goal.now.net.now goal.now.new.now goal.now.duties.now) tables
-        changes watch.new.came.items safe) }
+        → ArePreparedFor goal.now.net mixes.now tables changes
+        → AreJudged goal.now tables changes watch.new.came.items safe) }
 {
     let mut last = LastSets::none();
-    for number in 0..goal.classes.count() {
-        let class = numbered(goal, number);
+    for number in 0..goal.count() {
+        let class = goal.numbered(number);
         if !is_safe(alloc, goal, watch, mixes, &mut last, class)? {
             return Ok(false);
         }

@@ -3,23 +3,21 @@
 
 mod failing;
 mod filling;
-mod goal;
 mod judging;
 mod rounds;
 
 ghost use Rattle.std.specs.Prelude.{◌≡◌, IfOk};
 ghost use Rattle.flow_rules.specs.Tables.{rules_of_all};
 ghost use Rattle.path_walk.specs.UserConfigs.{IsUserConfig};
-ghost use Rattle.round_packer.specs.Kept.{target_of};
 ghost use Rattle.round_packer.specs.Ends.{IsPacking};
 
-use crate::goal::Goal;
 use crate::rounds::packing_of;
 use class_watch::all_classes;
 use demands::Duties;
 use dest_classes::ClassMap;
 use flow_rules::Config;
 use net_base::Memory;
+use round_judge::Goal;
 use std::alloc::Global;
 use topology::Net;
 use update_model::Rounds;
@@ -54,8 +52,12 @@ pub fn pack(
     requires new { IsUserConfig net.now (rules_of_all new.now) }
     requires duties { duties.now.classes ≡ classes.now }
     requires hosts { classes.now.hosts ≡ net.now.hosts }
-    ensures { IfOk result
-        (IsPacking (target_of net.now new.now duties.now) (rules_of_all old.now)) }
+    ensures { IfOk result (IsPacking (record {
+      net = net.now;
+      new = rules_of_all new.now;
+      demands = duties.now.demands;
+      classes = duties.now.classes;
+    }) (rules_of_all old.now)) }
 {
     let list = all_classes(alloc, classes)?;
     let goal = Goal {
@@ -63,7 +65,7 @@ pub fn pack(
         new,
         duties,
         classes,
-        list: &list,
+        list,
     };
     packing_of(alloc, &goal, old)
 }

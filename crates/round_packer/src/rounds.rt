@@ -5,42 +5,51 @@ ghost use Rattle.flow_rules.specs.declared.rules.Rule.{Rule};
 ghost use Rattle.path_walk.specs.UserConfigs.{IsUserConfig};
 ghost use Rattle.dest_classes.specs.Classes.{class_count};
 ghost use Rattle.update_model.specs.Changes.{tables_after};
+ghost use Rattle.update_model.specs.Remaining.{remaining};
 ghost use Rattle.table_difference.specs.Targets.{Target};
 ghost use Rattle.round_trials.specs.Filling.{IsTrial};
-ghost use Rattle.round_packer.specs.Kept.{IsGoal, HasAtoms, target_of};
+ghost use Rattle.round_judge.specs.Goals.{HasAtoms};
 ghost use Rattle.round_packer.specs.Filling.{EndsAt, IsPackedTo};
 ghost use Rattle.round_packer.specs.Ends.{IsPacking};
 
 use crate::Packing;
 use crate::failing::{Left, forget_met};
 use crate::filling::fill;
-use crate::goal::Goal;
 use crate::judging::all_safe;
 use class_watch::{ClassWatch, LookedAtoms};
 use flow_rules::Config;
-use net_base::{Memory, SwitchSet};
+use net_base::Memory;
+use round_judge::{Goal, watch_rooms};
 use round_trials::RoundTrial;
 use std::alloc::Global;
 use table_difference::remaining;
-use topology::Net;
-use update_model::Rounds;
+use update_model::{Change, Rounds};
 
 /// Makes the taken changes as one round more. After a refusal the rounds are lost.
 fn keep_round(
     alloc: Global,
-    net: &Net,
+    goal: &Goal,
     trial: &mut RoundTrial,
     rounds: &mut Rounds,
 ) -> Result<(), Memory>
-    requires { IsTrial net.now trial.old }
+    requires { IsTrial goal.now.net trial.old }
     ensures rounds { OnOk result (rounds.new ≡ rounds.old ++ trial.old.round ∷ []) }
     ensures tables { OnOk result
         (trial.new.tables ≡ tables_after trial.old.round trial.old.tables) }
     ensures none { OnOk result (trial.new.round ≡ []) }
-    ensures trial { OnOk result (IsTrial net.now trial.new) }
+    ensures trial { OnOk result (IsTrial goal.now.net trial.new) }
 {
     rounds.push_round(Vec::from_slice(alloc, trial.round())?)?;
-    trial.make_round(net)
+    trial.make_round(alloc, goal.net)
+}
+
+/// The changes that remain from the tables on.
+fn left_of(alloc: Global, goal: &Goal, trial: &RoundTrial) -> Result<Vec<Change>, Memory>
+    requires { IsTrial goal.now.net trial.now }
+    ensures { IfOk result (λ left. left.items ≡ remaining trial.now.tables goal.now.new) }
+{
+    goal.net.keeps_rules();
+    remaining(alloc, trial.tables(), goal.new)
 }
 
 /// Packs rounds from the tables on. The answer is whether nothing remains at last.
@@ -52,19 +61,14 @@ fn pack_rounds(
     looked: &mut LookedAtoms,
     rounds: &mut Rounds,
 ) -> Result<bool, Memory>
-    requires goal { IsGoal goal.now.net.now goal.now.new.now goal.now.duties.now
-        goal.now.classes.now goal.now.list.now }
     requires packed { (old : List (List Rule))
-        × IsPackedTo (target_of goal.now.net.now goal.now.new.now goal.now.duties.now) old
-        rounds.old trial.old watch.old.came.items looked.old }
+        × IsPackedTo goal.now old rounds.old trial.old watch.old.came.items looked.old }
     ensures { IfOk result (λ none_remains. (old : List (List Rule))
-        → IsPackedTo (target_of goal.now.net.now goal.now.new.now goal.now.duties.now) old
-        rounds.old trial.old watch.old.came.items looked.old
-        → EndsAt (target_of goal.now.net.now goal.now.new.now goal.now.duties.now) old
-        rounds.new none_remains) }
+        → IsPackedTo goal.now old rounds.old trial.old watch.old.came.items looked.old
+        → EndsAt goal.now old rounds.new none_remains) }
 {
-    goal.net.keeps_rules();
-    let mut changes = remaining(alloc, trial.tables(), goal.new)?;
+    goal.keeps_rules();
+    let mut changes = left_of(alloc, goal, trial)?;
     let mut failed = Vec::new(alloc);
     'packing: while !changes.is_empty() {
         let left = Left {
@@ -76,8 +80,8 @@ fn pack_rounds(
             return Ok(false);
         }
         forget_met(&mut failed, trial.round());
-        keep_round(alloc, goal.net, trial, rounds)?;
-        changes = remaining(alloc, trial.tables(), goal.new)?;
+        keep_round(alloc, goal, trial, rounds)?;
+        changes = left_of(alloc, goal, trial)?;
     }
     Ok(true)
 }
@@ -91,23 +95,19 @@ fn pack_from(
     looked: &mut LookedAtoms,
     rounds: &mut Rounds,
 ) -> Result<bool, Memory>
-    requires goal { IsGoal goal.now.net.now goal.now.new.now goal.now.duties.now
-        goal.now.classes.now goal.now.list.now }
-    requires trial { IsTrial goal.now.net.now trial.old }
+    requires trial { IsTrial goal.now.net trial.old }
     requires none { trial.old.round ≡ [] }
-    requires old { IsUserConfig goal.now.net.now trial.old.tables }
-    requires came { length watch.old.came.items ≡ class_count goal.now.duties.now.classes }
-    requires atoms { HasAtoms goal.now.duties.now.classes looked.old }
+    requires old { IsUserConfig goal.now.net trial.old.tables }
+    requires came { length watch.old.came.items ≡ class_count goal.now.classes }
+    requires atoms { HasAtoms goal.now.classes looked.old }
     requires rounds { rounds.old ≡ [] }
-    ensures { IfOk result (EndsAt
-        (target_of goal.now.net.now goal.now.new.now goal.now.duties.now) trial.old.tables
-        rounds.new) }
+    ensures { IfOk result (EndsAt goal.now trial.old.tables rounds.new) }
 {
-    goal.net.keeps_rules();
+    goal.keeps_rules();
     if all_safe(alloc, goal, watch, trial.mixes())? {
         return pack_rounds(alloc, goal, trial, watch, looked, rounds);
     }
-    let left = remaining(alloc, trial.tables(), goal.new)?;
+    let left = left_of(alloc, goal, trial)?;
     Ok(left.is_empty())
 }
 
@@ -125,16 +125,11 @@ fn answer_of(rounds: Rounds, none_remains: bool) -> Packing
 
 /// The packing from the tables of a configuration on.
 pub(crate) fn packing_of(alloc: Global, goal: &Goal, old: &Config) -> Result<Packing, Memory>
-    requires goal { IsGoal goal.now.net.now goal.now.new.now goal.now.duties.now
-        goal.now.classes.now goal.now.list.now }
-    requires old { IsUserConfig goal.now.net.now (rules_of_all old.now) }
-    ensures { IfOk result (IsPacking
-        (target_of goal.now.net.now goal.now.new.now goal.now.duties.now)
-        (rules_of_all old.now)) }
+    requires old { IsUserConfig goal.now.net (rules_of_all old.now) }
+    ensures { IfOk result (IsPacking goal.now (rules_of_all old.now)) }
 {
     let mut rounds = Rounds::make(alloc)?;
-    let mut looked = LookedAtoms::make(alloc, goal.classes)?;
-    let mut watch = ClassWatch::make(alloc, goal.classes.count(), SwitchSet::all())?;
+    let (mut looked, mut watch) = watch_rooms(alloc, goal.classes)?;
     let mut trial = RoundTrial::make(alloc, goal.net, old)?;
     let ended = pack_from(
         alloc,

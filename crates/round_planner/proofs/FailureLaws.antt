@@ -1,14 +1,13 @@
 -- A failure of a change stands while nothing touches what it rests on.
-use Rattle.std.proofs.Common.{◌≡◌, ◌≢◌, ℕ, zero, suc, ◌<◌, ◌≤◌, cond, List, [], ◌∷◌, length, refl, sym, ◌∙◌, subst, ap, inl, inr, arith, length-set, get_or-set_other}
-use Rattle.std.specs.Prelude.{◌==◌, not, map, IsTrue}
+use Rattle.std.proofs.Common.{◌≡◌, ◌≢◌, ℕ, zero, suc, ◌<◌, ◌≤◌, List, [], ◌∷◌, length, refl, sym, ◌∙◌, subst, ap, inl, inr, arith, length-set, get_or-set_other}
+use Rattle.std.specs.Prelude.{◌==◌, IsTrue}
 use Rattle.std.specs.List.{AllByRecursion}
-use Rattle.std.proofs.lemmas.Bool.{cases_eq, eq-eqb, and_from, cond-true, cond_both}
-use Rattle.net_base.proofs.MemberLaws.{each_append, each_filter, each_get_or, each_set, each_weaker}
+use Rattle.std.proofs.lemmas.Bool.{cases_eq, eq-eqb, and_from, cond-true}
+use Rattle.net_base.proofs.MemberLaws.{each_weaker}
 use Rattle.net_base.proofs.NameLaws.{same_switch}
 use Rattle.net_base.specs.declared.ids.SwitchId.{SwitchId}
 use Rattle.net_base.specs.declared.ids.Place.{Place}
 use Rattle.topology.specs.Networks.{Network, switch_count, capacity_of}
-use Rattle.flow_rules.specs.Patterns.{key_eq}
 use Rattle.flow_rules.specs.Tables.{IsClear, rules_at, rules_of_all, covering}
 use Rattle.flow_rules.specs.declared.rules.Rule.{Rule}
 use Rattle.path_walk.specs.Outcomes.{header_at}
@@ -16,7 +15,6 @@ use Rattle.dest_classes.specs.declared.Class.{Class}
 use Rattle.update_model.specs.Changes.{switch_of, rule_of, rules_after_change, tables_after_change, tables_after, changes_at, round_after}
 use Rattle.update_model.specs.Mixtures.{Rollout, IsMixture, MayHold, IsOnMixedWalk, need_of, entries_needed}
 use Rattle.update_model.specs.declared.Change.{Change}
-use Rattle.update_model.specs.declared.Change.TheVariants.{Insert, Delete, Replace}
 use Rattle.update_model.proofs.ChangeLaws.{rules_at-after_change}
 use Rattle.certificates.specs.Certified.{KeepsVlan}
 use Rattle.check_reasons.specs.Touched.{may_cover}
@@ -29,6 +27,7 @@ use Rattle.round_tables.proofs.TrialLaws.{changes_here, changes_there}
 use Rattle.round_mix.proofs.TriedLaws.{clear_none}
 use Rattle.table_difference.specs.Targets.{Target}
 use Rattle.round_judge.specs.Goals.{duties_in}
+use Rattle.round_judge.proofs.KeepLaws.{keeps_after}
 use Rattle.round_planner.specs.Search.{CanBeSafe, Qualifies}
 use Rattle.net_base.specs.Switches.{has}
 use Rattle.class_watch.specs.Alike.{AreAlike}
@@ -159,29 +158,6 @@ fails_then to tables c failure.Table fails q = fails (room_there to.net tables c
 fails_then to tables c (failure.Class f) fails q = fails.never (q.safe f.number f.class fails.is_class)
 
 -- ---- after several changes
-
-module _ (P : Rule → Type 0) where
-  replaced : (r : Rule) (rules : List Rule) → AllByRecursion P rules → P r → AllByRecursion P (map (λ q. cond (key_eq q.key r.key) r q) rules)
-  replaced r [] all this = tt
-  replaced r (q ∷ rules) all this = (cond_both (key_eq q.key r.key) r q P (λ _. this) (λ _. all.0), replaced r rules all.1 this)
-
-  each_after : (d : Change) (rules : List Rule) → AllByRecursion P rules → P (rule_of d) → AllByRecursion P (rules_after_change d rules)
-  each_after (Insert s r) rules all this = each_append P rules (r ∷ []) all (this, tt)
-  each_after (Delete s r) rules all this = each_filter P (λ q. not (key_eq q.key r.key)) rules all
-  each_after (Replace s r) rules all this = replaced r rules all this
-
-abbrev Keeps : Rule → Type 0
-Keeps r = KeepsVlan r.action
-
-keeps_after : (d : Change) (tables : List (List Rule)) → TablesKeepVlans tables → KeepsVlan (rule_of d).action → TablesKeepVlans (tables_after_change d tables)
-keeps_after d tables all keeps =
-    each_set (AllByRecursion Keeps) tables (switch_of d).0 (rules_after_change d (rules_at tables (switch_of d))) all
-    (each_after Keeps d (rules_at tables (switch_of d)) (each_get_or (AllByRecursion Keeps) tables (switch_of d).0 [] all tt) keeps)
-
--- tables that keep the VLANs do after changes that keep them
-pub keeps_all : (changes : List Change) (tables : List (List Rule)) → TablesKeepVlans tables → AllByRecursion (λ d. KeepsVlan (rule_of d).action) changes → TablesKeepVlans (tables_after changes tables)
-keeps_all [] tables all keeps = all
-keeps_all (d ∷ changes) tables all keeps = keeps_all changes (tables_after_change d tables) (keeps_after d tables all keeps.0) keeps.1
 
 pub never_room : (net : Network) (c : Change) (changes : List Change) (tables : List (List Rule)) → ¬ HasRoomThere net tables c → AllByRecursion (λ d. (switch_of d).0 ≢ (switch_of c).0) changes
     → ¬ HasRoomThere net (tables_after changes tables) c

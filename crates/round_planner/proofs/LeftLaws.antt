@@ -21,7 +21,8 @@ use Rattle.table_difference.specs.Targets.{Target}
 use Rattle.round_planner.specs.Search.{Qualifies}
 use Rattle.round_planner.specs.Failures.{IsFailure, IsTouched, HasStanding, IsOfUsers, AreOfUsers, AreLeft}
 use Rattle.round_planner.specs.Searching.{SearchState, IsAt, IsLeftTried, IsMadeAt, NoneQualifies, IsPlaced, IsMoved}
-use Rattle.round_planner.proofs.FailureLaws.{failure_stands, fails_then, keeps_all}
+use Rattle.round_judge.proofs.KeepLaws.{keeps_all}
+use Rattle.round_planner.proofs.FailureLaws.{failure_stands, fails_then}
 use Rattle.round_planner.proofs.SearchingLaws.{split_there, take_more, tables_more}
 use Rattle.round_planner.proofs.UserTables.{AreUserTables, IsUserChange, keeps_user, user_start, user_along, changes_along, remaining_user}
 

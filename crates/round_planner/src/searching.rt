@@ -180,7 +180,7 @@ impl Search {
             → IsTried goal.now old changes change.now self.new failure) }
     {
         goal.net.keeps_rules();
-        if !self.trial.begin(goal.net, change) {
+        if !self.trial.begin(alloc, goal.net, change)? {
             return Ok(Some(Failure::Table));
         }
         self.looked.look_at_touched(&goal.list, change);

@@ -10,7 +10,6 @@ use Rattle.flow_rules.specs.Patterns.{key_eq}
 use Rattle.flow_rules.specs.Tables.{TableState, IsTable, rules_at, rules_of_all}
 use Rattle.flow_rules.specs.declared.rules.Rule.{Rule}
 use Rattle.flow_rules.proofs.TableLaws.{one_less}
-use Rattle.topology.specs.Networks.{switch_count}
 use Rattle.update_model.specs.Changes.{switch_of, AppliesTo, rules_after_change, rules_after, spare_after_change, tables_after, changes_at, round_after}
 use Rattle.update_model.specs.Mixtures.{Rollout, tables_before, need_of, is_insert}
 use Rattle.update_model.specs.declared.Change.{Change}
@@ -72,7 +71,7 @@ module _ (u : Rollout) (k : ℕ) (less : k < length u.rounds) (within : AreWithi
 
   -- after the round its tables stand before the next
   pub stands_next : (q : PreparedState) → rules_of_all q.tables ≡ tables_after (round_after k u.rounds) (tables_before u k)
-      → ((s : SwitchId) → s.0 < switch_count u.net → need_of u k s ≤ limit_at q.limits s)
+      → ((s : SwitchId) → s.0 < length u.old → need_of u k s ≤ limit_at q.limits s)
       → ((s : SwitchId) → is_touched q.touched s ≡ false → IsMixed (rules_after (changes_at s (round_after k u.rounds)) (rules_at (tables_before u k) s)) [] (mix_at q.mixes s))
       → StandsBefore u (suc k) q
   stands_next q tables fits alone = record {

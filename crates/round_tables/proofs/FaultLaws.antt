@@ -1,13 +1,14 @@
 -- The first fault of a round, from what is found at the switches.
 use Rattle.std.proofs.Common.{◌≡◌, ◌⊎◌, ℕ, zero, suc, ◌<◌, Bool, true, false, cond, List, [], ◌∷◌, length, map, take, refl, sym, ◌∙◌, subst, ap, inl, inr, arith}
-use Rattle.std.specs.Prelude.{filter, slice_get, Some, None, ◌==◌}
+use Rattle.std.specs.Prelude.{filter, slice_get, Option, Some, None, ◌==◌}
 use Rattle.std.specs.List.{list_any}
-use Rattle.std.proofs.lemmas.Bool.{eq-eqb, eqb-true, cases_Bool, both_ways, cond-true}
+use Rattle.std.proofs.lemmas.Bool.{cases_lt, eq-eqb, eqb-true, cases_Bool, both_ways, cond-true}
+use Rattle.std.proofs.lemmas.List.{length-map}
+use Rattle.std.proofs.lemmas.Option.{slice_get_within}
 use Rattle.net_base.specs.Members.{IsIn, IsDistinct}
 use Rattle.net_base.proofs.MemberLaws.{in_map, in_from_map, in_filter, in_from_filter, each_at}
 use Rattle.net_base.proofs.ItemLaws.{in_from_get}
 use Rattle.net_base.specs.declared.ids.SwitchId.{SwitchId}
-use Rattle.topology.specs.Networks.{switch_count}
 use Rattle.flow_rules.specs.Patterns.{key_eq}
 use Rattle.flow_rules.specs.Tables.{IsTable, TableState, rules_at, rules_of_all}
 use Rattle.flow_rules.specs.declared.rules.Rule.{Rule}
@@ -18,14 +19,16 @@ use Rattle.update_model.proofs.ChangeLaws.{key_named}
 use Rattle.update_model.proofs.MadeLaws.{same_entry}
 use Rattle.round_mix.specs.Faults.{AreUnclear, IsFirstBad, IsGoodAfter}
 use Rattle.round_mix.specs.Marks.{all_rules, marked}
-use Rattle.round_mix.specs.Prepared.{AreGood, AreClear}
+use Rattle.round_mix.specs.Prepared.{MixedState, AreGood, AreClear}
 use Rattle.round_mix.specs.declared.MarkedRule.{MarkedRule}
 use Rattle.round_mix.proofs.ClearLaws.{clear_from_free}
 use Rattle.round_mix.proofs.GoodLaws.{names_key_is}
 use Rattle.round_mix.proofs.MarkLaws.{all_mixed}
 use Rattle.check_reasons.specs.Reasons.{IsBadChange, IsUnclear}
 use Rattle.round_tables.specs.PreparedTables.{ChangesState, list_at, rules_there}
-use Rattle.round_tables.specs.Loading.{AreWithin, IsBadAt, IsFirstBadChange, IsFirstUnclear, IsUnclearAt}
+use Rattle.round_tables.specs.Loading.{AreWithin, IsBadAt, IsFirstBadChange, IsFirstOutside, IsFirstRoundFault, IsFirstUnclear, IsLoadedTo, IsRestFault, IsUnclearAt}
+use Rattle.round_tables.specs.declared.loading.RoundFault.{RoundFault}
+use Rattle.round_tables.specs.declared.loading.RoundFault.TheVariants.{BadChange, Unclear}
 
 tail_distinct : (b : Bool) (x : Change) (xs : List Change) → IsDistinct (map key_named (cond b (x ∷ xs) xs)) → IsDistinct (map key_named xs)
 tail_distinct true x xs distinct = distinct.1
@@ -106,18 +109,51 @@ bad_within : (u : Rollout) (k i : ℕ) (s : SwitchId) (n : ℕ) → AreWithin n 
 bad_within u k i s n within bad =
     subst (λ (x : SwitchId). x.0 < n) bad.at_is (each_at (λ c. (switch_of c).0 < n) (round_after k u.rounds) bad.change within (in_from_get (round_after k u.rounds) i bad.change bad.is))
 
-module _ (u : Rollout) (k : ℕ) (within : AreWithin (length (tables_before u k)) (round_after k u.rounds)) where
-  -- where the changes at a switch are good, none is bad
-  pub good_no_bad : (o : SwitchId) (i : ℕ) → AreGood (rules_at (tables_before u k) o) (changes_at o (round_after k u.rounds)) → ¬ IsBadChange u k i o
-  good_no_bad o i good bad =
-      no_bad_in (tables_before u k) (round_after k u.rounds) o good (bad_within u k i o (length (tables_before u k)) within bad) i bad.change bad.is bad.at_is bad.bad
+-- where the changes at a switch of the tables are good, none is bad
+good_no_bad_at : (u : Rollout) (k : ℕ) (o : SwitchId) (i : ℕ) → o.0 < length (tables_before u k)
+    → AreGood (rules_at (tables_before u k) o) (changes_at o (round_after k u.rounds)) → ¬ IsBadChange u k i o
+good_no_bad_at u k o i less good bad = no_bad_in (tables_before u k) (round_after k u.rounds) o good less i bad.change bad.is bad.at_is bad.bad
 
-  -- where each switch of the tables has good changes, none of the round is bad
-  pub all_good : ((o : SwitchId) → o.0 < length (tables_before u k) → AreGood (rules_at (tables_before u k) o) (changes_at o (round_after k u.rounds)))
+-- where all changes are at switches of the tables, and those at a switch are good, none is bad there
+pub good_no_bad : (u : Rollout) (k : ℕ) → AreWithin (length (tables_before u k)) (round_after k u.rounds) → (o : SwitchId) (i : ℕ)
+    → AreGood (rules_at (tables_before u k) o) (changes_at o (round_after k u.rounds)) → ¬ IsBadChange u k i o
+good_no_bad u k within o i good bad = good_no_bad_at u k o i (bad_within u k i o (length (tables_before u k)) within bad) good bad
+
+module _ (u : Rollout) (k : ℕ) where
+  -- where each switch of the tables has good changes, and there are no others, none of the round is bad
+  pub all_good : AreWithin (length (tables_before u k)) (round_after k u.rounds)
+      → ((o : SwitchId) → o.0 < length (tables_before u k) → AreGood (rules_at (tables_before u k) o) (changes_at o (round_after k u.rounds)))
       → (o : SwitchId) (i : ℕ) → ¬ IsBadChange u k i o
-  all_good good o i bad = good_no_bad o i (good o (bad_within u k i o (length (tables_before u k)) within bad)) bad
+  all_good within good o i bad =
+      let less = bad_within u k i o (length (tables_before u k)) within bad in
+      good_no_bad_at u k o i less (good o less) bad
 
-  module _ (s : SwitchId) (nth i : ℕ) (first : IsFirstBad (rules_at (tables_before u k) s) (changes_at s (round_after k u.rounds)) nth)
+  -- where it has, the first change beyond the tables is the first bad one
+  pub outside_first : ((o : SwitchId) → o.0 < length (tables_before u k) → AreGood (rules_at (tables_before u k) o) (changes_at o (round_after k u.rounds)))
+      → (s : SwitchId) (i : ℕ) → (found : IsFirstOutside (length (tables_before u k)) (round_after k u.rounds) i) → switch_of found.change ≡ s → IsFirstBadChange u k s i
+  outside_first good s i found at_is = record {
+    bad = record { change = found.change; is = found.is; at_is = at_is; bad = inl (λ applies. let less = applies.0 in let past = found.outside in omega arith) };
+    first = none_before;
+  }
+    where
+      mine : (switch_of found.change).0 ≡ s.0
+      mine = ap (λ (x : SwitchId). x.0) at_is
+
+      none_before : (o : SwitchId) (j : ℕ) → IsBadChange u k j o → ¬ ((o.0 < s.0) ⊎ ((o.0 ≡ s.0) × (j < i)))
+      none_before o j bad before =
+          elim (cases_lt o.0 (length (tables_before u k))) [
+            | inl less ↦ good_no_bad_at u k o j less (good o less) bad
+            | inr past ↦ (
+                let its = ap (λ (x : SwitchId). x.0) bad.at_is in
+                let here = mine in
+                elim (found.first j bad.change (slice_get_within (round_after k u.rounds) j bad.change bad.is) bad.is (omega arith)) [
+                  | inl higher ↦ elim before [ inl lower ↦ absurd (omega arith) | inr same ↦ (let e = same.0 in absurd (omega arith)) ]
+                  | inr there ↦ (let e = there.0 in let f = there.1 in
+                      elim before [ inl lower ↦ absurd (omega arith) | inr same ↦ (let g = same.1 in absurd (omega arith)) ])
+                ])
+          ]
+
+  module _ (s : SwitchId) (in_tables : s.0 < length (tables_before u k)) (nth i : ℕ) (first : IsFirstBad (rules_at (tables_before u k) s) (changes_at s (round_after k u.rounds)) nth)
       (below : (t : SwitchId) → t.0 < s.0 → AreGood (rules_at (tables_before u k) t) (changes_at t (round_after k u.rounds)))
       (is : slice_get (round_after k u.rounds) i ≡ slice_get (changes_at s (round_after k u.rounds)) nth)
       (before : changes_at s (take i (round_after k u.rounds)) ≡ take nth (changes_at s (round_after k u.rounds))) where
@@ -128,14 +164,13 @@ module _ (u : Rollout) (k : ℕ) (within : AreWithin (length (tables_before u k)
         ap (λ (n : ℕ). let x : SwitchId = record { 0 = n } in x) (eqb-true _ _ pass)
 
     none_before : (o : SwitchId) (j : ℕ) → IsBadChange u k j o → ¬ ((o.0 < s.0) ⊎ ((o.0 ≡ s.0) × (j < i)))
-    none_before o j bad (inl less) = good_no_bad o j (below o less) bad
+    none_before o j bad (inl less) = good_no_bad_at u k o j (omega arith) (below o less) bad
     none_before o j bad (inr (same, less)) =
         let tables = tables_before u k in
         let round = round_after k u.rounds in
         let e : o ≡ s = ap (λ (n : ℕ). let x : SwitchId = record { 0 = n } in x) same in
         let good : AreGood (rules_at tables s) (changes_at s (take i round)) = subst (AreGood (rules_at tables s)) (sym before) first.before in
-        let within_o = bad_within u k j o (length tables) within bad in
-        no_bad_in tables (take i round) s good (subst (λ (x : SwitchId). x.0 < length tables) e within_o) j bad.change (get_take round i j less ∙ bad.is) (bad.at_is ∙ e)
+        no_bad_in tables (take i round) s good in_tables j bad.change (get_take round i j less ∙ bad.is) (bad.at_is ∙ e)
         (elim bad.bad [
           | inl never ↦ inl never
           | inr w ↦ inr (w.0, w.1, w.2, get_take round i w.0 (let f = w.2 in omega arith) ∙ w.3, w.4)
@@ -171,31 +206,58 @@ unclear_there u k s table here =
           is_q ∙ ap (marked changes) (sym one ∙ same ∙ other) ∙ sym is_r));
     }
 
-module _ (u : Rollout) (k : ℕ) (tables : List TableState) (lists : List ChangesState) (same : rules_of_all tables ≡ tables_before u k) (count : length (tables_before u k) ≡ switch_count u.net)
-    (in_net : AreWithin (switch_count u.net) (round_after k u.rounds))
-    (gathered : (s : SwitchId) → s.0 < switch_count u.net → (list_at lists s).changes ≡ changes_at s (round_after k u.rounds)) where
-  pub within_tables : AreWithin (length (tables_before u k)) (round_after k u.rounds)
-  within_tables = subst (λ (n : ℕ). AreWithin n (round_after k u.rounds)) (sym count) in_net
-
+module _ (u : Rollout) (k : ℕ) (tables : List TableState) (lists : List ChangesState) (same : rules_of_all tables ≡ tables_before u k) (count : length (tables_before u k) ≡ length u.old)
+    (gathered : (s : SwitchId) → s.0 < length u.old → (list_at lists s).changes ≡ changes_at s (round_after k u.rounds)) where
   -- what is said of a switch's rules and changes is said of those before and in the round
-  pub at_round : (P : List Rule → List Change → Type 0) (s : SwitchId) → s.0 < switch_count u.net → P (rules_there tables s) (list_at lists s).changes
+  pub at_round : (P : List Rule → List Change → Type 0) (s : SwitchId) → s.0 < length u.old → P (rules_there tables s) (list_at lists s).changes
       → P (rules_at (tables_before u k) s) (changes_at s (round_after k u.rounds))
   at_round P s less h =
       subst (λ (ts : List (List Rule)). P (rules_at ts s) (changes_at s (round_after k u.rounds))) same (subst (P (rules_there tables s)) (gathered s less) h)
 
   -- the first bad change of the switches is that of the round
-  pub bad_found : (s : SwitchId) (nth i : ℕ) → s.0 < switch_count u.net → IsBadAt tables lists s nth
+  pub bad_found : (s : SwitchId) (nth i : ℕ) → s.0 < length u.old → IsBadAt tables lists s nth
       → slice_get (round_after k u.rounds) i ≡ slice_get (changes_at s (round_after k u.rounds)) nth
       → changes_at s (take i (round_after k u.rounds)) ≡ take nth (changes_at s (round_after k u.rounds)) → IsFirstBadChange u k s i
   bad_found s nth i less bad is before =
-      bad_first u k within_tables s nth i (at_round (λ rs cs. IsFirstBad rs cs nth) s less bad.first)
+      bad_first u k s (omega arith) nth i (at_round (λ rs cs. IsFirstBad rs cs nth) s less bad.first)
       (λ t below. at_round AreGood t (omega arith) (bad.below t below)) is before
 
-  -- and so is the first unclear switch where all changes are good
-  pub unclear_found : (s : SwitchId) → s.0 < switch_count u.net → ((t : SwitchId) → t.0 < switch_count u.net → AreGood (rules_there tables t) (list_at lists t).changes)
-      → IsUnclearAt tables lists s → IsFirstUnclear u k s
-  unclear_found s less good unclear = record {
-    good = all_good u k within_tables (λ o in_o. at_round AreGood o (omega arith) (good o (omega arith)));
-    unclear = unclear_there u k s (at_round (λ rs _. IsTable rs) s less unclear.table) (at_round AreUnclear s less unclear.here);
-    first = λ o below bad. bad.unclear (at_round AreClear o (omega arith) (unclear.below o below) bad.mixed bad.held);
-  }
+  module _ (good : (t : SwitchId) → t.0 < length u.old → AreGood (rules_there tables t) (list_at lists t).changes) where
+    good_here : (o : SwitchId) → o.0 < length (tables_before u k) → AreGood (rules_at (tables_before u k) o) (changes_at o (round_after k u.rounds))
+    good_here o less = at_round AreGood o (omega arith) (good o (omega arith))
+
+    -- so is the first change beyond the switches, where all others are good
+    pub outside_found : (s : SwitchId) (i : ℕ) → (found : IsFirstOutside (length u.old) (round_after k u.rounds) i) → switch_of found.change ≡ s → IsFirstBadChange u k s i
+    outside_found s i found at_is =
+        outside_first u k good_here s i (record {
+          change = found.change;
+          within = found.within;
+          is = found.is;
+          outside = let h = found.outside in omega arith;
+          first = λ j other less at past. found.first j other less at (omega arith);
+        }) at_is
+
+    -- and the first unclear switch is that of the round, where all changes are good
+    pub unclear_found : (s : SwitchId) → s.0 < length u.old → AreWithin (length u.old) (round_after k u.rounds) → IsUnclearAt tables lists s → IsFirstUnclear u k s
+    unclear_found s less within unclear = record {
+      good = all_good u k (subst (λ (n : ℕ). AreWithin n (round_after k u.rounds)) (sym count) within) good_here;
+      unclear = unclear_there u k s (at_round (λ rs _. IsTable rs) s less unclear.table) (at_round AreUnclear s less unclear.here);
+      first = λ o below bad. bad.unclear (at_round AreClear o (omega arith) (unclear.below o below) bad.mixed bad.held);
+    }
+
+  -- so is the fault that remains where the changes at all switches are good
+  pub rest_found : (mixes : List MixedState) (unclear : Option SwitchId) → IsLoadedTo tables lists (length tables) mixes unclear → (f : RoundFault)
+      → IsRestFault (length tables) (round_after k u.rounds) unclear f → IsFirstRoundFault u k f
+  rest_found mixes unclear loaded f rest = go f (subst (λ (n : ℕ). IsRestFault n (round_after k u.rounds) unclear f) in_tables rest)
+    where
+      in_tables : length tables ≡ length u.old
+      in_tables = sym (length-map tables (λ (t : TableState). t.rules)) ∙ ap length same ∙ count
+
+      good : (t : SwitchId) → t.0 < length u.old → AreGood (rules_there tables t) (list_at lists t).changes
+      good t less = loaded.good t (let n = in_tables in omega arith)
+
+      go : (f : RoundFault) → IsRestFault (length u.old) (round_after k u.rounds) unclear f → IsFirstRoundFault u k f
+      go (BadChange s i) (found, at_is) = outside_found good s i found at_is
+      go (Unclear s) (within, is) =
+          let here : IsLoadedTo tables lists (length tables) mixes (Some s) = subst (IsLoadedTo tables lists (length tables) mixes) is loaded in
+          unclear_found good s (let n = in_tables in let less = here.rest.0 in omega arith) within here.rest.1

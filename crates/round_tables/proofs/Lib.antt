@@ -2,9 +2,12 @@ pub mod TableLaws
 pub mod GatherLaws
 pub mod EndLaws
 pub mod LoadLaws
+pub mod OutsideLaws
 pub mod FaultLaws
 pub mod ApplyLaws
 pub mod AloneLaws
+pub mod GrowLaws
 pub mod TrialLaws
 pub mod ByKindLaws
 pub mod RoomLaws
+pub mod SoundLaws

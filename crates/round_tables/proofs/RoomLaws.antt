@@ -7,7 +7,7 @@ use Rattle.std.proofs.lemmas.List.Elements.{filter-append}
 use Rattle.net_base.specs.declared.ids.SwitchId.{SwitchId}
 use Rattle.flow_rules.specs.Tables.{rules_at}
 use Rattle.flow_rules.specs.declared.rules.Rule.{Rule}
-use Rattle.topology.specs.Networks.{switch_count, capacity_of}
+use Rattle.topology.specs.Networks.{capacity_of}
 use Rattle.update_model.specs.Changes.{switch_of, rules_after_change, tables_after_change, tables_after, settled_tables, changes_at, round_after}
 use Rattle.update_model.specs.Mixtures.{Rollout, entries_needed, is_insert}
 use Rattle.update_model.specs.declared.Change.{Change}
@@ -68,8 +68,8 @@ abbrev pub most_rules : Rollout → SwitchId → ℕ
 most_rules u s = length (rules_at u.old s) + inserts_over u.rounds s
 
 -- so much room is enough for all
-pub has_room_for_all : (u : Rollout) (p : PreparedState) → HoldsRounds (switch_count u.net) u.rounds p
-    → ((s : SwitchId) → s.0 < switch_count u.net → limit_at p.limits s ≡ most_rules u s) → HasRoomForAll u p
+pub has_room_for_all : (u : Rollout) (p : PreparedState) → HoldsRounds (length u.old) u.rounds p
+    → ((s : SwitchId) → s.0 < length u.old → limit_at p.limits s ≡ most_rules u s) → HasRoomForAll u p
 has_room_for_all u p holds limits = record {
   holds = holds;
   for_old = λ s less. let is = limits s less in omega arith;
@@ -77,8 +77,8 @@ has_room_for_all u p holds limits = record {
 }
 
 -- and up to the capacities where no limit exceeds these
-pub has_room : (u : Rollout) (p : PreparedState) → HoldsRounds (switch_count u.net) u.rounds p
-    → ((s : SwitchId) → s.0 < switch_count u.net → limit_at p.limits s ≡ min (most_rules u s) (capacity_of u.net s)) → HasRoom u p
+pub has_room : (u : Rollout) (p : PreparedState) → HoldsRounds (length u.old) u.rounds p
+    → ((s : SwitchId) → s.0 < length u.old → limit_at p.limits s ≡ min (most_rules u s) (capacity_of u.net s)) → HasRoom u p
 has_room u p holds limits = record {
   holds = holds;
   for_old = λ s less. let is = limits s less in omega arith;

@@ -6,12 +6,9 @@ use Rattle.net_base.specs.Members.{IsIn}
 use Rattle.net_base.specs.declared.ids.SwitchId.{SwitchId}
 use Rattle.flow_rules.specs.Tables.{TableState, IsTable, keys_of, rules_at, rules_of_all}
 use Rattle.flow_rules.specs.declared.rules.Rule.{Rule}
-use Rattle.topology.specs.Networks.{switch_count}
 use Rattle.update_model.specs.declared.Change.{Change}
 use Rattle.update_model.proofs.RoundLaws.{settled_start}
-use Rattle.update_model.specs.Changes.{settled_tables, tables_after}
 use Rattle.update_model.specs.Mixtures.{Rollout}
-use Rattle.update_model.proofs.ChangeLaws.{length-tables_after}
 use Rattle.round_tables.specs.PreparedTables.{PreparedState, HoldsRounds, StandsBefore, is_touched, limit_at, list_at, mix_at, room_of, table_at}
 
 -- a rule of a table has another key than those before it
@@ -55,7 +52,7 @@ set_each xs i x d P less here j others =
     ]
 
 -- the old tables stand before the first round
-pub started : (u : Rollout) (p : PreparedState) → ((s : SwitchId) → s.0 < switch_count u.net → length (rules_at u.old s) ≤ limit_at p.limits s)
+pub started : (u : Rollout) (p : PreparedState) → ((s : SwitchId) → s.0 < length u.old → length (rules_at u.old s) ≤ limit_at p.limits s)
     → rules_of_all p.tables ≡ u.old → ((i : ℕ) → get_or p.touched i true ≡ true) → StandsBefore u 0 p
 started u p fit same on = record {
   tables = same ∙ sym (settled_start u.rounds u.old);
@@ -69,6 +66,7 @@ pub holds_next : (n : ℕ) (rounds : List (List Change)) (p q : PreparedState) �
     → length q.touched ≡ length p.touched → length q.changes ≡ length p.changes → ((s : SwitchId) → (list_at q.changes s).room ≡ (list_at p.changes s).room) → q.limits ≡ p.limits → p.room ≤ q.room
     → HoldsRounds n rounds q
 holds_next n rounds p q room tables same mixes marks touched lists lent limits sorting = record {
+  few = room.few;
   tables = tables ∙ room.tables;
   mixes = mixes ∙ room.mixes;
   touched = touched ∙ room.touched;
@@ -78,9 +76,3 @@ holds_next n rounds p q room tables same mixes marks touched lists lent limits s
   for_changes = λ s k less. let had = room.for_changes s k less in let now = lent s in omega arith;
   for_sorting = λ k. let had = room.for_sorting k in omega arith;
 }
-
--- the changes of rounds keep the number of tables
-pub length-settled : (rounds : List (List Change)) (k : ℕ) (tables : List (List Rule)) → length (settled_tables rounds k tables) ≡ length tables
-length-settled [] k tables = refl
-length-settled (round ∷ rounds) zero tables = refl
-length-settled (round ∷ rounds) (suc k) tables = length-settled rounds k (tables_after round tables) ∙ length-tables_after round tables

@@ -20,9 +20,10 @@ use Rattle.round_mix.specs.declared.MarkedRule.{MarkedRule}
 use Rattle.round_mix.proofs.ClearLaws.{prepared_needed}
 use Rattle.round_mix.proofs.TriedLaws.{clear_none}
 use Rattle.check_reasons.specs.Loaded.{IsLoaded}
-use Rattle.round_tables.specs.Trials.{IsSettled, IsTrying, HasRoomAlone, single}
+use Rattle.round_tables.specs.Trials.{HaveRoom, IsSettled, IsTrying, HasRoomAlone, single}
 use Rattle.round_tables.specs.PreparedTables.{PreparedState, mix_at, IsMixed, rules_there}
 use Rattle.round_tables.specs.Steps.{IsSettledBeside}
+use Rattle.round_tables.proofs.GrowLaws.{have_kept}
 
 -- a switch by its number
 abbrev pub switch_n : ℕ → SwitchId
@@ -98,17 +99,14 @@ count_rules tables = length-map tables (λ (t : TableState). t.rules)
 
 module _ (net : Network) (s : SwitchId) (p q : PreparedState) where
   -- where one switch is prepared anew the others stay settled
-  pub beside_next : IsSettledBeside net s p → rules_of_all q.tables ≡ rules_of_all p.tables → length q.mixes ≡ length p.mixes
+  pub beside_next : IsSettledBeside net s p → rules_of_all q.tables ≡ rules_of_all p.tables → length q.mixes ≡ length p.mixes → q.limits ≡ p.limits
       → ((o : SwitchId) → o.0 ≢ s.0 → mix_at q.mixes o ≡ mix_at p.mixes o) → (mix_at p.mixes s).room ≤ (mix_at q.mixes s).room → IsSettledBeside net s q
-  beside_next beside rules mixes others room = record {
+  beside_next beside rules mixes limits others room = record {
     fit = record {
       tables = sym (count_rules q.tables) ∙ ap length rules ∙ count_rules p.tables ∙ beside.fit.tables;
       mixes = mixes ∙ beside.fit.mixes;
-      room = λ o less. elim (cases_eq o.0 s.0) [
-        | inl e ↦ (let had = beside.fit.room s (subst (λ (n : ℕ). n < switch_count net) e less) in
-            subst (λ (x : SwitchId). capacity_of net x + 1 ≤ (mix_at q.mixes x).room) (sym (same_switch o s e)) (let kept = room in omega arith))
-        | inr ne ↦ subst (λ (m : MixedState). capacity_of net o + 1 ≤ m.room) (sym (others o ne)) (beside.fit.room o less)
-      ];
+      limits = ap length limits ∙ beside.fit.limits;
+      room = subst (λ (ns : List ℕ). HaveRoom ns q.mixes) (sym limits) (have_kept p.limits p.mixes q.mixes s beside.fit.room others room);
       fits = λ o less. subst (λ (ts : List (List Rule)). length (rules_at ts o) ≤ capacity_of net o) (sym rules) (beside.fit.fits o less);
       clear = λ o. subst (λ (ts : List (List Rule)). IsClear (rules_at ts o)) (sym rules) (beside.fit.clear o);
     };
@@ -118,10 +116,10 @@ module _ (net : Network) (s : SwitchId) (p q : PreparedState) where
   }
 
 -- the same where the list of them is lent
-pub beside_lent : (net : Network) (s : SwitchId) (p q : PreparedState) (old new : List MixedState) → IsSettledBeside net s p → rules_of_all q.tables ≡ rules_of_all p.tables → old ≡ p.mixes → q.mixes ≡ new
+pub beside_lent : (net : Network) (s : SwitchId) (p q : PreparedState) (old new : List MixedState) → IsSettledBeside net s p → rules_of_all q.tables ≡ rules_of_all p.tables → q.limits ≡ p.limits → old ≡ p.mixes → q.mixes ≡ new
     → length new ≡ length old → ((o : SwitchId) → o.0 ≢ s.0 → mix_at new o ≡ mix_at old o) → (mix_at old s).room ≤ (mix_at new s).room → IsSettledBeside net s q
-beside_lent net s p q old new beside rules lent same count others room =
-    beside_next net s p q beside rules (ap length same ∙ count ∙ ap length lent)
+beside_lent net s p q old new beside rules limits lent same count others room =
+    beside_next net s p q beside rules (ap length same ∙ count ∙ ap length lent) limits
     (λ o ne. ap (λ (ms : List MixedState). mix_at ms o) same ∙ others o ne ∙ ap (λ (ms : List MixedState). mix_at ms o) lent)
     (let had = ap (λ (ms : List MixedState). (mix_at ms s).room) lent in let has = ap (λ (ms : List MixedState). (mix_at ms s).room) same in omega arith)
 
@@ -134,6 +132,25 @@ module _ (net : Network) (p : PreparedState) where
       | inl e ↦ subst (λ (x : SwitchId). IsMixed (rules_there p.tables x) [] (mix_at p.mixes x)) (sym (same_switch o s e)) here
       | inr ne ↦ beside.others o less ne
     ];
+  }
+
+  -- one of the switches has room made for it and stays prepared for its table alone
+  pub settled_wider : (s : SwitchId) (q : PreparedState) → IsSettled net p → q.tables ≡ p.tables → length q.mixes ≡ length p.mixes → length q.limits ≡ length p.limits → HaveRoom q.limits q.mixes
+      → ((o : SwitchId) → o.0 ≢ s.0 → mix_at q.mixes o ≡ mix_at p.mixes o) → IsMixed (rules_there p.tables s) [] (mix_at q.mixes s) → IsSettled net q
+  settled_wider s q settled tables mixes limits room others here = record {
+    fit = record {
+      tables = ap length tables ∙ settled.fit.tables;
+      mixes = mixes ∙ settled.fit.mixes;
+      limits = limits ∙ settled.fit.limits;
+      room = room;
+      fits = λ o less. subst (λ (ts : List TableState). length (rules_there ts o) ≤ capacity_of net o) (sym tables) (settled.fit.fits o less);
+      clear = λ o. subst (λ (ts : List TableState). IsClear (rules_there ts o)) (sym tables) (settled.fit.clear o);
+    };
+    alone = λ o less. subst (λ (ts : List TableState). IsMixed (rules_there ts o) [] (mix_at q.mixes o)) (sym tables)
+        (elim (cases_eq o.0 s.0) [
+          | inl e ↦ subst (λ (x : SwitchId). IsMixed (rules_there p.tables x) [] (mix_at q.mixes x)) (sym (same_switch o s e)) here
+          | inr ne ↦ subst (λ (m : MixedState). IsMixed (rules_there p.tables o) [] m) (sym (others o ne)) (settled.alone o less)
+        ]);
   }
 
   mixed_clear : (rules : List Rule) (changes : List Change) (o : Option (List MarkedRule)) → IsSomeAnd o (IsPrepared rules changes) → AreClear rules changes
@@ -211,13 +228,14 @@ module _ (net : Network) (c : Change) (p : PreparedState) (trying : IsTrying net
   }
 
   -- and after it is made too
-  pub beside_kept : (q : PreparedState) → q.mixes ≡ p.mixes → rules_of_all q.tables ≡ tables_after_change c (rules_of_all p.tables) → IsSettledBeside net (switch_of c) q
-  beside_kept q mixes tables = record {
+  pub beside_kept : (q : PreparedState) → q.mixes ≡ p.mixes → q.limits ≡ p.limits → rules_of_all q.tables ≡ tables_after_change c (rules_of_all p.tables) → IsSettledBeside net (switch_of c) q
+  beside_kept q mixes limits tables = record {
     fit = record {
       tables = sym (count_rules q.tables) ∙ ap length tables ∙ length-set (rules_of_all p.tables) (switch_of c).0 (rules_after_change c (rules_there p.tables (switch_of c)))
           ∙ count_rules p.tables ∙ trying.fit.tables;
       mixes = ap length mixes ∙ trying.fit.mixes;
-      room = λ o less. subst (λ (ms : List MixedState). capacity_of net o + 1 ≤ (mix_at ms o).room) (sym mixes) (trying.fit.room o less);
+      limits = ap length limits ∙ trying.fit.limits;
+      room = subst (λ (ns : List ℕ). HaveRoom ns q.mixes) (sym limits) (subst (HaveRoom p.limits) (sym mixes) trying.fit.room);
       fits = λ o less. subst (λ (ts : List (List Rule)). length (rules_at ts o) ≤ capacity_of net o) (sym tables)
           (each_kept c (rules_of_all p.tables) (λ s rules. s.0 < switch_count net → length rules ≤ capacity_of net s) trying.applies.0
           (λ within. let few = after_few c (rules_there p.tables (switch_of c)) in let most = fits_here within in omega arith) (λ s ne. trying.fit.fits s) o less);
@@ -263,15 +281,14 @@ module _ (net : Network) (c : Change) (p : PreparedState) (settled : IsSettled n
   beside_settled = record { fit = settled.fit; within = inside; others = λ o less ne. settled.alone o less }
 
   -- its switch has room for one entry more
-  pub room_more : IsSomeAnd (mix_at p.mixes (switch_of c)).prepared (λ marks. length marks < (mix_at p.mixes (switch_of c)).room)
-  room_more = go (mix_at p.mixes (switch_of c)).prepared (settled.alone (switch_of c) inside)
+  pub room_more : length (rules_there p.tables (switch_of c)) < (mix_at p.mixes (switch_of c)).room
+      → IsSomeAnd (mix_at p.mixes (switch_of c)).prepared (λ marks. length marks < (mix_at p.mixes (switch_of c)).room)
+  room_more more = go (mix_at p.mixes (switch_of c)).prepared (settled.alone (switch_of c) inside)
     where
       go : (o : Option (List MarkedRule)) → IsSomeAnd o (IsPrepared (rules_there p.tables (switch_of c)) []) → IsSomeAnd o (λ marks. length marks < (mix_at p.mixes (switch_of c)).room)
       go None h = absurd h
       go (Some marks) h =
           let needed = prepared_needed (rules_there p.tables (switch_of c)) [] marks h in
-          let fits = settled.fit.fits (switch_of c) inside in
-          let room = settled.fit.room (switch_of c) inside in
           omega arith
 
 -- while a change is tried its switch is prepared for it

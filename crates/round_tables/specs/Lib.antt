@@ -4,3 +4,4 @@ pub mod Ends
 pub mod Trials
 pub mod Steps
 pub mod ByKind
+pub mod Sound

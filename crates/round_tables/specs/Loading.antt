@@ -1,5 +1,5 @@
 -- How far the switches are prepared for a round, and what the preparation finds.
-use Rattle.std.specs.Prelude.{◌≡◌, ◌⊎◌, ℕ, ◌<◌, ◌≤◌, false, Bool, List, [], length, filter, flat_map, Option, MatchOption, slice_index_or}
+use Rattle.std.specs.Prelude.{◌≡◌, ◌⊎◌, ℕ, ◌<◌, ◌≤◌, false, Bool, List, [], length, filter, flat_map, Option, Some, IfSome, MatchOption, slice_get, slice_index_or}
 use Rattle.net_base.specs.declared.ids.SwitchId.{SwitchId}
 use Rattle.flow_rules.specs.Tables.{TableState, IsTable, rules_at, rules_of_all}
 use Rattle.std.specs.List.{AllByRecursion}
@@ -43,11 +43,45 @@ abbrev pub AreCounted : List ℕ → ℕ → List (List Change) → Type 0
 AreCounted counts n rounds =
     (s : SwitchId) (k : ℕ) → s.0 < length counts → k < n → length (changes_at s (round_after k rounds)) ≤ slice_index_or counts s.0 0
 
--- each switch is prepared for round k
+-- each change names one of the first n switches
+abbrev pub AreWithin : ℕ → List Change → Type 0
+AreWithin n round = AllByRecursion (λ c. (switch_of c).0 < n) round
+
+-- of the first i changes of a round that are beyond the first n switches this is the first at the least switch
+pub record IsLeastOutside (n : ℕ) (round : List Change) (i place : ℕ) : Type 0 where
+  pub change : Change
+  pub within : place < i
+  pub is : slice_get round place ≡ Some change
+  pub outside : n ≤ (switch_of change).0
+  pub first : (j : ℕ) (other : Change) → j < i → slice_get round j ≡ Some other → n ≤ (switch_of other).0
+      → ((switch_of change).0 < (switch_of other).0) ⊎ (((switch_of change).0 ≡ (switch_of other).0) × (place ≤ j))
+
+-- a change beyond the first n switches, at the least switch that has one, and there the first
+abbrev pub IsFirstOutside : ℕ → List Change → ℕ → Type 0
+IsFirstOutside n round i = IsLeastOutside n round (length round) i
+
+-- a change is beyond the first n switches, and at a lower switch than the one that was found, if one was
+abbrev pub IsOutsideBelow : ℕ → List Change → Option ℕ → Change → Type 0
+IsOutsideBelow n round found c =
+    (n ≤ (switch_of c).0) × IfSome found (λ j. (d : Change) → slice_get round j ≡ Some d → (switch_of c).0 < (switch_of d).0)
+
+-- none of the first i changes is beyond the first n switches, or this is the first of those at the least switch
+abbrev pub IsOutsideTo : ℕ → List Change → ℕ → Option ℕ → Type 0
+IsOutsideTo n round i found =
+    MatchOption found ((j : ℕ) (c : Change) → j < i → slice_get round j ≡ Some c → (switch_of c).0 < n) (IsLeastOutside n round i)
+
+-- a fault of a round whose changes at the first n switches are good: its first change beyond these, or if there is none the unclear switch
+abbrev pub IsRestFault : ℕ → List Change → Option SwitchId → RoundFault → Type 0
+IsRestFault n round unclear (BadChange s i) = (found : IsFirstOutside n round i) × (switch_of found.change ≡ s)
+IsRestFault n round unclear (Unclear s) = AreWithin n round × (unclear ≡ Some s)
+
+-- the changes of round k are at switches that there are, and each switch is prepared for them
 pub record ArePrepared (u : Rollout) (k : ℕ) (p : PreparedState) : Type 0 where
   pub tables : rules_of_all p.tables ≡ tables_before u k
-  pub lists : (s : SwitchId) → s.0 < switch_count u.net → (list_at p.changes s).changes ≡ changes_at s (round_after k u.rounds)
-  pub each : (s : SwitchId) → s.0 < switch_count u.net → IsMixed (rules_at (tables_before u k) s) (changes_at s (round_after k u.rounds)) (mix_at p.mixes s)
+  pub count : length p.mixes ≡ length u.old
+  pub within : AreWithin (length u.old) (round_after k u.rounds)
+  pub lists : (s : SwitchId) → s.0 < length u.old → (list_at p.changes s).changes ≡ changes_at s (round_after k u.rounds)
+  pub each : (s : SwitchId) → s.0 < length u.old → IsMixed (rules_at (tables_before u k) s) (changes_at s (round_after k u.rounds)) (mix_at p.mixes s)
 
 -- the first bad change of round k: by switch, and then by its number
 pub record IsFirstBadChange (u : Rollout) (k : ℕ) (s : SwitchId) (i : ℕ) : Type 0 where
@@ -64,10 +98,6 @@ pub record IsFirstUnclear (u : Rollout) (k : ℕ) (s : SwitchId) : Type 0 where
 abbrev pub IsFirstRoundFault : Rollout → ℕ → RoundFault → Type 0
 IsFirstRoundFault u k (BadChange s i) = IsFirstBadChange u k s i
 IsFirstRoundFault u k (Unclear s) = IsFirstUnclear u k s
-
--- each change names one of the first n switches
-abbrev pub AreWithin : ℕ → List Change → Type 0
-AreWithin n round = AllByRecursion (λ c. (switch_of c).0 < n) round
 
 -- the first switch that needs more entries in round k than it has room for
 pub record IsFirstOver (u : Rollout) (k : ℕ) (s : SwitchId) (need : ℕ) : Type 0 where

@@ -1,7 +1,7 @@
 -- The tables of a network with each switch prepared for changes of it, and the room that the rounds of an update want.
-use Rattle.std.specs.Prelude.{◌≡◌, ℕ, ◌+◌, ◌<◌, ◌≤◌, Bool, true, false, List, [], length, min, None, slice_index_or, IsSomeAnd}
+use Rattle.std.specs.Prelude.{◌≡◌, ℕ, ◌+◌, ◌<◌, ◌≤◌, ◌^◌, Bool, true, false, List, [], length, min, None, slice_index_or, IsSomeAnd}
 use Rattle.net_base.specs.declared.ids.SwitchId.{SwitchId}
-use Rattle.topology.specs.Networks.{switch_count, capacity_of}
+use Rattle.topology.specs.Networks.{capacity_of}
 use Rattle.flow_rules.specs.Tables.{TableState, rules_at, rules_of_all}
 use Rattle.flow_rules.specs.declared.rules.Rule.{Rule}
 use Rattle.update_model.specs.Changes.{changes_at, round_after}
@@ -15,7 +15,7 @@ pub record ChangesState : Type 0 where
   pub room : ℕ
 
 -- the tables, what is prepared of each switch, which switches are to be prepared anew, the changes of each in a round, how many rules each
--- may come to hold, and for how many rules of changes there is room beside
+-- may come to hold (for trials, for how many entries there is room at least), and for how many rules of changes there is room beside
 pub record PreparedState : Type 0 where
   pub tables : List TableState
   pub mixes : List MixedState
@@ -52,8 +52,9 @@ limit_at limits s = slice_index_or limits s.0 0
 abbrev pub room_of : TableState → ℕ
 room_of t = length t.rules + t.spare
 
--- of n switches there is room for each one's rules, and for its changes in each round
+-- of n switches, whose numbers have 32 bits, there is room for each one's rules, and for its changes in each round
 pub record HoldsRounds (n : ℕ) (rounds : List (List Change)) (p : PreparedState) : Type 0 where
+  pub few : n < 2 ^ 32
   pub tables : length p.tables ≡ n
   pub mixes : length p.mixes ≡ n
   pub touched : length p.touched ≡ n
@@ -67,15 +68,15 @@ pub record HoldsRounds (n : ℕ) (rounds : List (List Change)) (p : PreparedStat
 
 -- of each switch there is room for its rules before the update and for what it needs in each round, both up to its capacity
 pub record HasRoom (u : Rollout) (p : PreparedState) : Type 0 where
-  pub holds : HoldsRounds (switch_count u.net) u.rounds p
-  pub for_old : (s : SwitchId) → s.0 < switch_count u.net → min (length (rules_at u.old s)) (capacity_of u.net s) ≤ limit_at p.limits s
-  pub for_rounds : (s : SwitchId) (k : ℕ) → s.0 < switch_count u.net → min (need_of u k s) (capacity_of u.net s) ≤ limit_at p.limits s
+  pub holds : HoldsRounds (length u.old) u.rounds p
+  pub for_old : (s : SwitchId) → s.0 < length u.old → min (length (rules_at u.old s)) (capacity_of u.net s) ≤ limit_at p.limits s
+  pub for_rounds : (s : SwitchId) (k : ℕ) → s.0 < length u.old → min (need_of u k s) (capacity_of u.net s) ≤ limit_at p.limits s
 
 -- of each switch there is room for its rules before the update and for what it needs in each round, whatever its capacity
 pub record HasRoomForAll (u : Rollout) (p : PreparedState) : Type 0 where
-  pub holds : HoldsRounds (switch_count u.net) u.rounds p
-  pub for_old : (s : SwitchId) → s.0 < switch_count u.net → length (rules_at u.old s) ≤ limit_at p.limits s
-  pub for_rounds : (s : SwitchId) (k : ℕ) → s.0 < switch_count u.net → need_of u k s ≤ limit_at p.limits s
+  pub holds : HoldsRounds (length u.old) u.rounds p
+  pub for_old : (s : SwitchId) → s.0 < length u.old → length (rules_at u.old s) ≤ limit_at p.limits s
+  pub for_rounds : (s : SwitchId) (k : ℕ) → s.0 < length u.old → need_of u k s ≤ limit_at p.limits s
 
 -- a switch is prepared for its table and these changes of it
 abbrev pub IsMixed : List Rule → List Change → MixedState → Type 0
@@ -84,5 +85,5 @@ IsMixed rules changes mixed = IsSomeAnd mixed.prepared (IsPrepared rules changes
 -- the tables are those before round k and fit, and each switch that isn't to be prepared anew is prepared for no changes of its table
 pub record StandsBefore (u : Rollout) (k : ℕ) (p : PreparedState) : Type 0 where
   pub tables : rules_of_all p.tables ≡ tables_before u k
-  pub fit : (s : SwitchId) → s.0 < switch_count u.net → length (rules_at (tables_before u k) s) ≤ limit_at p.limits s
+  pub fit : (s : SwitchId) → s.0 < length u.old → length (rules_at (tables_before u k) s) ≤ limit_at p.limits s
   pub same : (s : SwitchId) → is_touched p.touched s ≡ false → IsMixed (rules_at (tables_before u k) s) [] (mix_at p.mixes s)

@@ -1,5 +1,5 @@
 -- Tables on which single changes are tried.
-use Rattle.std.specs.Prelude.{◌≡◌, ◌+◌, ◌<◌, ◌≤◌, List, [], ◌∷◌, length}
+use Rattle.std.specs.Prelude.{◌≡◌, ℕ, ◌<◌, ◌≤◌, List, [], ◌∷◌, length}
 use Rattle.net_base.specs.declared.ids.SwitchId.{SwitchId}
 use Rattle.topology.specs.Networks.{Network, switch_count, capacity_of}
 use Rattle.flow_rules.specs.Tables.{IsClear, rules_of_all}
@@ -7,8 +7,9 @@ use Rattle.flow_rules.specs.declared.rules.Rule.{Rule}
 use Rattle.update_model.specs.Changes.{Applies}
 use Rattle.update_model.specs.Mixtures.{Rollout, MayHold, need_of}
 use Rattle.update_model.specs.declared.Change.{Change}
+use Rattle.round_mix.specs.Prepared.{MixedState}
 use Rattle.check_reasons.specs.Loaded.{AreLoaded}
-use Rattle.round_tables.specs.PreparedTables.{PreparedState, IsMixed, mix_at, rules_there}
+use Rattle.round_tables.specs.PreparedTables.{PreparedState, IsMixed, limit_at, mix_at, rules_there}
 
 -- the update of one round of one change
 abbrev pub single : Network → List (List Rule) → Change → Rollout
@@ -19,11 +20,16 @@ pub record HasRoomAlone (net : Network) (tables : List (List Rule)) (c : Change)
   pub clear : (s : SwitchId) (mixed : List Rule) → MayHold (single net tables c) 0 s mixed → IsClear mixed
   pub fits : (s : SwitchId) → s.0 < switch_count net → need_of (single net tables c) 0 s ≤ capacity_of net s
 
--- each switch has a clear table within its capacity, and what is prepared of it has room for one entry more than that
+-- what is prepared of each switch has room for so many entries at least
+abbrev pub HaveRoom : List ℕ → List MixedState → Type 0
+HaveRoom rooms mixes = (s : SwitchId) → limit_at rooms s ≤ (mix_at mixes s).room
+
+-- each switch has a clear table within its capacity, and its limit says for how many entries what is prepared of it has room at least
 pub record Fit (net : Network) (t : PreparedState) : Type 0 where
   pub tables : length t.tables ≡ switch_count net
   pub mixes : length t.mixes ≡ switch_count net
-  pub room : (s : SwitchId) → s.0 < switch_count net → capacity_of net s + 1 ≤ (mix_at t.mixes s).room
+  pub limits : length t.limits ≡ switch_count net
+  pub room : HaveRoom t.limits t.mixes
   pub fits : (s : SwitchId) → s.0 < switch_count net → length (rules_there t.tables s) ≤ capacity_of net s
   pub clear : (s : SwitchId) → IsClear (rules_there t.tables s)
 

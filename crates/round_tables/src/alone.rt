@@ -1,11 +1,13 @@
 //! Switches that are prepared for their tables alone.
-ghost use Rattle.std.specs.Prelude.{◌≡◌, ◌+◌, ◌<◌, ◌≤◌, [], length, IfOk};
+ghost use Rattle.std.specs.Prelude.{◌≡◌, ◌≢◌, ◌+◌, ◌<◌, ◌≤◌, [], length, IfOk, OnOk};
 ghost use Rattle.net_base.specs.declared.ids.SwitchId.{SwitchId as Switch};
-ghost use Rattle.topology.specs.Networks.{switch_count, capacity_of};
+ghost use Rattle.topology.specs.Networks.{switch_count};
 ghost use Rattle.flow_rules.specs.Tables.{IsClear, rules_at, rules_of_all};
 ghost use Rattle.path_walk.specs.UserConfigs.{IsUserConfig};
 ghost use Rattle.round_tables.specs.PreparedTables.{mix_at, IsMixed};
+ghost use Rattle.round_tables.specs.Trials.{HaveRoom};
 
+use crate::growing::make_room;
 use flow_rules::{Config, Table};
 use net_base::{Memory, SwitchId};
 use round_mix::Mixed;
@@ -25,34 +27,64 @@ fn load_alone(mixed: &mut Mixed, table: &Table)
     }
 }
 
-/// A switch that is prepared for its table alone, with room for one entry more than its capacity.
-fn alone(alloc: Global, capacity: u32, table: &Table) -> Result<Mixed, Memory>
-    requires clear { IsClear table.now.rules }
-    requires fits { length table.now.rules ≤ capacity }
+/// A switch that is prepared for its table alone, with room for one entry more.
+fn alone(alloc: Global, table: &Table) -> Result<Mixed, Memory>
+    requires { IsClear table.now.rules }
     ensures prepared { IfOk result (IsMixed table.now.rules []) }
-    ensures room { IfOk result (λ m. capacity + 1 ≤ m.room) }
+    ensures room { IfOk result (λ m. length table.now.rules + 1 ≤ m.room) }
 {
-    let mut mixed = Mixed::with_room(alloc, capacity as usize + 1)?;
+    let mut mixed = Mixed::with_room(alloc, table.rules().len() + 1)?;
     load_alone(&mut mixed, table);
     Ok(mixed)
 }
 
-/// Each switch, prepared for its table alone, with room for one entry more than its capacity.
-pub(crate) fn all_alone(alloc: Global, net: &Net, tables: &Config) -> Result<Vec<Mixed>, Memory>
+/// Each switch, prepared for its table alone with room for one entry more, and for how many entries each has room at least.
+pub fn all_alone(
+    alloc: Global,
+    net: &Net,
+    tables: &Config,
+) -> Result<(Vec<Mixed>, Vec<usize>), Memory>
     requires { IsUserConfig net.now (rules_of_all tables.now) }
-    ensures len { IfOk result (λ mixes. length mixes.items ≡ switch_count net.now) }
-    ensures prepared { IfOk result
-        (λ mixes. (s : Switch) → s.0 < switch_count net.now
-        → IsMixed (rules_at (rules_of_all tables.now) s) [] (mix_at mixes.items s)) }
-    ensures room { IfOk result
-        (λ mixes. (s : Switch) → s.0 < switch_count net.now
-        → capacity_of net.now s + 1 ≤ (mix_at mixes.items s).room) }
+    ensures len { IfOk result (λ r. length r.0.items ≡ switch_count net.now) }
+    ensures counts { IfOk result (λ r. length r.1.items ≡ switch_count net.now) }
+    ensures prepared { IfOk result (λ r. (s : Switch) → s.0 < switch_count net.now
+        → IsMixed (rules_at (rules_of_all tables.now) s) [] (mix_at r.0.items s)) }
+    ensures room { IfOk result (λ r. HaveRoom r.1.items r.0.items) }
 {
     let mut mixes = Vec::new(alloc);
+    let mut rooms = Vec::new(alloc);
     for i in 0..net.switches() {
-        let switch = SwitchId(i);
-        let mixed = alone(alloc, net.capacity(switch), tables.table(switch))?;
+        let table = tables.table(SwitchId(i));
+        let mixed = alone(alloc, table)?;
         mixes.push(mixed)?;
+        rooms.push(table.rules().len() + 1)?;
     }
-    Ok(mixes)
+    Ok((mixes, rooms))
+}
+
+/// Has room for one entry more than the table at one of the switches, which is prepared for its table alone and stays so.
+pub(crate) fn widen_at(
+    alloc: Global,
+    mixes: &mut [Mixed],
+    rooms: &mut [usize],
+    switch: SwitchId,
+    table: &Table,
+    capacity: u32,
+) -> Result<(), Memory>
+    requires within { switch.0 < length mixes.old }
+    requires counts { length rooms.old ≡ length mixes.old }
+    requires known { HaveRoom rooms.old mixes.old }
+    requires clear { IsClear table.now.rules }
+    requires alone { IsMixed table.now.rules [] (mix_at mixes.old switch) }
+    ensures room { OnOk result (length table.now.rules < (mix_at mixes.new switch).room) }
+    ensures known { HaveRoom rooms.new mixes.new }
+    ensures others { (o : Switch) → o.0 ≢ switch.0 → mix_at mixes.new o ≡ mix_at mixes.old o }
+    ensures alone { IsMixed table.now.rules [] (mix_at mixes.new switch) }
+{
+    let entries = table.rules().len() + 1;
+    if !make_room(alloc, mixes, rooms, switch, entries, capacity as usize + 1)? {
+        return Ok(());
+    }
+    load_alone(&mut mixes[switch.0 as usize], table);
+    Ok(())
 }

@@ -1,12 +1,11 @@
 //! The changes of a round are made in the tables, switch by switch.
 ghost use Rattle.std.specs.Prelude.{◌≡◌, ◌≢◌, suc, ◌<◌, ◌≤◌, ◌^◌, [], true, false, length, vec_capacity};
 ghost use Rattle.net_base.specs.declared.ids.SwitchId.{SwitchId as Switch};
-ghost use Rattle.topology.specs.Networks.{switch_count};
-ghost use Rattle.update_model.specs.Changes.{AppliesTo, rules_after, rules_after_change, round_after, spare_after_change};
+ghost use Rattle.update_model.specs.Changes.{AppliesTo, rules_after, rules_after_change, spare_after_change};
 ghost use Rattle.update_model.specs.Mixtures.{is_insert, need_of, is_delete, is_replace};
 ghost use Rattle.round_mix.specs.Prepared.{AreGood};
 ghost use Rattle.round_tables.specs.PreparedTables.{HoldsRounds, StandsBefore, IsMixed, is_touched, limit_at, list_at, mix_at, room_of, rules_there, table_at};
-ghost use Rattle.round_tables.specs.Loading.{ArePrepared, AreWithin, insert_count};
+ghost use Rattle.round_tables.specs.Loading.{ArePrepared, insert_count};
 ghost use Rattle.round_tables.specs.ByKind.{deleted, replacing, inserts};
 
 use crate::changed::keep_all_at;
@@ -213,17 +212,14 @@ impl PreparedTables {
     /// to be prepared anew. The changes at a switch take time n log n together.
     pub fn apply_round(&mut self, update: &Rollout<'_>, k: usize)
         requires round { k < length update.now.rounds }
-        requires within { AreWithin (switch_count update.now.net)
-            (round_after k update.now.rounds) }
-        requires room { HoldsRounds (switch_count update.now.net) update.now.rounds self.old }
+        requires room { HoldsRounds (length update.now.old) update.now.rounds self.old }
         requires prepared { ArePrepared update.now k self.old }
-        requires fits { (s : Switch) → s.0 < switch_count update.now.net
+        requires fits { (s : Switch) → s.0 < length update.now.old
             → need_of update.now k s ≤ limit_at self.old.limits s }
         ensures stands { StandsBefore update.now (suc k) self.new }
-        ensures room { HoldsRounds (switch_count update.now.net) update.now.rounds self.new }
+        ensures room { HoldsRounds (length update.now.old) update.now.rounds self.new }
         ensures limits { self.new.limits ≡ self.old.limits }
     {
-        update.net.keeps_rules();
         let _ = k;
         keep_all(&mut self.mixes, &self.touched, &self.tables, &self.changes);
         change_all(&mut self.tables, &self.changes, &mut self.rules);

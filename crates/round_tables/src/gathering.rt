@@ -1,5 +1,5 @@
 //! The changes of a round by switch.
-ghost use Rattle.std.specs.Prelude.{◌≡◌, ◌≢◌, ◌<◌, ◌≤◌, [], ◌∷◌, ◌++◌, length, vec_len, vec_capacity, IfOk};
+ghost use Rattle.std.specs.Prelude.{◌≡◌, ◌≢◌, ◌<◌, ◌≤◌, ◌↔◌, [], ◌∷◌, ◌++◌, true, length, IsTrue, vec_len, vec_capacity, IfOk};
 ghost use Rattle.net_base.specs.declared.ids.SwitchId.{SwitchId as Switch};
 ghost use Rattle.update_model.specs.Changes.{changes_at, switch_of};
 ghost use Rattle.round_tables.specs.PreparedTables.{list_at};
@@ -70,31 +70,42 @@ fn clear_all(lists: &mut [SwitchChanges])
     }
 }
 
-/// Puts a change behind the others of its switch.
-fn put_at(lists: &mut [SwitchChanges], change: &Change)
-    requires within { (switch_of change.now).0 < length lists.old }
-    requires room { let list = list_at lists.old (switch_of change.now) in length
-        list.changes < list.room }
-    ensures here { (list_at lists.new (switch_of change.now)).changes
+/// Puts a change behind the others of its switch, if that is one of these. The answer is whether it is.
+fn put_at(lists: &mut [SwitchChanges], change: &Change) -> bool
+    requires { (switch_of change.now).0 < length lists.old
+        → let list = list_at lists.old (switch_of change.now) in length list.changes < list.room }
+    ensures within { IsTrue result ↔ ((switch_of change.now).0 < length lists.old) }
+    ensures here { (switch_of change.now).0 < length lists.old
+        → (list_at lists.new (switch_of change.now)).changes
         ≡ (list_at lists.old (switch_of change.now)).changes ++ change.now ∷ [] }
     ensures others { (s : Switch) → s.0 ≢ (switch_of change.now).0
         → (list_at lists.new s).changes ≡ (list_at lists.old s).changes }
     ensures room { (s : Switch) → (list_at lists.new s).room ≡ (list_at lists.old s).room }
 {
-    lists[change.switch().0 as usize].put(*change);
+    let i = change.switch().0 as usize;
+    if i >= lists.len() {
+        return false;
+    }
+    lists[i].put(*change);
+    true
 }
 
-/// Has the lists of the switches hold the changes of a round, each those of its switch. It takes one look at each change.
-pub(crate) fn gather(lists: &mut [SwitchChanges], round: &[Change])
-    requires within { AreWithin (length lists.old) round.now }
+/// Has the lists of the switches hold the changes of a round, each those of its switch. It takes one look at each change. The
+/// answer is whether each change is at one of these switches; the others are in no list.
+pub(crate) fn gather(lists: &mut [SwitchChanges], round: &[Change]) -> bool
     requires room { (s : Switch) → s.0 < length lists.old
         → length (changes_at s round.now) ≤ (list_at lists.old s).room }
     ensures gathered { (s : Switch) → s.0 < length lists.old
         → (list_at lists.new s).changes ≡ changes_at s round.now }
+    ensures within { result ≡ true → AreWithin (length lists.old) round.now }
     ensures room { (s : Switch) → (list_at lists.new s).room ≡ (list_at lists.old s).room }
 {
     clear_all(lists);
+    let mut are_within = true;
     for change in round {
-        put_at(lists, change);
+        if !put_at(lists, change) {
+            are_within = false;
+        }
     }
+    are_within
 }

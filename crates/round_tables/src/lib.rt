@@ -6,13 +6,18 @@ mod applying;
 mod changed;
 mod ends;
 mod gathering;
+mod growing;
 mod loading;
 mod over;
 mod prepared;
 mod rollout;
 mod room;
+mod sound;
 mod trials;
 
+pub use alone::all_alone;
+pub use growing::make_room;
 pub use loading::RoundFault;
 pub use prepared::PreparedTables;
 pub use rollout::Rollout;
+pub use sound::{SoundFault, sound_rounds};

@@ -1,12 +1,12 @@
 //! Each switch is prepared for a round, up to the first bad change.
-ghost use Rattle.std.specs.Prelude.{◌≡◌, ◌≢◌, ℕ, ◌+◌, ◌<◌, ◌≤◌, ◌^◌, [], ◌∷◌, true, false, None, take, length, slice_get, IfOk, IfErr, OnOk};
+ghost use Rattle.std.specs.Prelude.{◌≡◌, ◌≢◌, ℕ, ◌+◌, ◌<◌, ◌≤◌, ◌^◌, [], ◌∷◌, ◌↔◌, true, false, None, Some, take, length, slice_get, IfNone, IfSome, IfOk, IfErr, IsTrue, OnOk};
 ghost use Rattle.net_base.specs.declared.ids.SwitchId.{SwitchId as Switch};
-ghost use Rattle.topology.specs.Networks.{switch_count};
 ghost use Rattle.flow_rules.specs.Tables.{IsTable};
-ghost use Rattle.update_model.specs.Changes.{changes_at, round_after};
+ghost use Rattle.update_model.specs.Changes.{changes_at};
+ghost use Rattle.update_model.specs.declared.Change.{Change as ChangeOf};
 ghost use Rattle.round_mix.specs.Faults.{IsRefusal};
 ghost use Rattle.round_tables.specs.PreparedTables.{HoldsRounds, StandsBefore, IsMixed, is_touched, list_at, mix_at, rules_there};
-ghost use Rattle.round_tables.specs.Loading.{AreAlone, ArePrepared, AreWithin, IsBadAt, IsFirstRoundFault, IsLoadedTo};
+ghost use Rattle.round_tables.specs.Loading.{AreAlone, ArePrepared, AreWithin, IsBadAt, IsFirstOutside, IsFirstRoundFault, IsLoadedTo, IsOutsideBelow, IsOutsideTo, IsRestFault};
 
 use crate::changed::begin_all_at;
 use crate::gathering::{SwitchChanges, gather};
@@ -44,6 +44,81 @@ fn number_of(round: &[Change], switch: SwitchId, nth: usize) -> usize
         }
     }
     unreachable!()
+}
+
+/// Whether a change of a round is beyond the first switches, so many, and at a lower switch than the one that was found, if
+/// one was.
+fn is_outside_below(round: &[Change], count: usize, found: Option<usize>, i: usize) -> bool
+    requires within { i < length round.now }
+    requires found { IfSome found (λ j. j < length round.now) }
+    ensures { (c : ChangeOf) → slice_get round.now i ≡ Some c
+        → IsTrue result ↔ IsOutsideBelow count round.now found c }
+{
+    let switch = round[i].switch().0;
+    match found {
+        None => switch as usize >= count,
+        Some(j) => switch as usize >= count && switch < round[j].switch().0,
+    }
+}
+
+/// The change of a round that was found among those before one of them, or that one in its place.
+fn next_outside(round: &[Change], count: usize, found: Option<usize>, i: usize) -> Option<usize>
+    requires within { i < length round.now }
+    requires so_far { IsOutsideTo count round.now i found }
+    ensures { IsOutsideTo count round.now (i + 1) result }
+{
+    if is_outside_below(round, count, found, i) {
+        return Some(i);
+    }
+    found
+}
+
+/// Of the changes of a round beyond the first switches, so many, the first at the least switch.
+fn first_outside(round: &[Change], count: usize) -> Option<usize>
+    ensures none { IfNone result (AreWithin count round.now) }
+    ensures some { IfSome result (IsFirstOutside count round.now) }
+{
+    let mut found = None;
+    for i in 0..round.len() {
+        found = next_outside(round, count, found, i);
+    }
+    found
+}
+
+/// Of the changes of a round beyond the first switches, so many, the first at the least switch; it may be known that there
+/// are none.
+fn outside_of(round: &[Change], count: usize, are_within: bool) -> Option<usize>
+    requires { are_within ≡ true → AreWithin count round.now }
+    ensures none { IfNone result (AreWithin count round.now) }
+    ensures some { IfSome result (IsFirstOutside count round.now) }
+{
+    if are_within {
+        return None;
+    }
+    first_outside(round, count)
+}
+
+/// The fault of a round whose changes at the first switches, so many, are good: its first change beyond these, or else the
+/// unclear switch, if there is one.
+fn rest_fault(
+    round: &[Change],
+    count: usize,
+    are_within: bool,
+    unclear: Option<SwitchId>,
+) -> Result<(), RoundFault>
+    requires { are_within ≡ true → AreWithin count round.now }
+    ensures within { OnOk result (AreWithin count round.now) }
+    ensures clear { OnOk result (unclear ≡ None) }
+    ensures err { IfErr result (IsRestFault count round.now unclear) }
+{
+    if let Some(change) = outside_of(round, count, are_within) {
+        let switch = round[change].switch();
+        return Err(RoundFault::BadChange { switch, change });
+    }
+    match unclear {
+        None => Ok(()),
+        Some(switch) => Err(RoundFault::Unclear(switch)),
+    }
 }
 
 /// Does nothing: its contract says what every table keeps.
@@ -194,26 +269,22 @@ impl PreparedTables {
     /// sorted only where this round or the one before changes it more than 16 times, or the round is refused.
     pub fn load_round(&mut self, update: &Rollout<'_>, k: usize) -> Result<(), RoundFault>
         requires round { k < length update.now.rounds }
-        requires within { AreWithin (switch_count update.now.net)
-            (round_after k update.now.rounds) }
-        requires room { HoldsRounds (switch_count update.now.net) update.now.rounds self.old }
+        requires room { HoldsRounds (length update.now.old) update.now.rounds self.old }
         requires stands { StandsBefore update.now k self.old }
         ensures ok { OnOk result (ArePrepared update.now k self.new) }
         ensures err { IfErr result (IsFirstRoundFault update.now k) }
-        ensures room { HoldsRounds (switch_count update.now.net) update.now.rounds self.new }
+        ensures room { HoldsRounds (length update.now.old) update.now.rounds self.new }
         ensures limits { self.new.limits ≡ self.old.limits }
     {
-        update.net.keeps_rules();
         let round = update.rounds.round(k);
-        gather(&mut self.changes, round);
+        let are_within = gather(&mut self.changes, round);
         match load_all(
             &mut self.mixes,
             &mut self.touched,
             &self.tables,
             &self.changes,
         ) {
-            Ok(None) => Ok(()),
-            Ok(Some(switch)) => Err(RoundFault::Unclear(switch)),
+            Ok(unclear) => rest_fault(round, self.tables.count(), are_within, unclear),
             Err((switch, nth)) => Err(RoundFault::BadChange {
                 switch,
                 change: number_of(round, switch, nth),

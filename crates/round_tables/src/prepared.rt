@@ -24,7 +24,7 @@ pub struct PreparedTables {
     pub(crate) touched: Vec<bool>,
     /// The changes of the round by switch.
     pub(crate) changes: Vec<SwitchChanges>,
-    /// For each switch how many rules its table may come to hold.
+    /// For each switch how many rules its table may come to hold; for trials, for how many entries there is room at least.
     pub(crate) limits: Vec<usize>,
     /// Room for the rules of changes, to sort them.
     pub(crate) rules: Vec<Rule>,
@@ -76,6 +76,9 @@ fn set_all(flags: &mut [bool])
     }
 }
 
+/// As many switches have numbers of 32 bits, but for one; there is no memory for more tables.
+const MOST_SWITCHES: usize = 0xffff_ffff;
+
 impl PreparedTables {
     /// Tables without rules and nothing prepared, with room for what each switch needs in the rounds, up to its capacity. It
     /// takes memory by the rules of the tables and the changes of the rounds, and no more than by the capacities.
@@ -83,32 +86,33 @@ impl PreparedTables {
         requires { length update.now.old ≡ switch_count update.now.net }
         ensures { IfOk result (HasRoom update.now) }
     {
-        let mut limits = most_needed(alloc, update.net, update.old, update.rounds)?;
+        update.net.keeps_rules();
+        let mut limits = most_needed(alloc, update.old, update.rounds)?;
         lower(&mut limits, update.net);
-        with_limits(alloc, update.net, limits, update.rounds)
+        with_limits(alloc, limits, update.rounds)
     }
 
     /// Tables without rules and nothing prepared, with room for what each switch needs in the rounds, whatever its capacity.
     /// It takes memory by the rules of the tables and the changes of the rounds.
     pub fn make_for_all(alloc: Global, update: &Rollout<'_>) -> Result<PreparedTables, Memory>
-        requires { length update.now.old ≡ switch_count update.now.net }
         ensures { IfOk result (HasRoomForAll update.now) }
     {
-        let limits = most_needed(alloc, update.net, update.old, update.rounds)?;
-        with_limits(alloc, update.net, limits, update.rounds)
+        if update.old.count() > MOST_SWITCHES {
+            return Err(Memory);
+        }
+        let limits = most_needed(alloc, update.old, update.rounds)?;
+        with_limits(alloc, limits, update.rounds)
     }
 
     /// The tables before the update, of which no switch is prepared.
     pub fn start(&mut self, update: &Rollout<'_>)
-        requires count { length update.now.old ≡ switch_count update.now.net }
-        requires room { HoldsRounds (switch_count update.now.net) update.now.rounds self.old }
-        requires fit { (s : Switch) → s.0 < switch_count update.now.net
+        requires room { HoldsRounds (length update.now.old) update.now.rounds self.old }
+        requires fit { (s : Switch) → s.0 < length update.now.old
             → length (rules_at update.now.old s) ≤ limit_at self.old.limits s }
         ensures stands { StandsBefore update.now 0 self.new }
-        ensures room { HoldsRounds (switch_count update.now.net) update.now.rounds self.new }
+        ensures room { HoldsRounds (length update.now.old) update.now.rounds self.new }
         ensures limits { self.new.limits ≡ self.old.limits }
     {
-        update.net.keeps_rules();
         set_all(&mut self.touched);
         refill_all(&mut self.tables, update.old);
     }

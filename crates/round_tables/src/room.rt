@@ -55,15 +55,15 @@ fn raise(numbers: &mut [usize], others: &[usize])
 }
 
 /// For each switch the most changes that a round has there.
-fn counts_of(alloc: Global, switches: u32, rounds: &Rounds) -> Result<Vec<usize>, Memory>
+fn counts_of(alloc: Global, switches: usize, rounds: &Rounds) -> Result<Vec<usize>, Memory>
     ensures len { IfOk result (λ counts. length counts.items ≡ switches) }
     ensures counted { IfOk result
         (λ counts. AreCounted counts.items (length rounds.now) rounds.now) }
     ensures few { IfOk result
         (λ counts. (s : Switch) → s.0 < switches → slice_index_or counts.items s.0 0 < 2 ^ 63) }
 {
-    let mut most = vec![in alloc; 0usize; switches as usize]?;
-    let mut counts = vec![in alloc; 0usize; switches as usize]?;
+    let mut most = vec![in alloc; 0usize; switches]?;
+    let mut counts = vec![in alloc; 0usize; switches]?;
     for k in 0..rounds.count() {
         count_round(&mut counts, rounds.round(k));
         raise(&mut most, &counts);
@@ -83,14 +83,14 @@ fn longest(rounds: &Rounds) -> usize
 }
 
 /// For each switch how many rules its table has.
-fn sizes(alloc: Global, net: &Net, tables: &Config) -> Result<Vec<usize>, Memory>
-    requires { length tables.now ≡ switch_count net.now }
-    ensures len { IfOk result (λ sizes. length sizes.items ≡ switch_count net.now) }
-    ensures each { IfOk result (λ sizes. (s : Switch) → s.0 < switch_count net.now
+fn sizes(alloc: Global, tables: &Config) -> Result<Vec<usize>, Memory>
+    requires { length tables.now < 2 ^ 32 }
+    ensures len { IfOk result (λ sizes. length sizes.items ≡ length tables.now) }
+    ensures each { IfOk result (λ sizes. (s : Switch) → s.0 < length tables.now
         → limit_at sizes.items s ≡ length (rules_at (rules_of_all tables.now) s)) }
 {
     let mut sizes = Vec::new(alloc);
-    for i in 0..net.switches() {
+    for i in 0..tables.count() as u32 {
         sizes.push(tables.table(SwitchId(i)).rules().len())?;
     }
     Ok(sizes)
@@ -123,17 +123,16 @@ fn add_inserts(counts: &mut [usize], round: &[Change]) -> Result<(), Memory>
 /// For each switch how many rules its table has before the update, and inserts in all rounds. It never needs more entries.
 pub(crate) fn most_needed(
     alloc: Global,
-    net: &Net,
     old: &Config,
     rounds: &Rounds,
 ) -> Result<Vec<usize>, Memory>
-    requires { length old.now ≡ switch_count net.now }
-    ensures len { IfOk result (λ limits. length limits.items ≡ switch_count net.now) }
-    ensures each { IfOk result (λ limits. (s : Switch) → s.0 < switch_count net.now
+    requires { length old.now < 2 ^ 32 }
+    ensures len { IfOk result (λ limits. length limits.items ≡ length old.now) }
+    ensures each { IfOk result (λ limits. (s : Switch) → s.0 < length old.now
         → limit_at limits.items s
         ≡ length (rules_at (rules_of_all old.now) s) + inserts_over rounds.now s) }
 {
-    let mut limits = sizes(alloc, net, old)?;
+    let mut limits = sizes(alloc, old)?;
     for k in 0..rounds.count() {
         add_inserts(&mut limits, rounds.round(k))?;
     }
@@ -153,14 +152,15 @@ pub(crate) fn lower(limits: &mut [usize], net: &Net)
 }
 
 /// A table without rules for each switch, with room for so many rules.
-fn roomy_tables(alloc: Global, net: &Net, limits: &[usize]) -> Result<Config, Memory>
-    requires { length limits.now ≡ switch_count net.now }
-    ensures count { IfOk result (λ tables. length tables ≡ switch_count net.now) }
-    ensures room { IfOk result (λ tables. (s : Switch) → s.0 < switch_count net.now
+fn roomy_tables(alloc: Global, limits: &[usize]) -> Result<Config, Memory>
+    requires { length limits.now < 2 ^ 32 }
+    ensures count { IfOk result (λ tables. length tables ≡ length limits.now) }
+    ensures room { IfOk result (λ tables. (s : Switch) → s.0 < length limits.now
         → limit_at limits.now s ≤ room_of (table_at tables s)) }
 {
-    let mut tables = Config::make(alloc, net.switches())?;
-    for i in 0..net.switches() {
+    let count = limits.len() as u32;
+    let mut tables = Config::make(alloc, count)?;
+    for i in 0..count {
         tables.table_mut(SwitchId(i)).reserve(limits[i as usize])?;
     }
     Ok(tables)
@@ -206,20 +206,18 @@ fn roomy_changes(alloc: Global, counts: &[usize]) -> Result<Vec<SwitchChanges>, 
 /// Nothing prepared and no changes of each switch, with room for its rules, and for its changes in each of the rounds.
 fn roomy_rounds(
     alloc: Global,
-    net: &Net,
     limits: &[usize],
     rounds: &Rounds,
 ) -> Result<(Vec<Mixed>, Vec<SwitchChanges>), Memory>
-    requires { length limits.now ≡ switch_count net.now }
-    ensures mixes { IfOk result (λ r. length r.0.items ≡ switch_count net.now) }
-    ensures lists { IfOk result (λ r. length r.1.items ≡ switch_count net.now) }
-    ensures for_marks { IfOk result (λ r. (s : Switch) (k : ℕ) → s.0 < switch_count net.now
+    ensures mixes { IfOk result (λ r. length r.0.items ≡ length limits.now) }
+    ensures lists { IfOk result (λ r. length r.1.items ≡ length limits.now) }
+    ensures for_marks { IfOk result (λ r. (s : Switch) (k : ℕ) → s.0 < length limits.now
         → limit_at limits.now s + length
         (changes_at s (round_after k rounds.now)) ≤ (mix_at r.0.items s).room) }
-    ensures for_changes { IfOk result (λ r. (s : Switch) (k : ℕ) → s.0 < switch_count net.now
+    ensures for_changes { IfOk result (λ r. (s : Switch) (k : ℕ) → s.0 < length limits.now
         → length (changes_at s (round_after k rounds.now)) ≤ (list_at r.1.items s).room) }
 {
-    let counts = counts_of(alloc, net.switches(), rounds)?;
+    let counts = counts_of(alloc, limits.len(), rounds)?;
     let mixes = roomy_mixes(alloc, limits, &counts)?;
     let lists = roomy_changes(alloc, &counts)?;
     Ok((mixes, lists))
@@ -228,18 +226,17 @@ fn roomy_rounds(
 /// Tables without rules and nothing prepared, with room for so many rules of each switch, and for the rounds.
 pub(crate) fn with_limits(
     alloc: Global,
-    net: &Net,
     limits: Vec<usize>,
     rounds: &Rounds,
 ) -> Result<PreparedTables, Memory>
-    requires { length limits.items ≡ switch_count net.now }
-    ensures room { IfOk result (HoldsRounds (switch_count net.now) rounds.now) }
+    requires { length limits.items < 2 ^ 32 }
+    ensures room { IfOk result (HoldsRounds (length limits.items) rounds.now) }
     ensures limits { IfOk result (λ p. p.limits ≡ limits.items) }
 {
     let rules = Vec::with_capacity(alloc, longest(rounds))?;
-    let touched = vec![in alloc; true; net.switches() as usize]?;
-    let tables = roomy_tables(alloc, net, &limits)?;
-    let (mixes, changes) = roomy_rounds(alloc, net, &limits, rounds)?;
+    let touched = vec![in alloc; true; limits.len()]?;
+    let tables = roomy_tables(alloc, &limits)?;
+    let (mixes, changes) = roomy_rounds(alloc, &limits, rounds)?;
     Ok(PreparedTables {
         tables,
         mixes,

@@ -137,24 +137,6 @@ fit_less net tables round c fit = record {
       omega arith;
 }
 
--- what needs within capacity without a change needs at most one entry more with it
-pub need_more : (net : Network) (tables : List (List Rule)) (round : List Change) (c : Change) → FitTables net tables round → (switch_of c).0 < switch_count net
-    → entries_needed (rules_at tables (switch_of c)) (changes_at (switch_of c) (round ++ c ∷ [])) ≤ capacity_of net (switch_of c) + 1
-need_more net tables round c fit less =
-    let most = fit.fits (switch_of c) less in
-    let same = ap (λ (cs : List Change). length (filter is_insert cs)) (more_here round c) in
-    let one = one_more (changes_at (switch_of c) round) c in
-    omega arith
-  where
-    one_more : (xs : List Change) (d : Change) → length (filter is_insert (xs ++ d ∷ [])) ≤ length (filter is_insert xs) + 1
-    one_more [] d = elim (is_insert d) as (λ b. length (cond b (d ∷ []) []) ≤ 0 + 1) [ true ↦ omega arith | false ↦ omega arith ]
-    one_more (x ∷ xs) d =
-        let rest = one_more xs d in
-        elim (is_insert x) as (λ b. length (cond b (x ∷ filter is_insert (xs ++ d ∷ [])) (filter is_insert (xs ++ d ∷ []))) ≤ length (cond b (x ∷ filter is_insert xs) (filter is_insert xs)) + 1) [
-          | true ↦ omega arith
-          | false ↦ rest
-        ]
-
 -- ---- faults
 
 -- a member isn't named by those before it

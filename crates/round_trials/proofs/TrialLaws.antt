@@ -1,5 +1,5 @@
 -- What is prepared of the switches while a round is filled.
-use Rattle.std.proofs.Common.{◌≡◌, ◌≢◌, ℕ, zero, suc, ◌+◌, ◌-◌, ◌<◌, ◌≤◌, List, [], ◌∷◌, ◌++◌, length, take, length-append, refl, sym, ◌∙◌, subst, ap, inl, inr, arith}
+use Rattle.std.proofs.Common.{◌≡◌, ◌≢◌, ℕ, zero, suc, ◌+◌, ◌-◌, ◌<◌, List, [], ◌∷◌, ◌++◌, length, take, length-append, refl, sym, ◌∙◌, subst, ap, inl, inr, arith}
 use Rattle.std.specs.Prelude.{Option, Some, None, IsSomeAnd}
 use Rattle.std.proofs.lemmas.Bool.{cases_eq}
 use Rattle.std.proofs.lemmas.Option.{get_or_from_slice_get, slice_get_within}
@@ -25,19 +25,6 @@ switch_n n = record { 0 = n }
 
 switch_is : (s t : SwitchId) → s.0 ≡ t.0 → s ≡ t
 switch_is s t e = ap (λ (n : ℕ). let x : SwitchId = record { 0 = n } in x) e
-
--- where one switch is prepared anew there is room as before
-pub space_next : (net : Network) (s : SwitchId) (p q : TrialState) → HasSpace net p → length q.tables ≡ length p.tables → length q.mixes ≡ length p.mixes
-    → ((o : SwitchId) → o.0 ≢ s.0 → mix_at q.mixes o ≡ mix_at p.mixes o) → (mix_at p.mixes s).room ≤ (mix_at q.mixes s).room → HasSpace net q
-space_next net s p q space tables mixes others room = record {
-  tables = tables ∙ space.tables;
-  mixes = mixes ∙ space.mixes;
-  room = λ o less. elim (cases_eq o.0 s.0) [
-    | inl e ↦ (let had = space.room s (subst (λ (n : ℕ). n < switch_count net) e less) in
-        subst (λ (x : SwitchId). capacity_of net x + 1 ≤ (mix_at q.mixes x).room) (sym (switch_is o s e)) (omega arith))
-    | inr ne ↦ subst (λ (m : MixedState). capacity_of net o + 1 ≤ m.room) (sym (others o ne)) (space.room o less)
-  ];
-}
 
 -- where one more switch is prepared
 pub done_next : (P : SwitchId → MixedState → Type 0) (old new : List MixedState) (s : SwitchId) → ((o : SwitchId) → o.0 ≢ s.0 → mix_at new o ≡ mix_at old o)
@@ -149,15 +136,16 @@ module _ (net : Network) (p : TrialState) (c : Change) (trial : IsTrial net p) (
       never (back net p (p.round ++ c ∷ []) (switch_of c) mid s s_is tables_are round_is (λ rs cs x. FitTable rs cs (capacity_of net x))
       (fit_there net p.tables (p.round ++ c ∷ []) fit (switch_of c) within))
 
-  -- each other switch is prepared for the changes before it
-  pub beside_taken : mid.mixes ≡ p.mixes → HasSpace net mid → IsTrialBeside net (switch_of c) p.round mid
-  beside_taken mixes space = record {
-    space = space;
-    within = within;
-    fit = subst (λ (ts : List (List Rule)). FitTables net ts p.round) (sym tables_are) trial.fit;
-    others = λ o less ne. subst (λ (ts : List (List Rule)). IsMixed (rules_at ts o) (changes_at o p.round) (mix_at mid.mixes o)) (sym tables_are)
-        (subst (λ (ms : List MixedState). IsMixed (rules_at p.tables o) (changes_at o p.round) (mix_at ms o)) (sym mixes) (trial.each o less));
-  }
+-- each switch but that of one more change is prepared for the changes before it
+pub beside_taken : (net : Network) (p : TrialState) (c : Change) → IsTrial net p → (switch_of c).0 < switch_count net → (q : TrialState) → HasSpace net q → q.tables ≡ p.tables
+    → ((o : SwitchId) → o.0 ≢ (switch_of c).0 → mix_at q.mixes o ≡ mix_at p.mixes o) → IsTrialBeside net (switch_of c) p.round q
+beside_taken net p c trial within q space tables others = record {
+  space = space;
+  within = within;
+  fit = subst (λ (ts : List (List Rule)). FitTables net ts p.round) (sym tables) trial.fit;
+  others = λ o less ne. subst (λ (ts : List (List Rule)). IsMixed (rules_at ts o) (changes_at o p.round) (mix_at q.mixes o)) (sym tables)
+      (subst (λ (m : MixedState). IsMixed (rules_at p.tables o) (changes_at o p.round) m) (sym (others o ne)) (trial.each o less));
+}
 
 -- the last change is left
 pub left_trial : (net : Network) (p : TrialState) (w : SwitchId) (round : List Change) → IsTrialBeside net w round p → (mid : TrialState) (s : SwitchId) → s ≡ w → mid.tables ≡ p.tables → mid.round ≡ round

@@ -1,5 +1,5 @@
 -- Tables on which a round is filled, change by change.
-use Rattle.std.specs.Prelude.{◌≡◌, ◌≢◌, ℕ, ◌+◌, ◌<◌, ◌≤◌, List, length}
+use Rattle.std.specs.Prelude.{◌≡◌, ◌≢◌, ℕ, ◌<◌, ◌≤◌, List, length}
 use Rattle.net_base.specs.declared.ids.SwitchId.{SwitchId}
 use Rattle.topology.specs.Networks.{Network, switch_count, capacity_of}
 use Rattle.flow_rules.specs.Tables.{IsClear, rules_at}
@@ -29,11 +29,10 @@ pub record FitTable (rules : List Rule) (changes : List Change) (capacity : ℕ)
   pub clear : AreClear rules changes
   pub fits : entries_needed rules changes ≤ capacity
 
--- there is a table for each switch, and room for one entry more than its capacity in what is prepared of it
+-- there is a table for each switch, and a place for what is prepared of it
 pub record HasSpace (net : Network) (t : TrialState) : Type 0 where
   pub tables : length t.tables ≡ switch_count net
   pub mixes : length t.mixes ≡ switch_count net
-  pub room : (s : SwitchId) → s.0 < switch_count net → capacity_of net s + 1 ≤ (mix_at t.mixes s).room
 
 -- the taken changes can be a round as far as the tables go, and each switch is prepared for those that are taken there
 pub record IsTrial (net : Network) (t : TrialState) : Type 0 where

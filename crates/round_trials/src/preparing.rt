@@ -1,16 +1,19 @@
 //! Switches are prepared for the changes of a round, or for their tables alone; and the changes are made.
-ghost use Rattle.std.specs.Prelude.{◌≡◌, ◌≢◌, ◌↔◌, ◌+◌, ◌<◌, ◌≤◌, ◌^◌, [], length, IsTrue, IfOk, OnOk};
+ghost use Rattle.std.specs.Prelude.{◌≡◌, ◌≢◌, ◌↔◌, ◌<◌, ◌≤◌, [], length, IsTrue, IfOk, OnOk};
 ghost use Rattle.net_base.specs.declared.ids.SwitchId.{SwitchId as Switch};
-ghost use Rattle.topology.specs.Networks.{switch_count, capacity_of};
+ghost use Rattle.topology.specs.Networks.{switch_count};
 ghost use Rattle.flow_rules.specs.Tables.{IsClear, rules_at, rules_of_all};
 ghost use Rattle.update_model.specs.Changes.{changes_at, tables_after, IsGoodRound};
 ghost use Rattle.update_model.specs.Mixtures.{entries_needed};
+ghost use Rattle.round_tables.specs.Loading.{insert_count};
 ghost use Rattle.round_tables.specs.PreparedTables.{IsMixed, mix_at};
+ghost use Rattle.round_tables.specs.Trials.{HaveRoom};
 ghost use Rattle.round_trials.specs.Filling.{FitTable};
 
 use flow_rules::{Config, Table};
 use net_base::{Memory, SwitchId};
 use round_mix::Mixed;
+use round_tables::make_room;
 use std::alloc::Global;
 use topology::Net;
 use update_model::{Change, change_tables};
@@ -44,6 +47,27 @@ fn load(mixed: &mut Mixed, table: &Table, changes: &[Change], capacity: u32) -> 
     }
 }
 
+/// How many of the changes of a round insert at a switch.
+fn inserts_there(round: &[Change], switch: SwitchId) -> usize
+    ensures counted { result ≡ insert_count (changes_at switch round.now) }
+    ensures few { result ≤ length round.now }
+{
+    let mut count = 0;
+    for change in round {
+        if change.is_insert() && change.switch().0 == switch.0 {
+            count += 1;
+        }
+    }
+    count
+}
+
+/// The entries that a table needs while the changes of a round at its switch are made.
+pub(crate) fn need_there(table: &Table, round: &[Change], switch: SwitchId) -> usize
+    ensures { result ≡ entries_needed table.now.rules (changes_at switch round.now) }
+{
+    table.rules().len() + inserts_there(round, switch)
+}
+
 /// Prepares one of the switches for the changes of a round there. The answer is whether they fit its table.
 pub(crate) fn load_at(
     alloc: Global,
@@ -61,7 +85,6 @@ pub(crate) fn load_at(
     ensures prepared { IfOk result (λ fit. IsTrue fit
         → IsMixed table.now.rules (changes_at switch round.now) (mix_at mixes.new switch)) }
     ensures others { (o : Switch) → o.0 ≢ switch.0 → mix_at mixes.new o ≡ mix_at mixes.old o }
-    ensures count { length mixes.new ≡ length mixes.old }
     ensures room { (mix_at mixes.old switch).room ≤ (mix_at mixes.new switch).room }
 {
     let changes = changes_there(alloc, round, switch)?;
@@ -70,13 +93,12 @@ pub(crate) fn load_at(
 }
 
 /// Prepares one of the switches for its table alone. Without changes a clear table has only itself as a mixture.
-fn settle(mixes: &mut [Mixed], switch: SwitchId, table: &Table)
+fn settle_at(mixes: &mut [Mixed], switch: SwitchId, table: &Table)
     requires within { switch.0 < length mixes.old }
     requires clear { IsClear table.now.rules }
     requires room { length table.now.rules ≤ (mix_at mixes.old switch).room }
     ensures alone { IsMixed table.now.rules [] (mix_at mixes.new switch) }
     ensures others { (o : Switch) → o.0 ≢ switch.0 → mix_at mixes.new o ≡ mix_at mixes.old o }
-    ensures count { length mixes.new ≡ length mixes.old }
     ensures room { (mix_at mixes.old switch).room ≤ (mix_at mixes.new switch).room }
 {
     let mixed = &mut mixes[switch.0 as usize];
@@ -86,36 +108,53 @@ fn settle(mixes: &mut [Mixed], switch: SwitchId, table: &Table)
     }
 }
 
-/// Prepares each switch for its table alone.
-pub(crate) fn settle_all(mixes: &mut [Mixed], tables: &Config)
-    requires count { length mixes.old ≡ length tables.now }
-    requires few { length tables.now < 2 ^ 32 }
-    requires clear { (s : Switch) → IsClear (rules_at (rules_of_all tables.now) s) }
-    requires room { (s : Switch) → s.0 < length tables.now
-        → length (rules_at (rules_of_all tables.now) s) ≤ (mix_at mixes.old s).room }
-    ensures alone { (s : Switch) → s.0 < length tables.now
-        → IsMixed (rules_at (rules_of_all tables.now) s) [] (mix_at mixes.new s) }
-    ensures count { length mixes.new ≡ length mixes.old }
-    ensures room { (s : Switch) → (mix_at mixes.old s).room ≤ (mix_at mixes.new s).room }
+/// Prepares one of the switches for its table alone, with room for that at least. Without changes a clear table has only itself
+/// as a mixture.
+fn settle(
+    alloc: Global,
+    mixes: &mut [Mixed],
+    rooms: &mut [usize],
+    switch: SwitchId,
+    table: &Table,
+    capacity: u32,
+) -> Result<(), Memory>
+    requires within { switch.0 < length mixes.old }
+    requires counts { length rooms.old ≡ length mixes.old }
+    requires known { HaveRoom rooms.old mixes.old }
+    requires clear { IsClear table.now.rules }
+    ensures alone { OnOk result (IsMixed table.now.rules [] (mix_at mixes.new switch)) }
+    ensures known { HaveRoom rooms.new mixes.new }
+    ensures others { (o : Switch) → o.0 ≢ switch.0 → mix_at mixes.new o ≡ mix_at mixes.old o }
 {
-    for i in 0..tables.count() as u32 {
-        let switch = SwitchId(i);
-        settle(mixes, switch, tables.table(switch));
-    }
+    let most = capacity as usize + 1;
+    let _ = make_room(alloc, mixes, rooms, switch, table.rules().len(), most)?;
+    settle_at(mixes, switch, table);
+    Ok(())
 }
 
-/// Nothing prepared of each switch, with room for one entry more than its capacity.
-pub(crate) fn roomy_mixes(alloc: Global, net: &Net) -> Result<Vec<Mixed>, Memory>
-    ensures count { IfOk result (λ mixes. length mixes.items ≡ switch_count net.now) }
-    ensures room { IfOk result (λ mixes. (s : Switch) → s.0 < switch_count net.now
-        → capacity_of net.now s + 1 ≤ (mix_at mixes.items s).room) }
+/// Prepares each switch for its table alone. After a refusal less may be prepared than before.
+pub(crate) fn settle_all(
+    alloc: Global,
+    net: &Net,
+    mixes: &mut [Mixed],
+    rooms: &mut [usize],
+    tables: &Config,
+) -> Result<(), Memory>
+    requires tables { length tables.now ≡ switch_count net.now }
+    requires mixes { length mixes.old ≡ switch_count net.now }
+    requires rooms { length rooms.old ≡ length mixes.old }
+    requires known { HaveRoom rooms.old mixes.old }
+    requires clear { (s : Switch) → IsClear (rules_at (rules_of_all tables.now) s) }
+    ensures alone { OnOk result ((s : Switch) → s.0 < length tables.now
+        → IsMixed (rules_at (rules_of_all tables.now) s) [] (mix_at mixes.new s)) }
+    ensures known { HaveRoom rooms.new mixes.new }
 {
-    let mut mixes = Vec::new(alloc);
     for i in 0..net.switches() {
-        let capacity = net.capacity(SwitchId(i)) as usize;
-        mixes.push(Mixed::with_room(alloc, capacity + 1)?)?;
+        let switch = SwitchId(i);
+        let capacity = net.capacity(switch);
+        settle(alloc, mixes, rooms, switch, tables.table(switch), capacity)?;
     }
-    Ok(mixes)
+    Ok(())
 }
 
 /// Makes the changes of a round in the tables, in its order. After a refusal the tables may differ.

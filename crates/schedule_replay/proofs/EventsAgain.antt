@@ -24,7 +24,8 @@ use Rattle.update_model.specs.declared.Event.{Event}
 use Rattle.update_model.specs.declared.Event.TheVariants.{Start, Settle, Change, Enter, Hop, Lose}
 use Rattle.schedule_replay.specs.declared.schedule.ScheduleLine.{ScheduleLine}
 use Rattle.net_base.specs.Lines.{lines_of, text_of, is_comment}
-use Rattle.schedule_replay.specs.EventLines.{stop_in, id_in, vlan_in, entry_in, number_in, worded_event, spelled_event, event_in}
+use Rattle.text_lines.specs.Words.{id_in, vlan_in}
+use Rattle.schedule_replay.specs.EventLines.{stop_in, entry_in, number_in, worded_event, spelled_event, event_in}
 use Rattle.schedule_replay.specs.EventTexts.{switch_text, stop_text, place_text, entry_text, event_text, schedule_text, HasLine}
 use Rattle.schedule_replay.specs.Schedules.{event_at, line_at, schedule_in, numbered}
 use Rattle.schedule_replay.proofs.Printed.{are_from, from-append, are_lower, Lacks-from, is_utf8-from, decimal_from, address_from, vlan_from, name_from}

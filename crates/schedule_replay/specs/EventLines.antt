@@ -1,17 +1,12 @@
 -- The events that the lines of a schedule spell.
-use Rattle.std.specs.Prelude.{ℕ, List, nat_le, Option, None, Some, option_map, option_and_then, codes, if◌then◌else◌}
+use Rattle.std.specs.Prelude.{ℕ, List, nat_le, Option, None, Some, option_map, codes, if◌then◌else◌}
 use Rattle.std.specs.Str.{bytes_eq, is_utf8}
 use Rattle.net_base.specs.declared.ids.Stop.{Stop}
-use Rattle.net_base.specs.declared.ids.Vlan.{Vlan}
-use Rattle.net_base.specs.declared.ids.Vlan.TheVariants as vlan
 use Rattle.net_base.specs.Text.{cut_first, cut_last, decimal_in, address_in}
+use Rattle.text_lines.specs.Words.{◌>>=◌, vlan_in}
 use Rattle.topology.specs.Networks.{Network, switch_named}
 use Rattle.update_model.specs.declared.Event.{Event}
 use Rattle.update_model.specs.declared.Event.TheVariants.{Start, Settle, Change, Enter, Hop, Lose}
-
-infixl 10 ◌>>=◌
-abbrev ◌>>=◌ : {A B : Type 0} → Option A → (A → Option B) → Option B
-o >>= f = option_and_then f o
 
 -- a port of a switch of the network, `SWITCH:PORT` with a port from 1 to 65279
 unfoldable pub stop_in : Network → List ℕ → Option Stop
@@ -20,16 +15,6 @@ stop_in net text = do
   switch ← switch_named net.names parts.0
   port ← decimal_in parts.1 65279
   if nat_le 1 port then Some (record { switch = record { 0 = switch }; port = record { 0 = port } }) else None
-
--- an id from 1 to 4094
-unfoldable pub id_in : List ℕ → Option Vlan
-id_in text = do
-  id ← decimal_in text 4094
-  if nat_le 1 id then Some (vlan.Id id) else None
-
--- a VLAN: `untagged`, or its id
-abbrev pub vlan_in : List ℕ → Option Vlan
-vlan_in text = if bytes_eq text (codes "untagged") then Some vlan.Untagged else id_in text
 
 -- an entry, `SWITCH:PORT VLAN ADDRESS`
 unfoldable pub entry_in : Network → List ℕ → Option Event

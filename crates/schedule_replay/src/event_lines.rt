@@ -1,15 +1,12 @@
 //! The event that a line of a schedule spells.
-ghost use Rattle.std.specs.Prelude.{◌≡◌, IfSome, ◌≤◌, ◌<◌, ◌^◌};
+ghost use Rattle.std.specs.Prelude.{◌≡◌};
 ghost use Rattle.schedule_replay.specs.EventLines as spelled;
 ghost use Rattle.update_model.specs.declared.Event.TheVariants as event;
 
-use net_base::{
-    MAX_PORT, Place, Port, Stop, Vlan, cut_first, cut_last, read_address, read_decimal,
-};
+use net_base::{MAX_PORT, Place, Port, Stop, cut_first, cut_last, read_address, read_decimal};
+use text_lines::read_vlan;
 use topology::Net;
 use update_model::Event;
-
-const MAX_VLAN: u64 = 4094;
 
 const MAX_NUMBER: u64 = 4_294_967_295;
 
@@ -28,28 +25,6 @@ fn read_stop(net: &Net, text: &str) -> Option<Stop>
         switch,
         port: Port(port as u16),
     })
-}
-
-/// Reads the id of a VLAN.
-#[tactic(auto, unfolding(crate::specs::EventLines::id_in))]
-fn read_id(text: &str) -> Option<Vlan>
-    ensures { result ≡ spelled.id_in text.now }
-{
-    let id = read_decimal(text, MAX_VLAN)?;
-    if id < 1 {
-        return None;
-    }
-    Some(Vlan::Id(id as u16))
-}
-
-/// Reads a VLAN: `untagged`, or its id.
-fn read_vlan(text: &str) -> Option<Vlan>
-    ensures { result ≡ spelled.vlan_in text.now }
-{
-    if text == "untagged" {
-        return Some(Vlan::Untagged);
-    }
-    read_id(text)
 }
 
 /// Reads an entry, `SWITCH:PORT VLAN ADDRESS`.

@@ -10,6 +10,7 @@ ghost use Rattle.schedule_replay.specs.Schedules.{schedule_in, numbered};
 use flow_rules::Config;
 use net_base::{Memory, Place, Stop, SwitchId, addr_text, vlan_text};
 use std::alloc::Global;
+use text_lines::{add_made, add_word};
 use topology::Net;
 use update_model::{Event, Events, Rounds};
 
@@ -31,23 +32,6 @@ pub fn stop_text(alloc: Global, net: &Net, stop: Stop) -> Result<Vec<u8>, Memory
     let name = switch_text(net, stop.switch);
     let port = stop.port.0;
     Ok(format!(in alloc; "{name}:{port}")?.into_bytes())
-}
-
-/// Adds a word to a text.
-pub fn add_word(text: &mut Vec<u8>, word: &str) -> Result<(), Memory>
-    ensures { OnOk result (text.new.items ≡ text.old.items ++ word.now) }
-{
-    text.extend_from_slice(word.as_bytes())?;
-    Ok(())
-}
-
-/// Adds a text that was made for it.
-pub fn add_made(text: &mut Vec<u8>, made: Vec<u8>) -> Result<(), Memory>
-    ensures { OnOk result (text.new.items ≡ text.old.items ++ made.items) }
-{
-    let added = text.extend_from_slice(&made);
-    drop(made);
-    Ok(added?)
 }
 
 /// Adds a word and a number.

@@ -8,12 +8,12 @@ ghost use Rattle.schedule_replay.specs.Traces.{marked};
 ghost use Rattle.schedule_replay.specs.Traces as texts;
 
 use crate::event_texts::{
-    add_entry, add_line, add_made, add_numbered, add_place, add_word, events_text, stop_text,
-    switch_text,
+    add_entry, add_line, add_numbered, add_place, events_text, stop_text, switch_text,
 };
 use net_base::{Memory, Place, Stop, SwitchId};
 use path_walk::Ended;
 use std::alloc::Global;
+use text_lines::{add_made, add_word};
 use topology::Net;
 use update_model::{Event, Events, Packet, Phase, World};
 

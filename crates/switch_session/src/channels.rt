@@ -6,11 +6,10 @@ ghost use Rattle.switch_session.specs.Channels.{first_channel, is_failed, is_ope
 ghost use Rattle.switch_session.specs.Seen.{channel_of, UsesRoom, IsLeft, IsTaken};
 ghost use Rattle.switch_session.specs.declared.fronts.Front.TheVariants.{Short};
 
-use crate::fronts::{
-    BARRIER_REPLY, ECHO_REPLY, ECHO_REQUEST, ERROR, Front, HELLO, front_of, u8_at, u16_at, u32_at,
-};
+use crate::fronts::{BARRIER_REPLY, ECHO_REPLY, ECHO_REQUEST, ERROR, Front, HELLO, front_of};
 use crate::{Cause, Session};
 use net_base::Memory;
+use openflow10::{u8_at, u16_at, u32_at};
 use std::alloc::Global;
 use std::marker::Model;
 

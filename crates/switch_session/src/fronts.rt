@@ -1,10 +1,9 @@
 //! What stands at the front of bytes that came from a switch.
-ghost use Rattle.std.specs.Prelude.{◌≡◌, ◌+◌, ◌≤◌, length};
-ghost use Rattle.openflow10.specs.Layout.{number_at};
+ghost use Rattle.std.specs.Prelude.{◌≡◌};
 ghost use Rattle.switch_session.specs.Fronts.{front_of, is_wrong_length, is_wrong_version};
 
 use crate::Cause;
-use byteorder::{BigEndian, ByteOrder};
+use openflow10::{u8_at, u16_at};
 
 /// How many bytes a header has (OpenFlow 1.0.0, section 5.1).
 const HEADER_LENGTH: usize = 8;
@@ -36,33 +35,6 @@ pub enum Front {
     Fault(Cause),
     /// A whole message, of so many bytes.
     Message(usize),
-}
-
-/// The byte at an offset.
-#[tactic(auto, unfolding(openflow10::specs::Layout::number_at))]
-pub(crate) fn u8_at(bytes: &[u8], offset: usize) -> u8
-    requires { offset + 1 ≤ length bytes.now }
-    ensures { result ≡ number_at offset 1 bytes.now }
-{
-    bytes[offset]
-}
-
-/// The number in the two bytes from an offset on.
-pub(crate) fn u16_at(bytes: &[u8], offset: usize) -> u16
-    requires { offset + 2 ≤ length bytes.now }
-    ensures { result ≡ number_at offset 2 bytes.now }
-{
-    let from_offset = &bytes[offset..];
-    BigEndian::read_u16(from_offset)
-}
-
-/// The number in the four bytes from an offset on.
-pub(crate) fn u32_at(bytes: &[u8], offset: usize) -> u32
-    requires { offset + 4 ≤ length bytes.now }
-    ensures { result ≡ number_at offset 4 bytes.now }
-{
-    let from_offset = &bytes[offset..];
-    BigEndian::read_u32(from_offset)
 }
 
 /// Whether a message of the type may not have the version: 1, or in a HELLO any but 0.

@@ -10,16 +10,14 @@ use Rattle.std.specs.declared.cmp.Ordering.TheVariants.{Less, Equal, Greater}
 use Rattle.std.proofs.lemmas.Bool.{both_ways}
 use Rattle.std.proofs.lemmas.List.Elements.{recursion_from_All}
 use Rattle.std.proofs.lemmas.List.Sorted.{ranks_by, sorted_far, IsPermutation-map}
-use Rattle.std.proofs.lemmas.Map.Keys.{IsDistinct-IsPermutation}
-use Rattle.net_base.specs.Members.{IsIn, IsDistinct}
+use Rattle.net_base.specs.Members.{IsIn}
 use Rattle.net_base.proofs.MemberLaws.{each_at, each_from_in, in_map, in_from_map}
 use Rattle.flow_rules.specs.Order.{key_cmp}
-use Rattle.flow_rules.specs.Patterns.{key_eq}
 use Rattle.flow_rules.specs.Tables.{keys_of, IsTable}
 use Rattle.flow_rules.specs.declared.rules.Key.{Key}
 use Rattle.flow_rules.specs.declared.rules.Rule.{Rule}
 use Rattle.flow_rules.proofs.OrderLaws.{key_total}
-use Rattle.flow_rules.proofs.KeyLaws.{key_eq-true, key_eq-false, key_eq-refl, key_ne}
+use Rattle.flow_rules.proofs.DistinctLaws.{keys_moved}
 use Rattle.update_model.proofs.KeyOrderLaws.{IsKeyLess, key_either}
 use Rattle.table_difference.specs.KeyOrder.{AreInKeyOrder, AreAscending}
 
@@ -76,28 +74,9 @@ ascending_from_order (r ∷ rs) order table = (
   ascending_from_order rs order.1 table.1,
 )
 
--- distinct keys by their test
-apart_from : (ks : List Key) → IsDistinct ks → std_list.IsDistinct key_eq ks
-unfolding std_list.IsDistinct
-apart_from [] distinct = tt
-apart_from (k ∷ ks) distinct = (each_from_in (λ q. key_eq k q ≡ false) ks (λ q i. key_ne k q (λ e. distinct.0 (subst (λ x. IsIn x ks) (sym e) i))), apart_from ks distinct.1)
-
-from_apart : (ks : List Key) → std_list.IsDistinct key_eq ks → IsDistinct ks
-unfolding std_list.IsDistinct
-from_apart [] apart = tt
-from_apart (k ∷ ks) apart = (λ i. both_ways (key_eq k k) (each_at (λ q. key_eq k q ≡ false) ks k apart.0 i) (key_eq-refl k), from_apart ks apart.1)
-
-flips : (a b : Key) → key_eq a b ≡ key_eq b a
-flips a b =
-    elim (key_eq b a) as (λ t. key_eq b a ≡ t → key_eq a b ≡ t) [
-      | true ↦ λ e. subst (λ k. key_eq a k ≡ true) (sym (key_eq-true b a e)) (key_eq-refl a)
-      | false ↦ λ e. key_ne a b (λ same. key_eq-false b a e (sym same))
-    ] refl
-
 -- a table stays one when its rules change places
 pub table_moved : (rs qs : List Rule) → IsPermutation rs qs → IsTable rs → IsTable qs
-table_moved rs qs moved table =
-    from_apart (keys_of qs) (IsDistinct-IsPermutation key_eq flips (keys_of rs) (keys_of qs) (IsPermutation-map (λ (r : Rule). r.key) rs qs moved) (apart_from (keys_of rs) table))
+table_moved rs qs moved table = keys_moved (keys_of rs) (keys_of qs) (IsPermutation-map (λ (r : Rule). r.key) rs qs moved) table
 
 -- the keys of ascending rules are sorted
 pub sorted_keys : (r : Rule) (rs : List Rule) → AreAscending (r ∷ rs) → (k : Key) → IsIn k (keys_of rs) → IsKeyLess r.key k

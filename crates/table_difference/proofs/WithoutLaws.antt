@@ -1,17 +1,14 @@
 -- After a change that remains the others remain, in the same order.
-use Rattle.std.proofs.Common.{◌≡◌, ◌⊎◌, ℕ, zero, suc, ◌+◌, ◌<◌, cond, List, [], ◌∷◌, ◌++◌, length, get_or, set, refl, sym, ◌∙◌, subst, ap, inl, inr, arith}
+use Rattle.std.proofs.Common.{◌≡◌, ◌⊎◌, ℕ, zero, suc, ◌+◌, ◌<◌, List, [], ◌∷◌, ◌++◌, length, get_or, set, refl, sym, ◌∙◌, subst, ap, inl, inr, arith}
 use Rattle.std.specs.Prelude.{Option, Some, None, filter_map}
 use Rattle.std.specs.List.{cons_option, AllByRecursion}
-use Rattle.std.specs.Ordering.{is_lt}
-use Rattle.std.proofs.lemmas.Bool.{cond-true, cond-false, cond_both}
+use Rattle.std.proofs.lemmas.Bool.{cond-true, cond-false}
 use Rattle.std.proofs.lemmas.List.{append_assoc}
 use Rattle.net_base.specs.Members.{IsIn, IsDistinct}
 use Rattle.net_base.proofs.ListLaws.{distinct_members, told_from_distinct}
 use Rattle.net_base.proofs.MemberLaws.{in_map, in_from_map, in_append_left, in_append_right, in_append_cases, each_get_or}
 use Rattle.net_base.specs.declared.ids.SwitchId.{SwitchId}
 use Rattle.flow_rules.specs.Tables.{keys_of, rules_at, IsTable}
-use Rattle.flow_rules.specs.Order.{key_cmp}
-use Rattle.flow_rules.specs.Patterns.{key_eq}
 use Rattle.flow_rules.specs.declared.rules.Key.{Key}
 use Rattle.flow_rules.specs.declared.rules.Rule.{Rule}
 use Rattle.flow_rules.specs.Same.{action_eq}
@@ -24,7 +21,7 @@ use Rattle.update_model.specs.declared.Change.TheVariants.{Insert, Delete, Repla
 use Rattle.update_model.proofs.ChangeLaws.{key_named, writes_key, stands_from_in, in_from_stands}
 use Rattle.update_model.proofs.DifferenceLaws.{IsDifference, between_is, difference_switch, remaining_distinct}
 use Rattle.update_model.proofs.KeyOrderLaws.{order_distinct, in_order, from_order, in_with_key, from_with_key, sorted_with, sorted_order, sorted_unique}
-use Rattle.update_model.proofs.RemainingLaws.{AreUnique, AllUnique, unique_after, same_outside, rule_is, rule_none, rule_told, switch_at, in_from_changes}
+use Rattle.update_model.proofs.RemainingLaws.{AreUnique, AllUnique, unique_after, same_outside, rule_is, rule_none, rule_told, switch_at, in_from_changes, with_nothing}
 
 -- ---- a list with one member cut out
 
@@ -89,14 +86,6 @@ module _ {A B : Type 0} (f g : A → Option B) (x : A) (y : B) (some : f x ≡ S
         | None ↦ rest
         | Some w ↦ cut_under w (filter_map f xs) y (filter_map g xs) rest
       ])
-
--- a key that gives nothing can be put in
-with_nothing : {B : Type 0} (g : Key → Option B) (k : Key) → g k ≡ None → (ks : List Key) → filter_map g (with_key k ks) ≡ filter_map g ks
-with_nothing g k none [] = ap (λ o. cons_option o []) none
-with_nothing g k none (q ∷ ks) =
-    cond_both (is_lt (key_cmp k q)) (k ∷ q ∷ ks) (cond (key_eq k q) (q ∷ ks) (q ∷ with_key k ks)) (λ zs. filter_map g zs ≡ filter_map g (q ∷ ks))
-    (λ _. ap (λ o. cons_option o (filter_map g (q ∷ ks))) none)
-    (λ _. cond_both (key_eq k q) (q ∷ ks) (q ∷ with_key k ks) (λ zs. filter_map g zs ≡ filter_map g (q ∷ ks)) (λ _. refl) (λ _. ap (cons_option (g q)) (with_nothing g k none ks)))
 
 -- ---- at one switch
 

@@ -1,7 +1,7 @@
 //! Which rules of a table may cover a packet to an address: those whose prefix holds it.
 #![tactic(auto)]
 
-ghost use Rattle.std.specs.Prelude.{ℕ, ◌≡◌, ◌+◌, ◌^◌, ◌≤◌, ◌<◌, ◌∷◌, [], ◌++◌, List, length, vec_len, vec_capacity, IfOk};
+ghost use Rattle.std.specs.Prelude.{ℕ, ◌≡◌, ◌+◌, ◌^◌, ◌≤◌, ◌<◌, ◌∷◌, [], ◌++◌, List, length, IfOk};
 ghost use Rattle.net_base.specs.Blocks.{Block};
 ghost use Rattle.table_index.specs.Candidates.{AreCandidates, prefixes_of};
 
@@ -23,16 +23,6 @@ impl Model for Index {
     ghost Value = { IndexState };
 
     ghost view = { λ index. record { candidates = index.positions.items; room = vec_capacity index.positions } };
-}
-
-/// Puts a position at the end of a list that has room for it.
-fn put(positions: &mut Vec<u32>, position: u32)
-    requires { vec_len positions.old < vec_capacity positions.old }
-    ensures items { positions.new.items ≡ positions.old.items ++ position ∷ [] }
-    ensures len { vec_len positions.new ≡ vec_len positions.old + 1 }
-    ensures room { vec_capacity positions.old ≤ vec_capacity positions.new }
-{
-    let _ = positions.push(position);
 }
 
 impl Index {
@@ -71,7 +61,7 @@ impl Index {
         ensures room { self.old.room ≤ self.new.room }
     {
         if prefix.has(dst) {
-            put(&mut self.positions, position);
+            self.positions.push_reserved(position);
         }
     }
 

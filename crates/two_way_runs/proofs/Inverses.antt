@@ -22,19 +22,16 @@ use Rattle.update_model.proofs.Matches.{Writes}
 use Rattle.update_model.proofs.ChangeLaws.{key_named, writes_key, StandsAfterAll, stands_all_from_in, in_from_stands_all, stands_from_in, in_from_stands, rules_at-after_change}
 use Rattle.update_model.proofs.MadeLaws.{made_of, made_every, made_some, at_some, distinct_some, keys_distinct, apply_there, each_some}
 use Rattle.update_model.proofs.OneRoundLaws.{next_tables}
-use Rattle.update_model.proofs.RoundLaws.{settled_start}
+use Rattle.update_model.proofs.RoundLaws.{settled_start, length-settled}
 use Rattle.update_model.specs.declared.Phase.TheVariants.{Running}
+use Rattle.update_model.proofs.RemainingLaws.{AreUnique}
 use Rattle.two_way_runs.specs.States.{TwoWayEvent, MayUndo, with_entry_of, tables_undone}
 use Rattle.two_way_runs.specs.Runs.{IsTwoWayRun, state_after_two_way}
 use Rattle.two_way_runs.specs.Inverse.{rule_with, inverse_of, inverse_round}
 use Rattle.two_way_runs.specs.Laws.{IsTakenBack}
 use Rattle.two_way_runs.proofs.Flags.{turned_get, replicate_off}
-use Rattle.two_way_runs.proofs.Turning.{TablesAre, length-settled, sound_both_ways}
+use Rattle.two_way_runs.proofs.Turning.{TablesAre, sound_both_ways}
 use Rattle.two_way_runs.proofs.Undone.{rules_at-set, in_entry_of, entry_of_in}
-
--- no two rules have one key
-abbrev pub IsUnique : List Rule → Type 0
-IsUnique rules = (a b : Rule) → IsIn a rules → IsIn b rules → a.key ≡ b.key → a ≡ b
 
 rule_with-key : (rules : List Rule) (key : Key) (other : Rule) → other.key ≡ key → (rule_with rules key other).key ≡ key
 rule_with-key [] key other e = e
@@ -68,20 +65,20 @@ rule_with-in before r i =
     subst (λ (o : Option Rule). IsIn (unwrap_or o r) before) (sym found) k
 
 -- an inverse writes just the rule that stood under the key before
-written_by_inverse : (before : List Rule) → IsUnique before → (c : Change) → AppliesTo before c → (q : Rule) → Writes q (inverse_of before c) → IsIn q before × (q.key ≡ key_named c)
+written_by_inverse : (before : List Rule) → AreUnique before → (c : Change) → AppliesTo before c → (q : Rule) → Writes q (inverse_of before c) → IsIn q before × (q.key ≡ key_named c)
 written_by_inverse before unique (Insert s r) applies q w = absurd w
 written_by_inverse before unique (Delete s r) applies q w = (subst (λ x. IsIn x before) (sym w) applies, ap (λ x. x.key) w)
 written_by_inverse before unique (Replace s r) applies q w =
     (subst (λ x. IsIn x before) (sym w) (rule_with-in before r applies), ap (λ x. x.key) w ∙ rule_with-key before r.key r refl)
 
-inverse_writes : (before : List Rule) → IsUnique before → (c : Change) → AppliesTo before c → (q : Rule) → IsIn q before → q.key ≡ key_named c → Writes q (inverse_of before c)
+inverse_writes : (before : List Rule) → AreUnique before → (c : Change) → AppliesTo before c → (q : Rule) → IsIn q before → q.key ≡ key_named c → Writes q (inverse_of before c)
 inverse_writes before unique (Insert s r) applies q i e = absurd (applies (subst (λ k. IsIn k (keys_of before)) e (in_map (λ x. x.key) q before i)))
 inverse_writes before unique (Delete s r) applies q i e = unique q r i applies e
 inverse_writes before unique (Replace s r) applies q i e =
     unique q (rule_with before r.key r) i (rule_with-in before r applies) (e ∙ sym (rule_with-key before r.key r refl))
 
 -- at one switch, where changes that name different keys are made over the rules before, and one of them is taken back
-module _ (before : List Rule) (unique : IsUnique before) (more : List Change) (applies : AllByRecursion (AppliesTo before) more) (distinct : IsDistinct (map key_named more))
+module _ (before : List Rule) (unique : AreUnique before) (more : List Change) (applies : AllByRecursion (AppliesTo before) more) (distinct : IsDistinct (map key_named more))
     (rules : List Rule) (holds : IsSameSet rules (rules_after more before)) where
   stands : (r : Rule) → IsIn r rules → StandsAfterAll before more r
   stands r j = stands_all_from_in before more r applies distinct ((holds r).0 j)
@@ -116,7 +113,7 @@ module _ (before : List Rule) (unique : IsUnique before) (more : List Change) (a
       )
 
 -- what changes that name different keys leave has no key twice, as a set
-unique_after : (before : List Rule) (cs : List Change) → IsUnique before → AllByRecursion (AppliesTo before) cs → IsDistinct (map key_named cs) → IsUnique (rules_after cs before)
+unique_after : (before : List Rule) (cs : List Change) → AreUnique before → AllByRecursion (AppliesTo before) cs → IsDistinct (map key_named cs) → AreUnique (rules_after cs before)
 unique_after before cs unique applies distinct a b i j e =
     elim (stands_all_from_in before cs a applies distinct i) [
       | inl h ↦ elim (stands_all_from_in before cs b applies distinct j) [
@@ -143,12 +140,12 @@ module _ (u : Rollout) (good : AreGoodRounds u) (old : AllByRecursion IsTable u.
   distinct_at : (k : ℕ) → k < length u.rounds → (s : SwitchId) → IsDistinct (map key_named (changes_at s (round_after k u.rounds)))
   distinct_at k less s = keys_distinct s (round_after k u.rounds) (good k less).distinct
 
-  pub unique_before : (k : ℕ) → k ≤ length u.rounds → (s : SwitchId) → IsUnique (rules_at (tables_before u k) s)
+  pub unique_before : (k : ℕ) → k ≤ length u.rounds → (s : SwitchId) → AreUnique (rules_at (tables_before u k) s)
   unique_before zero within s =
-      subst (λ t. IsUnique (rules_at t s)) (sym (settled_start u.rounds u.old)) (told_from_distinct (λ r. r.key) (rules_at u.old s) (each_get_or IsTable u.old s.0 [] old tt))
+      subst (λ t. AreUnique (rules_at t s)) (sym (settled_start u.rounds u.old)) (told_from_distinct (λ r. r.key) (rules_at u.old s) (each_get_or IsTable u.old s.0 [] old tt))
   unique_before (suc k) within s =
       let less : k < length u.rounds = omega arith in
-      subst IsUnique (sym (next_tables u k less (good k less) s))
+      subst AreUnique (sym (next_tables u k less (good k less) s))
       (unique_after (rules_at (tables_before u k) s) (changes_at s (round_after k u.rounds)) (unique_before k (omega arith) s) (apply_at k less s) (distinct_at k less s))
 
 -- a change that is made
@@ -191,7 +188,7 @@ module _ (u : Rollout) (good : AreGoodRounds u) (old : AllByRecursion IsTable u.
     within : (switch_of c).0 < length tables
     within = subst (λ n. (switch_of c).0 < n) (length-settled u.rounds k u.old ∙ sym count) (each_at (Applies (tables_before u k)) (round_after k u.rounds) c (good k less).applies in_round).0
 
-    unique : IsUnique (rules_at (tables_before u k) (switch_of c))
+    unique : AreUnique (rules_at (tables_before u k) (switch_of c))
     unique = unique_before u good old k (omega arith) (switch_of c)
 
     within_inverse : (switch_of (inverse_of (rules_at (tables_before u k) (switch_of c)) c)).0 < length tables

@@ -8,7 +8,7 @@ use Rattle.std.proofs.lemmas.Bool.{cases_lt}
 use Rattle.net_base.specs.Members.{IsSameSet}
 use Rattle.net_base.specs.Places.{stop_of}
 use Rattle.net_base.proofs.WalkLaws.{IsWalk-push, end_of-push}
-use Rattle.net_base.proofs.MemberLaws.{IsSubsequence_refl, each_weaker, each_both, each_append, each_set, each_at, map-push}
+use Rattle.net_base.proofs.MemberLaws.{IsSubsequence_refl, each_weaker, each_both, each_append, each_at, map-push}
 use Rattle.net_base.proofs.ItemLaws.{in_from_get}
 use Rattle.net_base.specs.declared.ids.SwitchId.{SwitchId}
 use Rattle.net_base.specs.declared.ids.Place.{Place}
@@ -19,19 +19,18 @@ use Rattle.path_walk.specs.Paths.{outcome_in}
 use Rattle.path_walk.specs.declared.Ended.TheVariants.{UnderWay, Lost}
 use Rattle.path_walk.specs.declared.Outcome.{Outcome}
 use Rattle.path_walk.specs.declared.Outcome.TheVariants.{Discard, Leave, Go}
-use Rattle.update_model.specs.Changes.{switch_of, Applies, changes_at, rules_after, tables_after, tables_after_change, round_after, settled_tables}
+use Rattle.update_model.specs.Changes.{switch_of, Applies, changes_at, rules_after, tables_after_change, round_after}
 use Rattle.update_model.specs.Mixtures.{Rollout, tables_before, MayHold, IsPossible, MayGo, AreGoodRounds}
 use Rattle.update_model.specs.OneRound.{EndWasPossible}
-use Rattle.update_model.specs.States.{IsUnderWay, entered, hopped, lost, settled, settled_count, with_packet}
+use Rattle.update_model.specs.States.{IsUnderWay, entered, hopped, lost, settled, settled_count}
 use Rattle.update_model.specs.declared.Change.{Change}
 use Rattle.update_model.specs.declared.Event.TheVariants as event
 use Rattle.update_model.specs.declared.Packet.{Packet}
 use Rattle.update_model.specs.declared.Phase.{Phase}
 use Rattle.update_model.specs.declared.Phase.TheVariants.{Settled, Running}
-use Rattle.update_model.proofs.ChangeLaws.{length-tables_after}
 use Rattle.update_model.proofs.MadeLaws.{made_of, made_none, made_every, made_some, at_some}
-use Rattle.update_model.proofs.OneRoundLaws.{next_tables}
-use Rattle.update_model.proofs.RoundLaws.{settled_start, holds_more}
+use Rattle.update_model.proofs.OneRoundLaws.{next_tables, each_with_packet}
+use Rattle.update_model.proofs.RoundLaws.{settled_start, holds_more, length-settled}
 use Rattle.two_way_runs.specs.States.{TwoWayEvent, TwoWayState, Onward, Undo, Back, SettleBack, first_two_way, IsTwoWayEnabled, two_way_after, tables_undone, turned_back}
 use Rattle.two_way_runs.specs.Runs.{AreTwoWayEnabled, two_way_state, IsTwoWayRun, state_after_two_way}
 use Rattle.two_way_runs.specs.Laws.{TablesAreMixtures, WalkedRound, WalkedSomeRound}
@@ -75,17 +74,6 @@ pub record Sound (u : Rollout) (st : TwoWayState) : Type 0 where
   pub count : length st.tables ≡ length u.old
   pub tables : TablesAre u st.phase st.tables st.in_force
   pub packets : AllByRecursion (IsSound u st.phase st.settles) st.packets
-
-pub length-settled : (rounds : List (List Change)) (k : ℕ) (tables : List (List Rule)) → length (settled_tables rounds k tables) ≡ length tables
-length-settled [] k tables = refl
-length-settled (round ∷ rounds) zero tables = refl
-length-settled (round ∷ rounds) (suc k) tables = length-settled rounds k (tables_after round tables) ∙ length-tables_after round tables
-
-each_with_packet : (P : Packet → Type 0) (f : Packet → Packet) (packets : List Packet) (i : ℕ) (p : Packet) → slice_get packets i ≡ Some p
-    → (P p → P (f p)) → AllByRecursion P packets → AllByRecursion P (with_packet f i packets)
-each_with_packet P f packets i p at step all =
-    subst (λ o. AllByRecursion P (option_map_or (λ q. set packets i (f q)) o packets)) (sym at)
-    (each_set P packets i (f p) all (step (each_at P packets p all (in_from_get packets i p at))))
 
 module _ (u : Rollout) (good : AreGoodRounds u) where
   -- a switch has a mixture of the round that runs

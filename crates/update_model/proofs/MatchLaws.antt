@@ -46,7 +46,7 @@ some_matches h rules q i = best (covering h rules) i
         (r, found)
 
 -- a key is named or not
-cases_named : (k : Key) (cs : List Change) → IsIn k (map key_named cs) ⊎ (¬ IsIn k (map key_named cs))
+pub cases_named : (k : Key) (cs : List Change) → IsIn k (map key_named cs) ⊎ (¬ IsIn k (map key_named cs))
 cases_named k [] = inr (λ i. i)
 cases_named k (c ∷ cs) =
     elim (cases_key k (key_named c)) [

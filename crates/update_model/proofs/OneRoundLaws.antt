@@ -69,6 +69,13 @@ next_tables u k less good s =
     ∙ rules_at-after (round_after k u.rounds) (tables_before u k) s
     (each_weaker (Applies (tables_before u k)) (IsWithin (length (tables_before u k))) (λ c h. h.0) (round_after k u.rounds) good.applies)
 
+-- what each packet has, each has after one of them moved
+pub each_with_packet : (P : Packet → Type 0) (f : Packet → Packet) (packets : List Packet) (i : ℕ) (p : Packet) → slice_get packets i ≡ Some p
+    → (P p → P (f p)) → AllByRecursion P packets → AllByRecursion P (with_packet f i packets)
+each_with_packet P f packets i p at step all =
+    subst (λ o. AllByRecursion P (option_map_or (λ q. set packets i (f q)) o packets)) (sym at)
+    (each_set P packets i (f p) all (step (each_at P packets p all (in_from_get packets i p at))))
+
 module _ (u : Rollout) (good : AreGoodRounds u) where
   -- a packet under way finds a mixture of its round at each switch
   held_now : (phase : Phase) (tables : List (List Rule)) (flags : List Bool) → TablesAre u phase tables flags → (p : Packet) → InTime phase p → IsUnderWay p
@@ -182,12 +189,6 @@ module _ (u : Rollout) (good : AreGoodRounds u) where
   lost_sound : (phase : Phase) (p : Packet) → IsUnderWay p → IsSound u phase p → IsSound u phase (lost p)
   lost_sound (Settled k) p under sound = ((sound.0.0, λ _. sound.0.1 under), record { rest = sound.1.rest; walk = sound.1.walk; at_is = sound.1.at_is; visits_are = sound.1.visits_are; ended = tt }, record { entry = sound.2.entry; dst = sound.2.dst; born = sound.2.born })
   lost_sound (Running k) p under sound = ((sound.0.0, λ _. sound.0.1 under), record { rest = sound.1.rest; walk = sound.1.walk; at_is = sound.1.at_is; visits_are = sound.1.visits_are; ended = tt }, record { entry = sound.2.entry; dst = sound.2.dst; born = sound.2.born })
-
-  each_with_packet : (P : Packet → Type 0) (f : Packet → Packet) (packets : List Packet) (i : ℕ) (p : Packet) → slice_get packets i ≡ Some p
-      → (P p → P (f p)) → AllByRecursion P packets → AllByRecursion P (with_packet f i packets)
-  each_with_packet P f packets i p at step all =
-      subst (λ o. AllByRecursion P (option_map_or (λ q. set packets i (f q)) o packets)) (sym at)
-      (each_set P packets i (f p) all (step (each_at P packets p all (in_from_get packets i p at))))
 
   pub sound_after : (st : State) (e : Event) → Sound u st → IsEnabled u.net u.rounds st e → Sound u (state_after_event u.net u.rounds st e)
   sound_after st event.Start sound may = record {

@@ -92,7 +92,7 @@ key_in : (r : Rule) (rules : List Rule) (k : Key) → IsIn r rules → r.key ≡
 key_in r rules k i e = subst (λ x. IsIn x (keys_of rules)) e (in_map (λ x. x.key) r rules i)
 
 -- a key that gives nothing can be put in
-with_nothing : {B : Type 0} (g : Key → Option B) (k : Key) → g k ≡ None → (ks : List Key) → filter_map g (with_key k ks) ≡ filter_map g ks
+pub with_nothing : {B : Type 0} (g : Key → Option B) (k : Key) → g k ≡ None → (ks : List Key) → filter_map g (with_key k ks) ≡ filter_map g ks
 with_nothing g k none [] = ap (λ o. cons_option o []) none
 with_nothing g k none (q ∷ ks) =
     cond_both (is_lt (key_cmp k q)) (k ∷ q ∷ ks) (cond (key_eq k q) (q ∷ ks) (q ∷ with_key k ks)) (λ zs. filter_map g zs ≡ filter_map g (q ∷ ks))

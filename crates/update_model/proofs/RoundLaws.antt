@@ -11,7 +11,7 @@ use Rattle.flow_rules.specs.declared.rules.Rule.{Rule}
 use Rattle.update_model.specs.Changes.{switch_of, AppliesTo, Applies, entry_named, changes_at, rules_after, rules_after_change, tables_after, tables_after_change, round_after, settled_tables, IsGoodRound}
 use Rattle.update_model.proofs.Matches.{Writes}
 use Rattle.update_model.specs.declared.Change.{Change}
-use Rattle.update_model.proofs.ChangeLaws.{key_named, writes_key, StandsAfterAll, stands_from_in, in_from_stands, stands_all_from_in, in_from_stands_all, rules_at-after_change}
+use Rattle.update_model.proofs.ChangeLaws.{key_named, writes_key, StandsAfterAll, stands_from_in, in_from_stands, stands_all_from_in, in_from_stands_all, length-tables_after, rules_at-after_change}
 use Rattle.update_model.proofs.MadeLaws.{made_of, made_some, made_more, made_still, made_this, made_fresh, at_some, distinct_some, keys_distinct, apply_there, same_entry, each_some}
 
 pub settled_zero : (rounds : List (List Change)) (tables : List (List Rule)) → settled_tables rounds zero tables ≡ tables
@@ -27,6 +27,12 @@ pub settled_next : (rounds : List (List Change)) (k : ℕ) (tables : List (List 
 settled_next [] k tables less = absurd (omega arith)
 settled_next (r ∷ rounds) zero tables less = settled_zero rounds (tables_after r tables)
 settled_next (r ∷ rounds) (suc k) tables less = settled_next rounds k (tables_after r tables) (omega arith)
+
+-- the changes of rounds keep the number of tables
+pub length-settled : (rounds : List (List Change)) (k : ℕ) (tables : List (List Rule)) → length (settled_tables rounds k tables) ≡ length tables
+length-settled [] k tables = refl
+length-settled (round ∷ rounds) zero tables = refl
+length-settled (round ∷ rounds) (suc k) tables = length-settled rounds k (tables_after round tables) ∙ length-tables_after round tables
 
 module _ (before : List Rule) (some more : List Change) where
   -- the same changes leave the same

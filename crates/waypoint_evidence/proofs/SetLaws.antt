@@ -1,7 +1,7 @@
 -- Marks as a set of numbers.
 use Rattle.std.proofs.Common.{◌≡◌, ◌⊎◌, ◌↔◌, ℕ, zero, suc, ◌+◌, ◌<◌, ◌≤◌, Bool, true, false, List, [], ◌∷◌, ◌++◌, length, get_or, set, refl, sym, ap, ◌∙◌, subst, inl, inr, arith}
-use Rattle.std.proofs.lemmas.Bool.{false≢true, cases_eq, cases_lt, false_from_ne_true}
-use Rattle.std.proofs.lemmas.List.{get_or-set_same, get_or-set_other, get_or_default}
+use Rattle.std.proofs.lemmas.Bool.{false≢true, cases_eq, false_from_ne_true}
+use Rattle.std.proofs.lemmas.List.{get_or-set_same, get_or-set_other}
 use Rattle.std.specs.List.{AllByRecursion}
 use Rattle.net_base.specs.Members.{IsIn}
 use Rattle.std.specs.Prelude.{Option, Some, None}
@@ -88,18 +88,6 @@ cases_in n (x ∷ xs) =
 pub cases_earlier : (earlier : Option (List ℕ)) (s : SwitchId) → HoldsEarlier earlier s ⊎ (¬ HoldsEarlier earlier s)
 cases_earlier None s = inr (λ h. h)
 cases_earlier (Some xs) s = cases_in s.0 xs
-
-module _ {A : Type 0} where
-  -- what holds of the items below a place and of the one there holds of those below the next place
-  pub each_more : (P : A → Type 0) (xs : List A) (i : ℕ) (e : A) → i < length xs → ((k : ℕ) (d : A) → k < i → P (get_or xs k d)) → P (get_or xs i e)
-      → (k : ℕ) (d : A) → k < i + 1 → P (get_or xs k d)
-  each_more P xs i e within below here k d less =
-      elim (cases_lt k i) [
-        | inl before ↦ below k d before
-        | inr after ↦ (
-            let same : i ≡ k = omega arith in
-            subst (λ (n : ℕ). P (get_or xs n d)) same (subst P (get_or_default xs i e d within) here))
-      ]
 
 -- ---- a mark past all others
 

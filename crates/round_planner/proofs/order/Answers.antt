@@ -21,7 +21,6 @@ invariant_of-goal c = record {
   user = c.requires.new;
   duties_of_them = c.requires.duties;
   hosts = ap (λ (cs : ClassList). cs.hosts) c.requires.classes;
-  vlans = ap (λ (cs : ClassList). cs.vlans) c.requires.classes;
   listed = c.in_ok-list.ensures;
 }
 

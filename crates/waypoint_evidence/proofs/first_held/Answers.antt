@@ -2,9 +2,9 @@ use Rattle.std.proofs.Common.{arith}
 use Rattle.std.proofs.lemmas.Bool.{both_ways}
 use Rattle.net_base.specs.declared.ids.SwitchId.{SwitchId}
 use Rattle.waypoint_evidence.specs.Befores.{Holds}
-use Rattle.waypoint_evidence.proofs.SetLaws.{each_more}
 use Rattle.net_base.proofs.ItemLaws.{in_at}
 use Rattle.waypoint_evidence.proofs.first_held.Goals as goal
+use Rattle.acyclic_numbering.proofs.ListLaws.{each_more}
 
 pub returns-then-holds : goal.returns-then-holds
 returns-then-holds c = (in_at c.args.switches.now c.loop-s.s-index (record { 0 = 0 }) c.loop-s-test.true, c.holds.ensures.0 c.if-holds.true)

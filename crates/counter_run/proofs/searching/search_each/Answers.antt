@@ -1,4 +1,4 @@
-use Rattle.std.proofs.Common.{◌≡◌, ℕ, true, sym, subst, arith, add-one}
+use Rattle.std.proofs.Common.{ℕ, sym, subst, arith, add-one}
 use Rattle.std.specs.Prelude.{Option, IfNone}
 use Rattle.round_tables.specs.PreparedTables.{StandsBefore}
 use Rattle.round_survey.specs.Surveys.{WalksStand}

@@ -3,11 +3,12 @@ use Rattle.std.specs.Prelude.{slice_get}
 use Rattle.round_mix.specs.Prepared.{MixedState}
 use Rattle.check_reasons.specs.Loaded.{AreLoaded}
 use Rattle.counter_run.specs.Updates.{rollout_of}
-use Rattle.counter_run.proofs.PrepareLaws.{switches_prepared}
+use Rattle.counter_run.proofs.PrepareLaws.{count_old, switches_prepared}
 use Rattle.counter_run.proofs.searching.search_round.Goals as goal
 
 pub round_run-requires-clause-prepared : goal.round_run-requires-clause-prepared
-round_run-requires-clause-prepared c = switches_prepared _ c.args.tables.now c.requires.prepared c.requires.tables.holds.mixes c.mixes.ensures
+round_run-requires-clause-prepared c =
+    switches_prepared _ c.args.tables.now c.requires.prepared (c.requires.prepared.count ∙ count_old c.args.update c.requires.classed) c.mixes.ensures
 
 pub mark_good-requires-clause-prepared : goal.mark_good-requires-clause-prepared
 mark_good-requires-clause-prepared c on = record {

@@ -1,4 +1,4 @@
-use Rattle.std.proofs.Common.{sym, ap, ◌∙◌}
+use Rattle.std.proofs.Common.{ap, ◌∙◌}
 use Rattle.dest_classes.specs.Classes.{classes_of}
 use Rattle.plan_checker.proofs.room.classes_of_plan.Goals as goal
 

@@ -1,6 +1,6 @@
 use Rattle.std.proofs.Common.{take}
+use Rattle.config_files.specs.RuleTrees.{whole_tree}
 use Rattle.waypoint_evidence.specs.Befores.{marked_from}
-use Rattle.plan_text.specs.PlanText.{whole_tree}
 use Rattle.plan_text.specs.Tokens.{all_tokens, Adds}
 use Rattle.plan_text.proofs.write_evidence.write_marked.Given as goal
 

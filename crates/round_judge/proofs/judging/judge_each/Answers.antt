@@ -1,7 +1,6 @@
-use Rattle.std.proofs.Common.{◌≡◌, ◌<◌, refl, sym, ap, ◌∙◌, subst, arith}
+use Rattle.std.proofs.Common.{◌≡◌, ◌<◌, refl, sym, ◌∙◌, subst, arith}
 use Rattle.net_base.proofs.MemberLaws.{each_at, each_from_in}
 use Rattle.dest_classes.specs.Classes.{class_count}
-use Rattle.table_difference.specs.Targets.{Target}
 use Rattle.round_judge.specs.Judged.{AreSafeBelow, IsNewlySafe}
 use Rattle.round_judge.proofs.JudgingLaws.{safe_none, safe_noted, failed_noted, judged_met}
 use Rattle.round_judge.proofs.VisitLaws.{round_still, round_before, round_after_it}
@@ -19,7 +18,7 @@ loop-number-init c = (
 
 pub judge_next-requires-clause-number : goal.judge_next-requires-clause-number
 judge_next-requires-clause-number c =
-    let count : c.count-number-end.result ≡ class_count c.args.goal.now.classes = c.count-number-end.ensures.count ∙ ap (λ (a : Target). class_count a.classes) c.goal.view_is in
+    let count : c.count-number-end.result ≡ class_count c.args.goal.now.classes = c.count-number-end.ensures.count in
     omega (arith, c.loop-number-test.true)
 
 pub judge_next-requires-clause-came : goal.judge_next-requires-clause-came
@@ -30,7 +29,7 @@ returns-in-Some c u k round next met held =
     let to = c.args.goal.now in
     let e = c.args.tried.now.store.now.evidence in
     let number = c.loop-number.number in
-    let count : c.count-number-end.result ≡ class_count to.classes = c.count-number-end.ensures.count ∙ ap (λ (a : Target). class_count a.classes) c.goal.view_is in
+    let count : c.count-number-end.result ≡ class_count to.classes = c.count-number-end.ensures.count in
     let less : number < c.count-number-end.result = omega arith in
     let (safe, before, marked) = c.loop-number.invariant.1 u k round next met held in
     let judged = c.in_ok-judged.ensures in (
@@ -59,7 +58,7 @@ loop-number-preserved c =
 pub returns : goal.returns
 returns c u k round next met held =
     let to = c.args.goal.now in
-    let count : c.count-number-end.result ≡ class_count to.classes = c.count-number-end.ensures.count ∙ ap (λ (a : Target). class_count a.classes) c.goal.view_is in
+    let count : c.count-number-end.result ≡ class_count to.classes = c.count-number-end.ensures.count in
     let last : c.loop-number.number ≡ c.count-number-end.result = omega arith in
     let (safe, before, marked) = c.loop-number.invariant.1 u k round next met held in (
       subst (λ n. AreSafeBelow to u c.args.tried.now.store.now.evidence k n c.loop-number.found.items) (last ∙ count) safe,

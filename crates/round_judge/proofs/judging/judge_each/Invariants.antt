@@ -2,7 +2,8 @@ use Rattle.std.proofs.Common.{◌≡◌, ℕ, length}
 use Rattle.std.specs.List.{AllByRecursion}
 use Rattle.update_model.specs.Mixtures.{Rollout}
 use Rattle.mixed_walks.specs.Walks.{IsRoundOf}
-use Rattle.round_judge.specs.Judged.{IsNextRound, IsNewlySafe, AreSafeBelow, HoldsLastOf}
+use Rattle.round_judge.specs.Goals.{HoldsLastOf}
+use Rattle.round_judge.specs.Judged.{IsNextRound, IsNewlySafe, AreSafeBelow}
 use Rattle.round_judge.specs.Visits.{HoldRound}
 use Rattle.round_judge.proofs.judging.judge_each.Given as goal
 

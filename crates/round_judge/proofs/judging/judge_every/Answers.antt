@@ -1,8 +1,7 @@
-use Rattle.std.proofs.Common.{◌≡◌, ℕ, ◌+◌, ◌<◌, refl, sym, ap, ◌∙◌, subst, arith}
+use Rattle.std.proofs.Common.{◌≡◌, ℕ, ◌+◌, ◌<◌, refl, sym, ◌∙◌, subst, arith}
 use Rattle.dest_classes.specs.Classes.{IsClass, class_count}
 use Rattle.dest_classes.specs.declared.Class.{Class}
 use Rattle.class_watch.specs.Walks.{HoldsWalks}
-use Rattle.table_difference.specs.Targets.{Target}
 use Rattle.round_judge.specs.Judged.{AreSafeBelow}
 use Rattle.round_judge.specs.Visits.{marks_at}
 use Rattle.round_judge.proofs.JudgingLaws.{safe_none, safe_noted, failed_noted, failed_below, judged_there, judged_met, numbered_class}
@@ -21,12 +20,12 @@ loop-number-init c = record {
 
 pub numbered-numbered-requires : goal.numbered-numbered-requires
 numbered-numbered-requires c =
-    let count : c.count-number-end.result ≡ class_count c.args.goal.now.classes = c.count-number-end.ensures.count ∙ ap (λ (a : Target). class_count a.classes) c.goal.view_is in
+    let count : c.count-number-end.result ≡ class_count c.args.goal.now.classes = c.count-number-end.ensures.count in
     omega (arith, c.loop-number-test.true)
 
 pub judge_class-requires-clause-number : goal.judge_class-requires-clause-number
 judge_class-requires-clause-number c =
-    let count : c.count-number-end.result ≡ class_count c.args.goal.now.classes = c.count-number-end.ensures.count ∙ ap (λ (a : Target). class_count a.classes) c.goal.view_is in
+    let count : c.count-number-end.result ≡ class_count c.args.goal.now.classes = c.count-number-end.ensures.count in
     let number = c.numbered-numbered.ensures.number in
     omega (arith, c.loop-number-test.true)
 
@@ -38,7 +37,7 @@ returns-in-Some c u k round next held =
     let to = c.args.goal.now in
     let e = c.args.tried.now.store.now.evidence in
     let number = c.loop-number.number in
-    let count : c.count-number-end.result ≡ class_count to.classes = c.count-number-end.ensures.count ∙ ap (λ (a : Target). class_count a.classes) c.goal.view_is in
+    let count : c.count-number-end.result ≡ class_count to.classes = c.count-number-end.ensures.count in
     let test = c.loop-number-test.true in
     let less : number < class_count to.classes = omega arith in
     let (safe, known) = c.loop-number.invariant.safe u k round next held in
@@ -93,7 +92,7 @@ loop-number-preserved c =
 pub returns : goal.returns
 returns c u k round next held =
     let to = c.args.goal.now in
-    let count : c.count-number-end.result ≡ class_count to.classes = c.count-number-end.ensures.count ∙ ap (λ (a : Target). class_count a.classes) c.goal.view_is in
+    let count : c.count-number-end.result ≡ class_count to.classes = c.count-number-end.ensures.count in
     let last : c.loop-number.number ≡ c.count-number-end.result = omega arith in
     let (safe, known) = c.loop-number.invariant.safe u k round next held in
     let all = subst (λ n. AreHeldBelow to u k n c.loop-number.watch.came.items) (last ∙ count) known in (

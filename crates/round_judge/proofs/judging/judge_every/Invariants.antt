@@ -1,7 +1,8 @@
 use Rattle.std.proofs.Common.{◌≡◌, ℕ, length}
 use Rattle.update_model.specs.Mixtures.{Rollout, tables_before}
 use Rattle.mixed_walks.specs.Walks.{IsRoundOf}
-use Rattle.round_judge.specs.Judged.{IsNextRound, AreSafeBelow, HoldsLastOf}
+use Rattle.round_judge.specs.Goals.{HoldsLastOf}
+use Rattle.round_judge.specs.Judged.{IsNextRound, AreSafeBelow}
 use Rattle.round_judge.specs.Visits.{HoldTables}
 use Rattle.round_judge.proofs.VisitLaws.{AreHeldBelow}
 use Rattle.round_judge.proofs.judging.judge_every.Given as goal

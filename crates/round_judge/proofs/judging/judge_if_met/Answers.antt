@@ -1,5 +1,4 @@
-use Rattle.std.proofs.Common.{◌≡◌, ℕ, ◌<◌, false, Bool, List, length, get_or, sym, ◌∙◌, subst, arith}
-use Rattle.std.proofs.lemmas.List.{get_or_default}
+use Rattle.std.proofs.Common.{◌≡◌, ℕ, false, Bool, List, sym, ◌∙◌, subst, arith}
 use Rattle.std.proofs.lemmas.Result.{IfOk-weaker, on_ok_weaker}
 use Rattle.dest_classes.specs.Classes.{IsClass}
 use Rattle.dest_classes.specs.declared.Class.{Class}
@@ -10,16 +9,12 @@ use Rattle.round_judge.specs.declared.judging.Judged.{Judged}
 use Rattle.class_watch.specs.Walks.{HoldsTables, HoldsWalks, meets_any}
 use Rattle.round_judge.specs.Judged.{IsNextRound, IsJudged, IsJudgedIfMet}
 use Rattle.round_judge.specs.Visits.{marks_at}
-use Rattle.round_judge.proofs.JudgingLaws.{stays_certified, numbered_class, judged_there, judged_met}
+use Rattle.round_judge.proofs.JudgingLaws.{stays_certified, numbered_class, judged_there, judged_met, read_as}
 use Rattle.round_judge.proofs.VisitLaws.{walks_still}
 use Rattle.round_judge.proofs.judging.judge_if_met.Goals as goal
 
 pub index-requires : goal.index-requires
 index-requires c = let number = c.requires.number in let count = c.requires.came in omega arith
-
--- a member that was read, whatever would stand past the end
-read_as : (came : List ℕ) (n read : ℕ) → n < length came → read ≡ get_or came n read → read ≡ marks_at came n
-read_as came n read within is = is ∙ get_or_default came n read 0 within
 
 -- no change meets the class at the switches that were read
 not_met : (changes : List Change) (read marks : ℕ) → read ≡ marks → (here class : Class) → here ≡ class → (told : Bool) → told ≡ false → told ≡ meets_any changes here read → meets_any changes class marks ≡ false

@@ -1,6 +1,5 @@
-use Rattle.std.proofs.Common.{◌≡◌, ◌+◌, ◌<◌, refl, sym, ◌∙◌, ap, subst, arith}
+use Rattle.std.proofs.Common.{◌≡◌, ◌+◌, ◌<◌, refl, sym, ◌∙◌, subst, arith}
 use Rattle.dest_classes.specs.Classes.{class_count}
-use Rattle.table_difference.specs.Targets.{Target}
 use Rattle.round_judge.proofs.JudgingLaws.{AreMetBelow, met_none, met_noted, failed_noted, failed_below}
 use Rattle.round_judge.proofs.VisitLaws.{held_none, held_more, held_all, held_back}
 use Rattle.round_judge.proofs.MetLaws.{AreMetUpTo, passed_over, past_to}
@@ -26,7 +25,7 @@ judging-init c =
 
 pub judge_if_met-requires-clause-number : goal.judge_if_met-requires-clause-number
 judge_if_met-requires-clause-number c =
-    let count : c.count-end.result ≡ class_count c.args.goal.now.classes = c.count-end.ensures.count ∙ ap (λ (a : Target). class_count a.classes) c.goal.view_is in
+    let count : c.count-end.result ≡ class_count c.args.goal.now.classes = c.count-end.ensures.count in
     let less = c.judging-test.true in
     omega arith
 
@@ -38,7 +37,7 @@ returns-in-Some-clause-judged c u k round next held =
     let to = c.args.goal.now in
     let e = c.args.tried.now.store.now.evidence in
     let number = c.judging.number in
-    let count : c.count-end.result ≡ class_count to.classes = c.count-end.ensures.count ∙ ap (λ (a : Target). class_count a.classes) c.goal.view_is in
+    let count : c.count-end.result ≡ class_count to.classes = c.count-end.ensures.count in
     let test = c.judging-test.true in
     let less : number < class_count to.classes = omega arith in
     let (met, known) = c.judging.invariant.met u k round next held in
@@ -58,7 +57,7 @@ judging-preserved c =
     let e = c.args.tried.now.store.now.evidence in
     let changes = c.args.tried.now.changes.now in
     let number = c.judging.number in
-    let count : c.count-end.result ≡ class_count to.classes = c.count-end.ensures.count ∙ ap (λ (a : Target). class_count a.classes) c.goal.view_is in
+    let count : c.count-end.result ≡ class_count to.classes = c.count-end.ensures.count in
     let test = c.judging-test.true in
     let less : number < class_count to.classes = omega arith in
     let judged = c.in_ok-judged.ensures in
@@ -85,7 +84,7 @@ returns-clause-judged c u k round next held =
     let to = c.args.goal.now in
     let e = c.args.tried.now.store.now.evidence in
     let changes = c.args.tried.now.changes.now in
-    let count : c.count-end.result ≡ class_count to.classes = c.count-end.ensures.count ∙ ap (λ (a : Target). class_count a.classes) c.goal.view_is in
+    let count : c.count-end.result ≡ class_count to.classes = c.count-end.ensures.count in
     let past = c.judging-test.false in
     let within = c.judging.invariant.within in
     let all : c.judging.number ≡ class_count to.classes = omega arith in

@@ -1,7 +1,8 @@
 use Rattle.std.proofs.Common.{◌≡◌, ℕ, ◌-◌, ◌≤◌, length}
 use Rattle.update_model.specs.Mixtures.{Rollout, tables_before}
 use Rattle.mixed_walks.specs.Walks.{IsRoundOf}
-use Rattle.round_judge.specs.Judged.{IsNextRound, HoldsLastOf}
+use Rattle.round_judge.specs.Goals.{HoldsLastOf}
+use Rattle.round_judge.specs.Judged.{IsNextRound}
 use Rattle.round_judge.specs.Visits.{HoldTables}
 use Rattle.round_judge.proofs.JudgingLaws.{AreMetBelow}
 use Rattle.round_judge.proofs.VisitLaws.{AreHeldBelow}

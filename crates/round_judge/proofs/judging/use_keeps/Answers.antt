@@ -5,8 +5,12 @@ use Rattle.demands.specs.Duties.{DemandView, duties_of}
 use Rattle.certificates.specs.Ordered.{IsSafe}
 use Rattle.table_difference.specs.Targets.{Target}
 use Rattle.round_judge.specs.Goals.{duties_in}
-use Rattle.round_judge.proofs.JudgingLaws.{means_use}
+use Rattle.round_judge.proofs.JudgingLaws.{means_use, numbered_within}
 use Rattle.round_judge.proofs.judging.use_keeps.Goals as goal
+
+pub keeps_safe-requires-clause-entry : goal.keeps_safe-requires-clause-entry
+keeps_safe-requires-clause-entry c =
+    numbered_within c.goal.inside.net.now c.keeps_rules.ensures c.args.goal.now.classes c.goal.inside.classes.now (ap (λ (a : Target). a.classes) c.goal.view_is) c.goal.invariant.hosts c.args.numbered c.requires.class
 
 pub returns : goal.returns
 returns c u k pick numbers sets net walked is meant =

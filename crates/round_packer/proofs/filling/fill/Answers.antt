@@ -2,18 +2,23 @@ use Rattle.std.proofs.Common.{◌≡◌, ◌+◌, List, Vec, Global, ◌∷◌, 
 use Rattle.std.proofs.Math.Seq.{drop-cons}
 use Rattle.std.specs.Prelude.{Option, IfSome}
 use Rattle.std.specs.List.{AllByRecursion}
+use Rattle.net_base.specs.Members.{IsIn}
+use Rattle.net_base.proofs.ItemLaws.{in_at}
+use Rattle.net_base.proofs.MemberLaws.{each_at}
 use Rattle.update_model.specs.declared.Change.{Change}
 use Rattle.packed_rounds.specs.Packing.{CanStand, IsFilled}
+use Rattle.std.proofs.lemmas.List.{drop_all}
 use Rattle.round_packer.specs.declared.failing.Failure.{Failure}
-use Rattle.round_packer.specs.Kept.{target_of}
 use Rattle.round_packer.specs.Filling.{IsPlain, HasFailed}
-use Rattle.round_packer.proofs.FillLaws.{AreGone, gone_known, gone_tried, gone_failed, each_there, drop_past}
+use Rattle.round_packer.proofs.FillLaws.{AreGone, gone_known, gone_tried, gone_failed}
 use Rattle.round_packer.proofs.filling.fill.Goals.{in-Some-2+in_ok-push-2, in_default-2}
 use Rattle.round_packer.proofs.filling.fill.Goals as goal
 
 pub try_change-requires-clause-plain : goal.try_change-requires-clause-plain
 try_change-requires-clause-plain c =
-    each_there (IsPlain c.args.goal.now.net.now) c.args.left.now.changes.now c.loop-change.change-index c.change-item.result c.loop-change-test.true c.change-item.is c.requires.plain
+    let changes = c.args.left.now.changes.now in
+    let d = c.change-item.result in
+    each_at (IsPlain c.args.goal.now.net) changes d c.requires.plain (subst (λ (x : Change). IsIn x changes) (sym c.change-item.is) (in_at changes c.loop-change.change-index d c.loop-change-test.true))
 
 pub try_change-requires-clause-filling : goal.try_change-requires-clause-filling
 try_change-requires-clause-filling c =
@@ -28,7 +33,7 @@ loop-change-preserved-in-Some c =
     record {
       within = omega arith;
       gone = λ tables round at failed.
-          let to = (target_of c.args.goal.now.net.now c.args.goal.now.new.now c.args.goal.now.duties.now) in
+          let to = c.args.goal.now in
           let i = c.loop-change.change-index in
           let changes = c.args.left.now.changes.now in
           let known = c.args.left.now.failed.now in
@@ -50,7 +55,7 @@ pub loop-change-preserved : goal.loop-change-preserved
 loop-change-preserved c = record {
   within = c.loop-change.invariant.within;
   gone = λ tables round at failed.
-      let to = (target_of c.args.goal.now.net.now c.args.goal.now.new.now c.args.goal.now.duties.now) in
+      let to = c.args.goal.now in
       let i = c.loop-change.change-index in
       let changes = c.args.left.now.changes.now in
       let known = c.args.left.now.failed.now in
@@ -82,17 +87,17 @@ loop-change-preserved c = record {
 
 pub returns-clause-filled : goal.returns-clause-filled
 returns-clause-filled c = λ tables round at failed.
-    let to = (target_of c.args.goal.now.net.now c.args.goal.now.new.now c.args.goal.now.duties.now) in
+    let to = c.args.goal.now in
     let gone = c.loop-change.invariant.gone tables round at failed in
     record {
       round = gone.now;
       filled = gone.so_far gone.now
-          (subst (λ (cs : List Change). IsFilled (CanStand to tables) gone.now cs gone.now) (sym (drop_past c.args.left.now.changes.now c.loop-change.change-index c.loop-change-test.false)) refl);
+          (subst (λ (cs : List Change). IsFilled (CanStand to tables) gone.now cs gone.now) (sym (drop_all c.loop-change.change-index c.args.left.now.changes.now c.loop-change-test.false)) refl);
       filling = gone.filling;
     }
 
 pub returns-clause-failed : goal.returns-clause-failed
 returns-clause-failed c = λ tables round at failed.
-    let to = (target_of c.args.goal.now.net.now c.args.goal.now.new.now c.args.goal.now.duties.now) in
+    let to = c.args.goal.now in
     let gone = c.loop-change.invariant.gone tables round at failed in
     subst (λ (cs : List Change). AllByRecursion (HasFailed to tables cs) c.loop-change.failures.items) (sym gone.filling.round_is) gone.found_failed

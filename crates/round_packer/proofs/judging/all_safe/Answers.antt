@@ -1,22 +1,23 @@
-use Rattle.std.proofs.Common.{ℕ, sym, ◌∙◌, ap, subst, inl, inr, arith}
+use Rattle.std.proofs.Common.{ℕ, sym, ◌∙◌, subst, inl, inr, arith}
 use Rattle.std.proofs.lemmas.Bool.{cases_eq, false≢true}
-use Rattle.dest_classes.specs.Classes.{IsClass, class_count}
+use Rattle.dest_classes.specs.Classes.{IsClass}
 use Rattle.dest_classes.specs.declared.Class.{Class}
 use Rattle.dest_classes.proofs.MapLaws.{number_fits}
 use Rattle.certificates.specs.Rounds.{IsSafeByEvidence}
-use Rattle.round_packer.specs.Kept.{HoldsClass, set_at, target_of}
-use Rattle.round_packer.proofs.JudgeLaws.{numbered_class}
+use Rattle.round_judge.specs.Visits.{marks_at}
+use Rattle.round_judge.proofs.JudgingLaws.{numbered_class}
+use Rattle.round_packer.specs.Kept.{HoldsClass}
 use Rattle.round_packer.proofs.judging.all_safe.Goals as goal
 
-pub numbered-class-requires-clause-number : goal.numbered-class-requires-clause-number
-numbered-class-requires-clause-number c =
-    let count = c.count-number-end.ensures.count ∙ sym (ap class_count c.requires.goal.duties_of_them) in
+pub numbered-class-requires : goal.numbered-class-requires
+numbered-class-requires c =
+    let count = c.count-number-end.ensures.count in
     let less = c.loop-number-test.true in
     omega arith
 
 pub loop-number-preserved : goal.loop-number-preserved
 loop-number-preserved c =
-    let to = (target_of c.args.goal.now.net.now c.args.goal.now.new.now c.args.goal.now.duties.now) in
+    let to = c.args.goal.now in
     let number = c.loop-number.number in
     let mid = c.loop-number.watch.came.items in
     let new = c.is_safe.new.watch.came.items in
@@ -33,8 +34,8 @@ loop-number-preserved c =
                 let same = numbered_class to.classes number numbered c.numbered-class.ensures.number c.numbered-class.ensures.class class is_n in
                 record {
                   safe = subst (λ (x : Class). IsSafeByEvidence to.net to.demands tables changes x) same ((one.safe tables changes prepared).0 c.if-not-branch.false);
-                  held = subst (λ (x : Class). HoldsClass to.net tables changes x (set_at new n)) same
-                      (subst (λ (i : ℕ). HoldsClass to.net tables changes numbered.class (set_at new i)) (c.numbered-class.ensures.number ∙ sym e) (one.held tables changes prepared));
+                  held = subst (λ (x : Class). HoldsClass to.net tables changes x (marks_at new n)) same
+                      (subst (λ (i : ℕ). HoldsClass to.net tables changes numbered.class (marks_at new i)) (c.numbered-class.ensures.number ∙ sym e) (one.held tables changes prepared));
                 })
             | inr ne ↦ (
                 let had = inv.kept tables changes prepared n class (omega arith) is in
@@ -53,8 +54,8 @@ returns-then-not-branch c = λ tables changes prepared.
 
 pub returns : goal.returns
 returns c = λ tables changes prepared.
-    let count = c.count-number-end.ensures.count ∙ sym (ap class_count c.requires.goal.duties_of_them) in
+    let count = c.count-number-end.ensures.count in
     record {
       count = c.loop-number.invariant.count ∙ c.requires.came;
-      each = λ n class is. (let fits = number_fits c.args.goal.now.duties.now.classes n class is in c.loop-number.invariant.kept tables changes prepared n class (omega arith) is);
+      each = λ n class is. (let fits = number_fits c.args.goal.now.classes n class is in c.loop-number.invariant.kept tables changes prepared n class (omega arith) is);
     }

@@ -5,8 +5,10 @@ use Rattle.std.proofs.lemmas.Bool.{false≢true, both_ways}
 use Rattle.net_base.specs.declared.ids.SwitchId.{SwitchId}
 use Rattle.dest_classes.specs.declared.Class.{Class}
 use Rattle.class_watch.specs.Walks.{meets}
-use Rattle.round_packer.specs.Kept.{HoldsClass, set_at, target_of}
-use Rattle.round_packer.proofs.JudgeLaws.{numbered_class, told_safe, told_unmet, watched_one, keeps_front, read_as}
+use Rattle.round_judge.specs.Visits.{marks_at}
+use Rattle.round_judge.proofs.JudgingLaws.{numbered_class, read_as}
+use Rattle.round_packer.specs.Kept.{HoldsClass}
+use Rattle.round_packer.proofs.JudgeLaws.{told_safe, told_unmet, watched_one}
 use Rattle.round_packer.proofs.judging.class_failure.Goals as goal
 
 pub index-requires : goal.index-requires
@@ -14,12 +16,12 @@ index-requires c = let number = c.requires.number in let count = c.requires.came
 
 pub returns-then-not-meets-clause-told : goal.returns-then-not-meets-clause-told
 returns-then-not-meets-clause-told c = λ tables taken prepared kept.
-    let to = (target_of c.args.goal.now.net.now c.args.goal.now.new.now c.args.goal.now.duties.now) in
+    let to = c.args.goal.now in
     let change = c.args.tried.now.change.now in
     let number = c.requires.number in
     let count = c.requires.came in
     let numbered = c.numbered-class.result in
-    told_unmet to tables taken change prepared.keeps_old (keeps_front taken (change ∷ []) (prepared.keeps 0 (omega arith))) c.args.own c.args.number c.args.watch.now.came.items kept
+    told_unmet to tables taken change c.args.tried.now.mixes.now prepared c.args.own c.args.number c.args.watch.now.came.items kept
     (λ class is at.
     let same = numbered_class to.classes c.args.number numbered c.numbered-class.ensures.number c.numbered-class.ensures.class class is in
     let read = read_as c.args.watch.now.came.items c.args.number c.index.result.now (omega arith) c.index.ensures in
@@ -27,7 +29,7 @@ returns-then-not-meets-clause-told c = λ tables taken prepared kept.
 
 pub returns-then-branch-clause-told : goal.returns-then-branch-clause-told
 returns-then-branch-clause-told c = λ tables taken prepared kept.
-    let to = (target_of c.args.goal.now.net.now c.args.goal.now.new.now c.args.goal.now.duties.now) in
+    let to = c.args.goal.now in
     let change = c.args.tried.now.change.now in
     let numbered = c.numbered-class.result in
     let found = c.in_ok-is_safe.ensures in
@@ -36,13 +38,13 @@ returns-then-branch-clause-told c = λ tables taken prepared kept.
 
 pub returns-clause-told : goal.returns-clause-told
 returns-clause-told c = λ tables taken prepared kept.
-    let to = (target_of c.args.goal.now.net.now c.args.goal.now.new.now c.args.goal.now.duties.now) in
+    let to = c.args.goal.now in
     let change = c.args.tried.now.change.now in
     let numbered = c.numbered-class.result in
     let found = c.in_ok-is_safe.ensures in
     let changes = taken ++ change ∷ [] in
     let read = read_as c.is_safe.new.watch.came.items c.args.number c.index-2.result.now (let a = found.count in let b = c.requires.came in let less = c.requires.number in omega arith) c.index-2.ensures in
-    let at = ap (set_at c.is_safe.new.watch.came.items) c.numbered-class.ensures.number in (
+    let at = ap (marks_at c.is_safe.new.watch.came.items) c.numbered-class.ensures.number in (
       refl,
       record {
         number = numbered.number;
@@ -54,23 +56,23 @@ returns-clause-told c = λ tables taken prepared kept.
 
 pub returns-then-branch-clause-watched : goal.returns-then-branch-clause-watched
 returns-then-branch-clause-watched c = λ tables changes prepared.
-    let to = (target_of c.args.goal.now.net.now c.args.goal.now.new.now c.args.goal.now.duties.now) in
+    let to = c.args.goal.now in
     let numbered = c.numbered-class.result in
     let found = c.in_ok-is_safe.ensures in
     watched_one to tables changes c.args.watch.now.came.items c.is_safe.new.watch.came.items numbered.number found.count found.others
     (λ class is.
     let same = numbered_class to.classes numbered.number numbered refl c.numbered-class.ensures.class class is in
-    subst (λ (x : Class). HoldsClass to.net tables changes x (set_at c.is_safe.new.watch.came.items numbered.number)) same (found.held tables changes prepared))
+    subst (λ (x : Class). HoldsClass to.net tables changes x (marks_at c.is_safe.new.watch.came.items numbered.number)) same (found.held tables changes prepared))
 
 pub returns-clause-watched : goal.returns-clause-watched
 returns-clause-watched c = λ tables changes prepared.
-    let to = (target_of c.args.goal.now.net.now c.args.goal.now.new.now c.args.goal.now.duties.now) in
+    let to = c.args.goal.now in
     let numbered = c.numbered-class.result in
     let found = c.in_ok-is_safe.ensures in
     watched_one to tables changes c.args.watch.now.came.items c.is_safe.new.watch.came.items numbered.number found.count found.others
     (λ class is.
     let same = numbered_class to.classes numbered.number numbered refl c.numbered-class.ensures.class class is in
-    subst (λ (x : Class). HoldsClass to.net tables changes x (set_at c.is_safe.new.watch.came.items numbered.number)) same (found.held tables changes prepared))
+    subst (λ (x : Class). HoldsClass to.net tables changes x (marks_at c.is_safe.new.watch.came.items numbered.number)) same (found.held tables changes prepared))
 
 -- what differs isn't the same
 not_other : (told own : Bool) → told ≡ own → not (beq told own) ≡ true → ⊥
@@ -83,7 +85,7 @@ not_other told own same differs = other_than own (subst (λ (b : Bool). not (beq
 pub returns-then-enters-own-clause-told : goal.returns-then-enters-own-clause-told
 returns-then-enters-own-clause-told c = λ tables taken prepared kept class is at.
     let numbered = c.numbered-class.result in
-    let same = numbered_class c.args.goal.now.duties.now.classes c.args.number numbered c.numbered-class.ensures.number c.numbered-class.ensures.class class is in
+    let same = numbered_class c.args.goal.now.classes c.args.number numbered c.numbered-class.ensures.number c.numbered-class.ensures.class class is in
     let told : (numbered.class.entry.switch.0 == c.switch.result.0) ≡ c.args.own =
     ap (λ (x : Class). x.entry.switch.0 == c.switch.result.0) same ∙ ap (λ (s : SwitchId). class.entry.switch.0 == s.0) c.switch.ensures ∙ at in
     absurd (not_other (numbered.class.entry.switch.0 == c.switch.result.0) c.args.own told c.if-enters-own.true)

@@ -1,15 +1,14 @@
-use Rattle.std.proofs.Common.{ℕ, [], ◌∷◌, ◌++◌, refl, sym, ◌∙◌, ap, subst, inl, inr, arith}
+use Rattle.std.proofs.Common.{ℕ, [], ◌∷◌, ◌++◌, refl, sym, ◌∙◌, subst, inl, inr, arith}
 use Rattle.std.specs.Prelude.{None}
 use Rattle.std.proofs.lemmas.Bool.{cases_lt, cases_eq}
-use Rattle.dest_classes.specs.Classes.{class_count}
 use Rattle.dest_classes.proofs.MapLaws.{number_fits}
-use Rattle.round_packer.specs.Kept.{IsTold, target_of}
-use Rattle.round_packer.proofs.JudgeLaws.{told_passed, told_on, watched_same, watched_then, kept_watched, keeps_front}
+use Rattle.round_packer.specs.Kept.{IsTold}
+use Rattle.round_packer.proofs.JudgeLaws.{told_passed, told_on, watched_same, watched_then, kept_watched}
 use Rattle.round_packer.proofs.judging.classes_failure.Goals as goal
 
 pub judging-init : goal.judging-init
 judging-init c =
-    let to = (target_of c.args.goal.now.net.now c.args.goal.now.new.now c.args.goal.now.duties.now) in
+    let to = c.args.goal.now in
     let change = c.args.tried.now.change.now in
     let came = c.args.watch.now.came.items in
     let first = c.next_number-number.ensures in
@@ -19,13 +18,13 @@ judging-init c =
       last = c.requires.last;
       watched = λ tables changes prepared. watched_same to tables changes came;
       told = λ tables taken prepared kept n less.
-          told_passed to tables taken change prepared.keeps_old (keeps_front taken (change ∷ []) (prepared.keeps 0 (omega arith))) c.args.own c.args.looked.now c.requires.atoms c.requires.touched n
+          told_passed to tables taken change c.args.tried.now.mixes.now prepared c.args.own c.args.looked.now c.requires.atoms c.requires.touched n
           (first.passed n (omega arith) less) came kept;
     }
 
 pub class_failure-requires-clause-number : goal.class_failure-requires-clause-number
 class_failure-requires-clause-number c =
-    let count = c.count-end.ensures.count ∙ sym (ap class_count c.requires.goal.duties_of_them) in
+    let count = c.count-end.ensures.count in
     let less = c.judging-test.true in
     omega arith
 
@@ -34,7 +33,7 @@ class_failure-requires-clause-came c = c.judging.invariant.count ∙ c.requires.
 
 pub judging-preserved : goal.judging-preserved
 judging-preserved c =
-    let to = (target_of c.args.goal.now.net.now c.args.goal.now.new.now c.args.goal.now.duties.now) in
+    let to = c.args.goal.now in
     let change = c.args.tried.now.change.now in
     let number = c.judging.number in
     let first = c.args.watch.now.came.items in
@@ -60,7 +59,7 @@ judging-preserved c =
             | inr past ↦ elim (cases_eq n number) [
               | inl e ↦ subst (λ (i : ℕ). IsTold to tables changes change c.args.own i new None) (sym e) here
               | inr ne ↦
-                  told_passed to tables taken change prepared.keeps_old (keeps_front taken (change ∷ []) (prepared.keeps 0 (omega arith))) c.args.own c.args.looked.now c.requires.atoms c.requires.touched n
+                  told_passed to tables taken change c.args.tried.now.mixes.now prepared c.args.own c.args.looked.now c.requires.atoms c.requires.touched n
                   (following.passed n (omega arith) less) new kept_new
             ]
           ];
@@ -68,7 +67,7 @@ judging-preserved c =
 
 pub returns-in-Some-clause-told : goal.returns-in-Some-clause-told
 returns-in-Some-clause-told c = λ tables taken prepared kept.
-    let to = (target_of c.args.goal.now.net.now c.args.goal.now.new.now c.args.goal.now.duties.now) in
+    let to = c.args.goal.now in
     let change = c.args.tried.now.change.now in
     let changes = taken ++ change ∷ [] in
     let inv = c.judging.invariant in
@@ -77,12 +76,12 @@ returns-in-Some-clause-told c = λ tables taken prepared kept.
 
 pub returns-in-Some-clause-watched : goal.returns-in-Some-clause-watched
 returns-in-Some-clause-watched c = λ tables changes prepared.
-    watched_then (target_of c.args.goal.now.net.now c.args.goal.now.new.now c.args.goal.now.duties.now) tables changes c.args.watch.now.came.items c.judging.watch.came.items c.class_failure.new.watch.came.items (c.judging.invariant.watched tables changes prepared)
+    watched_then c.args.goal.now tables changes c.args.watch.now.came.items c.judging.watch.came.items c.class_failure.new.watch.came.items (c.judging.invariant.watched tables changes prepared)
     (c.in_ok-failure.ensures.watched tables changes prepared)
 
 pub returns-clause-told : goal.returns-clause-told
 returns-clause-told c = λ tables taken prepared kept n class is at.
-    let count = c.count-end.ensures.count ∙ sym (ap class_count c.requires.goal.duties_of_them) in
+    let count = c.count-end.ensures.count in
     let past = c.judging-test.false in
-    let fits = number_fits c.args.goal.now.duties.now.classes n class is in
+    let fits = number_fits c.args.goal.now.classes n class is in
     c.judging.invariant.told tables taken prepared kept n (omega arith) class is at

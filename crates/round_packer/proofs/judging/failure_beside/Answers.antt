@@ -1,16 +1,16 @@
 use Rattle.std.proofs.Common.{true, [], ◌∷◌, ◌++◌, ◌∙◌, subst}
-use Rattle.round_packer.specs.Kept.{AreTold, target_of}
+use Rattle.round_packer.specs.Kept.{AreTold}
 use Rattle.round_packer.proofs.JudgeLaws.{told_both, watched_then, kept_watched}
 use Rattle.round_packer.proofs.judging.failure_beside.Goals as goal
 
 pub returns-in-Some-clause-judged : goal.returns-in-Some-clause-judged
 returns-in-Some-clause-judged c = λ tables taken prepared kept.
     let change = c.args.tried.now.change.now in
-    subst (AreTold (target_of c.args.goal.now.net.now c.args.goal.now.new.now c.args.goal.now.duties.now) tables (taken ++ change ∷ []) change true c.classes_failure.new.watch.came.items) c.in-Some.is (c.in_ok-failure.ensures.told tables taken prepared kept)
+    subst (AreTold c.args.goal.now tables (taken ++ change ∷ []) change true c.classes_failure.new.watch.came.items) c.in-Some.is (c.in_ok-failure.ensures.told tables taken prepared kept)
 
 pub returns-clause-judged : goal.returns-clause-judged
 returns-clause-judged c = λ tables taken prepared kept.
-    let to = (target_of c.args.goal.now.net.now c.args.goal.now.new.now c.args.goal.now.duties.now) in
+    let to = c.args.goal.now in
     let change = c.args.tried.now.change.now in
     let changes = taken ++ change ∷ [] in
     let first = c.args.watch.now.came.items in
@@ -24,5 +24,5 @@ returns-clause-judged c = λ tables taken prepared kept.
 
 pub returns-clause-watched : goal.returns-clause-watched
 returns-clause-watched c = λ tables changes prepared.
-    watched_then (target_of c.args.goal.now.net.now c.args.goal.now.new.now c.args.goal.now.duties.now) tables changes c.args.watch.now.came.items c.classes_failure.new.watch.came.items c.classes_failure-2.new.watch.came.items (c.in_ok-failure.ensures.watched tables changes prepared)
+    watched_then c.args.goal.now tables changes c.args.watch.now.came.items c.classes_failure.new.watch.came.items c.classes_failure-2.new.watch.came.items (c.in_ok-failure.ensures.watched tables changes prepared)
     (c.in_ok-failure-2.ensures.watched tables changes prepared)

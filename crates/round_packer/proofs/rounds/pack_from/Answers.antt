@@ -1,13 +1,11 @@
-use Rattle.std.proofs.Common.{◌≡◌, Bool, List, [], sym, ◌∙◌, ap, subst, arith}
+use Rattle.std.proofs.Common.{Bool, List, [], sym, subst, arith}
 use Rattle.std.proofs.lemmas.Result.{IfOk-weaker}
-use Rattle.flow_rules.specs.Tables.{rules_of_all}
 use Rattle.flow_rules.specs.declared.rules.Rule.{Rule}
-use Rattle.update_model.specs.Remaining.{remaining}
 use Rattle.update_model.specs.declared.Change.{Change}
 use Rattle.certificates.specs.Rounds.{one_round_of}
 use Rattle.check_reasons.specs.Loaded.{AreLoaded}
 use Rattle.mixed_walks.proofs.PlaceLaws.{tables_keep}
-use Rattle.round_packer.specs.Kept.{AreJudged, ArePreparedFor, target_of}
+use Rattle.round_packer.specs.Kept.{AreJudged, ArePreparedFor}
 use Rattle.round_packer.specs.Filling.{IsPackedTo, EndsAt}
 use Rattle.round_packer.proofs.FillLaws.{prepared_here}
 use Rattle.round_packer.proofs.PackLaws.{packed_first, ends_unsafe, told_empty, told_some}
@@ -15,34 +13,34 @@ use Rattle.round_packer.proofs.rounds.pack_from.Goals as goal
 
 pub all_safe-requires-clause-prepared : goal.all_safe-requires-clause-prepared
 all_safe-requires-clause-prepared c =
-    let net = c.args.goal.now.net.now in
+    let net = c.args.goal.now.net in
     let p = c.args.trial.now in (
       p.tables,
       [],
       prepared_here net c.mixes.result.now p.tables [] (tables_keep net p.tables c.requires.old) tt
-          (subst (λ (cs : List Change). AreLoaded (one_round_of net p.tables cs) 0 c.mixes.result.now) c.requires.none (c.mixes.ensures.loaded net c.keeps_rules.ensures c.requires.trial)),
+          (subst (λ (cs : List Change). AreLoaded (one_round_of net p.tables cs) 0 c.mixes.result.now) c.requires.none (c.mixes.ensures.loaded net c.keeps_rules.ensures.network c.requires.trial)),
     )
 
-pub pack_rounds-requires-clause-packed : goal.pack_rounds-requires-clause-packed
-pack_rounds-requires-clause-packed c =
-    let to = (target_of c.args.goal.now.net.now c.args.goal.now.new.now c.args.goal.now.duties.now) in
-    let net = c.args.goal.now.net.now in
+pub pack_rounds-requires : goal.pack_rounds-requires
+pack_rounds-requires c =
+    let to = c.args.goal.now in
+    let net = c.args.goal.now.net in
     let p = c.args.trial.now in
     let prepared : ArePreparedFor net c.mixes.result.now p.tables [] =
     prepared_here net c.mixes.result.now p.tables [] (tables_keep net p.tables c.requires.old) tt
-    (subst (λ (cs : List Change). AreLoaded (one_round_of net p.tables cs) 0 c.mixes.result.now) c.requires.none (c.mixes.ensures.loaded net c.keeps_rules.ensures c.requires.trial)) in
+    (subst (λ (cs : List Change). AreLoaded (one_round_of net p.tables cs) 0 c.mixes.result.now) c.requires.none (c.mixes.ensures.loaded net c.keeps_rules.ensures.network c.requires.trial)) in
     let kept = subst (AreJudged to p.tables [] c.all_safe.new.watch.came.items) c.if-branch.true (c.in_ok-all_safe.ensures p.tables [] prepared) in
-    (p.tables, packed_first to p c.all_safe.new.watch.came.items c.args.looked.now c.requires.trial c.requires.none c.requires.old kept c.requires.atoms c.args.rounds.now c.requires.rounds)
+    record { packed = (p.tables, packed_first to p c.all_safe.new.watch.came.items c.args.looked.now c.requires.trial c.requires.none c.requires.old kept c.requires.atoms c.args.rounds.now c.requires.rounds) }
 
 pub returns-then-branch : goal.returns-then-branch
 returns-then-branch c =
-    let to = (target_of c.args.goal.now.net.now c.args.goal.now.new.now c.args.goal.now.duties.now) in
-    let net = c.args.goal.now.net.now in
+    let to = c.args.goal.now in
+    let net = c.args.goal.now.net in
     let p = c.args.trial.now in
     let came = c.all_safe.new.watch.came.items in
     let prepared : ArePreparedFor net c.mixes.result.now p.tables [] =
     prepared_here net c.mixes.result.now p.tables [] (tables_keep net p.tables c.requires.old) tt
-    (subst (λ (cs : List Change). AreLoaded (one_round_of net p.tables cs) 0 c.mixes.result.now) c.requires.none (c.mixes.ensures.loaded net c.keeps_rules.ensures c.requires.trial)) in
+    (subst (λ (cs : List Change). AreLoaded (one_round_of net p.tables cs) 0 c.mixes.result.now) c.requires.none (c.mixes.ensures.loaded net c.keeps_rules.ensures.network c.requires.trial)) in
     let kept = subst (AreJudged to p.tables [] came) c.if-branch.true (c.in_ok-all_safe.ensures p.tables [] prepared) in
     IfOk-weaker c.pack_rounds.result (λ (none : Bool). (old : List (List Rule)) → IsPackedTo to old c.args.rounds.now p came c.args.looked.now → EndsAt to old c.pack_rounds.new.rounds none)
     (EndsAt to p.tables c.pack_rounds.new.rounds)
@@ -51,16 +49,14 @@ returns-then-branch c =
 
 pub returns : goal.returns
 returns c =
-    let to = (target_of c.args.goal.now.net.now c.args.goal.now.new.now c.args.goal.now.duties.now) in
-    let net = c.args.goal.now.net.now in
+    let to = c.args.goal.now in
+    let net = c.args.goal.now.net in
     let p = c.args.trial.now in
     let came = c.all_safe.new.watch.came.items in
     let prepared : ArePreparedFor net c.mixes.result.now p.tables [] =
     prepared_here net c.mixes.result.now p.tables [] (tables_keep net p.tables c.requires.old) tt
-    (subst (λ (cs : List Change). AreLoaded (one_round_of net p.tables cs) 0 c.mixes.result.now) c.requires.none (c.mixes.ensures.loaded net c.keeps_rules.ensures c.requires.trial)) in
+    (subst (λ (cs : List Change). AreLoaded (one_round_of net p.tables cs) 0 c.mixes.result.now) c.requires.none (c.mixes.ensures.loaded net c.keeps_rules.ensures.network c.requires.trial)) in
     let unsafe = subst (AreJudged to p.tables [] came) c.if-branch.false (c.in_ok-all_safe.ensures p.tables [] prepared) in
-    let left : c.in_ok-left.left.items ≡ remaining p.tables to.new =
-    c.in_ok-left.ensures ∙ ap (λ (ts : List (List Rule)). remaining ts (rules_of_all c.args.goal.now.new.now)) c.tables.ensures in
     subst (λ (rs : List (List Change)). EndsAt to p.tables rs c.is_empty.result) (sym c.requires.rounds)
-    (ends_unsafe to p.tables unsafe c.in_ok-left.left.items left c.is_empty.result (told_empty c.in_ok-left.left.items c.in_ok-left.left.len c.is_empty.result (omega arith) c.is_empty.ensures)
+    (ends_unsafe to p.tables unsafe c.in_ok-left.left.items c.in_ok-left.ensures c.is_empty.result (told_empty c.in_ok-left.left.items c.in_ok-left.left.len c.is_empty.result (omega arith) c.is_empty.ensures)
     (told_some c.in_ok-left.left.items c.in_ok-left.left.len c.is_empty.result (omega arith) c.is_empty.ensures))

@@ -1,8 +1,7 @@
 use Rattle.std.proofs.Common.{◌≡◌, ◌<◌, ◌≤◌, length}
 use Rattle.net_base.specs.declared.ids.SwitchId.{SwitchId}
-use Rattle.topology.specs.Networks.{switch_count}
 use Rattle.round_tables.specs.PreparedTables.{limit_at, room_of, table_at}
 use Rattle.round_tables.proofs.room.roomy_tables.Given as goal
 
 abbrev pub invariant-loop-i : goal.invariant-loop-i
-invariant-loop-i l = (length l.tables ≡ switch_count l.net) × ((s : SwitchId) → s.0 < l.i → limit_at l.limits s ≤ room_of (table_at l.tables s))
+invariant-loop-i l = (length l.tables ≡ length l.limits) × ((s : SwitchId) → s.0 < l.i → limit_at l.limits s ≤ room_of (table_at l.tables s))

@@ -8,7 +8,7 @@ returns-then-has-clause-next c blocks count are =
     let block = c.args.prefix.now in
     let positions = c.args.self.now.candidates in
     subst (AreCandidates (blocks ++ block ∷ []) c.args.dst)
-    (ap (λ (n : ℕ). positions ++ n ∷ []) count ∙ sym (c.put.ensures.items ∙ ap (λ (s : IndexState). s.candidates ++ c.args.position ∷ []) c.self.view_is))
+    (ap (λ (n : ℕ). positions ++ n ∷ []) count ∙ sym (c.push_reserved.ensures.items ∙ ap (λ (s : IndexState). s.candidates ++ c.args.position ∷ []) c.self.view_is))
     (push_held blocks block c.args.dst positions are (sym c.has.ensures ∙ c.if-has.true))
 
 pub returns-else-has-clause-next : goal.returns-else-has-clause-next

@@ -32,7 +32,7 @@ judge_all-requires-clause-ready c =
     let (old, changes, user, at, i) = c.requires in
     let new_user = subst (λ (a : Target). IsUserConfig a.net a.new) c.goal.view_is c.goal.invariant.user in
     let here = subst (IsAt to old changes) (sym c.self.view_is) at in
-    let trying = subst (λ (n : Network). IsTrying n c.args.change.now c.begin.new.self) (ap (λ (a : Target). a.net) c.goal.view_is) (c.begin.ensures.yes c.if-not-begin.false) in
+    let trying = subst (λ (n : Network). IsTrying n c.args.change.now c.begin.new.self) (ap (λ (a : Target). a.net) c.goal.view_is) (c.in_ok-begin.ensures.yes c.if-not-branch.false) in
     let round = tried_round to old user new_user changes c.args.change.now _ c.begin.new.self here i c.begin.ensures.rules trying in
     let next = update_by to old (changes ++ c.args.change.now ∷ []) in
     record {
@@ -47,7 +47,7 @@ take-requires c =
     let (old, changes, user, at, i) = c.requires in
     let new_user = subst (λ (a : Target). IsUserConfig a.net a.new) c.goal.view_is c.goal.invariant.user in
     let here = subst (IsAt to old changes) (sym c.self.view_is) at in
-    let trying = subst (λ (n : Network). IsTrying n c.args.change.now c.begin.new.self) (ap (λ (a : Target). a.net) c.goal.view_is) (c.begin.ensures.yes c.if-not-begin.false) in
+    let trying = subst (λ (n : Network). IsTrying n c.args.change.now c.begin.new.self) (ap (λ (a : Target). a.net) c.goal.view_is) (c.in_ok-begin.ensures.yes c.if-not-branch.false) in
     let round = tried_round to old user new_user changes c.args.change.now _ c.begin.new.self here i c.begin.ensures.rules trying in
     let next = update_by to old (changes ++ c.args.change.now ∷ []) in
     let prepared = subst (λ (ms : List MixedState). IsRoundOf to.net ms next (length changes)) (sym c.mixes.ensures) round in
@@ -69,7 +69,7 @@ returns-in_ok-take-in-Safe c old changes user at i =
     let to = c.args.goal.now in
     let new_user = subst (λ (a : Target). IsUserConfig a.net a.new) c.goal.view_is c.goal.invariant.user in
     let here = subst (IsAt to old changes) (sym c.self.view_is) at in
-    let trying = subst (λ (n : Network). IsTrying n c.args.change.now c.begin.new.self) (ap (λ (a : Target). a.net) c.goal.view_is) (c.begin.ensures.yes c.if-not-begin.false) in
+    let trying = subst (λ (n : Network). IsTrying n c.args.change.now c.begin.new.self) (ap (λ (a : Target). a.net) c.goal.view_is) (c.in_ok-begin.ensures.yes c.if-not-branch.false) in
     let round = tried_round to old user new_user changes c.args.change.now _ c.begin.new.self here i c.begin.ensures.rules trying in
     let next = update_by to old (changes ++ c.args.change.now ∷ []) in
     let prepared = subst (λ (ms : List MixedState). IsRoundOf to.net ms next (length changes)) (sym c.mixes.ensures) round in
@@ -89,7 +89,7 @@ returns-in-Unsafe c old changes user at i =
     let to = c.args.goal.now in
     let new_user = subst (λ (a : Target). IsUserConfig a.net a.new) c.goal.view_is c.goal.invariant.user in
     let here = subst (IsAt to old changes) (sym c.self.view_is) at in
-    let trying = subst (λ (n : Network). IsTrying n c.args.change.now c.begin.new.self) (ap (λ (a : Target). a.net) c.goal.view_is) (c.begin.ensures.yes c.if-not-begin.false) in
+    let trying = subst (λ (n : Network). IsTrying n c.args.change.now c.begin.new.self) (ap (λ (a : Target). a.net) c.goal.view_is) (c.in_ok-begin.ensures.yes c.if-not-branch.false) in
     let round = tried_round to old user new_user changes c.args.change.now _ c.begin.new.self here i c.begin.ensures.rules trying in
     let next = update_by to old (changes ++ c.args.change.now ∷ []) in
     let prepared = subst (λ (ms : List MixedState). IsRoundOf to.net ms next (length changes)) (sym c.mixes.ensures) round in
@@ -106,16 +106,16 @@ returns-in-Unsafe c old changes user at i =
           c.look_at_touched.ensures.count,
     )
 
-pub returns-then-not-begin : goal.returns-then-not-begin
-returns-then-not-begin c old changes user at i =
+pub returns-then-not-branch : goal.returns-then-not-branch
+returns-then-not-branch c old changes user at i =
     let to = c.args.goal.now in
     let here = subst (IsAt to old changes) (sym c.self.view_is) at in
-    let none = c.begin.ensures.never c.if-not-begin.true in
+    let none = c.in_ok-begin.ensures.never c.if-not-branch.true in
     let net = ap (λ (a : Target). a.net) c.goal.view_is in
     let alone : ¬ HasRoomAlone to.net (tables_after changes old) c.args.change.now =
     subst (λ (ts : List (List Rule)). ¬ HasRoomAlone to.net ts c.args.change.now) here.tables (subst (λ (n : Network). ¬ HasRoomAlone n (rules_of_all c.self.inside.trial.tables) c.args.change.now) net none) in (
       no_room to.net c.self.inside.trial (tables_after changes old) c.args.change.now here.settled here.tables alone,
-      given_up to old changes _ c.begin.new.self _ _ here c.begin.ensures.rules (subst (λ (n : Network). IsSettled n c.begin.new.self) net (c.begin.ensures.no c.if-not-begin.true)) here.came refl,
+      given_up to old changes _ c.begin.new.self _ _ here c.begin.ensures.rules (subst (λ (n : Network). IsSettled n c.begin.new.self) net (c.in_ok-begin.ensures.no c.if-not-branch.true)) here.came refl,
     )
 
 pub judge_all-requires-clause-came : goal.judge_all-requires-clause-came

@@ -4,7 +4,6 @@ use Rattle.std.specs.Vec.{with_items}
 use Rattle.std.proofs.lemmas.Bool.{cases_lt, both_ways}
 use Rattle.std.proofs.lemmas.List.{with_items_is, length-map, get_or_past}
 use Rattle.net_base.specs.declared.ids.SwitchId.{SwitchId}
-use Rattle.topology.specs.Networks.{switch_count}
 use Rattle.flow_rules.specs.Tables.{TableState, rules_at, rules_of_all}
 use Rattle.flow_rules.specs.declared.rules.Rule.{Rule}
 use Rattle.update_model.specs.Changes.{switch_of, changes_at, round_after, rules_after, tables_after}
@@ -18,7 +17,7 @@ use Rattle.round_tables.proofs.LoadLaws.{filter_few, good_mixed}
 use Rattle.round_tables.proofs.prepared.PreparedTables.apply_round.Goals as goal
 
 -- the changes of a switch, as they are lent
-listed : (u : Rollout) (k : ℕ) (p : PreparedState) (lists : List ChangesState) → ArePrepared u k p → lists ≡ p.changes → (s : SwitchId) → s.0 < switch_count u.net
+listed : (u : Rollout) (k : ℕ) (p : PreparedState) (lists : List ChangesState) → ArePrepared u k p → lists ≡ p.changes → (s : SwitchId) → s.0 < length u.old
     → (list_at lists s).changes ≡ changes_at s (round_after k u.rounds)
 listed u k p lists prepared lent s less = ap (λ (ls : List ChangesState). (list_at ls s).changes) lent ∙ prepared.lists s less
 
@@ -29,7 +28,7 @@ change_all-requires-clause-good c s less =
     let p = c.args.self.now in
     let inside = c.self.inside in
     let tables = ap (λ (v : PreparedState). v.tables) c.self.view_is in
-    let in_net : s.0 < switch_count u.net = let count = ap (λ (ts : List TableState). length ts) tables in omega (arith, c.requires.room.tables, less) in
+    let in_net : s.0 < length u.old = let count = ap (λ (ts : List TableState). length ts) tables in omega (arith, c.requires.room.tables, less) in
     let lent = c.deref-3.ensures.value ∙ ap (λ (v : PreparedState). v.changes) c.self.view_is in
     subst (AreGood (rules_there inside.tables s)) (sym (listed u k p c.deref-3.result.now c.requires.prepared lent s in_net))
     (subst (λ (ts : List (List Rule)). AreGood (rules_at ts s) (changes_at s (round_after k u.rounds))) (sym (ap rules_of_all tables ∙ c.requires.prepared.tables))
@@ -41,7 +40,7 @@ change_all-requires-clause-list c s less =
     let k = c.args.k in
     let p = c.args.self.now in
     let count = ap (λ (v : PreparedState). length v.tables) c.self.view_is in
-    let in_net : s.0 < switch_count u.net = omega (arith, c.requires.room.tables, less) in
+    let in_net : s.0 < length u.old = omega (arith, c.requires.room.tables, less) in
     let lent = c.deref-3.ensures.value ∙ ap (λ (v : PreparedState). v.changes) c.self.view_is in
     let same = ap length (listed u k p c.deref-3.result.now c.requires.prepared lent s in_net) in
     let few = filter_few (λ (d : Change). (switch_of d).0 == s.0) (round_after k u.rounds) in
@@ -55,7 +54,7 @@ returns-clause-stands c =
     let k = c.args.k in
     let inside = c.self.inside in
     let round = round_after k u.rounds in
-    let n = switch_count u.net in
+    let n = length u.old in
     let p : PreparedState = record {
       tables = inside.tables;
       mixes = inside.mixes.items;
@@ -79,7 +78,7 @@ returns-clause-stands c =
       room = vec_capacity c.change_all.new.rules;
     } in
     let len : length (tables_before u k) ≡ n = ap length (sym prepared.tables) ∙ length-map inside.tables (λ (t : TableState). t.rules) ∙ holds.tables in
-    let within : AreWithin (length (tables_before u k)) round = subst (λ (m : ℕ). AreWithin m round) (sym len) c.requires.within in
+    let within : AreWithin (length (tables_before u k)) round = subst (λ (m : ℕ). AreWithin m round) (sym len) prepared.within in
     let each : (s : SwitchId) → s.0 < length inside.tables → rules_there new s ≡ rules_after (changes_at s round) (rules_there inside.tables s) = λ s less.
     made.rules s less ∙ ap (λ (cs : List Change). rules_after cs (rules_there inside.tables s)) (listed u k p c.deref-3.result.now prepared c.deref-3.ensures.value s (omega (arith, holds.tables, less))) in
     let after : rules_of_all new ≡ tables_after round (tables_before u k) =

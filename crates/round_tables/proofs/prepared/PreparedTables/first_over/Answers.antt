@@ -10,4 +10,4 @@ pub need-need-requires-clause-prepared : goal.need-need-requires-clause-prepared
 need-need-requires-clause-prepared c =
     let s = switch_n c.loop-i.i in
     let count = ap (λ (u : Rollout). switch_count u.net) c.update.view_is in
-    some_mixed _ _ (mix_at c.args.self.now.mixes s).prepared (c.requires.prepared.each s (omega (arith, c.loop-i-test.true, c.switches-i-end.ensures.value)))
+    some_mixed _ _ (mix_at c.args.self.now.mixes s).prepared (c.requires.prepared.each s (omega (arith, c.loop-i-test.true, c.switches-i-end.ensures.value, c.requires.count, c.requires.prepared.count)))

@@ -28,12 +28,12 @@ returns-clause-settled c =
     c.in_ok-change_tables.ensures.ok ∙ ap (λ (v : PreparedState). tables_after_change change (rules_of_all v.tables)) c.self.view_is in
     let here : IsSettledBeside net s p =
     subst (λ (t : SwitchId). IsSettledBeside net t p) (sym c.switch-switch.ensures)
-    (beside_kept net change c.args.self.now c.requires p (ap (λ (v : PreparedState). v.mixes) c.self.view_is) made) in
+    (beside_kept net change c.args.self.now c.requires p (ap (λ (v : PreparedState). v.mixes) c.self.view_is) (ap (λ (v : PreparedState). v.limits) c.self.view_is) made) in
     let is_table : IsTable rules = subst IsTable (sym (rules_get inside.tables s.0 c.table.result.now c.table.ensures)) c.keeps_keys.ensures in
     let tried : IsMixed rules (change ∷ []) (mix_at inside.mixes.items s) =
     subst (λ (t : SwitchId). IsMixed (rules_there inside.tables t) (change ∷ []) (mix_at inside.mixes.items t)) (sym c.switch-switch.ensures)
     (subst (λ (v : PreparedState). IsMixed (rules_there v.tables (switch_of change)) (change ∷ []) (mix_at v.mixes (switch_of change))) (sym c.self.view_is) (tried_here net change c.args.self.now c.requires)) in
-    let beside = beside_lent net s p q old c.keep_at.new.mixes here refl c.deref_mut.ensures.value same (omega arith) c.keep_at.ensures.others c.keep_at.ensures.room in
+    let beside = beside_lent net s p q old c.keep_at.new.mixes here refl refl c.deref_mut.ensures.value same (omega arith) c.keep_at.ensures.others c.keep_at.ensures.room in
     let kept : IsMixed (rules_after_change change rules) [] (mix_at mixes.items s) =
     subst (λ (ms : List MixedState). IsMixed (rules_after_change change rules) [] (mix_at ms s)) (sym same)
     (c.keep_at.ensures.after rules is_table (subst (λ (ms : List MixedState). IsMixed rules (change ∷ []) (mix_at ms s)) (sym c.deref_mut.ensures.value) tried)) in

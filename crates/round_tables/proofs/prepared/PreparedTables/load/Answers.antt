@@ -24,7 +24,8 @@ begin_at-requires-clause-room c =
     let settled : IsSettled net p = subst (IsSettled net) (sym c.self.view_is) c.requires.settled in
     let applies : Applies (rules_of_all p.tables) change = subst (λ (v : PreparedState). Applies (rules_of_all v.tables) change) (sym c.self.view_is) c.requires.applies in
     subst (λ (ms : List MixedState). IsSomeAnd (mix_at ms s).prepared (λ marks. length marks < (mix_at ms s).room)) (sym c.deref_mut.ensures.value)
-    (subst (λ (t : SwitchId). IsSomeAnd (mix_at p.mixes t).prepared (λ marks. length marks < (mix_at p.mixes t).room)) (sym c.switch-switch.ensures) (room_more net change p settled applies))
+    (subst (λ (t : SwitchId). IsSomeAnd (mix_at p.mixes t).prepared (λ marks. length marks < (mix_at p.mixes t).room)) (sym c.switch-switch.ensures)
+    (room_more net change p settled applies (subst (λ (v : PreparedState). length (rules_there v.tables (switch_of change)) < (mix_at v.mixes (switch_of change)).room) (sym c.self.view_is) c.requires.room)))
 
 pub returns-clause-beside : goal.returns-clause-beside
 returns-clause-beside c =
@@ -40,7 +41,7 @@ returns-clause-beside c =
     let same : mixes.items ≡ c.begin_at.new.mixes = with_items_is inside.mixes c.begin_at.new.mixes (omega arith) in
     let beside : IsSettledBeside net s q =
     beside_lent net s p q c.deref_mut.result.now c.begin_at.new.mixes (subst (λ (t : SwitchId). IsSettledBeside net t p) (sym c.switch-switch.ensures) (beside_settled net change p settled applies))
-    refl c.deref_mut.ensures.value same (omega arith) c.begin_at.ensures.others c.begin_at.ensures.room in
+    refl refl c.deref_mut.ensures.value same (omega arith) c.begin_at.ensures.others c.begin_at.ensures.room in
     subst (λ (t : SwitchId). IsSettledBeside net t q) c.switch-switch.ensures beside
 
 pub returns-clause-yes : goal.returns-clause-yes
@@ -96,7 +97,7 @@ returns-clause-alone c off =
     let same : mixes.items ≡ c.begin_at.new.mixes = with_items_is inside.mixes c.begin_at.new.mixes (omega arith) in
     let beside : IsSettledBeside net s q =
     beside_lent net s p q c.deref_mut.result.now c.begin_at.new.mixes (subst (λ (t : SwitchId). IsSettledBeside net t p) (sym c.switch-switch.ensures) (beside_settled net change p settled applies))
-    refl c.deref_mut.ensures.value same (omega arith) c.begin_at.ensures.others c.begin_at.ensures.room in
+    refl refl c.deref_mut.ensures.value same (omega arith) c.begin_at.ensures.others c.begin_at.ensures.room in
     let rules = rules_there inside.tables s in
     let there : AppliesTo rules change = subst (λ (t : SwitchId). AppliesTo (rules_there inside.tables t) change) (sym c.switch-switch.ensures) applies.1 in
     let alone : IsMixed rules [] (mix_at c.deref_mut.result.now s) =

@@ -13,7 +13,7 @@ pub need-requires-clause-prepared : goal.need-requires-clause-prepared
 need-requires-clause-prepared c =
     let s = switch_n c.loop-i.i in
     let count = ap (λ (u : Rollout). switch_count u.net) c.update.view_is in
-    some_mixed _ _ (mix_at c.args.self.now.mixes s).prepared (c.requires.prepared.each s (omega (arith, c.loop-i-test.true, c.switches-i-end.ensures.value)))
+    some_mixed _ _ (mix_at c.args.self.now.mixes s).prepared (c.requires.prepared.each s (omega (arith, c.loop-i-test.true, c.switches-i-end.ensures.value, c.requires.count, c.requires.prepared.count)))
 
 pub returns-then-need-most : goal.returns-then-need-most
 returns-then-need-most c = (
@@ -23,7 +23,7 @@ returns-then-need-most c = (
       let s = switch_n c.loop-i.i in
       let count = ap (λ (v : Rollout). switch_count v.net) c.update.view_is in
       let less : s.0 < switch_count u.net = omega (arith, c.loop-i-test.true, c.switches-i-end.ensures.value) in
-      let need = c.need.ensures (rules_at (tables_before u c.args.k) s) (changes_at s (round_after c.args.k u.rounds)) (c.requires.prepared.each s less) in
+      let need = c.need.ensures (rules_at (tables_before u c.args.k) s) (changes_at s (round_after c.args.k u.rounds)) (c.requires.prepared.each s (omega (arith, less, c.requires.count, c.requires.prepared.count))) in
       let most = few s less in
       absurd (omega (arith, c.if-need-most.true)),
 )

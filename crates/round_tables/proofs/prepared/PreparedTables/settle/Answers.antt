@@ -28,6 +28,6 @@ returns-clause-settled c =
     subst (λ (t : SwitchId). IsMixed (rules_there inside.tables t) (change ∷ []) (mix_at inside.mixes.items t)) (sym c.switch-switch.ensures)
     (subst (λ (v : PreparedState). IsMixed (rules_there v.tables (switch_of change)) (change ∷ []) (mix_at v.mixes (switch_of change))) (sym c.self.view_is) c.requires.loaded) in
     let is_table : IsTable rules = subst IsTable (sym (rules_get inside.tables s.0 c.table.result.now c.table.ensures)) c.keeps_keys.ensures in
-    let beside = beside_lent net s p q old c.give_up_at.new.mixes here refl c.deref_mut.ensures.value same (omega arith) c.give_up_at.ensures.others c.give_up_at.ensures.room in
+    let beside = beside_lent net s p q old c.give_up_at.new.mixes here refl refl c.deref_mut.ensures.value same (omega arith) c.give_up_at.ensures.others c.give_up_at.ensures.room in
     settled_last net q s beside (subst (λ (ms : List MixedState). IsMixed rules [] (mix_at ms s)) (sym same)
     (c.give_up_at.ensures.alone rules is_table (subst (λ (ms : List MixedState). IsMixed rules (change ∷ []) (mix_at ms s)) (sym c.deref_mut.ensures.value) loaded)))

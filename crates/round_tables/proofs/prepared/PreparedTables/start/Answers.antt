@@ -2,7 +2,6 @@ use Rattle.std.proofs.Common.{◌≡◌, ◌<◌, ◌≤◌, ℕ, List, Bool, tr
 use Rattle.std.specs.Vec.{with_items}
 use Rattle.std.proofs.lemmas.List.{with_items_is}
 use Rattle.net_base.specs.declared.ids.SwitchId.{SwitchId}
-use Rattle.topology.specs.Networks.{switch_count}
 use Rattle.flow_rules.specs.Tables.{rules_at}
 use Rattle.update_model.specs.Mixtures.{Rollout}
 use Rattle.round_tables.specs.PreparedTables.{PreparedState, limit_at}
@@ -24,6 +23,6 @@ returns-clause-stands c =
       limits = inside.limits.items;
       room = vec_capacity inside.rules;
     } in
-    let fit : (s : SwitchId) → s.0 < switch_count u.net → length (rules_at u.old s) ≤ limit_at inside.limits.items s =
-    subst (λ (q : PreparedState). (s : SwitchId) → s.0 < switch_count u.net → length (rules_at u.old s) ≤ limit_at q.limits s) (sym c.self.view_is) c.requires.fit in
+    let fit : (s : SwitchId) → s.0 < length u.old → length (rules_at u.old s) ≤ limit_at inside.limits.items s =
+    subst (λ (q : PreparedState). (s : SwitchId) → s.0 < length u.old → length (rules_at u.old s) ≤ limit_at q.limits s) (sym c.self.view_is) c.requires.fit in
     started u p fit (c.refill_all.ensures.rules ∙ ap (λ (v : Rollout). v.old) c.update.view_is) on

@@ -1,6 +1,7 @@
-use Rattle.std.proofs.Common.{◌≡◌, ◌<◌, [], List, length, sym, ◌∙◌, ap, subst, arith}
+use Rattle.std.proofs.Common.{◌≡◌, [], List, length, sym, ◌∙◌, ap, subst, arith}
 use Rattle.std.specs.Vec.{with_items}
 use Rattle.std.proofs.lemmas.List.{with_items_is, length-map}
+use Rattle.std.proofs.lemmas.Result.{on_ok_weaker}
 use Rattle.topology.specs.Networks.{switch_count}
 use Rattle.flow_rules.specs.Tables.{TableState, IsClear, rules_at, rules_of_all}
 use Rattle.flow_rules.specs.declared.rules.Rule.{Rule}
@@ -10,7 +11,7 @@ use Rattle.update_model.proofs.ChangeLaws.{length-tables_after}
 use Rattle.round_mix.specs.Prepared.{MixedState}
 use Rattle.round_tables.specs.PreparedTables.{IsMixed, mix_at}
 use Rattle.round_trials.specs.Filling.{TrialState, FitTables}
-use Rattle.round_trials.proofs.FitLaws.{clear_made, fits_made, fit_made}
+use Rattle.round_trials.proofs.FitLaws.{clear_made, fit_made}
 use Rattle.round_trials.proofs.TrialLaws.{trial_first}
 use Rattle.round_trials.proofs.trial.RoundTrial.make_round.Goals as goal
 
@@ -24,30 +25,17 @@ made_is c =
 lent_is : (c : goal.After-settle_all-arg-1) → c.deref_mut.result.now ≡ c.args.self.now.mixes
 lent_is c = c.deref_mut.ensures.value ∙ ap (λ (t : TrialState). t.mixes) c.self.view_is
 
-count_is : (c : goal.After-settle_all-arg-1) → length c.change_all.new.tables ≡ switch_count c.args.net.now
-count_is c =
+pub settle_all-requires-clause-tables : goal.settle_all-requires-clause-tables
+settle_all-requires-clause-tables c =
     sym (length-map c.change_all.new.tables (λ (t : TableState). t.rules)) ∙ ap (λ (ts : List (List Rule)). length ts) (made_is c)
     ∙ length-tables_after c.args.self.now.round c.args.self.now.tables ∙ c.requires.space.tables
 
-pub settle_all-requires-clause-count : goal.settle_all-requires-clause-count
-settle_all-requires-clause-count c = ap (λ (ms : List MixedState). length ms) (lent_is c) ∙ c.requires.space.mixes ∙ sym (count_is c)
-
-pub settle_all-requires-clause-few : goal.settle_all-requires-clause-few
-settle_all-requires-clause-few c = let few = c.keeps_rules.ensures.few in let count = count_is c in omega arith
+pub settle_all-requires-clause-mixes : goal.settle_all-requires-clause-mixes
+settle_all-requires-clause-mixes c = ap (λ (ms : List MixedState). length ms) (lent_is c) ∙ c.requires.space.mixes
 
 pub settle_all-requires-clause-clear : goal.settle_all-requires-clause-clear
 settle_all-requires-clause-clear c s =
     subst (λ (ts : List (List Rule)). IsClear (rules_at ts s)) (sym (made_is c)) (clear_made c.args.net.now c.args.self.now.tables c.args.self.now.round c.requires.fit s)
-
-pub settle_all-requires-clause-room : goal.settle_all-requires-clause-room
-settle_all-requires-clause-room c s less =
-    let count = count_is c in
-    let within : s.0 < switch_count c.args.net.now = omega arith in
-    let most = fits_made c.args.net.now c.args.self.now.tables c.args.self.now.round c.requires.fit s within in
-    let room = c.requires.space.room s within in
-    let same = ap (λ (ts : List (List Rule)). length (rules_at ts s)) (made_is c) in
-    let lent = ap (λ (ms : List MixedState). (mix_at ms s).room) (lent_is c) in
-    omega arith
 
 pub returns-clause-trial : goal.returns-clause-trial
 returns-clause-trial c =
@@ -56,7 +44,6 @@ returns-clause-trial c =
     let new = c.settle_all.new.mixes in
     let mixes = with_items c.self.inside.mixes new in
     let are : mixes.items ≡ new = with_items_is c.self.inside.mixes new (omega arith) in
-    let alone = c.settle_all.ensures in
     let tables = rules_of_all c.change_all.new.tables in
     let t : TrialState = record { tables = tables; mixes = mixes.items; round = c.clear.new.self.items } in
     let made : tables ≡ tables_after p.round p.tables =
@@ -65,16 +52,9 @@ returns-clause-trial c =
     let lent : c.deref_mut.result.now ≡ p.mixes = c.deref_mut.ensures.value ∙ ap (λ (t : TrialState). t.mixes) c.self.view_is in
     let counted : length tables ≡ switch_count net = ap (λ (ts : List (List Rule)). length ts) made ∙ length-tables_after p.round p.tables ∙ c.requires.space.tables in
     let same_count = length-map c.change_all.new.tables (λ (t : TableState). t.rules) in
-    trial_first net t
-    (record {
-      tables = counted;
-      mixes = ap (λ (ms : List MixedState). length ms) are ∙ alone.count ∙ ap (λ (ms : List MixedState). length ms) lent ∙ c.requires.space.mixes;
-      room = λ s less.
-          let had = c.requires.space.room s less in
-          let as_lent = ap (λ (ms : List MixedState). (mix_at ms s).room) lent in
-          let more = alone.room s in
-          let same = ap (λ (ms : List MixedState). (mix_at ms s).room) are in
-          omega arith;
-    })
+    let sized : length new ≡ length c.deref_mut.result.now = omega arith in
+    on_ok_weaker c.settle_all.result
+    (λ alone.
+    trial_first net t (record { tables = counted; mixes = ap (λ (ms : List MixedState). length ms) are ∙ sized ∙ ap (λ (ms : List MixedState). length ms) lent ∙ c.requires.space.mixes })
     (subst (λ (ts : List (List Rule)). FitTables net ts []) (sym made) (fit_made net p.tables p.round c.requires.fit)) c.clear.ensures.items
-    (λ s less. subst (λ (ms : List MixedState). IsMixed (rules_at tables s) [] (mix_at ms s)) (sym are) (alone.alone s (omega arith)))
+    (λ s less. subst (λ (ms : List MixedState). IsMixed (rules_at tables s) [] (mix_at ms s)) (sym are) (alone s (omega arith)))) c.settle_all.ensures.alone

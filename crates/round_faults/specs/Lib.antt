@@ -1,4 +1,0 @@
-pub mod Sound
-pub mod Finding
-pub mod Entries
-pub mod Groups

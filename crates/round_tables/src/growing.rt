@@ -1,0 +1,49 @@
+//! What is prepared of a switch gets more room, where there is too little.
+ghost use Rattle.std.specs.Prelude.{◌≡◌, ◌≢◌, ◌<◌, ◌≤◌, false, length, IfOk, OnOk, OnErr};
+ghost use Rattle.net_base.specs.declared.ids.SwitchId.{SwitchId as Switch};
+ghost use Rattle.round_tables.specs.PreparedTables.{mix_at};
+ghost use Rattle.round_tables.specs.Trials.{HaveRoom};
+
+use net_base::{Memory, SwitchId};
+use round_mix::Mixed;
+use std::alloc::Global;
+
+/// For how many entries to have room, where these are more than there is room for: twice what there was, up to `most`, but no
+/// less than these.
+fn more_room(room: usize, entries: usize, most: usize) -> usize
+    ensures { entries ≤ result }
+{
+    room.saturating_add(room).min(most).max(entries)
+}
+
+/// Has room for so many entries at one of the switches. For each of them `rooms` says for how many there is room at least. Where
+/// that is too little, nothing is prepared of the switch then, with room for twice as many, up to `most`, or for the entries if
+/// these are more. So what is prepared of a table that grows is made anew a few times, and the time is that of the entries in
+/// all. The answer is whether it was made anew. After a refusal what is prepared is as before.
+pub fn make_room(
+    alloc: Global,
+    mixes: &mut [Mixed],
+    rooms: &mut [usize],
+    switch: SwitchId,
+    entries: usize,
+    most: usize,
+) -> Result<bool, Memory>
+    requires within { switch.0 < length mixes.old }
+    requires counts { length rooms.old ≡ length mixes.old }
+    requires known { HaveRoom rooms.old mixes.old }
+    ensures room { OnOk result (entries ≤ (mix_at mixes.new switch).room) }
+    ensures known { HaveRoom rooms.new mixes.new }
+    ensures others { (o : Switch) → o.0 ≢ switch.0 → mix_at mixes.new o ≡ mix_at mixes.old o }
+    ensures kept { IfOk result (λ is_anew. is_anew ≡ false → mixes.new ≡ mixes.old) }
+    ensures refused { OnErr result (mixes.new ≡ mixes.old) }
+{
+    let i = switch.0 as usize;
+    if entries <= rooms[i] {
+        return Ok(false);
+    }
+    let room = more_room(rooms[i], entries, most);
+    let mixed = Mixed::with_room(alloc, room)?;
+    mixes[i] = mixed;
+    rooms[i] = room;
+    Ok(true)
+}
