@@ -20,10 +20,11 @@ use crate::cause_lines::{cause_line, named_class};
 use certificates::laws::certified_consistent;
 use certificates::{Evidence, OrderedEvidence, Plan};
 use check_reasons::Case;
-use command_base::{Reply, Status, UpdateFiles, too_many_reply};
+use command_base::{Reply, Status, UpdateFiles};
 use dest_classes::Class;
 use net_base::Memory;
-use plan_checker::{CheckRoom, RoomFault};
+use plan_checker::CheckRoom;
+use plan_verdict::{PlanRoom, plan_room};
 use round_certifier::{CertifyFault, Refusal, certify};
 use std::alloc::Global;
 use topology::Net;
@@ -160,22 +161,15 @@ pub(crate) fn rounds_reply(alloc: Global, files: &UpdateFiles, plan: Plan) -> Re
         (λ r. IsCertifyAnswer (record { update = meaning_of files.now; plan = plan })
         (answer_of r)) }
 {
-    match CheckRoom::make(
-        alloc,
-        &files.net,
-        &files.old,
-        &files.new,
-        &files.demands,
-        &plan,
-    ) {
-        Ok(room) => judge_rounds(alloc, files, plan, room),
-        Err(RoomFault::TooManyClasses(classes)) => {
+    match plan_room(alloc, files, &plan) {
+        Ok(PlanRoom::Made(room)) => judge_rounds(alloc, files, plan, room),
+        Ok(PlanRoom::TooMany(reply)) => {
             drop(plan);
-            too_many_reply(alloc, classes)
+            Ok(reply)
         }
-        Err(RoomFault::Memory) => {
+        Err(memory) => {
             drop(plan);
-            Err(Memory)
+            Err(memory)
         }
     }
 }

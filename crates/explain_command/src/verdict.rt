@@ -19,9 +19,10 @@ use crate::reasons::round_reason;
 use certificates::{Evidence, Plan};
 use check_base::{class_of, refused_reply};
 use check_reasons::Case;
-use command_base::{Reply, Status, UpdateFiles, too_many_reply};
+use command_base::{Reply, Status, UpdateFiles};
 use net_base::Memory;
-use plan_checker::{CheckRoom, RoomFault, end_reason};
+use plan_checker::{CheckRoom, end_reason};
+use plan_verdict::{PlanRoom, plan_room};
 use std::alloc::Global;
 
 /// What is said of a plan whose configurations and rounds are good.
@@ -118,20 +119,12 @@ pub fn explain_verdict(alloc: Global, files: &UpdateFiles, plan: &Plan) -> Resul
         (λ r. IsExplainAnswer (record { update = meaning_of files.now; plan = plan.now })
         (answer_of r)) }
 {
-    match CheckRoom::make(
-        alloc,
-        &files.net,
-        &files.old,
-        &files.new,
-        &files.demands,
-        plan,
-    ) {
-        Ok(mut room) => {
+    match plan_room(alloc, files, plan)? {
+        PlanRoom::Made(mut room) => {
             let reply = judge_plan(alloc, files, plan, &mut room);
             drop(room);
             reply
         }
-        Err(RoomFault::TooManyClasses(classes)) => too_many_reply(alloc, classes),
-        Err(RoomFault::Memory) => Err(Memory),
+        PlanRoom::TooMany(reply) => Ok(reply),
     }
 }

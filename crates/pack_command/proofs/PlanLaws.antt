@@ -39,6 +39,7 @@ use Rattle.round_planner.proofs.SameRound.{IsSameRound, same_back, held_same, ne
 use Rattle.table_difference.specs.SameClasses.{HasSameClasses, MakeNoClasses}
 use Rattle.plan_command.specs.Planned.{BothEndsAreGood}
 use Rattle.plan_command.proofs.UpdateAnswers.{count_same}
+use Rattle.command_base.specs.Judgements.{most_classes}
 use Rattle.pack_command.proofs.StandLaws.{IsStanding, tables_of_user, keeps_round, standing_at, ends_at_new, changes_few, remaining_few, ranges, no_prefix}
 
 -- what rounds are packed for, for the duties and the classes that were made
@@ -97,12 +98,8 @@ module _ (u : Update) (old_user : IsUserConfig u.net u.old) (new_user : IsUserCo
     }
 
     -- as many classes
-    pub not_too_many : (n : ℕ) → update_count u ≤ 8192 → (n ≡ class_count (classes_for (task_for u p))) × (8192 < n) → ⊥
-    not_too_many n few many =
-        let count = count_same (classes_for t) (update_classes u) same in
-        let is = many.0 in
-        let more = many.1 in
-        omega (arith, count, is, more, few)
+    pub not_too_many : update_count u ≤ most_classes → most_classes < class_count (classes_for (task_for u p)) → ⊥
+    not_too_many few many = let count = count_same (classes_for t) (update_classes u) same in omega (arith, count, many, few)
 
     standing : (k : ℕ) → k < length p.rounds → IsStanding u old_user new_user (tables_before (rollout t) k) (round_after k p.rounds)
     standing k less = standing_at u old_user new_user p.rounds packed k less

@@ -24,7 +24,8 @@ use certificates::{Evidence, OrderedEvidence, Plan};
 use check_reasons::Case;
 use command_base::UpdateFiles;
 use net_base::{ListOf, Memory};
-use plan_checker::{CheckRoom, RoomFault};
+use plan_checker::CheckRoom;
+use plan_verdict::{PlanRoom, plan_room};
 use round_certifier::{CertifyFault, certify};
 use std::alloc::Global;
 use table_difference::classes::rounds_make_no_classes;
@@ -107,21 +108,13 @@ fn packed_evidence(
     ensures valid { IfOk result (λ e. IsValidPlan files.now.net
         (record { rounds = plan.now.rounds; evidence = Ordered e })) }
 {
-    match CheckRoom::make(
-        alloc,
-        &files.net,
-        &files.old,
-        &files.new,
-        &files.demands,
-        plan,
-    ) {
-        Ok(mut room) => {
+    match plan_room(alloc, files, plan)? {
+        PlanRoom::Made(mut room) => {
             let evidence = certify_packed(alloc, files, plan, &mut room);
             drop(room);
             evidence
         }
-        Err(RoomFault::Memory) => Err(Memory),
-        Err(RoomFault::TooManyClasses(_)) => unreachable!(),
+        PlanRoom::TooMany(_) => unreachable!(),
     }
 }
 

@@ -1,11 +1,11 @@
 -- The stages of the checker: where each reason stands among them, and what rules it out.
-use Rattle.std.proofs.Common.{◌≡◌, ℕ, suc, ◌<◌, ◌≤◌, true, false, List, [], ◌∷◌, length, refl, subst, inl, inr, arith}
+use Rattle.std.proofs.Common.{◌≡◌, ℕ, suc, ◌<◌, ◌≤◌, Bool, true, false, List, [], ◌∷◌, length, refl, subst, inl, inr, arith}
 use Rattle.std.specs.List.{AllByRecursion}
 use Rattle.std.proofs.lemmas.Bool.{cases_lt}
 use Rattle.net_base.proofs.MemberLaws.{each_get_or}
 use Rattle.net_base.specs.declared.ids.SwitchId.{SwitchId}
 use Rattle.topology.specs.Networks.{Network, switch_count}
-use Rattle.config_check.specs.Broken.{IsFirstBreak}
+use Rattle.config_check.specs.Ends.{IsFirstEndBreak}
 use Rattle.config_check.specs.declared.Breaks.{Breaks}
 use Rattle.demands.specs.Good.{HasGoodPaths}
 use Rattle.update_model.specs.Changes.{rule_of, round_after}
@@ -158,14 +158,10 @@ module _ (t : Task) (e : Evidence) (count : length t.update.old ≡ switch_count
   new_ruled good breaks i r (InClasses x q j stage round number within bad) b = omega arith
   new_ruled good breaks i r (AtLast s bad) b = omega arith
 
-  -- a first break of the old configuration is the first reason
-  pub old_first : (breaks : Breaks) → IsFirstBreak t.update.net t.update.old t.update.demands (classes_for t) breaks → IsFirstReason t e (EndBreaks false breaks)
-  old_first breaks first = record { position = 0; holds = inl (old_breaks breaks first); first = λ i r h. old_ruled breaks i r (staged t count e ascend i r h) }
-
-  -- and one of the new configuration, where the old one is good
-  pub new_first : HasGoodPaths t.update.net t.update.old t.update.demands (classes_for t)
-      → (breaks : Breaks) → IsFirstBreak t.update.net t.update.new t.update.demands (classes_for t) breaks → IsFirstReason t e (EndBreaks true breaks)
-  new_first good breaks first = record { position = 0; holds = inl (new_breaks breaks first); first = λ i r h. new_ruled good breaks i r (staged t count e ascend i r h) }
+  -- the first break of the ends is the first reason
+  pub end_first : (new : Bool) (breaks : Breaks) → IsFirstEndBreak t.update.net t.update.old t.update.new t.update.demands (classes_for t) new breaks → IsFirstReason t e (EndBreaks new breaks)
+  end_first false breaks is = record { position = 0; holds = inl (old_breaks breaks is.first); first = λ i r h. old_ruled breaks i r (staged t count e ascend i r h) }
+  end_first true breaks is = record { position = 0; holds = inl (new_breaks breaks is.first); first = λ i r h. new_ruled (is.old_good refl) breaks i r (staged t count e ascend i r h) }
 
   module _ (ends : EndsAreGood t) (k : ℕ) (rounds : RoundsPass t e k) where
     round_ruled : (i : ℕ) (r : Reason) → IsStaged t e i r → ¬ IsBefore (rank_of i r) (round_start k)

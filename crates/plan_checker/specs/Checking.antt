@@ -3,7 +3,7 @@ use Rattle.std.specs.Prelude.{◌≡◌, ℕ, suc, ◌<◌, length}
 use Rattle.net_base.specs.Members.{IsSameSet}
 use Rattle.net_base.specs.declared.ids.SwitchId.{SwitchId}
 use Rattle.flow_rules.specs.Tables.{rules_at}
-use Rattle.demands.specs.Good.{HasGoodPaths}
+use Rattle.config_check.specs.Ends.{AreGoodEnds}
 use Rattle.update_model.specs.Mixtures.{tables_before}
 use Rattle.certificates.specs.Updates.{Task, rollout}
 use Rattle.certificates.specs.Certified.{classes_for}
@@ -26,9 +26,8 @@ IfRefused Accepted P = Unit {0}
 IfRefused (Refused reason) P = P reason
 
 -- both configurations have good paths
-pub record EndsAreGood (t : Task) : Type 0 where
-  pub old_good : HasGoodPaths t.update.net t.update.old t.update.demands (classes_for t)
-  pub new_good : HasGoodPaths t.update.net t.update.new t.update.demands (classes_for t)
+abbrev pub EndsAreGood : Task → Type 0
+EndsAreGood t = AreGoodEnds t.update.net t.update.old t.update.new t.update.demands (classes_for t)
 
 -- the tables after the last round are the new ones
 abbrev pub EndsAtNew : Task → Type 0

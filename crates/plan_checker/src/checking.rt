@@ -1,12 +1,9 @@
 //! Whether a plan is certified, and otherwise the first reason why not.
 ghost use Rattle.certificates.specs.Updates.{rollout};
-ghost use Rattle.std.specs.Prelude.{◌≡◌, ◌↔◌, suc, ◌<◌, ◌≤◌, length, IfSome, IfNone, if◌then◌else◌};
-ghost use Rattle.topology.specs.Networks.{switch_count};
+ghost use Rattle.std.specs.Prelude.{◌≡◌, ◌↔◌, suc, ◌<◌, ◌≤◌, length, IfSome, IfNone};
 ghost use Rattle.flow_rules.specs.Tables.{rules_of_all};
 ghost use Rattle.path_walk.specs.UserConfigs.{IsUserConfig};
-ghost use Rattle.demands.specs.Good.{HasGoodPaths};
-ghost use Rattle.config_check.specs.Broken.{IsFirstBreak};
-ghost use Rattle.certificates.specs.Certified.{IsCertified, classes_for, is_two_phase};
+ghost use Rattle.certificates.specs.Certified.{IsCertified, is_two_phase};
 ghost use Rattle.certificates.specs.Consistent.{IsConsistent};
 ghost use Rattle.certificates.specs.Laws.{task_of, update_of};
 ghost use Rattle.certificates.specs.Valid.{IsValidPlan};
@@ -22,44 +19,11 @@ use crate::tables::{self, apply_round, load_round, wrong_end};
 use certificates::laws::certified_consistent;
 use certificates::{Evidence, Plan};
 use check_reasons::{Case, Reason, Verdict};
-use config_check::{Breaks, check_config};
+use config_check::first_end_break;
 use demands::Demands;
 use flow_rules::Config;
 use ordered_check::OrderedCase;
 use topology::Net;
-
-/// The new or the old configuration.
-fn config_of<'a>(case: &Case<'a>, new: bool) -> &'a Config
-    ensures rules { rules_of_all result.now
-        ≡ (if new then case.now.task.update.new else case.now.task.update.old) }
-    ensures count { length result.now ≡ switch_count case.now.task.update.net }
-{
-    if new { case.new } else { case.old }
-}
-
-/// How the first class that has no good path in the new or the old configuration breaks its duties.
-fn end_breaks(case: &Case, new: bool, room: &mut CheckRoom) -> Option<Breaks>
-    requires { Fits case.now.task room.old }
-    ensures none { IfNone result
-        (HasGoodPaths case.now.task.update.net
-        (if new then case.now.task.update.new else case.now.task.update.old)
-        case.now.task.update.demands (classes_for case.now.task)) }
-    ensures some { IfSome result
-        (IsFirstBreak case.now.task.update.net
-        (if new then case.now.task.update.new else case.now.task.update.old)
-        case.now.task.update.demands (classes_for case.now.task)) }
-    ensures fits { Fits case.now.task room.new }
-{
-    let config = config_of(case, new);
-    check_config(
-        case.net,
-        config,
-        &room.duties,
-        &room.classes,
-        &mut room.path,
-    )
-    .err()
-}
 
 /// The first reason of the two configurations, if there is one: a class without a good path in the old one, or else in the
 /// new one. The room was made for these values, and can be used again.
@@ -72,11 +36,19 @@ pub fn end_reason(case: &Case, room: &mut CheckRoom) -> Option<Reason>
     ensures fits { Fits case.now.task room.new }
 {
     case.keeps_rules();
-    if let Some(breaks) = end_breaks(case, false, room) {
-        return Some(Reason::EndBreaks { new: false, breaks });
-    }
-    if let Some(breaks) = end_breaks(case, true, room) {
-        return Some(Reason::EndBreaks { new: true, breaks });
+    let first = first_end_break(
+        case.net,
+        case.old,
+        case.new,
+        &room.duties,
+        &room.classes,
+        &mut room.path,
+    );
+    if let Some(end) = first {
+        return Some(Reason::EndBreaks {
+            new: end.new,
+            breaks: end.breaks,
+        });
     }
     None
 }

@@ -1,11 +1,9 @@
 -- What the answer on an update stands on.
-use Rattle.std.proofs.Common.{◌≡◌, ◌<◌, ◌≤◌, Bool, true, false, List, Some, Result, Ok, Err, IfOk, refl, sym, subst}
+use Rattle.std.proofs.Common.{◌≡◌, ◌<◌, ◌≤◌, Bool, List, Some, Result, Ok, Err, IfOk, refl, sym, subst}
 use Rattle.flow_rules.specs.declared.rules.Rule.{Rule}
 use Rattle.dest_classes.specs.Classes.{ClassList, IsClass, class_count}
 use Rattle.dest_classes.proofs.MapLaws.{number_fits}
 use Rattle.dest_classes.specs.declared.Class.{Class}
-use Rattle.demands.specs.Duties.{ClassDuties}
-use Rattle.demands.specs.Good.{HasGoodPaths}
 use Rattle.config_check.specs.declared.Breaks.{Breaks}
 use Rattle.config_check.specs.Broken.{IsFirstBreak}
 use Rattle.update_model.specs.declared.Change.{Change}
@@ -20,8 +18,7 @@ use Rattle.command_base.specs.Answers.{Answer}
 use Rattle.command_base.specs.Judgements.{SaysWhyNot, most_classes}
 use Rattle.certificates.specs.Updates.{Update, task_for}
 use Rattle.round_planner.specs.Updates.{update_classes, update_count}
-use Rattle.round_planner.proofs.UpdateLaws.{good_back}
-use Rattle.plan_command.specs.Planned.{BothEndsAreGood, IsFirstEndBreak, IsEndLine}
+use Rattle.plan_command.specs.Planned.{BothEndsAreGood, IsFirstBreakOf, IsEndLine}
 
 -- two facts of a value, the second under a premise
 pub both_ok : {A E : Type 0} (r : Result A E) (P Q R : A → Type 0) (T : Type 0) → ((x : A) → P x → (T → Q x) → R x) → IfOk r P → (T → IfOk r Q) → IfOk r R
@@ -29,7 +26,7 @@ both_ok (Ok x) P Q R T f p q = f x p q
 both_ok (Err e) P Q R T f p q = tt
 
 module _ (u : Update) where
-  pub end_law : (new : Bool) (break : Breaks) (class : Class) (answer : Answer) → update_count u ≤ most_classes → ¬ BothEndsAreGood u → IsFirstEndBreak u new break → IsClass (update_classes u) break.class class
+  pub end_law : (new : Bool) (break : Breaks) (class : Class) (answer : Answer) → update_count u ≤ most_classes → ¬ BothEndsAreGood u → IsFirstBreakOf u new break → IsClass (update_classes u) break.class class
       → answer ≡ record { status = status.Refused; text = refused_line u.net (Some class) (EndBreaks new break) } → SaysWhyNot (update_count u) (BothEndsAreGood u) (IsEndLine u) answer
   end_law new break class answer few broken first is_class is = record {
     few = few;
@@ -50,29 +47,3 @@ module _ (u : Update) where
   module _ (classes : ClassList) (are : classes ≡ update_classes u) where
     pub break_fits : (tables : List (List Rule)) (b : Breaks) → IsFirstBreak u.net tables u.demands (update_classes u) b → b.class < class_count classes
     break_fits tables b first = subst (λ c. b.class < class_count c) (sym are) (number_fits (update_classes u) b.class first.class first.is_class)
-
-  -- what is known of the ends, for the classes and the duties that were made
-  module _ (classes : ClassList) (are : classes ≡ update_classes u) (duties : ClassDuties) (made : duties ≡ record { demands = u.demands; classes = classes }) where
-    good_as : (tables : List (List Rule)) → HasGoodPaths u.net tables duties.demands classes → HasGoodPaths u.net tables u.demands (update_classes u)
-    good_as tables good = subst (λ c. HasGoodPaths u.net tables u.demands c) are (subst (λ d. HasGoodPaths u.net tables d.demands classes) made good)
-
-    pub new_break : (b : Breaks) → HasGoodPaths u.net u.old duties.demands classes → IsFirstBreak u.net u.new duties.demands classes b → IsFirstEndBreak u true b
-    new_break b old_good first = record {
-      first = subst (λ c. IsFirstBreak u.net u.new u.demands c b) are (subst (λ d. IsFirstBreak u.net u.new d.demands classes b) made first);
-      old_good = λ holds. good_as u.old old_good;
-    }
-
-    pub old_break : (b : Breaks) → IsFirstBreak u.net u.old duties.demands classes b → IsFirstEndBreak u false b
-    old_break b first = record {
-      first = subst (λ c. IsFirstBreak u.net u.old u.demands c b) are (subst (λ d. IsFirstBreak u.net u.old d.demands classes b) made first);
-      old_good = λ holds. absurd (let e : false ≡ true = holds in cc);
-    }
-
-    pub old_not_good : ¬ HasGoodPaths u.net u.old duties.demands classes → ¬ BothEndsAreGood u
-    old_not_good broken = λ ends. broken (good_back u classes are duties made u.old ends.old_good)
-
-    pub new_not_good : ¬ HasGoodPaths u.net u.new duties.demands classes → ¬ BothEndsAreGood u
-    new_not_good broken = λ ends. broken (good_back u classes are duties made u.new ends.new_good)
-
-    pub both_good : HasGoodPaths u.net u.old duties.demands classes → HasGoodPaths u.net u.new duties.demands classes → BothEndsAreGood u
-    both_good old_good new_good = record { old_good = good_as u.old old_good; new_good = good_as u.new new_good }

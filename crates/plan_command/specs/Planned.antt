@@ -1,11 +1,10 @@
 -- What is said of an update that is to be planned.
-use Rattle.std.specs.Prelude.{◌≡◌, ◌⊎◌, ℕ, ◌≤◌, Bool, IsTrue, List, length, Some, if◌then◌else◌}
+use Rattle.std.specs.Prelude.{◌≡◌, ◌⊎◌, ℕ, ◌≤◌, Bool, List, length, Some}
 use Rattle.net_base.specs.declared.ids.SwitchId.{SwitchId}
 use Rattle.dest_classes.specs.Classes.{IsClass}
 use Rattle.dest_classes.specs.declared.Class.{Class}
-use Rattle.demands.specs.Good.{HasGoodPaths}
 use Rattle.config_check.specs.declared.Breaks.{Breaks}
-use Rattle.config_check.specs.Broken.{IsFirstBreak}
+use Rattle.config_check.specs.Ends.{AreGoodEnds, IsFirstEndBreak}
 use Rattle.update_model.specs.declared.Change.{Change}
 use Rattle.update_model.specs.Remaining.{remaining}
 use Rattle.certificates.specs.Updates.{Update, task_for}
@@ -27,20 +26,18 @@ use Rattle.command_base.specs.Judgements.{SaysTooMany, SaysWhyNot, most_classes}
 use Rattle.upgrade_command.specs.Texts.{SaysPlan}
 
 -- both configurations have good paths for all classes of the update
-pub record BothEndsAreGood (u : Update) : Type 0 where
-  pub old_good : HasGoodPaths u.net u.old u.demands (update_classes u)
-  pub new_good : HasGoodPaths u.net u.new u.demands (update_classes u)
+abbrev pub BothEndsAreGood : Update → Type 0
+BothEndsAreGood u = AreGoodEnds u.net u.old u.new u.demands (update_classes u)
 
 -- the first break of the old configuration, or of the new one where the old one is good
-pub record IsFirstEndBreak (u : Update) (new : Bool) (break : Breaks) : Type 0 where
-  pub first : IsFirstBreak u.net (if new then u.new else u.old) u.demands (update_classes u) break
-  pub old_good : IsTrue new → HasGoodPaths u.net u.old u.demands (update_classes u)
+abbrev pub IsFirstBreakOf : Update → Bool → Breaks → Type 0
+IsFirstBreakOf u new break = IsFirstEndBreak u.net u.old u.new u.demands (update_classes u) new break
 
 -- the line names the first break
 pub record IsEndLine (u : Update) (line : List ℕ) : Type 0 where
   pub new : Bool
   pub break : Breaks
-  pub first : IsFirstEndBreak u new break
+  pub first : IsFirstBreakOf u new break
   pub class : Class
   pub is_class : IsClass (update_classes u) break.class class
   pub line_is : line ≡ refused_line u.net (Some class) (EndBreaks new break)

@@ -1,55 +1,22 @@
 //! Whether both ends of an update are good: whether its old and its new configuration have good paths for all classes.
 ghost use Rattle.std.specs.Prelude.{◌≡◌, ◌≤◌, IfOk, IfSome, IfNone};
-ghost use Rattle.topology.specs.Networks.{switch_count};
 ghost use Rattle.flow_rules.specs.Tables.{rules_of_all};
 ghost use Rattle.path_walk.specs.UserConfigs.{IsUserConfig};
 ghost use Rattle.round_planner.specs.Updates.{update_classes, update_count};
 ghost use Rattle.command_base.specs.Judgements.{SaysWhyNot, most_classes};
 ghost use Rattle.command_base.specs.Updates.{meaning_of};
 ghost use Rattle.command_base.specs.Replies.{answer_of};
-ghost use Rattle.plan_command.specs.Planned.{BothEndsAreGood, IsFirstEndBreak, IsEndLine};
+ghost use Rattle.plan_command.specs.Planned.{BothEndsAreGood, IsFirstBreakOf, IsEndLine};
 
 use check_base::refused_reply;
 use check_reasons::Reason;
 use command_base::{Reply, UpdateFiles};
-use config_check::{Breaks, check_config};
+use config_check::{EndBreak, first_end_break};
 use demands::Duties;
 use dest_classes::ClassMap;
 use net_base::Memory;
 use path_walk::PathRoom;
 use std::alloc::Global;
-
-/// How the first class without a good path breaks its duties, in the new configuration or in the old one.
-#[derive(Clone, Copy)]
-struct EndBreak {
-    new: bool,
-    breaks: Breaks,
-}
-
-/// The first break of the old configuration, or else of the new one, if there is one.
-fn first_break(
-    files: &UpdateFiles,
-    duties: &Duties,
-    classes: &ClassMap,
-    room: &mut PathRoom,
-) -> Option<EndBreak>
-    requires old { IsUserConfig files.now.net (rules_of_all files.now.old) }
-    requires new { IsUserConfig files.now.net (rules_of_all files.now.new) }
-    requires classes { classes.now ≡ update_classes (meaning_of files.now) }
-    requires duties { duties.now ≡ record { demands = files.now.demands; classes = classes.now } }
-    requires room { room.old.switches ≡ switch_count files.now.net }
-    ensures none { IfNone result (BothEndsAreGood (meaning_of files.now)) }
-    ensures some { IfSome result (λ e. IsFirstEndBreak (meaning_of files.now) e.new e.breaks) }
-    ensures fails { IfSome result (λ _. ¬ BothEndsAreGood (meaning_of files.now)) }
-{
-    if let Err(breaks) = check_config(&files.net, &files.old, duties, classes, room) {
-        return Some(EndBreak { new: false, breaks });
-    }
-    if let Err(breaks) = check_config(&files.net, &files.new, duties, classes, room) {
-        return Some(EndBreak { new: true, breaks });
-    }
-    None
-}
 
 /// The reply on the first break of an end.
 fn break_reply(
@@ -61,7 +28,7 @@ fn break_reply(
     requires classes { classes.now ≡ update_classes (meaning_of files.now) }
     requires few { update_count (meaning_of files.now) ≤ most_classes }
     requires broken { ¬ BothEndsAreGood (meaning_of files.now) }
-    requires first { IsFirstEndBreak (meaning_of files.now) end.new end.breaks }
+    requires first { IsFirstBreakOf (meaning_of files.now) end.new end.breaks }
     ensures { IfOk result
         (λ r. SaysWhyNot (update_count (meaning_of files.now))
         (BothEndsAreGood (meaning_of files.now))
@@ -94,7 +61,9 @@ pub fn end_reply(
         (IsEndLine (meaning_of files.now)) (answer_of r))) }
 {
     let mut room = PathRoom::make(alloc, &files.net)?;
-    let end = first_break(files, duties, classes, &mut room);
+    let end = first_end_break(
+        &files.net, &files.old, &files.new, duties, classes, &mut room,
+    );
     drop(room);
     match end {
         Some(end) => Ok(Some(break_reply(alloc, files, classes, end)?)),

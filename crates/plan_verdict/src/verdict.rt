@@ -10,11 +10,12 @@ ghost use Rattle.plan_checker.specs.Fits.{Fits};
 ghost use Rattle.command_base.specs.Updates.{meaning_of};
 ghost use Rattle.plan_verdict.specs.Verdicts.{IsVerdictOn};
 
+use crate::room::{PlanRoom, plan_room};
 use certificates::Plan;
 use check_base::{class_of, refused_reply};
-use command_base::{Reply, UpdateFiles, too_many_reply};
+use command_base::{Reply, UpdateFiles};
 use net_base::Memory;
-use plan_checker::{CheckRoom, RoomFault, Verdict};
+use plan_checker::{CheckRoom, Verdict};
 use std::alloc::Global;
 
 /// The verdict on a plan: it is certified, with the room of its check, which has its classes; or it isn't, or there are too many
@@ -67,18 +68,8 @@ pub fn plan_verdict(alloc: Global, files: &UpdateFiles, plan: &Plan) -> Result<P
     ensures { IfOk result
         (IsVerdictOn (task_for (meaning_of files.now) plan.now) plan.now.evidence) }
 {
-    match CheckRoom::make(
-        alloc,
-        &files.net,
-        &files.old,
-        &files.new,
-        &files.demands,
-        plan,
-    ) {
-        Ok(room) => verdict_in(alloc, files, plan, room),
-        Err(RoomFault::TooManyClasses(classes)) => {
-            Ok(PlanVerdict::Refused(too_many_reply(alloc, classes)?))
-        }
-        Err(RoomFault::Memory) => Err(Memory),
+    match plan_room(alloc, files, plan)? {
+        PlanRoom::Made(room) => verdict_in(alloc, files, plan, room),
+        PlanRoom::TooMany(reply) => Ok(PlanVerdict::Refused(reply)),
     }
 }

@@ -71,3 +71,9 @@ answered held words old new result files a all tells asks =
 -- words that ask for another command don't ask to serve
 pub unserved : (words : List (List ℕ)) (a : Asked) → asked words ≡ Some a → ¬ AsksToServe (Some a) → ¬ AsksToServe (asked words)
 unserved words a asks other serves = other (subst AsksToServe asks serves)
+
+-- a run ends as the dialogue of the command that its words ask for
+pub ended : (held : Option Files) (words : List (List ℕ)) (old new : Option (List ℕ)) (selected : List ℕ) (taken : ℕ) (result : Status) (a : Asked)
+    → EndsAs IsSaid held (dialogue words) old new selected taken result → asked words ≡ Some a → EndsAs IsSaid held (dialogue_of a) old new selected taken result
+unfolding dialogue
+ended held words old new selected taken result a ends asks = subst (λ b. EndsAs IsSaid held (dialogue_on b) old new selected taken result) asks ends

@@ -212,3 +212,9 @@ abbrev pub AsksToServe : Option Asked → Type 0
 AsksToServe None = ⊥
 AsksToServe (Some (Serve names)) = Unit {0}
 AsksToServe (Some other) = ⊥
+
+-- no file is named, and none is read
+abbrev pub NamesNoFile : Option Asked → Type 0
+NamesNoFile None = Unit {0}
+NamesNoFile (Some (Sample n)) = Unit {0}
+NamesNoFile (Some other) = ⊥

@@ -1,11 +1,11 @@
 //! The top call.
-ghost use Rattle.std.specs.Prelude.{◌≡◌, ◌≢◌, ◌⊎◌, ◌↔◌, ◌≤◌, ℕ, None, Some, IfOk, IfErr, map, string_bytes};
+ghost use Rattle.std.specs.Prelude.{◌≡◌, ◌≢◌, ◌⊎◌, ◌↔◌, ◌≤◌, ℕ, None, Some, IfErr, map, string_bytes};
 ghost use Rattle.std.specs.Io.KnownBytes.{Appends, Keeps};
 ghost use Rattle.file_access.specs.Causes.{Rose};
 ghost use Rattle.file_access.specs.Outside.{Files, AppendsFront, IsMissing};
 ghost use Rattle.command_base.specs.Dialogues.{Lacks};
 ghost use Rattle.command_base.specs.Names.{UpdateNames, PlanNames};
-ghost use Rattle.command_base.specs.Replies.{answer_of, Meets};
+ghost use Rattle.command_base.specs.Replies.{Meets};
 ghost use Rattle.command_base.specs.Runs.{IsSettled, EndsAs, AnswersAll, AnswersFront};
 ghost use Rattle.config_command.specs.Names.{ConfigNames};
 ghost use Rattle.config_command.specs.Promise.{ConfigPromise};
@@ -33,9 +33,8 @@ ghost use Rattle.drive_command.specs.Promise.{DrivePromise};
 ghost use Rattle.serve_command.specs.Serving.{IsServeEnd};
 ghost use Rattle.serve_command.specs.Stops.{input_name};
 ghost use Rattle.serve_promise.specs.Promise.{ServePromise};
-ghost use Rattle.sample_command.specs.Summaries.{SaysSummary};
 ghost use Rattle.sample_command.specs.Promise.{SamplePromise};
-ghost use Rattle.planner_run.specs.Commands.{Config, Paths, Check, Certify, Plan, Pack, Upgrade, Emit, Replay, Tables, Trace, Simulate, Explain, Import, Drive, Serve, Sample, AsksToServe, asked, seen, dialogue, dialogue_of, IsSaid, usage_line};
+ghost use Rattle.planner_run.specs.Commands.{Config, Paths, Check, Certify, Plan, Pack, Upgrade, Emit, Replay, Tables, Trace, Simulate, Explain, Import, Drive, Serve, Sample, AsksToServe, NamesNoFile, asked, seen, dialogue, dialogue_of, IsSaid, usage_line};
 
 use crate::command::{Command, command_of};
 use certify_command::certify;
@@ -54,7 +53,6 @@ use explain_command::laws::explain_promised;
 use file_access::{Sink, Source, WriteFault, pour};
 use import_command::import;
 use import_command::laws::import_promised;
-use net_base::Memory;
 use pack_command::laws::pack_promised;
 use pack_command::pack;
 use paths_command::laws::paths_promised;
@@ -64,7 +62,7 @@ use plan_command::plan;
 use replay_command::laws::replay_promised;
 use replay_command::replay;
 use sample_command::laws::sample_promised;
-use sample_command::{RingSize, sample};
+use sample_command::sample;
 use serve_command::serve;
 use serve_promise::laws::serve_promised;
 use simulate_command::laws::simulate_promised;
@@ -79,26 +77,15 @@ use upgrade_command::upgrade;
 
 const USAGE_LINE: &[u8] = b"unknown command or wrong words\n";
 
-/// The reply to a sample, which reads no file.
-fn sample_reply(alloc: Global, size: RingSize) -> Result<Reply, Exit>
-    ensures says { IfOk result (λ r. SaysSummary size.switches (answer_of r)) }
-    ensures memory { IfErr result (λ e. e ≡ Exit.Memory) }
-{
-    match sample(alloc, size) {
-        Ok(reply) => Ok(reply),
-        Err(Memory) => Err(Exit::Memory),
-    }
-}
-
-/// The reply to a command. A sample leaves the source as it is, so it has no fault of reading.
+/// The reply to a command. One that names no file leaves the source as it is, so it has no fault of reading.
 fn reply_to<S: Source>(alloc: Global, command: &Command<'_>, source: &mut S) -> Result<Reply, Exit>
     requires { ¬ AsksToServe (Some (seen command.now)) }
     ensures meets { Meets IsSaid (S.held source.old) (dialogue_of (seen command.now))
         (S.faults source.old) (S.faults source.new) result (S.selected source.new)
         (S.taken source.new) }
     ensures later { S.faults source.old ≤ S.faults source.new }
-    ensures unread { (n : ℕ) → seen command.now ≡ Sample n → source.new ≡ source.old }
-    ensures no_read_fault { (n : ℕ) → seen command.now ≡ Sample n
+    ensures unread { NamesNoFile (Some (seen command.now)) → source.new ≡ source.old }
+    ensures no_read_fault { NamesNoFile (Some (seen command.now))
         → IfErr result (λ e. e ≢ Exit.ReadFault) }
 {
     match command {
@@ -118,7 +105,7 @@ fn reply_to<S: Source>(alloc: Global, command: &Command<'_>, source: &mut S) -> 
         Command::Import(names) => import(alloc, source, names),
         Command::Drive(names) => drive(alloc, source, names),
         Command::Serve(_) => unreachable!(),
-        Command::Sample(size) => sample_reply(alloc, *size),
+        Command::Sample(size) => sample(alloc, *size),
     }
 }
 
@@ -185,10 +172,9 @@ fn respond<S: Source, K: Sink>(
         ⊎ Lacks (S.held source.old) (check_dialogue names)
         ⊎ IsMissing (S.held source.old) input_name }
 
-    // A sample leaves the source as it is.
-    ensures unread { (n : ℕ) → asked (map string_bytes words.now) ≡ Some (Sample n) → source.new
-        ≡ source.old }
-    ensures no_read_fault { (n : ℕ) → asked (map string_bytes words.now) ≡ Some (Sample n)
+    // Words that name no file leave the source as it is.
+    ensures unread { NamesNoFile (asked (map string_bytes words.now)) → source.new ≡ source.old }
+    ensures no_read_fault { NamesNoFile (asked (map string_bytes words.now))
         → result ≢ Status.ReadFault }
 {
     match command_of(words) {
@@ -309,11 +295,12 @@ pub fn run<S: Source, K: Sink>(
         → ServePromise files names (K.written sink.old) (K.written sink.new) (S.taken source.new)
         result }
 
-    // A sample reads no file: its promise holds over every source, which it leaves as it is.
+    // Words that name no file leave the source as it is.
+    ensures unread { NamesNoFile (asked (map string_bytes words.now)) → source.new ≡ source.old }
+
+    // The promise of a command that reads no file holds over every source.
     ensures sample { (n : ℕ) → asked (map string_bytes words.now) ≡ Some (Sample n)
         → SamplePromise n (K.written sink.old) (K.written sink.new) result }
-    ensures unread { (n : ℕ) → asked (map string_bytes words.now) ≡ Some (Sample n) → source.new
-        ≡ source.old }
 {
     config_promised();
     paths_promised();

@@ -1,5 +1,5 @@
 //! The command that plans and checks a ring.
-ghost use Rattle.std.specs.Prelude.{◌≡◌, IfOk, ◌*◌, ◌-◌, length};
+ghost use Rattle.std.specs.Prelude.{◌≡◌, IfOk, IfErr, ◌*◌, ◌-◌, length};
 ghost use Rattle.flow_rules.specs.Tables.{rules_of_all};
 ghost use Rattle.path_walk.specs.UserConfigs.{IsUserConfig};
 ghost use Rattle.dest_classes.specs.Classes.{class_count};
@@ -19,7 +19,7 @@ use crate::planning::{checked_classes, tree_plan};
 use crate::summary::sample_line;
 use certificates::laws::certified_consistent;
 use certificates::{Evidence, Plan};
-use command_base::{Reply, Status, UpdateFiles};
+use command_base::{Exit, Reply, Status, UpdateFiles};
 use net_base::Memory;
 use ring_sample::{RingSize, ring_update};
 use std::alloc::Global;
@@ -90,12 +90,18 @@ fn planned_reply(alloc: Global, size: RingSize, files: &UpdateFiles) -> Result<R
     reply
 }
 
-/// Makes the ring of so many switches, plans its update, checks the plan, and says so in a line. It reads no file.
-pub fn sample(alloc: Global, size: RingSize) -> Result<Reply, Memory>
-    ensures { IfOk result (λ r. SaysSummary size.switches (answer_of r)) }
+/// Makes the ring of so many switches, plans its update, checks the plan, and says so in a line. It reads no file, so its
+/// dialogue ends at once, with the number of the switches.
+///
+/// # Errors
+///
+/// `Memory` alone.
+pub fn sample(alloc: Global, size: RingSize) -> Result<Reply, Exit>
+    ensures said { IfOk result (λ r. SaysSummary size.switches (answer_of r)) }
+    ensures stops { IfErr result (λ e. e ≡ Exit.Memory) }
 {
     let files = ring_update(alloc, size)?;
     let reply = planned_reply(alloc, size, &files);
     drop(files);
-    reply
+    Ok(reply?)
 }

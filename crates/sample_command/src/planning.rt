@@ -9,7 +9,6 @@ ghost use Rattle.certificates.specs.Trees.{IsTreeUpdate};
 ghost use Rattle.certificates.specs.Valid.{IsValidPlan};
 ghost use Rattle.table_difference.specs.SameClasses.{HasSameClasses};
 ghost use Rattle.round_planner.specs.Ends.{IsPlanOf};
-ghost use Rattle.plan_checker.specs.Fits.{Fits};
 ghost use Rattle.command_base.specs.Judgements.{most_classes};
 ghost use Rattle.certificates.specs.Updates.{task_for};
 ghost use Rattle.command_base.specs.Updates.{meaning_of};
@@ -20,7 +19,7 @@ use command_base::UpdateFiles;
 use demands::Duties;
 use dest_classes::{ClassFault, ClassMap, class_map};
 use net_base::Memory;
-use plan_checker::{CheckRoom, RoomFault, Verdict, check};
+use plan_verdict::{PlanVerdict, plan_verdict};
 use round_planner::{Ordered, order, update_prefixes};
 use std::alloc::Global;
 
@@ -91,50 +90,6 @@ pub fn tree_plan(alloc: Global, files: &UpdateFiles) -> Result<Plan, Memory>
     plan
 }
 
-/// The room for a check over few enough classes.
-fn check_room(alloc: Global, files: &UpdateFiles, plan: &Plan) -> Result<CheckRoom, Memory>
-    requires old { IsUserConfig files.now.net (rules_of_all files.now.old) }
-    requires new { IsUserConfig files.now.net (rules_of_all files.now.new) }
-    requires few { class_count (classes_for (task_for (meaning_of files.now) plan.now))
-        ≤ most_classes }
-    ensures { IfOk result (Fits (task_for (meaning_of files.now) plan.now)) }
-{
-    match CheckRoom::make(
-        alloc,
-        &files.net,
-        &files.old,
-        &files.new,
-        &files.demands,
-        plan,
-    ) {
-        Ok(room) => Ok(room),
-        Err(RoomFault::Memory) => Err(Memory),
-        Err(RoomFault::TooManyClasses(_)) => unreachable!(),
-    }
-}
-
-/// Checks a certified plan in a room for it, and counts the classes over which it was checked.
-fn classes_in_room(files: &UpdateFiles, plan: &Plan, room: &mut CheckRoom) -> u32
-    requires old { IsUserConfig files.now.net (rules_of_all files.now.old) }
-    requires new { IsUserConfig files.now.net (rules_of_all files.now.new) }
-    requires valid { IsValidPlan files.now.net plan.now }
-    requires fits { Fits (task_for (meaning_of files.now) plan.now) room.old }
-    requires certified { IsCertified (task_for (meaning_of files.now) plan.now) plan.now.evidence }
-    ensures { result ≡ class_count (classes_for (task_for (meaning_of files.now) plan.now)) }
-{
-    match check(
-        &files.net,
-        &files.old,
-        &files.new,
-        &files.demands,
-        plan,
-        room,
-    ) {
-        Verdict::Accepted => room.classes().count(),
-        Verdict::Refused(_) => unreachable!(),
-    }
-}
-
 /// Checks a certified plan, and counts the classes over which it was checked.
 pub fn checked_classes(alloc: Global, files: &UpdateFiles, plan: &Plan) -> Result<u32, Memory>
     requires old { IsUserConfig files.now.net (rules_of_all files.now.old) }
@@ -146,8 +101,12 @@ pub fn checked_classes(alloc: Global, files: &UpdateFiles, plan: &Plan) -> Resul
     ensures { IfOk result (λ n. n
         ≡ class_count (classes_for (task_for (meaning_of files.now) plan.now))) }
 {
-    let mut room = check_room(alloc, files, plan)?;
-    let classes = classes_in_room(files, plan, &mut room);
-    drop(room);
-    Ok(classes)
+    match plan_verdict(alloc, files, plan)? {
+        PlanVerdict::Certified(room) => {
+            let classes = room.classes().count();
+            drop(room);
+            Ok(classes)
+        }
+        PlanVerdict::Refused(_) => unreachable!(),
+    }
 }

@@ -1,6 +1,6 @@
 use Rattle.command_base.proofs.DialogueLaws.{meets_as}
+use Rattle.command_base.proofs.WholeLaws.{meets_at_once}
 use Rattle.planner_run.specs.Commands.{IsSaid, OfConfig, OfPaths, OfCheck, OfCertify, OfPlan, OfPack, OfUpgrade, OfEmit, OfReplay, OfTables, OfTrace, OfSimulate, OfExplain, OfImport, OfDrive}
-use Rattle.planner_run.proofs.Sampled.{sample_meets}
 use Rattle.planner_run.proofs.run.reply_to.Goals as goal
 
 pub returns-in-Config-clause-meets : goal.returns-in-Config-clause-meets
@@ -50,4 +50,4 @@ pub returns-in-Drive-clause-meets : goal.returns-in-Drive-clause-meets
 returns-in-Drive-clause-meets g c = rw c.in-Drive.is (meets_as IsSaid OfDrive (λ m answer said. said) c.drive.ensures.meets)
 
 pub returns-in-Sample-clause-meets : goal.returns-in-Sample-clause-meets
-returns-in-Sample-clause-meets g c = rw c.in-Sample.is (sample_meets _ c.in-Sample.size.switches _ _ c.sample_reply.result _ _ c.sample_reply.ensures.says c.sample_reply.ensures.memory)
+returns-in-Sample-clause-meets g c = rw c.in-Sample.is (meets_at_once c.sample.ensures.said c.sample.ensures.stops)

@@ -1,8 +1,8 @@
-use Rattle.std.proofs.Common.{map, string_bytes, subst}
+use Rattle.std.proofs.Common.{map, string_bytes, sym, subst}
 use Rattle.std.specs.Prelude.{Option}
 use Rattle.file_access.specs.Outside.{Files}
 use Rattle.command_base.specs.Readings.{reading_update, reading_plan_files}
-use Rattle.command_base.proofs.RunLaws.{answered_as}
+use Rattle.command_base.proofs.RunLaws.{answered_as, ends_at_once}
 use Rattle.config_command.specs.Configs.{config_dialogue, IsConfigAnswer}
 use Rattle.paths_command.specs.Listed.{IsPathsAnswer}
 use Rattle.check_base.specs.Checks.{check_dialogue}
@@ -20,9 +20,9 @@ use Rattle.emit_command.specs.Answers.{IsEmitAnswer}
 use Rattle.import_command.specs.Imported.{import_dialogue, IsImportAnswer}
 use Rattle.drive_command.specs.Driven.{drive_dialogue, IsDriveAnswer}
 use Rattle.serve_command.specs.Serving.{IsServeEnd}
-use Rattle.planner_run.specs.Commands.{Config, Paths, Check, Certify, Plan, Pack, Upgrade, Emit, Replay, Tables, Trace, Simulate, Explain, Import, Drive, Sample, OfConfig, OfPaths, OfCheck, OfCertify, OfPlan, OfPack, OfUpgrade, OfEmit, OfReplay, OfTables, OfTrace, OfSimulate, OfExplain, OfImport, OfDrive, IsSaid}
-use Rattle.planner_run.proofs.Answered.{answered, unserved}
-use Rattle.planner_run.proofs.Sampled.{sample_ends}
+use Rattle.sample_command.specs.Summaries.{SaysSummary}
+use Rattle.planner_run.specs.Commands.{Config, Paths, Check, Certify, Plan, Pack, Upgrade, Emit, Replay, Tables, Trace, Simulate, Explain, Import, Drive, Sample, OfConfig, OfPaths, OfCheck, OfCertify, OfPlan, OfPack, OfUpgrade, OfEmit, OfReplay, OfTables, OfTrace, OfSimulate, OfExplain, OfImport, OfDrive, OfSample, NamesNoFile, IsSaid}
+use Rattle.planner_run.proofs.Answered.{answered, unserved, ended}
 use Rattle.planner_run.proofs.run.run.Goals as goal
 
 pub returns-clause-config : goal.returns-clause-config
@@ -107,4 +107,6 @@ returns-clause-serve_promise g c = λ files names tells asks.
 
 pub returns-clause-sample : goal.returns-clause-sample
 returns-clause-sample g c = λ n asks.
-    c.sample_promised.ensures n _ _ _ _ _ _ (sample_ends _ _ _ _ _ n (map string_bytes c.args.words.now) _ (c.respond.ensures.ends (unserved (map string_bytes c.args.words.now) (Sample n) asks (λ none. none))) asks) (c.respond.ensures.no_read_fault n asks)
+    c.sample_promised.ensures n _ _ _ _ _ _
+    (ends_at_once SaysSummary IsSaid OfSample (λ m answer said. said) _ n _ _ _ _ _ (ended _ (map string_bytes c.args.words.now) _ _ _ _ _ (Sample n) (c.respond.ensures.ends (unserved (map string_bytes c.args.words.now) (Sample n) asks (λ none. none))) asks))
+    (c.respond.ensures.no_read_fault (subst NamesNoFile (sym asks) (tt {0})))
