@@ -49,12 +49,18 @@ fn mark_all(good: &mut [bool])
     good.fill(true);
 }
 
-/// Whether no change of a round may be met by packets of a class at these switches. Not told of the first round.
+/// How many changes of a round are compared with a class. Where there are more, to walk the class anew costs no more than to
+/// compare it with them all.
+const MOST_COMPARED: usize = 64;
+
+/// Whether no change of a round may be met by packets of a class at these switches. Not told of the first round, and where the
+/// round has more than `MOST_COMPARED` changes.
 fn is_missed(round: PreparedRound<'_>, class: Class, came: SwitchSet) -> bool
     requires { round.number < length round.rounds.now }
     ensures { result ≡ true → IsMissed round.entry class came }
 {
-    round.number > 0 && !meets_any(round.rounds.round(round.number), class, came)
+    let changes = round.rounds.round(round.number);
+    round.number > 0 && changes.len() <= MOST_COMPARED && !meets_any(changes, class, came)
 }
 
 /// Marks the classes that no change of the round may be met by at the switches of their sets, and no others. Only those are

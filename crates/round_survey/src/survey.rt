@@ -230,8 +230,8 @@ impl RoundSurvey {
     ///
     /// Where walks that are walked together have no falling numbers, their places are walked once more, and it takes time by
     /// the product of the switches and the steps between places. Beside the walks a round of one change takes time by the
-    /// classes whose address the change covers, and little for the others; a longer one by the product of its changes and the
-    /// classes.
+    /// classes whose address the change covers, and little for the others; one of at most 64 by the product of its changes and
+    /// the classes; and in a longer one each class is walked.
     pub fn look(
         &mut self,
         alloc: Global,
