@@ -5,7 +5,7 @@ use Rattle.std.proofs.lemmas.List.{get_or-set_same, get_or-set_other}
 use Rattle.net_base.specs.Walks.{IsWalk}
 use Rattle.net_base.specs.declared.ids.SwitchId.{SwitchId}
 use Rattle.acyclic_numbering.specs.Heights.{IsHeight, number_of}
-use Rattle.acyclic_numbering.specs.Numbered.{IsOpen, open_count, IsReady, IsNextNumber, AreHeightsSoFar}
+use Rattle.acyclic_numbering.specs.Numbered.{IsOpen, open_count, IsNumberable, IsNextNumber, AreHeightsSoFar}
 use Rattle.net_base.proofs.NameLaws.{same_switch}
 
 pub count_set : (marks : List Bool) (i : ℕ) → get_or marks i false ≡ true → open_count (set marks i false) + 1 ≡ open_count marks
@@ -38,7 +38,7 @@ module _ (edge : SwitchId → SwitchId → Type 0) (numbers : List ℕ) (s : Swi
           let long = (each t walk.0).most rest walk.1 in
           let above = next.above t walk.0 in omega arith
 
-  module _ (pending : List Bool) (so_far : AreHeightsSoFar edge pending numbers) (within : s.0 < length pending) (opens : IsOpen pending s) (ready : IsReady edge pending s)
+  module _ (pending : List Bool) (so_far : AreHeightsSoFar edge pending numbers) (within : s.0 < length pending) (opens : IsOpen pending s) (ready : IsNumberable edge pending s)
       (inside : (t : SwitchId) → edge s t → t.0 < length pending) where
     same_at : (t : SwitchId) → t.0 ≡ s.0 → number_of (set numbers s.0 number) t ≡ number
     same_at t e =

@@ -19,8 +19,8 @@ open_count (true ∷ marks) = suc (open_count marks)
 open_count (false ∷ marks) = open_count marks
 
 -- no edge of the switch leads to one without a number
-abbrev pub IsReady : (SwitchId → SwitchId → Type 0) → List Bool → SwitchId → Type 0
-IsReady edge open_marks s = (t : SwitchId) → edge s t → ¬ IsOpen open_marks t
+abbrev pub IsNumberable : (SwitchId → SwitchId → Type 0) → List Bool → SwitchId → Type 0
+IsNumberable edge open_marks s = (t : SwitchId) → edge s t → ¬ IsOpen open_marks t
 
 -- one more than the greatest number that an edge of the switch leads to, 0 where it has none
 pub record IsNextNumber (edge : SwitchId → SwitchId → Type 0) (numbers : List ℕ) (s : SwitchId) (number : ℕ) : Type 0 where
@@ -68,7 +68,7 @@ IsNumbered edge switches (Cycle walk) = IsClosedWalk edge walk
 
 -- each switch without a number has an edge to one without a number
 abbrev pub IsStuck : (SwitchId → SwitchId → Type 0) → List Bool → Type 0
-IsStuck edge open_marks = (s : SwitchId) → IsOpen open_marks s → ¬ IsReady edge open_marks s
+IsStuck edge open_marks = (s : SwitchId) → IsOpen open_marks s → ¬ IsNumberable edge open_marks s
 
 -- a walk from its first switch that ends at a switch without a number, and with the marks of those that are left
 pub record IsWalkedSoFar (edge : SwitchId → SwitchId → Type 0) (open_marks left : List Bool) (at : SwitchId) (switches : List SwitchId) : Type 0 where

@@ -3,7 +3,7 @@
 
 ghost use Rattle.std.specs.Prelude.{◌≡◌, ◌↔◌, ◌<◌, ◌≤◌, ◌+◌, ◌++◌, ◌∷◌, [], length, IsTrue, All, MatchOption, IfOk, OnOk, OnErr, slice_get, Some};
 ghost use Rattle.acyclic_numbering.specs.Heights.{IsLower, IsEdge, AreHeights, number_of};
-ghost use Rattle.acyclic_numbering.specs.Numbered.{IsOpen, open_count, IsReady, IsNextNumber, IsRaised, IsRaisedAlong, AreReached, AreHeightsSoFar, IsNumbered, IsStuck, IsWalkedSoFar, IsClosedAt, IsClosedWalk};
+ghost use Rattle.acyclic_numbering.specs.Numbered.{IsOpen, open_count, IsNumberable, IsNextNumber, IsRaised, IsRaisedAlong, AreReached, AreHeightsSoFar, IsNumbered, IsStuck, IsWalkedSoFar, IsClosedAt, IsClosedWalk};
 ghost use Rattle.net_base.specs.Members.{IsIn};
 ghost use Rattle.net_base.specs.declared.ids.SwitchId.{SwitchId};
 
@@ -97,7 +97,8 @@ fn is_next(edges: &[Edge], pending: &[bool], s: SwitchId) -> bool
     requires within { s.0 < length pending.now }
     requires edges { All (λ e. (e.from.0 < length pending.now) × (e.to.0 < length pending.now))
         edges.now }
-    ensures { IsTrue result ↔ (IsOpen pending.now s × IsReady (IsEdge edges.now) pending.now s) }
+    ensures { IsTrue result
+        ↔ (IsOpen pending.now s × IsNumberable (IsEdge edges.now) pending.now s) }
 {
     pending[s.0 as usize] && is_ready(edges, pending, s)
 }
@@ -108,8 +109,8 @@ fn next_ready(edges: &[Edge], pending: &[bool]) -> Option<SwitchId>
     requires edges { All (λ e. (e.from.0 < length pending.now) × (e.to.0 < length pending.now))
         edges.now }
     ensures { MatchOption result ((s : SwitchId) → IsOpen pending.now s
-        → ¬ IsReady (IsEdge edges.now) pending.now s)
-        (λ s. IsOpen pending.now s × IsReady (IsEdge edges.now) pending.now s) }
+        → ¬ IsNumberable (IsEdge edges.now) pending.now s)
+        (λ s. IsOpen pending.now s × IsNumberable (IsEdge edges.now) pending.now s) }
 {
     for i in 0..pending.len() {
         let s = SwitchId(i as u32);
@@ -154,7 +155,7 @@ fn give_number(edges: &[Edge], numbers: &mut [u16], pending: &mut [bool], s: Swi
     requires edges { All (λ e. (e.from.0 < length pending.old) × (e.to.0 < length pending.old))
         edges.now }
     requires so_far { AreHeightsSoFar (IsEdge edges.now) pending.old numbers.old }
-    requires next { IsOpen pending.old s × IsReady (IsEdge edges.now) pending.old s }
+    requires next { IsOpen pending.old s × IsNumberable (IsEdge edges.now) pending.old s }
     ensures so_far { AreHeightsSoFar (IsEdge edges.now) pending.new numbers.new }
     ensures fewer { open_count pending.new + 1 ≡ open_count pending.old }
 {

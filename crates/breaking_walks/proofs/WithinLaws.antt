@@ -6,7 +6,7 @@ use Rattle.net_base.specs.declared.ids.Place.{Place}
 use Rattle.topology.specs.Networks.{IsNetwork, switch_count}
 use Rattle.flow_rules.specs.Tables.{lookup}
 use Rattle.flow_rules.specs.declared.rules.Rule.{Rule}
-use Rattle.path_walk.specs.Outcomes.{header_at, acted}
+use Rattle.path_walk.specs.Outcomes.{header_at, action_outcome}
 use Rattle.path_walk.proofs.StayLaws.{go_within}
 use Rattle.update_model.specs.Mixtures.{Rollout, MayGo}
 
@@ -22,7 +22,7 @@ last_equal (suc n) table = last_equal n table
 -- a packet may go to no switch beyond
 pub goes_within : (u : Rollout) → IsNetwork u.net → (k dst : ℕ) (place next : Place) → MayGo u k dst place next → next.switch.0 < switch_count u.net
 goes_within u valid k dst place next goes =
-    let mixed = ap (λ table. acted u.net place (lookup (header_at place dst) table)) (last_equal place.switch.0 goes.mixed) in
+    let mixed = ap (λ table. action_outcome u.net place (lookup (header_at place dst) table)) (last_equal place.switch.0 goes.mixed) in
     go_within u.net valid (equal_tables place.switch.0 goes.mixed) dst place next (mixed ∙ sym goes.is)
 
 -- the last place of a mixed walk is at a switch of the network

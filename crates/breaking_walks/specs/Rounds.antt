@@ -9,13 +9,13 @@ use Rattle.round_mix.specs.Prepared.{MixedState, IsPrepared}
 use Rattle.breaking_walks.specs.declared.round.PreparedRound.{PreparedRound}
 
 -- the update of a round
-abbrev pub update_of : PreparedRound → Rollout
-update_of round = record { net = round.net.now; old = rules_of_all round.old.now; rounds = round.rounds.now }
+abbrev pub round_rollout : PreparedRound → Rollout
+round_rollout round = record { net = round.net.now; old = rules_of_all round.old.now; rounds = round.rounds.now }
 
 -- a switch is prepared for the round: for its table before it, and the changes there
 abbrev pub IsPreparedFor : PreparedRound → SwitchId → MixedState → Type 0
 IsPreparedFor round s mixed =
-    IsSomeAnd mixed.prepared (IsPrepared (rules_at (tables_before (update_of round) round.number) s) (changes_at s (round_after round.number round.rounds.now)))
+    IsSomeAnd mixed.prepared (IsPrepared (rules_at (tables_before (round_rollout round) round.number) s) (changes_at s (round_after round.number round.rounds.now)))
 
 -- each switch of the network is
 pub record SwitchesArePrepared (round : PreparedRound) : Type 0 where

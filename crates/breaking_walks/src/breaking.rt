@@ -9,7 +9,7 @@ ghost use Rattle.dest_classes.specs.Classes.{class_count};
 ghost use Rattle.dest_classes.specs.Numbered.{IsNumbered};
 ghost use Rattle.demands.specs.Duties.{PacketDuties, duties_of};
 ghost use Rattle.update_model.specs.Mixtures.{IsPossible};
-ghost use Rattle.breaking_walks.specs.Rounds.{update_of, SwitchesArePrepared};
+ghost use Rattle.breaking_walks.specs.Rounds.{round_rollout, SwitchesArePrepared};
 ghost use Rattle.breaking_walks.specs.Searches.{MayLeaveAt, IsNoneFound};
 ghost use Rattle.breaking_walks.specs.Breaking.{HasBreakingWalk};
 ghost use Rattle.breaking_walks.specs.Broken.{IsBroken, IsNoneDropped, IsNoneUnmet, IsNoneTwice};
@@ -57,9 +57,9 @@ fn leave_at(
 ) -> Result<(Port, Vlan), Memory>
     requires prepared { SwitchesArePrepared round }
     requires within { place.switch.0 < switch_count round.net.now }
-    requires leaves { MayLeaveAt (update_of round) round.number dst place }
+    requires leaves { MayLeaveAt (round_rollout round) round.number dst place }
     ensures { IfOk result
-        (λ by. IsPossible (update_of round.entry) round.entry.number dst place
+        (λ by. IsPossible (round_rollout round.entry) round.entry.number dst place
         (Outcome.Leave by.0 by.1)) }
 {
     let outcomes = possible(alloc, round, place, dst)?;
@@ -82,13 +82,13 @@ fn find_drop(
     requires entry { numbered.class.entry.switch.0 < switch_count round.net.now }
     ensures some { IfOk result
         (λ found. IfSome found
-        (λ w. IsBroken (update_of round.entry) round.entry.number
+        (λ w. IsBroken (round_rollout round.entry) round.entry.number
         numbered.class.first numbered.class.entry
         (duties_of duties.now.demands numbered.class.entry numbered.class.first) w.rest
         w.end)) }
     ensures none { IfOk result
         (λ found. IfNone found
-        (IsNoneDropped (update_of round.entry) round.entry.number
+        (IsNoneDropped (round_rollout round.entry) round.entry.number
         numbered.class.first numbered.class.entry
         (duties_of duties.now.demands numbered.class.entry numbered.class.first))) }
 {
@@ -116,11 +116,11 @@ fn find_unmet(
     ensures some { IfOk result
         (λ found. IfSome found
         (λ w. (d : PacketDuties) → IsIn chain.now d.chains
-        → IsBroken (update_of round.entry) round.entry.number class.first class.entry d
+        → IsBroken (round_rollout round.entry) round.entry.number class.first class.entry d
         w.rest w.end)) }
     ensures none { IfOk result
         (λ found. IfNone found
-        (IsNoneFound (update_of round.entry) round.entry.number class.first class.entry
+        (IsNoneFound (round_rollout round.entry) round.entry.number class.first class.entry
         chain.now Aim.LeaveUnmet)) }
 {
     match find(alloc, round, class, chain, Aim::LeaveUnmet)? {
@@ -150,13 +150,13 @@ fn find_miss(
     requires entry { numbered.class.entry.switch.0 < switch_count round.net.now }
     ensures some { IfOk result
         (λ found. IfSome found
-        (λ w. IsBroken (update_of round.entry) round.entry.number
+        (λ w. IsBroken (round_rollout round.entry) round.entry.number
         numbered.class.first numbered.class.entry
         (duties_of duties.now.demands numbered.class.entry numbered.class.first) w.rest
         w.end)) }
     ensures none { IfOk result
         (λ found. IfNone found
-        (IsNoneUnmet (update_of round.entry) round.entry.number
+        (IsNoneUnmet (round_rollout round.entry) round.entry.number
         numbered.class.first numbered.class.entry
         (duties_of duties.now.demands numbered.class.entry numbered.class.first))) }
 {
@@ -185,11 +185,11 @@ fn find_repeat(
     ensures some { IfOk result
         (λ found. IfSome found
         (λ w. (d : PacketDuties)
-        → IsBroken (update_of round.entry) round.entry.number class.first class.entry d
+        → IsBroken (round_rollout round.entry) round.entry.number class.first class.entry d
         w.rest w.end)) }
     ensures none { IfOk result
         (λ found. IfNone found
-        (IsNoneTwice (update_of round.entry) round.entry.number class.first class.entry
+        (IsNoneTwice (round_rollout round.entry) round.entry.number class.first class.entry
         (switch_count round.entry.net.now))) }
 {
     let are_falling = are_walks_falling(alloc, round, class)?;
@@ -220,13 +220,13 @@ pub(crate) fn find_breaking(
     requires entry { numbered.class.entry.switch.0 < switch_count round.net.now }
     ensures some { IfOk result
         (λ found. IfSome found
-        (λ w. IsBroken (update_of round.entry) round.entry.number
+        (λ w. IsBroken (round_rollout round.entry) round.entry.number
         numbered.class.first numbered.class.entry
         (duties_of duties.now.demands numbered.class.entry numbered.class.first) w.rest
         w.end)) }
     ensures none { IfOk result
         (λ found. IfNone found
-        (¬ HasBreakingWalk (update_of round.entry) round.entry.number
+        (¬ HasBreakingWalk (round_rollout round.entry) round.entry.number
         numbered.class.first numbered.class.entry
         (duties_of duties.now.demands numbered.class.entry numbered.class.first))) }
 {

@@ -2,7 +2,7 @@
 ghost use Rattle.std.specs.Prelude.{◌≡◌, ◌↔◌, ◌<◌, ℕ, List, IsTrue, true, length, slice_index, IfOk, OnOk};
 ghost use Rattle.topology.specs.Networks.{switch_count};
 ghost use Rattle.acyclic_numbering.specs.Heights.{IsEdge, IsLower, Falls};
-ghost use Rattle.breaking_walks.specs.Rounds.{update_of, SwitchesArePrepared};
+ghost use Rattle.breaking_walks.specs.Rounds.{round_rollout, SwitchesArePrepared};
 ghost use Rattle.breaking_walks.specs.Surveys.{AreAdded, NeverRepeats};
 
 use crate::round::{PreparedRound, possible};
@@ -115,7 +115,7 @@ pub(crate) fn are_walks_falling(
     requires entry { class.entry.switch.0 < switch_count round.net.now }
     ensures { IfOk result
         (λ falls. falls ≡ true
-        → NeverRepeats (update_of round.entry) round.entry.number class.first class.entry) }
+        → NeverRepeats (round_rollout round.entry) round.entry.number class.first class.entry) }
 {
     round.net.keeps_rules();
     let place = class.entry;

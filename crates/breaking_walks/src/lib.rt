@@ -6,7 +6,7 @@ ghost use Rattle.topology.specs.Networks.{switch_count};
 ghost use Rattle.dest_classes.specs.Classes.{class_count};
 ghost use Rattle.dest_classes.specs.Numbered.{IsNumbered};
 ghost use Rattle.demands.specs.Duties.{duties_of};
-ghost use Rattle.breaking_walks.specs.Rounds.{update_of, SwitchesArePrepared};
+ghost use Rattle.breaking_walks.specs.Rounds.{round_rollout, SwitchesArePrepared};
 ghost use Rattle.breaking_walks.specs.Breaking.{HasBreakingWalk, IsBreakingWalk};
 
 mod breaking;
@@ -51,13 +51,13 @@ pub fn breaking_walk(
     requires entry { numbered.class.entry.switch.0 < switch_count round.net.now }
     ensures some { IfOk result
         (λ found. IfSome found
-        (λ w. IsBreakingWalk (update_of round.entry) round.entry.number
+        (λ w. IsBreakingWalk (round_rollout round.entry) round.entry.number
         numbered.class.first numbered.class.entry
         (duties_of duties.now.demands numbered.class.entry numbered.class.first) w.rest
         w.end)) }
     ensures none { IfOk result
         (λ found. IfNone found
-        (¬ HasBreakingWalk (update_of round.entry) round.entry.number
+        (¬ HasBreakingWalk (round_rollout round.entry) round.entry.number
         numbered.class.first numbered.class.entry
         (duties_of duties.now.demands numbered.class.entry numbered.class.first))) }
 {

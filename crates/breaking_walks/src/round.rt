@@ -4,7 +4,7 @@ ghost use Rattle.net_base.specs.Members.{IsIn};
 ghost use Rattle.topology.specs.Networks.{switch_count};
 ghost use Rattle.path_walk.specs.declared.Outcome.{Outcome as OutcomeOf};
 ghost use Rattle.update_model.specs.Mixtures.{IsPossible};
-ghost use Rattle.breaking_walks.specs.Rounds.{update_of, SwitchesArePrepared};
+ghost use Rattle.breaking_walks.specs.Rounds.{round_rollout, SwitchesArePrepared};
 
 use flow_rules::Config;
 use net_base::{Memory, Place};
@@ -44,7 +44,7 @@ pub(crate) fn possible(
     requires within { place.switch.0 < switch_count round.net.now }
     ensures { IfOk result
         (λ out. (found : OutcomeOf) → IsIn found out.list
-        ↔ IsPossible (update_of round.entry) round.entry.number dst place found) }
+        ↔ IsPossible (round_rollout round.entry) round.entry.number dst place found) }
 {
     let mixed = &round.mixes[place.switch.0 as usize];
     let mut out = outcomes_for(alloc, mixed.most_entries() as usize)?;

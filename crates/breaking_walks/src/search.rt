@@ -3,7 +3,7 @@ ghost use Rattle.std.specs.Prelude.{◌≡◌, ◌↔◌, ◌<◌, length, IsTru
 ghost use Rattle.net_base.specs.Members.{IsIn};
 ghost use Rattle.topology.specs.Networks.{switch_count};
 ghost use Rattle.path_walk.specs.declared.Outcome.TheVariants.{Discard as Discarded};
-ghost use Rattle.breaking_walks.specs.Rounds.{update_of, SwitchesArePrepared};
+ghost use Rattle.breaking_walks.specs.Rounds.{round_rollout, SwitchesArePrepared};
 ghost use Rattle.breaking_walks.specs.Searches.{IsFound, IsNoneFound};
 ghost use Rattle.breaking_walks.specs.Trails.{met_after, HasLeave, IsAimedAt, ArePut};
 
@@ -101,11 +101,11 @@ pub(crate) fn find(
     requires entry { class.entry.switch.0 < switch_count round.net.now }
     ensures some { IfOk result
         (λ found. IfSome found
-        (λ rest. IsFound (update_of round.entry) round.entry.number class.first class.entry
+        (λ rest. IsFound (round_rollout round.entry) round.entry.number class.first class.entry
         chain.now aim rest)) }
     ensures none { IfOk result
         (λ found. IfNone found
-        (IsNoneFound (update_of round.entry) round.entry.number class.first class.entry
+        (IsNoneFound (round_rollout round.entry) round.entry.number class.first class.entry
         chain.now aim)) }
 {
     round.net.keeps_rules();

@@ -19,7 +19,7 @@ use Rattle.flow_rules.specs.Patterns.{covers}
 use Rattle.flow_rules.specs.Tables.{rules_at, IsClear}
 use Rattle.flow_rules.specs.declared.rules.Rule.{Rule}
 use Rattle.flow_rules.proofs.LookupLaws.{lookup_same, lookup_by_set}
-use Rattle.path_walk.specs.Outcomes.{acted, header_at}
+use Rattle.path_walk.specs.Outcomes.{action_outcome, header_at}
 use Rattle.path_walk.specs.Paths.{Trace, IsPath, Forwards, outcome_in, ended_by, IsEnd}
 use Rattle.path_walk.specs.UserConfigs.{IsUserConfig}
 use Rattle.path_walk.specs.declared.Ended.{Ended}
@@ -67,7 +67,7 @@ prefix_self (x ∷ xs) = (refl, prefix_self xs)
 module _ (t : Task) (tables : List (List Rule)) (a b : ℕ) (alike : AllByRecursion (AllByRecursion (TreatsAlike a b)) tables) where
   outcome_same : (place : Place) → outcome_in t.update.net tables place a ≡ outcome_in t.update.net tables place b
   outcome_same place =
-      ap (acted t.update.net place) (lookup_same place.port place.vlan a b (rules_at tables place.switch) (each_get_or (AllByRecursion (TreatsAlike a b)) tables place.switch.0 [] alike tt))
+      ap (action_outcome t.update.net place) (lookup_same place.port place.vlan a b (rules_at tables place.switch) (each_get_or (AllByRecursion (TreatsAlike a b)) tables place.switch.0 [] alike tt))
 
   path_same : (entry : Place) (trace : Trace) → IsPath t.update.net tables entry a trace → IsPath t.update.net tables entry b trace
   path_same entry trace is = record {
@@ -95,7 +95,7 @@ module _ (u : Rollout) (new : List (List Rule)) (user : IsUserConfig u.net new) 
   last_outcome dst place found possible =
       let is = last_is_new place.switch possible.mixed possible.held in
       let clear : IsClear possible.mixed = λ h a b i j c d e. user.clear place.switch h a b ((is a).0 i) ((is b).0 j) c d e in
-      possible.is ∙ ap (acted u.net place)
+      possible.is ∙ ap (action_outcome u.net place)
       (lookup_by_set (header_at place dst) possible.mixed (rules_at new place.switch) clear (user.clear place.switch)
       (same_filter (λ r. covers r.key.pattern (header_at place dst)) possible.mixed (rules_at new place.switch) is))
 

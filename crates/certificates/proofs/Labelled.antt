@@ -16,45 +16,45 @@ use Rattle.path_walk.specs.declared.Outcome.{Outcome}
 use Rattle.path_walk.specs.declared.Outcome.TheVariants.{Discard, Leave, Go}
 use Rattle.path_walk.proofs.PathLaws.{EndsAt, walk_begins, walk_same, HasVlan, outcome_keeps, walk_keeps}
 use Rattle.update_model.specs.Mixtures.{Rollout, IsPossible, MayGo, IsMixedWalk}
-use Rattle.certificates.specs.TwoPhase.{carrying, outcome_carrying, KeepsPath, tables_of, TwoPhaseCertificate}
+use Rattle.certificates.specs.TwoPhase.{place_carrying, outcome_carrying, KeepsPath, tables_of, TwoPhaseCertificate}
 use Rattle.certificates.specs.Laws.{EndsFor, trace_by}
 use Rattle.certificates.specs.declared.TwoPhaseEvidence.{TwoPhaseEvidence}
 
 -- an outcome that goes on is one that goes on, but for the VLAN that is carried
-goes_from : (tag : Vlan) (next : Place) (o : Outcome) → Go next ≡ outcome_carrying tag o → (q : Place) × (o ≡ Go q) × (next ≡ carrying tag q)
+goes_from : (tag : Vlan) (next : Place) (o : Outcome) → Go next ≡ outcome_carrying tag o → (q : Place) × (o ≡ Go q) × (next ≡ place_carrying tag q)
 goes_from tag next Discard e = absurd (let f : Go next ≡ Discard = e in cc)
 goes_from tag next (Leave port vlan) e = absurd (let f : Go next ≡ Leave port vlan = e in cc)
-goes_from tag next (Go q) e = let f : Go next ≡ Go (carrying tag q) = e in (q, refl, (let g : next ≡ carrying tag q = cc in g))
+goes_from tag next (Go q) e = let f : Go next ≡ Go (place_carrying tag q) = e in (q, refl, (let g : next ≡ place_carrying tag q = cc in g))
 
-stops_carrying : (tag : Vlan) (qs : List Place) → map stop_of (map (carrying tag) qs) ≡ map stop_of qs
+stops_carrying : (tag : Vlan) (qs : List Place) → map stop_of (map (place_carrying tag) qs) ≡ map stop_of qs
 stops_carrying tag [] = refl
 stops_carrying tag (q ∷ qs) = ap (λ xs. stop_of q ∷ xs) (stops_carrying tag qs)
 
-end_carrying : (tag : Vlan) (q : Place) (qs : List Place) → end_of (carrying tag q) (map (carrying tag) qs) ≡ carrying tag (end_of q qs)
+end_carrying : (tag : Vlan) (q : Place) (qs : List Place) → end_of (place_carrying tag q) (map (place_carrying tag) qs) ≡ place_carrying tag (end_of q qs)
 end_carrying tag q [] = refl
 end_carrying tag q (p ∷ qs) = end_carrying tag p qs
 
 -- the end of a walk that carries a VLAN is at the same switch
-end_switch : (tag : Vlan) (entry : Place) (qs : List Place) → (end_of entry (map (carrying tag) qs)).switch ≡ (end_of entry qs).switch
+end_switch : (tag : Vlan) (entry : Place) (qs : List Place) → (end_of entry (map (place_carrying tag) qs)).switch ≡ (end_of entry qs).switch
 end_switch tag entry [] = refl
 end_switch tag entry (q ∷ qs) = ap (λ p. p.switch) (end_carrying tag q qs)
 
 module _ (u : Rollout) (k dst : ℕ) (tables : List (List Rule)) (user : IsUserConfig u.net tables) where
   -- a mixed walk that carries a VLAN along a path whose outcomes are kept is that path, as far as it goes
   along : (first : Place) (tag : Vlan) → KeepsPath u k dst tables first tag → (place : Place) → IsReached (Forwards u.net tables dst) first place → (rest : List Place)
-      → IsWalk (MayGo u k dst) (carrying tag place) rest → (qs : List Place) × IsWalk (Forwards u.net tables dst) place qs × (rest ≡ map (carrying tag) qs)
+      → IsWalk (MayGo u k dst) (place_carrying tag place) rest → (qs : List Place) × IsWalk (Forwards u.net tables dst) place qs × (rest ≡ map (place_carrying tag) qs)
   along first tag keeps place reached [] walk = ([], tt, refl)
   along first tag keeps place reached (next ∷ rest) walk =
       let (q, goes, is) = goes_from tag next (outcome_in u.net tables place dst) (keeps place reached (Go next) walk.0) in
       let (qs, steps, same) = along first tag keeps q (reached_more (Forwards u.net tables dst) first place q reached goes) rest (subst (λ x. IsWalk (MayGo u k dst) x rest) is walk.1) in
-      (q ∷ qs, (goes, steps), ap (λ x. x ∷ rest) is ∙ ap (λ xs. carrying tag q ∷ xs) same)
+      (q ∷ qs, (goes, steps), ap (λ x. x ∷ rest) is ∙ ap (λ xs. place_carrying tag q ∷ xs) same)
 
   -- the walk so far begins the path
   begins : (entry : Place) (path : Trace) → IsPath u.net tables entry dst path → (tag : Vlan) (qs : List Place) → IsWalk (Forwards u.net tables dst) entry qs
-      → IsPrefix (map stop_of (entry ∷ map (carrying tag) qs)) path.stops
+      → IsPrefix (map stop_of (entry ∷ map (place_carrying tag) qs)) path.stops
   begins entry path is tag qs walk =
       let ends : EndsAt u.net tables dst (end_of entry is.rest) = subst IsEnd is.ended is.ends in
-      subst (IsPrefix (map stop_of (entry ∷ map (carrying tag) qs))) (sym is.stops)
+      subst (IsPrefix (map stop_of (entry ∷ map (place_carrying tag) qs))) (sym is.stops)
       (refl, subst (λ xs. IsPrefix xs (map stop_of is.rest)) (sym (stops_carrying tag qs)) (walk_begins u.net tables dst entry qs is.rest walk is.walk ends))
 
   ended_same : (place other : Place) → place.switch ≡ other.switch → (tag : Vlan) (o : Outcome) → ended_by place (outcome_carrying tag o) ≡ ended_by other o
@@ -69,24 +69,24 @@ module _ (u : Rollout) (k dst : ℕ) (tables : List (List Rule)) (user : IsUserC
 
   -- a walk that ends by the path's outcome, but for the VLAN that is carried, is the whole path
   whole : (entry : Place) (path : Trace) → IsPath u.net tables entry dst path → (tag : Vlan) (qs : List Place) → IsWalk (Forwards u.net tables dst) entry qs → (found : Outcome)
-      → found ≡ outcome_carrying tag (outcome_in u.net tables (end_of entry qs) dst) → IsEnd (ended_by (end_of entry (map (carrying tag) qs)) found)
-      → (trace_by entry (map (carrying tag) qs) found ≡ path) × EndsFor entry.vlan found
+      → found ≡ outcome_carrying tag (outcome_in u.net tables (end_of entry qs) dst) → IsEnd (ended_by (end_of entry (map (place_carrying tag) qs)) found)
+      → (trace_by entry (map (place_carrying tag) qs) found ≡ path) × EndsFor entry.vlan found
   whole entry path is tag qs walk found same ends =
       let o = outcome_in u.net tables (end_of entry qs) dst in
-      let ended : ended_by (end_of entry (map (carrying tag) qs)) found ≡ ended_by (end_of entry qs) o =
-      ap (ended_by (end_of entry (map (carrying tag) qs))) same ∙ ended_same (end_of entry (map (carrying tag) qs)) (end_of entry qs) (end_switch tag entry qs) tag o in
+      let ended : ended_by (end_of entry (map (place_carrying tag) qs)) found ≡ ended_by (end_of entry qs) o =
+      ap (ended_by (end_of entry (map (place_carrying tag) qs))) same ∙ ended_same (end_of entry (map (place_carrying tag) qs)) (end_of entry qs) (end_switch tag entry qs) tag o in
       let here : EndsAt u.net tables dst (end_of entry qs) = subst IsEnd ended ends in
       let there : EndsAt u.net tables dst (end_of entry is.rest) = subst IsEnd is.ended is.ends in
       let places : qs ≡ is.rest = walk_same u.net tables dst entry qs is.rest walk is.walk here there in
-      let stops : map stop_of (entry ∷ map (carrying tag) qs) ≡ path.stops = ap (λ xs. stop_of entry ∷ xs) (stops_carrying tag qs) ∙ ap (λ xs. map stop_of (entry ∷ xs)) places ∙ sym is.stops in
-      let end : ended_by (end_of entry (map (carrying tag) qs)) found ≡ path.ended =
+      let stops : map stop_of (entry ∷ map (place_carrying tag) qs) ≡ path.stops = ap (λ xs. stop_of entry ∷ xs) (stops_carrying tag qs) ∙ ap (λ xs. map stop_of (entry ∷ xs)) places ∙ sym is.stops in
+      let end : ended_by (end_of entry (map (place_carrying tag) qs)) found ≡ path.ended =
       ended ∙ ap (λ xs. ended_by (end_of entry xs) (outcome_in u.net tables (end_of entry xs) dst)) places ∙ sym is.ended in (
-        ap (λ (xs : List Stop). let x : Trace = record { stops = xs; ended = ended_by (end_of entry (map (carrying tag) qs)) found } in x) stops
+        ap (λ (xs : List Stop). let x : Trace = record { stops = xs; ended = ended_by (end_of entry (map (place_carrying tag) qs)) found } in x) stops
             ∙ ap (λ (e : Ended). let x : Trace = record { stops = path.stops; ended = e } in x) end,
         subst (EndsFor entry.vlan) (sym same)
-            (ends_for entry.vlan (end_of entry (map (carrying tag) qs)) tag o
+            (ends_for entry.vlan (end_of entry (map (place_carrying tag) qs)) tag o
             (subst (λ v. HasVlan v o) (walk_keeps u.net tables user dst entry qs walk) (outcome_keeps u.net tables user dst (end_of entry qs)))
-            (subst (λ f. IsEnd (ended_by (end_of entry (map (carrying tag) qs)) f)) same ends)),
+            (subst (λ f. IsEnd (ended_by (end_of entry (map (place_carrying tag) qs)) f)) same ends)),
       )
 
 module _ (u : Rollout) (new : List (List Rule)) (evidence : TwoPhaseEvidence) (k dst : ℕ) (entry : Place) (old_path new_path : Trace)
@@ -108,7 +108,7 @@ module _ (u : Rollout) (new : List (List Rule)) (evidence : TwoPhaseEvidence) (k
   either P true h = inr h
   either P false h = inl h
 
-  ends_version : (rest : List Place) (version : Bool) (tag : Vlan) (qs : List Place) → IsWalk (Forwards u.net (tables_of u new version) dst) entry qs → rest ≡ map (carrying tag) qs
+  ends_version : (rest : List Place) (version : Bool) (tag : Vlan) (qs : List Place) → IsWalk (Forwards u.net (tables_of u new version) dst) entry qs → rest ≡ map (place_carrying tag) qs
       → (found : Outcome) → found ≡ outcome_carrying tag (outcome_in u.net (tables_of u new version) (end_of entry qs) dst) → IsEnd (ended_by (end_of entry rest) found)
       → ((trace_by entry rest found ≡ old_path) ⊎ (trace_by entry rest found ≡ new_path)) × EndsFor entry.vlan found
   ends_version rest version tag qs walk is found same ends =
@@ -130,9 +130,9 @@ module _ (u : Rollout) (new : List (List Rule)) (evidence : TwoPhaseEvidence) (k
       let tables = tables_of u new version in
       let (first, goes, is) = goes_from agrees.tag next (outcome_in u.net tables entry dst) agrees.same in
       let keeps : KeepsPath u k dst tables first next.vlan = certificate.keeps (Go next) walk.0 version agrees first next refl goes in
-      let at_first : next ≡ carrying next.vlan first = is ∙ ap (λ v. carrying v first) (sym (ap (λ p. p.vlan) is)) in
+      let at_first : next ≡ place_carrying next.vlan first = is ∙ ap (λ v. place_carrying v first) (sym (ap (λ p. p.vlan) is)) in
       let (qs, steps, same) = along u k dst tables (user_of version) first next.vlan keeps first (reached_start (Forwards u.net tables dst) first) rest (subst (λ x. IsWalk (MayGo u k dst) x rest) at_first walk.1) in
-      let all : next ∷ rest ≡ map (carrying next.vlan) (first ∷ qs) = ap (λ x. x ∷ rest) at_first ∙ ap (λ xs. carrying next.vlan first ∷ xs) same in (
+      let all : next ∷ rest ≡ map (place_carrying next.vlan) (first ∷ qs) = ap (λ x. x ∷ rest) at_first ∙ ap (λ xs. place_carrying next.vlan first ∷ xs) same in (
         either (λ path. IsPrefix (map stop_of (entry ∷ next ∷ rest)) path.stops) version
             (subst (λ xs. IsPrefix (map stop_of (entry ∷ xs)) (path_of version).stops) (sym all) (begins u k dst tables (user_of version) entry (path_of version) (path_is version) next.vlan (first ∷ qs) (goes, steps))),
         λ found possible ends.

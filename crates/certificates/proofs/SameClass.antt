@@ -7,7 +7,7 @@ use Rattle.net_base.proofs.MemberLaws.{each_first, each_last, each_from_map, eac
 use Rattle.net_base.specs.declared.ids.Place.{Place}
 use Rattle.flow_rules.specs.declared.rules.Rule.{Rule}
 use Rattle.flow_rules.proofs.LookupLaws.{lookup_same}
-use Rattle.path_walk.specs.Outcomes.{acted}
+use Rattle.path_walk.specs.Outcomes.{action_outcome}
 use Rattle.path_walk.specs.declared.Outcome.{Outcome}
 use Rattle.update_model.specs.Changes.{rule_of}
 use Rattle.update_model.specs.Mixtures.{IsPossible}
@@ -56,7 +56,7 @@ one_way t a b same k place found possible =
     record {
       mixed = possible.mixed;
       held = possible.held;
-      is = possible.is ∙ ap (acted t.update.net place) (lookup_same place.port place.vlan a b possible.mixed (each_held (TreatsAlike a b) (rollout t) k place.switch possible.mixed tables rounds possible.held));
+      is = possible.is ∙ ap (action_outcome t.update.net place) (lookup_same place.port place.vlan a b possible.mixed (each_held (TreatsAlike a b) (rollout t) k place.switch possible.mixed tables rounds possible.held));
     }
 
 pub same_outcomes : (t : Task) (a b : ℕ) → IsSameClass (blocks_of t.update.old t.update.new t.update.demands t.rounds) a b

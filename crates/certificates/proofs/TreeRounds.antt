@@ -11,7 +11,7 @@ use Rattle.net_base.specs.declared.ids.Place.{Place}
 use Rattle.flow_rules.specs.Patterns.{Header}
 use Rattle.flow_rules.specs.Tables.{rules_at, lookup, IsTable, IsClear}
 use Rattle.flow_rules.specs.declared.rules.Rule.{Rule}
-use Rattle.path_walk.specs.Outcomes.{acted, header_at}
+use Rattle.path_walk.specs.Outcomes.{action_outcome, header_at}
 use Rattle.path_walk.specs.Paths.{outcome_in}
 use Rattle.path_walk.specs.declared.Outcome.{Outcome}
 use Rattle.update_model.specs.Changes.{changes_at, rules_after, rules_after_change, tables_after, round_after, settled_tables}
@@ -167,6 +167,6 @@ module _ (t : Task) (tree : IsTreeUpdate t) (old_once : (s : SwitchId) → IsTab
         subst (λ x. IsMixture (rules_at x s) (changes_at s (Replace at next ∷ [])) possible.mixed) before
         (subst (λ x. IsMixture (rules_at (settled_tables rounds k old) s) (changes_at s x) possible.mixed) (round ∙ ap (λ x. x ∷ []) is) possible.held) in
         elim (mixture_lookup s possible.mixed held (header_at place dst)) [
-          | inl e ↦ inl (possible.is ∙ ap (acted t.update.net place) e)
-          | inr (same, has, e) ↦ inr (same, has, possible.is ∙ ap (acted t.update.net place) e)
+          | inl e ↦ inl (possible.is ∙ ap (action_outcome t.update.net place) e)
+          | inr (same, has, e) ↦ inr (same, has, possible.is ∙ ap (action_outcome t.update.net place) e)
         ]

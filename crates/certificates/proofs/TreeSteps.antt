@@ -20,7 +20,7 @@ use Rattle.flow_rules.specs.declared.rules.Rewrite.{Rewrite}
 use Rattle.flow_rules.specs.declared.rules.Rewrite.TheVariants.{Keep, Set, Strip}
 use Rattle.flow_rules.specs.declared.rules.Action.{Action}
 use Rattle.flow_rules.specs.declared.rules.Action.TheVariants as action
-use Rattle.path_walk.specs.Outcomes.{acted, header_at}
+use Rattle.path_walk.specs.Outcomes.{action_outcome, header_at}
 use Rattle.path_walk.specs.Paths.{outcome_in}
 use Rattle.path_walk.specs.declared.Outcome.{Outcome}
 use Rattle.path_walk.specs.declared.Outcome.TheVariants.{Discard, Go}
@@ -185,11 +185,11 @@ module _ (t : Task) (tree : IsTreeUpdate t) (old_once : (s : SwitchId) → IsTab
   abbrev Alike : ℕ → ℕ → Type 0
   Alike a b = (q : Block) → IsIn q (blocks t tree old_once new_once) → in_block q a ≡ in_block q b
 
-  now_same : (class : Class) (dst : ℕ) → Alike dst class.first → (p : Place) → outcome_in net tables p dst ≡ acted net p (now_at class p.switch)
-  now_same class dst alike p = ap (acted net p) (same_lookup t tree old_once new_once tables fit p.switch (header_at p dst) (header_at class.entry class.first) alike)
+  now_same : (class : Class) (dst : ℕ) → Alike dst class.first → (p : Place) → outcome_in net tables p dst ≡ action_outcome net p (now_at class p.switch)
+  now_same class dst alike p = ap (action_outcome net p) (same_lookup t tree old_once new_once tables fit p.switch (header_at p dst) (header_at class.entry class.first) alike)
 
-  new_same : (class : Class) (dst : ℕ) → Alike dst class.first → (p : Place) → outcome_in net t.update.new p dst ≡ acted net p (new_at class p.switch)
-  new_same class dst alike p = ap (acted net p) (same_lookup t tree old_once new_once t.update.new (new_fit t tree old_once new_once) p.switch (header_at p dst) (header_at class.entry class.first) alike)
+  new_same : (class : Class) (dst : ℕ) → Alike dst class.first → (p : Place) → outcome_in net t.update.new p dst ≡ action_outcome net p (new_at class p.switch)
+  new_same class dst alike p = ap (action_outcome net p) (same_lookup t tree old_once new_once t.update.new (new_fit t tree old_once new_once) p.switch (header_at p dst) (header_at class.entry class.first) alike)
 
   alike_in : (s : SwitchId) (next : Rule) → IsIn next (rules_at t.update.new s) → (a b : ℕ) → in_block next.key.pattern.dst a ≡ true → in_block next.key.pattern.dst b ≡ true → Alike a b
   alike_in s next wanted a b ia ib = same_blocks t tree old_once new_once next.key.pattern.dst (within_at t tree old_once new_once s next wanted) a b ia ib
@@ -198,15 +198,15 @@ module _ (t : Task) (tree : IsTreeUpdate t) (old_once : (s : SwitchId) → IsTab
   record LeavesOverOld (class : Class) : Type 0 where
     first : Place
     after : List Place
-    walk : IsWalk (Steps (λ p. acted net p (new_at class p.switch))) first after
-    ends : (next : Place) → ¬ (acted net (end_of first after) (new_at class (end_of first after).switch) ≡ Go next)
-    leaves : ¬ (acted net (end_of first after) (new_at class (end_of first after).switch) ≡ Discard)
+    walk : IsWalk (Steps (λ p. action_outcome net p (new_at class p.switch))) first after
+    ends : (next : Place) → ¬ (action_outcome net (end_of first after) (new_at class (end_of first after).switch) ≡ Go next)
+    leaves : ¬ (action_outcome net (end_of first after) (new_at class (end_of first after).switch) ≡ Discard)
     distinct : IsDistinct (switches_along first after)
     differs : ¬ (now_at class first.switch ≡ new_at class first.switch)
     agree : AllByRecursion (λ q. now_at class q.switch ≡ new_at class q.switch) after
 
   abbrev class_new_out : Class → Place → Outcome
-  class_new_out class p = acted net p (new_at class p.switch)
+  class_new_out class p = action_outcome net p (new_at class p.switch)
 
   -- all switches of the new path are new
   record IsNewAlong (class : Class) : Type 0 where
@@ -284,7 +284,7 @@ module _ (t : Task) (tree : IsTreeUpdate t) (old_once : (s : SwitchId) → IsTab
     along_safe class along =
         safe_on_path (update_with c) k class.first class.entry (duties class) (chainless class) (new_out class) along.fine
         (λ p found i may. elim (outcomes class.first p found may) [
-          | inl e ↦ inl (e ∙ now_same class class.first (λ q j. refl) p ∙ ap (acted net p) (each_at (λ q. now_at class q.switch ≡ new_at class q.switch) (class.entry ∷ along.fine.rest) p along.agree i)
+          | inl e ↦ inl (e ∙ now_same class class.first (λ q j. refl) p ∙ ap (action_outcome net p) (each_at (λ q. now_at class q.switch ≡ new_at class q.switch) (class.entry ∷ along.fine.rest) p along.agree i)
               ∙ sym (new_same class class.first (λ q j. refl) p))
           | inr h ↦ inl h.2
         ])
@@ -303,7 +303,7 @@ module _ (t : Task) (tree : IsTreeUpdate t) (old_once : (s : SwitchId) → IsTab
             | inl inside ↦ (
                 let alike = alike_in h.first.switch next wanted other.first class.first inside has in
                 safe_with_tail u k other.first other.entry (duties other) (chainless other) net is_net (now_at class) (new_at class) h.first h.after h.walk h.ends h.leaves h.distinct h.agree
-                (fine_same (now_out other) (λ p. acted net p (now_at class p.switch)) (now_same class other.first alike) (arrive other) other.entry fine)
+                (fine_same (now_out other) (λ p. action_outcome net p (now_at class p.switch)) (now_same class other.first alike) (arrive other) other.entry fine)
                 (λ must e. must_not_drop n other is must (new_same class other.first alike other.entry ∙ e))
                 (λ p found may. elim (outcomes (Replace h.first.switch next) h.first.switch next refl wanted other.first p found may) [
                   | inl e ↦ inl (e ∙ now_same class other.first alike p)
@@ -335,7 +335,7 @@ module _ (t : Task) (tree : IsTreeUpdate t) (old_once : (s : SwitchId) → IsTab
                     | inl e ↦ inl e
                     | inr g ↦ (
                         let alike = alike_in class.entry.switch next wanted other.first class.first g.1 has in
-                        let is_new : found ≡ acted net p (new_at class class.entry.switch) = g.2 ∙ new_same class other.first alike p ∙ ap (λ x. acted net p (new_at class x)) g.0 in
+                        let is_new : found ≡ action_outcome net p (new_at class class.entry.switch) = g.2 ∙ new_same class other.first alike p ∙ ap (λ x. action_outcome net p (new_at class x)) g.0 in
                         let here = host_at net (stop_of class.entry) (in_from_get net.hosts is.host (stop_of class.entry) is.host_is) in
                         inr (
                           λ q goes. host_drops net (new_at class class.entry.switch) class.entry p here g.0 (sym (new_same class class.first (λ b j. refl) class.entry) ∙ h.drops) q (sym is_new ∙ goes),

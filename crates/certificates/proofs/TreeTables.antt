@@ -9,7 +9,7 @@ use Rattle.net_base.proofs.MemberLaws.{in_map, in_from_map, in_filter, in_from_f
 use Rattle.net_base.specs.declared.ids.SwitchId.{SwitchId}
 use Rattle.net_base.specs.declared.ids.Port.{Port}
 use Rattle.flow_rules.specs.Patterns.{Header, covers, admits_port, admits_vlan}
-use Rattle.flow_rules.specs.Tables.{keys_of, covering, lookup, IsClear, IsTable}
+use Rattle.flow_rules.specs.Tables.{keys_of, covering_rules, lookup, IsClear, IsTable}
 use Rattle.flow_rules.proofs.KeyLaws.{cases_key}
 use Rattle.flow_rules.proofs.LookupLaws.{IsTop, is_top, top_of, matched_is_top, matched_none, lookup_by_set}
 use Rattle.flow_rules.specs.declared.rules.VlanTest.{VlanTest}
@@ -54,10 +54,10 @@ covers_alone k h alone =
     ∙ ap (λ v. admits_vlan v h.vlan && in_block k.pattern.dst h.dst) alone.1
 
 -- rules that cover two packets alike have one lookup for both
-covering_alike : (h g : Header) (rules : List Rule) → ((r : Rule) → IsIn r rules → covers r.key.pattern h ≡ covers r.key.pattern g) → covering h rules ≡ covering g rules
+covering_alike : (h g : Header) (rules : List Rule) → ((r : Rule) → IsIn r rules → covers r.key.pattern h ≡ covers r.key.pattern g) → covering_rules h rules ≡ covering_rules g rules
 covering_alike h g [] alike = refl
 covering_alike h g (r ∷ rules) alike =
-    ap (λ t. cond t (r ∷ covering h rules) (covering h rules)) (alike r (inl refl))
+    ap (λ t. cond t (r ∷ covering_rules h rules) (covering_rules h rules)) (alike r (inl refl))
     ∙ ap (λ rs. cond (covers r.key.pattern g) (r ∷ rs) rs) (covering_alike h g rules (λ q i. alike q (inr i)))
 
 lookup_alike : (h g : Header) (rules : List Rule) → ((r : Rule) → IsIn r rules → covers r.key.pattern h ≡ covers r.key.pattern g) → lookup h rules ≡ lookup g rules
@@ -112,9 +112,9 @@ module _ (blocks : List Block) (apart : (a b : Block) → IsIn a blocks → IsIn
   IsUncovered h = (q : Key) → IsIn q (keys_of new) → ¬ (covers q.pattern h ≡ true)
 
   top_or_none : (h : Header) → ((k : Key) × IsTopKey h k) ⊎ IsUncovered h
-  top_or_none h = found (covering h new) refl
+  top_or_none h = found (covering_rules h new) refl
     where
-      found : (zs : List Rule) → zs ≡ covering h new → ((k : Key) × IsTopKey h k) ⊎ IsUncovered h
+      found : (zs : List Rule) → zs ≡ covering_rules h new → ((k : Key) × IsTopKey h k) ⊎ IsUncovered h
       found [] e = inr (λ q i c.
           let (r, j, f) = in_from_map (λ x. x.key) q new i in
           subst (IsIn r) (sym e) (in_filter (λ x. covers x.key.pattern h) r new j (subst (λ x. covers x.pattern h ≡ true) f c)))
@@ -130,7 +130,7 @@ module _ (blocks : List Block) (apart : (a b : Block) → IsIn a blocks → IsIn
   module _ (rules : List Rule) (fits : Fits new rules) (h : Header) where
     lookup_at : (k : Key) → IsTopKey h k → (r : Rule) → IsIn r rules → r.key ≡ k → lookup h rules ≡ r.action
     lookup_at k top r i e =
-        let highest : IsTop (covering h rules) r = λ q j.
+        let highest : IsTop (covering_rules h rules) r = λ q j.
         let (l, c) = in_from_filter (λ x. covers x.key.pattern h) q rules j in
         let le : q.key.priority ≤ k.priority = top.most q.key ((fits.keys q.key).0 (in_map (λ x. x.key) q rules l)) c in
         subst (λ x. q.key.priority ≤ x.priority) (sym e) le in

@@ -18,7 +18,7 @@ use Rattle.topology.specs.declared.net.End.TheVariants as at
 use Rattle.flow_rules.specs.declared.rules.Action.{Action}
 use Rattle.flow_rules.specs.declared.rules.Action.TheVariants as action
 use Rattle.flow_rules.specs.declared.rules.Rewrite.{Rewrite}
-use Rattle.path_walk.specs.Outcomes.{acted, sent, rewritten}
+use Rattle.path_walk.specs.Outcomes.{action_outcome, sent_outcome, rewritten_vlan}
 use Rattle.path_walk.specs.declared.Outcome.{Outcome}
 use Rattle.path_walk.specs.declared.Outcome.TheVariants.{Discard, Leave, Go}
 use Rattle.demands.specs.Duties.{PacketDuties}
@@ -32,15 +32,15 @@ use Rattle.topology.proofs.LinkLaws.{stop_of_parts, link_back}
 -- what an output makes of a packet
 module _ (net : Network) where
   discard_or_sent : (p : Place) (port : Port) (rewrite : Rewrite)
-      → ((port.0 ≡ p.port.0) × (acted net p (action.Out port rewrite) ≡ Discard))
-      ⊎ (acted net p (action.Out port rewrite) ≡ sent (end_at net (record { switch = p.switch; port = port })) port (rewritten rewrite p.vlan))
+      → ((port.0 ≡ p.port.0) × (action_outcome net p (action.Out port rewrite) ≡ Discard))
+      ⊎ (action_outcome net p (action.Out port rewrite) ≡ sent_outcome (end_at net (record { switch = p.switch; port = port })) port (rewritten_vlan rewrite p.vlan))
   discard_or_sent p port rewrite =
       elim (cases_Bool (port.0 == p.port.0)) [
         | inl e ↦ inl (eqb-true port.0 p.port.0 e, cond-true (port.0 == p.port.0) Discard _ e)
         | inr e ↦ inr (cond-false (port.0 == p.port.0) Discard _ e)
       ]
 
-  sent_to : (e : End) (port : Port) (v : Vlan) (next : Place) → sent e port v ≡ Go next → e ≡ at.Link next.switch next.port
+  sent_to : (e : End) (port : Port) (v : Vlan) (next : Place) → sent_outcome e port v ≡ Go next → e ≡ at.Link next.switch next.port
   sent_to at.Nothing port v next e = absurd (let f : Discard ≡ Go next = e in cc)
   sent_to at.Host port v next e = absurd (let f : Leave port v ≡ Go next = e in cc)
   sent_to (at.Link s p) port v next e =
@@ -49,7 +49,7 @@ module _ (net : Network) where
       let g : here ≡ next = cc in
       ap (λ (x : Place). at.Link x.switch x.port) g
 
-  sent_nowhere : (e : End) (port : Port) (v : Vlan) → sent e port v ≡ Discard → e ≡ at.Nothing
+  sent_nowhere : (e : End) (port : Port) (v : Vlan) → sent_outcome e port v ≡ Discard → e ≡ at.Nothing
   sent_nowhere at.Nothing port v e = refl
   sent_nowhere at.Host port v e = absurd (let f : Leave port v ≡ Discard = e in cc)
   sent_nowhere (at.Link s p) port v e =
@@ -63,54 +63,54 @@ module _ (net : Network) where
     is : a ≡ action.Out port rewrite
     link : end_at net (record { switch = p.switch; port = port }) ≡ at.Link next.switch next.port
 
-  goes_over : (p next : Place) (a : Action) → acted net p a ≡ Go next → GoesOver p next a
+  goes_over : (p next : Place) (a : Action) → action_outcome net p a ≡ Go next → GoesOver p next a
   goes_over p next action.Discard e = absurd (let f : Discard ≡ Go next = e in cc)
   goes_over p next (action.Out port rewrite) e =
       elim (discard_or_sent p port rewrite) [
         | inl h ↦ absurd (let f : Discard ≡ Go next = sym h.1 ∙ e in cc)
-        | inr h ↦ record { port = port; rewrite = rewrite; is = refl; link = sent_to (end_at net (record { switch = p.switch; port = port })) port (rewritten rewrite p.vlan) next (sym h ∙ e) }
+        | inr h ↦ record { port = port; rewrite = rewrite; is = refl; link = sent_to (end_at net (record { switch = p.switch; port = port })) port (rewritten_vlan rewrite p.vlan) next (sym h ∙ e) }
       ]
 
   at_port : (p q : Place) (port : Port) → p.switch ≡ q.switch → end_at net (record { switch = p.switch; port = port }) ≡ end_at net (record { switch = q.switch; port = port })
   at_port p q port same = ap (λ (s : SwitchId). end_at net (record { switch = s; port = port })) same
 
   -- where an action sends from one place, it sends from another one of the switch to the same stop, or discards
-  pub same_go : (a : Action) (p q next : Place) → p.switch ≡ q.switch → acted net p a ≡ Go next → ¬ (acted net q a ≡ Discard)
-      → (other : Place) × (acted net q a ≡ Go other) × (next.switch ≡ other.switch) × (next.port ≡ other.port)
+  pub same_go : (a : Action) (p q next : Place) → p.switch ≡ q.switch → action_outcome net p a ≡ Go next → ¬ (action_outcome net q a ≡ Discard)
+      → (other : Place) × (action_outcome net q a ≡ Go other) × (next.switch ≡ other.switch) × (next.port ≡ other.port)
   same_go a p q next same goes stays =
       let over = goes_over p next a goes in
-      let other : Place = record { switch = next.switch; port = next.port; vlan = rewritten over.rewrite q.vlan } in
+      let other : Place = record { switch = next.switch; port = next.port; vlan = rewritten_vlan over.rewrite q.vlan } in
       elim (discard_or_sent q over.port over.rewrite) [
-        | inl h ↦ absurd (stays (ap (acted net q) over.is ∙ h.1))
-        | inr h ↦ (other, ap (acted net q) over.is ∙ h ∙ ap (λ x. sent x over.port (rewritten over.rewrite q.vlan)) (sym (at_port p q over.port same) ∙ over.link), refl, refl)
+        | inl h ↦ absurd (stays (ap (action_outcome net q) over.is ∙ h.1))
+        | inr h ↦ (other, ap (action_outcome net q) over.is ∙ h ∙ ap (λ x. sent_outcome x over.port (rewritten_vlan over.rewrite q.vlan)) (sym (at_port p q over.port same) ∙ over.link), refl, refl)
       ]
 
   -- an action that discards at one place of a switch and not at another one outputs to the ingress port of the first
-  pub drops_back : (a : Action) (p q : Place) → p.switch ≡ q.switch → acted net p a ≡ Discard → ¬ (acted net q a ≡ Discard)
+  pub drops_back : (a : Action) (p q : Place) → p.switch ≡ q.switch → action_outcome net p a ≡ Discard → ¬ (action_outcome net q a ≡ Discard)
       → (port : Port) × (rewrite : Rewrite) × (a ≡ action.Out port rewrite) × (port.0 ≡ p.port.0)
   drops_back action.Discard p q same drops stays = absurd (stays refl)
   drops_back (action.Out port rewrite) p q same drops stays =
       elim (discard_or_sent p port rewrite) [
         | inl h ↦ (port, rewrite, refl, h.0)
         | inr h ↦ (
-            let nowhere = sent_nowhere (end_at net (record { switch = p.switch; port = port })) port (rewritten rewrite p.vlan) (sym h ∙ drops) in
+            let nowhere = sent_nowhere (end_at net (record { switch = p.switch; port = port })) port (rewritten_vlan rewrite p.vlan) (sym h ∙ drops) in
             elim (discard_or_sent q port rewrite) [
               | inl g ↦ absurd (stays g.1)
-              | inr g ↦ absurd (stays (g ∙ ap (λ x. sent x port (rewritten rewrite q.vlan)) (sym (at_port p q port same) ∙ nowhere)))
+              | inr g ↦ absurd (stays (g ∙ ap (λ x. sent_outcome x port (rewritten_vlan rewrite q.vlan)) (sym (at_port p q port same) ∙ nowhere)))
             ])
       ]
 
-  pub back_drops : (p : Place) (port : Port) (rewrite : Rewrite) → port.0 ≡ p.port.0 → acted net p (action.Out port rewrite) ≡ Discard
+  pub back_drops : (p : Place) (port : Port) (rewrite : Rewrite) → port.0 ≡ p.port.0 → action_outcome net p (action.Out port rewrite) ≡ Discard
   back_drops p port rewrite e = cond-true (port.0 == p.port.0) Discard _ (eq-eqb port.0 p.port.0 e)
 
   -- what isn't discarded at a stop isn't with another VLAN
-  pub same_stays : (a : Action) (p q : Place) → p.switch ≡ q.switch → p.port ≡ q.port → ¬ (acted net q a ≡ Discard) → ¬ (acted net p a ≡ Discard)
+  pub same_stays : (a : Action) (p q : Place) → p.switch ≡ q.switch → p.port ≡ q.port → ¬ (action_outcome net q a ≡ Discard) → ¬ (action_outcome net p a ≡ Discard)
   same_stays a p q same port stays drops =
       let (x, rewrite, is, back) = drops_back a p q same drops stays in
-      stays (ap (acted net q) is ∙ back_drops q x rewrite (back ∙ ap (λ z. z.0) port))
+      stays (ap (action_outcome net q) is ∙ back_drops q x rewrite (back ∙ ap (λ z. z.0) port))
 
   -- an action that discards at a host port sends nothing on from its switch
-  pub host_drops : (a : Action) (e p : Place) → end_at net (record { switch = e.switch; port = e.port }) ≡ at.Host → p.switch ≡ e.switch → acted net e a ≡ Discard → (next : Place) → ¬ (acted net p a ≡ Go next)
+  pub host_drops : (a : Action) (e p : Place) → end_at net (record { switch = e.switch; port = e.port }) ≡ at.Host → p.switch ≡ e.switch → action_outcome net e a ≡ Discard → (next : Place) → ¬ (action_outcome net p a ≡ Go next)
   host_drops a e p host same drops next goes =
       let over = goes_over p next a goes in
       let there = sym (at_port p e over.port same) ∙ over.link in
@@ -119,14 +119,14 @@ module _ (net : Network) where
             let port_is : over.port ≡ e.port = ap (λ (n : ℕ). let x : Port = record { 0 = n } in x) h.0 in
             absurd (let f : at.Host ≡ at.Link next.switch next.port = sym host ∙ ap (λ (x : Port). end_at net (record { switch = e.switch; port = x })) (sym port_is) ∙ there in cc))
         | inr h ↦ (
-            let other : Place = record { switch = next.switch; port = next.port; vlan = rewritten over.rewrite e.vlan } in
-            let f : Discard ≡ Go other = sym drops ∙ ap (acted net e) over.is ∙ h ∙ ap (λ x. sent x over.port (rewritten over.rewrite e.vlan)) there in
+            let other : Place = record { switch = next.switch; port = next.port; vlan = rewritten_vlan over.rewrite e.vlan } in
+            let f : Discard ≡ Go other = sym drops ∙ ap (action_outcome net e) over.is ∙ h ∙ ap (λ x. sent_outcome x over.port (rewritten_vlan over.rewrite e.vlan)) there in
             absurd (let g : Discard ≡ Go other = f in cc))
       ]
 
   -- a step back over a link
-  pub step_back : IsNetwork net → (r p q : Place) (a b : Action) → acted net r a ≡ Go p → acted net p b ≡ Discard → p.switch ≡ q.switch → ¬ (acted net q b ≡ Discard)
-      → (next : Place) × (acted net q b ≡ Go next) × (next.switch ≡ r.switch) × (acted net next a ≡ Discard)
+  pub step_back : IsNetwork net → (r p q : Place) (a b : Action) → action_outcome net r a ≡ Go p → action_outcome net p b ≡ Discard → p.switch ≡ q.switch → ¬ (action_outcome net q b ≡ Discard)
+      → (next : Place) × (action_outcome net q b ≡ Go next) × (next.switch ≡ r.switch) × (action_outcome net next a ≡ Discard)
   step_back is r p q a b goes drops same stays =
       let over = goes_over r p a goes in
       let (port, rewrite, out, back) = drops_back b p q same drops stays in
@@ -135,14 +135,14 @@ module _ (net : Network) where
       let here : Stop = record { switch = q.switch; port = port } in
       let returns = link_back net is near far over.link in
       let one : here ≡ far = stop_of_parts here far (ap (λ x. x.0) (sym same)) back in
-      let next : Place = record { switch = r.switch; port = over.port; vlan = rewritten rewrite q.vlan } in
+      let next : Place = record { switch = r.switch; port = over.port; vlan = rewritten_vlan rewrite q.vlan } in
       elim (discard_or_sent q port rewrite) [
-        | inl h ↦ absurd (stays (ap (acted net q) out ∙ h.1))
+        | inl h ↦ absurd (stays (ap (action_outcome net q) out ∙ h.1))
         | inr h ↦ (
           next,
-          ap (acted net q) out ∙ h ∙ ap (λ x. sent x port (rewritten rewrite q.vlan)) (ap (end_at net) one ∙ returns),
+          ap (action_outcome net q) out ∙ h ∙ ap (λ x. sent_outcome x port (rewritten_vlan rewrite q.vlan)) (ap (end_at net) one ∙ returns),
           refl,
-          ap (acted net next) over.is ∙ back_drops next over.port over.rewrite refl,
+          ap (action_outcome net next) over.is ∙ back_drops next over.port over.rewrite refl,
         )
       ]
 
@@ -209,28 +209,28 @@ abbrev pub HasStopOf : List Place → Place → Type 0
 HasStopOf places p = (q : Place) × IsIn q places × (p.switch ≡ q.switch) × (p.port ≡ q.port)
 
 -- the tail of a path by the new actions, which isn't dropped at its end
-module _ (net : Network) (new : SwitchId → Action) (first : Place) (after : List Place) (tail_walk : IsWalk (Steps (λ p. acted net p (new p.switch))) first after)
-    (tail_ends : (next : Place) → ¬ (acted net (end_of first after) (new (end_of first after).switch) ≡ Go next))
-    (tail_leaves : ¬ (acted net (end_of first after) (new (end_of first after).switch) ≡ Discard)) where
+module _ (net : Network) (new : SwitchId → Action) (first : Place) (after : List Place) (tail_walk : IsWalk (Steps (λ p. action_outcome net p (new p.switch))) first after)
+    (tail_ends : (next : Place) → ¬ (action_outcome net (end_of first after) (new (end_of first after).switch) ≡ Go next))
+    (tail_leaves : ¬ (action_outcome net (end_of first after) (new (end_of first after).switch) ≡ Discard)) where
   -- nowhere on it does the new action drop
-  pub tail_stays : (q : Place) → IsIn q (first ∷ after) → ¬ (acted net q (new q.switch) ≡ Discard)
-  tail_stays q i drops = tail_leaves (drop_at_end (λ p. acted net p (new p.switch)) first after tail_walk q i drops)
+  pub tail_stays : (q : Place) → IsIn q (first ∷ after) → ¬ (action_outcome net q (new q.switch) ≡ Discard)
+  tail_stays q i drops = tail_leaves (drop_at_end (λ p. action_outcome net p (new p.switch)) first after tail_walk q i drops)
 
   -- a step by the new action from where the tail has a place
-  pub tail_step : (p q z : Place) → IsIn z (first ∷ after) → p.switch ≡ z.switch → acted net p (new z.switch) ≡ Go q → HasStopOf after q × IsNext (switches_along first after) p.switch q.switch
+  pub tail_step : (p q z : Place) → IsIn z (first ∷ after) → p.switch ≡ z.switch → action_outcome net p (new z.switch) ≡ Go q → HasStopOf after q × IsNext (switches_along first after) p.switch q.switch
   tail_step p q z i same goes =
       let (other, e, f, g) = same_go net (new z.switch) p z q same goes (tail_stays z i) in
-      let (j, next) = path_next (λ x. acted net x (new x.switch)) first after tail_walk tail_ends z other i e in
+      let (j, next) = path_next (λ x. action_outcome net x (new x.switch)) first after tail_walk tail_ends z other i e in
       ((other, j, f, g), subst (λ x. IsNext (switches_along first after) x q.switch) (sym same) (subst (IsNext (switches_along first after) z.switch) (sym f) next))
 
   -- a packet that comes back to its first switch isn't dropped there, where the action that sent it is new on the tail
-  pub tail_not_back : IsNetwork net → (r p : Place) (a : Action) → acted net r a ≡ Go p → p.switch ≡ first.switch → acted net p (new p.switch) ≡ Discard
+  pub tail_not_back : IsNetwork net → (r p : Place) (a : Action) → action_outcome net r a ≡ Go p → p.switch ≡ first.switch → action_outcome net p (new p.switch) ≡ Discard
       → ((next : Place) → IsIn next after → next.switch ≡ r.switch → a ≡ new next.switch) → ⊥
   tail_not_back is_net r p a goes here drops is_new =
-      let here_drops : acted net p (new first.switch) ≡ Discard = ap (λ x. acted net p (new x)) (sym here) ∙ drops in
+      let here_drops : action_outcome net p (new first.switch) ≡ Discard = ap (λ x. action_outcome net p (new x)) (sym here) ∙ drops in
       let (next, e, f, g) = step_back net is_net r p first a (new first.switch) goes here_drops here (tail_stays first (inl refl)) in
-      let (j, _) = path_next (λ x. acted net x (new x.switch)) first after tail_walk tail_ends first next (inl refl) e in
-      tail_stays next (inr j) (ap (acted net next) (sym (is_new next j f)) ∙ g)
+      let (j, _) = path_next (λ x. action_outcome net x (new x.switch)) first after tail_walk tail_ends first next (inl refl) e in
+      tail_stays next (inr j) (ap (action_outcome net next) (sym (is_new next j f)) ∙ g)
 
 module _ (u : Rollout) (k dst : ℕ) (entry : Place) (duties : PacketDuties) (no_chains : duties.chains ≡ []) where
   -- what holds of the entry, and after each step along which the numbers fall
@@ -278,18 +278,18 @@ module _ (u : Rollout) (k dst : ℕ) (entry : Place) (duties : PacketDuties) (no
 
   -- a class is safe whose packets go by the actions of now, and at one switch perhaps by the new one, from where a path leaves over switches that are new
   module _ (net : Network) (is_net : IsNetwork net) (now new : SwitchId → Action)
-      (first : Place) (after : List Place) (tail_walk : IsWalk (Steps (λ p. acted net p (new p.switch))) first after)
-      (tail_ends : (next : Place) → ¬ (acted net (end_of first after) (new (end_of first after).switch) ≡ Go next))
-      (tail_leaves : ¬ (acted net (end_of first after) (new (end_of first after).switch) ≡ Discard))
+      (first : Place) (after : List Place) (tail_walk : IsWalk (Steps (λ p. action_outcome net p (new p.switch))) first after)
+      (tail_ends : (next : Place) → ¬ (action_outcome net (end_of first after) (new (end_of first after).switch) ≡ Go next))
+      (tail_leaves : ¬ (action_outcome net (end_of first after) (new (end_of first after).switch) ≡ Discard))
       (tail_distinct : IsDistinct (switches_along first after)) (agree : AllByRecursion (λ q. now q.switch ≡ new q.switch) after)
-      (fine : FinePath (λ p. acted net p (now p.switch)) duties.arrive entry) (enters : IsTrue duties.arrive → ¬ (acted net entry (new entry.switch) ≡ Discard))
+      (fine : FinePath (λ p. action_outcome net p (now p.switch)) duties.arrive entry) (enters : IsTrue duties.arrive → ¬ (action_outcome net entry (new entry.switch) ≡ Discard))
       (possible : (p : Place) (found : Outcome) → IsPossible u k dst p found
-      → (found ≡ acted net p (now p.switch)) ⊎ ((p.switch ≡ first.switch) × (found ≡ acted net p (new p.switch)))) where
+      → (found ≡ action_outcome net p (now p.switch)) ⊎ ((p.switch ≡ first.switch) × (found ≡ action_outcome net p (new p.switch)))) where
     abbrev now_out : Place → Outcome
-    now_out p = acted net p (now p.switch)
+    now_out p = action_outcome net p (now p.switch)
 
     abbrev new_out : Place → Outcome
-    new_out p = acted net p (new p.switch)
+    new_out p = action_outcome net p (new p.switch)
 
     -- on the tail the actions of now are new
     as_new : (p z : Place) → IsIn z after → p.switch ≡ z.switch → now p.switch ≡ new z.switch
@@ -300,7 +300,7 @@ module _ (u : Rollout) (k dst : ℕ) (entry : Place) (duties : PacketDuties) (no
         let (p, q, j, goes, e, f) = next_places now_out entry fine.rest fine.walk a b next in
         let (z, l, g) = in_from_map (λ (x : Place). x.switch) a after i in
         let same = sym e ∙ g in
-        let step = tail_step net new first after tail_walk tail_ends tail_leaves p q z (inr l) same (ap (acted net p) (sym (as_new p z l same)) ∙ goes) in
+        let step = tail_step net new first after tail_walk tail_ends tail_leaves p q z (inr l) same (ap (action_outcome net p) (sym (as_new p z l same)) ∙ goes) in
         subst (λ x. IsNext (switches_along first after) x b) (sym e) (subst (IsNext (switches_along first after) p.switch) (sym f) step.1)
 
     off_tail : (p z : Place) → IsIn z after → p.switch ≡ z.switch → p.switch ≡ first.switch → ⊥
@@ -322,10 +322,10 @@ module _ (u : Rollout) (k dst : ℕ) (entry : Place) (duties : PacketDuties) (no
             → (p q : Place) → IsIn p (entry ∷ fine.rest) ⊎ HasStopOf after p → MayGo u k dst p q → (IsIn q (entry ∷ fine.rest) ⊎ HasStopOf after q) × IsLower numbers p.switch q.switch
         goes numbers along path_along p q (inl i) may = elim (possible p (Go q) may) [
           | inl e ↦ (let (j, next) = path_next now_out entry fine.rest fine.walk fine.ends p q i (sym e) in (inl (inr j), path_along p.switch q.switch next))
-          | inr h ↦ (let step = tail_step net new first after tail_walk tail_ends tail_leaves p q first (inl refl) h.0 (ap (λ x. acted net p (new x)) (sym h.0) ∙ sym h.1) in (inr step.0, along p.switch q.switch step.1))
+          | inr h ↦ (let step = tail_step net new first after tail_walk tail_ends tail_leaves p q first (inl refl) h.0 (ap (λ x. action_outcome net p (new x)) (sym h.0) ∙ sym h.1) in (inr step.0, along p.switch q.switch step.1))
         ]
         goes numbers along path_along p q (inr (z, i, same, port)) may = elim (possible p (Go q) may) [
-          | inl e ↦ (let step = tail_step net new first after tail_walk tail_ends tail_leaves p q z (inr i) same (ap (acted net p) (sym (as_new p z i same)) ∙ sym e) in (inr step.0, along p.switch q.switch step.1))
+          | inl e ↦ (let step = tail_step net new first after tail_walk tail_ends tail_leaves p q z (inr i) same (ap (action_outcome net p) (sym (as_new p z i same)) ∙ sym e) in (inr step.0, along p.switch q.switch step.1))
           | inr h ↦ absurd (off_tail p z i same h.0)
         ]
 
@@ -335,6 +335,6 @@ module _ (u : Rollout) (k dst : ℕ) (entry : Place) (duties : PacketDuties) (no
           | inr h ↦ not_dropped must p i h.0 (sym h.1)
         ]
         stays must p (inr (z, i, same, port)) may = elim (possible p Discard may) [
-          | inl e ↦ same_stays net (new z.switch) p z same port (tail_stays net new first after tail_walk tail_ends tail_leaves z (inr i)) (ap (acted net p) (sym (as_new p z i same)) ∙ sym e)
+          | inl e ↦ same_stays net (new z.switch) p z same port (tail_stays net new first after tail_walk tail_ends tail_leaves z (inr i)) (ap (action_outcome net p) (sym (as_new p z i same)) ∙ sym e)
           | inr h ↦ absurd (off_tail p z i same h.0)
         ]

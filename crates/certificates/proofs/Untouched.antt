@@ -9,10 +9,10 @@ use Rattle.net_base.proofs.MemberLaws.{in_filter, in_from_filter, in_from_map, i
 use Rattle.net_base.specs.declared.ids.SwitchId.{SwitchId}
 use Rattle.net_base.specs.declared.ids.Place.{Place}
 use Rattle.flow_rules.specs.Patterns.{covers, admits_port, admits_vlan}
-use Rattle.flow_rules.specs.Tables.{IsClear, rules_at, covering}
+use Rattle.flow_rules.specs.Tables.{IsClear, rules_at, covering_rules}
 use Rattle.flow_rules.specs.declared.rules.Rule.{Rule}
 use Rattle.flow_rules.proofs.LookupLaws.{lookup_by_set}
-use Rattle.path_walk.specs.Outcomes.{acted, header_at}
+use Rattle.path_walk.specs.Outcomes.{action_outcome, header_at}
 use Rattle.path_walk.specs.Paths.{outcome_in}
 use Rattle.path_walk.specs.declared.Outcome.{Outcome}
 use Rattle.update_model.specs.Changes.{switch_of, rule_of, AppliesTo, IsGoodRound, changes_at, round_after}
@@ -54,7 +54,7 @@ module _ (u : Rollout) (k dst : ℕ) (good : IsGoodRound (tables_before u k) (ro
     distinct : IsDistinct (map key_named held.made)
     distinct = distinct_some key_named held.made here held.some (keys_distinct place.switch (round_after k u.rounds) good.distinct)
 
-    same_covering : IsSameSet (covering (header_at place dst) mixed) (covering (header_at place dst) before)
+    same_covering : IsSameSet (covering_rules (header_at place dst) mixed) (covering_rules (header_at place dst) before)
     same_covering r = (
       λ i.
           let (j, covered) = in_from_filter (λ q. covers q.key.pattern (header_at place dst)) r mixed i in
@@ -80,7 +80,7 @@ module _ (u : Rollout) (k dst : ℕ) (good : IsGoodRound (tables_before u k) (ro
   -- so only the outcome in the tables before the round is possible there
   pub unchanged_at : (found : Outcome) → IsPossible u k dst place found ↔ (found ≡ outcome_in u.net (tables_before u k) place dst)
   unchanged_at found = (
-    λ possible. possible.is ∙ ap (acted u.net place)
+    λ possible. possible.is ∙ ap (action_outcome u.net place)
         (lookup_by_set (header_at place dst) possible.mixed before (clear place.switch possible.mixed possible.held) (clear place.switch before unchanged_held)
         (same_covering possible.mixed possible.held)),
     λ e. record { mixed = before; held = unchanged_held; is = e },

@@ -16,14 +16,14 @@ use Rattle.certificates.specs.declared.LabelPick.{LabelPick}
 use Rattle.certificates.specs.declared.TwoPhaseEvidence.{TwoPhaseEvidence}
 
 -- the place of a packet that carries another VLAN
-abbrev pub carrying : Vlan → Place → Place
-carrying tag place = record { switch = place.switch; port = place.port; vlan = tag }
+abbrev pub place_carrying : Vlan → Place → Place
+place_carrying tag place = record { switch = place.switch; port = place.port; vlan = tag }
 
 -- the outcome for a packet that carries another VLAN while it is in the network
 abbrev pub outcome_carrying : Vlan → Outcome → Outcome
 outcome_carrying tag Discard = Discard
 outcome_carrying tag (Leave port vlan) = Leave port vlan
-outcome_carrying tag (Go next) = Go (carrying tag next)
+outcome_carrying tag (Go next) = Go (place_carrying tag next)
 
 -- where the outcome goes on with a VLAN, the label table gives it this version and this user's VLAN
 abbrev pub IsLabelled : List Label → Bool → Vlan → Outcome → Type 0
@@ -43,7 +43,7 @@ pub record Agrees (net : Network) (tables : List (List Rule)) (labels : List Lab
 -- along the path of the tables from a place, a packet that carries the VLAN has the path's outcomes alone
 abbrev pub KeepsPath : Rollout → ℕ → ℕ → List (List Rule) → Place → Vlan → Type 0
 KeepsPath u k dst tables first tag =
-    (place : Place) → IsReached (Forwards u.net tables dst) first place → (found : Outcome) → IsPossible u k dst (carrying tag place) found
+    (place : Place) → IsReached (Forwards u.net tables dst) first place → (found : Outcome) → IsPossible u k dst (place_carrying tag place) found
     → found ≡ outcome_carrying tag (outcome_in u.net tables place dst)
 
 -- after an outcome at the entry that goes on and agrees with these tables, a packet keeps to their path

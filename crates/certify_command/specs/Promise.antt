@@ -4,7 +4,7 @@ use Rattle.file_access.specs.Outside.{Files}
 use Rattle.command_base.specs.declared.status.Status.{Status}
 use Rattle.command_base.specs.declared.status.Status.TheVariants as status
 use Rattle.command_base.specs.JudgedFiles.{FilesAreGood, RefusalPromise}
-use Rattle.command_base.specs.Runs.{IsSettled}
+use Rattle.command_base.specs.Runs.{IsComplete}
 use Rattle.check_base.specs.Names.{CheckNames}
 use Rattle.check_base.specs.Checks.{CheckMeaning, FilesMeanPlan, check_count}
 use Rattle.certify_command.specs.Answers.{IsCertifiable, IsCauseLine, WritesCertifiedText}
@@ -13,7 +13,7 @@ use Rattle.certify_command.specs.Answers.{IsCertifiable, IsCauseLine, WritesCert
 pub record CertifyPromise (files : Files) (names : CheckNames) (old new : Option (List ℕ)) (result : Status) : Type 0 where
   -- Done comes exactly where the five files mean an update and an ordered plan of it, with at most 8192 classes, whose rounds some
   -- evidence certifies, be it that of the plan or not.
-  pub done : IsSettled result → ((result ≡ status.Done) ↔ FilesAreGood (FilesMeanPlan files names) check_count IsCertifiable)
+  pub done : IsComplete result → ((result ≡ status.Done) ↔ FilesAreGood (FilesMeanPlan files names) check_count IsCertifiable)
   -- Then the text of a plan with exactly these rounds was written: it is read as that plan, which is certified; its evidence is that
   -- which the search makes for these rounds.
   pub plan : (m : CheckMeaning) → FilesMeanPlan files names m → result ≡ status.Done → WritesCertifiedText m old new

@@ -5,14 +5,14 @@ use Rattle.certificates.specs.Certified.{is_two_phase}
 use Rattle.certificates.specs.Consistent.{IsConsistent}
 use Rattle.command_base.specs.declared.status.Status.{Status}
 use Rattle.command_base.specs.declared.status.Status.TheVariants as status
-use Rattle.command_base.specs.Runs.{IsSettled}
+use Rattle.command_base.specs.Runs.{IsComplete}
 use Rattle.check_base.specs.Names.{CheckNames}
 use Rattle.check_base.specs.Checks.{CheckMeaning, FilesMeanPlan, FilesAreCertified, RefusesUncertified}
 
 -- the files and their names, what was written before and after the run, and how it ended
 pub record CheckPromise (files : Files) (names : CheckNames) (old new : Option (List ℕ)) (result : Status) : Type 0 where
   -- Done comes exactly where the five files mean an update and a plan of it that is certified, with at most 8192 classes.
-  pub done : IsSettled result → ((result ≡ status.Done) ↔ FilesAreCertified files names)
+  pub done : IsComplete result → ((result ≡ status.Done) ↔ FilesAreCertified files names)
   -- The headline. Then in every state of every run, in which the changes of each round come in any order between the hops of
   -- packets, each packet's trace meets the demands, and under two phases it is the old or the new path.
   pub keeps : (m : CheckMeaning) → FilesMeanPlan files names m → result ≡ status.Done → IsConsistent m.update m.plan.rounds (is_two_phase m.plan.evidence)

@@ -2,7 +2,7 @@
 ghost use Rattle.std.specs.Prelude.{ℕ, List, Option};
 ghost use Rattle.file_access.specs.Outside.{Files};
 ghost use Rattle.command_base.specs.declared.status.Status.{Status};
-ghost use Rattle.command_base.specs.Runs.{IsSettled, Answered};
+ghost use Rattle.command_base.specs.Runs.{IsComplete, Answered};
 ghost use Rattle.check_base.specs.Names.{CheckNames};
 ghost use Rattle.check_base.specs.Checks.{check_dialogue};
 ghost use Rattle.check_command.specs.Checks.{IsCheckAnswer};
@@ -11,6 +11,6 @@ ghost use Rattle.check_command.specs.Promise.{CheckPromise};
 /// A run whose answer, where it is settled, is that of the command's dialogue over the files keeps the promise of `check`.
 pub fn check_promised()
     ensures { (files : Files) (names : CheckNames) (old new : Option (List ℕ)) (result : Status)
-        → (IsSettled result → Answered IsCheckAnswer files (check_dialogue names) old new result)
+        → (IsComplete result → Answered IsCheckAnswer files (check_dialogue names) old new result)
         → CheckPromise files names old new result }
 {}

@@ -31,7 +31,7 @@ use Rattle.certificates.specs.declared.Evidence.{Evidence}
 use Rattle.certificates.specs.declared.Evidence.TheVariants.{Ordered, TwoPhase}
 use Rattle.certificates.specs.declared.Label.{Label}
 use Rattle.certificates.specs.declared.LabelPick.{LabelPick}
-use Rattle.certificates.specs.TwoPhase.{carrying, outcome_carrying, tables_of, Agrees, IsLabelPickInForce}
+use Rattle.certificates.specs.TwoPhase.{place_carrying, outcome_carrying, tables_of, Agrees, IsLabelPickInForce}
 use Rattle.path_walk.specs.Paths.{outcome_in, Forwards}
 use Rattle.net_base.specs.Walks.{IsWalk, end_of}
 use Rattle.net_base.specs.declared.ids.Vlan.{Vlan}
@@ -112,7 +112,7 @@ pub record IsMixedAtEntry (t : Task) (k : ℕ) (class : Class) (labels : List La
 -- an outcome of a place, for a packet that carries the tag, isn't that of the tables
 abbrev pub Strays : Rollout → ℕ → ℕ → List (List Rule) → Vlan → Place → Type 0
 Strays u k dst tables tag place =
-    (found : Outcome) × IsPossible u k dst (carrying tag place) found × (found ≢ outcome_carrying tag (outcome_in u.net tables place dst))
+    (found : Outcome) × IsPossible u k dst (place_carrying tag place) found × (found ≢ outcome_carrying tag (outcome_in u.net tables place dst))
 
 -- after an outcome of the entry that agrees, the first place of the path where a packet may stray is at the switch
 pub record StraysAt (t : Task) (k : ℕ) (class : Class) (labels : List Label) (s : SwitchId) : Type 0 where

@@ -9,13 +9,13 @@ use Rattle.net_base.proofs.MemberLaws.{in_filter, in_from_filter, in_append_left
 use Rattle.net_base.specs.declared.ids.Place.{Place}
 use Rattle.topology.specs.Networks.{Network}
 use Rattle.flow_rules.specs.Patterns.{Header, covers, key_eq}
-use Rattle.flow_rules.specs.Tables.{covering, lookup}
+use Rattle.flow_rules.specs.Tables.{covering_rules, lookup}
 use Rattle.flow_rules.specs.declared.rules.Action.TheVariants.{Discard}
 use Rattle.flow_rules.specs.declared.rules.Key.{Key}
 use Rattle.flow_rules.specs.declared.rules.Rule.{Rule}
 use Rattle.flow_rules.proofs.KeyLaws.{key_eq-true}
 use Rattle.flow_rules.proofs.LookupLaws.{is_top}
-use Rattle.path_walk.specs.Outcomes.{acted, outcome, header_at}
+use Rattle.path_walk.specs.Outcomes.{action_outcome, outcome, header_at}
 use Rattle.path_walk.specs.declared.Outcome.{Outcome}
 use Rattle.update_model.specs.Changes.{rule_of, rules_after_change, rules_after}
 use Rattle.update_model.specs.Mixtures.{MayBe}
@@ -100,7 +100,7 @@ module _ (h : Header) where
 
   -- the change, made among the covering rules
   abbrev followed : Change → List Rule → List Rule
-  followed (Insert s r) rules = rules ++ covering h (r ∷ [])
+  followed (Insert s r) rules = rules ++ covering_rules h (r ∷ [])
   followed (Delete s r) rules = filter (λ q. not (key_eq q.key r.key)) rules
   followed (Replace s r) rules = map (λ q. cond (key_eq q.key r.key) r q) rules
 
@@ -111,13 +111,13 @@ module _ (h : Header) where
         | false ↦ λ _. refl
       ] refl
 
-  covering_change : (c : Change) (rules : List Rule) → covering h (rules_after_change c rules) ≡ followed c (covering h rules)
+  covering_change : (c : Change) (rules : List Rule) → covering_rules h (rules_after_change c rules) ≡ followed c (covering_rules h rules)
   covering_change (Insert s r) rules = filter_append Covers rules (r ∷ [])
   covering_change (Delete s r) rules = filter_swap Covers (λ q. not (key_eq q.key r.key)) rules
   covering_change (Replace s r) rules = filter_map_swap Covers (λ q. cond (key_eq q.key r.key) r q) (replaced_key r) rules
 
   -- where the same rules cover before changes, the same do after them
-  same_after : (made : List Change) (xs ys : List Rule) → covering h xs ≡ covering h ys → covering h (rules_after made xs) ≡ covering h (rules_after made ys)
+  same_after : (made : List Change) (xs ys : List Rule) → covering_rules h xs ≡ covering_rules h ys → covering_rules h (rules_after made xs) ≡ covering_rules h (rules_after made ys)
   same_after [] xs ys same = same
   same_after (c ∷ made) xs ys same =
       same_after made (rules_after_change c xs) (rules_after_change c ys) (covering_change c xs ∙ ap (followed c) same ∙ sym (covering_change c ys))
@@ -131,39 +131,39 @@ module _ (h : Header) where
       ]
 
   -- a change that doesn't cover the packet leaves the covering rules as they are
-  pub covering_kept : (c : Change) → Covers (rule_of c) ≡ false → (rules : List Rule) → covering h (rules_after_change c rules) ≡ covering h rules
+  pub covering_kept : (c : Change) → Covers (rule_of c) ≡ false → (rules : List Rule) → covering_rules h (rules_after_change c rules) ≡ covering_rules h rules
   covering_kept (Insert s r) off rules =
-      covering_change (Insert s r) rules ∙ ap (λ zs. covering h rules ++ zs) (cond-false (Covers r) (r ∷ []) [] off) ∙ append-nil (covering h rules)
+      covering_change (Insert s r) rules ∙ ap (λ zs. covering_rules h rules ++ zs) (cond-false (Covers r) (r ∷ []) [] off) ∙ append-nil (covering_rules h rules)
   covering_kept (Delete s r) off rules =
       covering_change (Delete s r) rules ∙ filter_whole Covers (λ q. not (key_eq q.key r.key)) (λ q on. not_from_false (key_eq q.key r.key) (other_key r q off on)) rules
   covering_kept (Replace s r) off rules =
       covering_change (Replace s r) rules ∙ map_whole Covers (λ q. cond (key_eq q.key r.key) r q) (λ q on. cond-false (key_eq q.key r.key) r q (other_key r q off on)) rules
 
   -- the changes that don't cover the packet may be left out
-  covering_made : (made : List Change) (rules : List Rule) → covering h (rules_after made rules) ≡ covering h (rules_after (covering_changes h made) rules)
+  covering_made : (made : List Change) (rules : List Rule) → covering_rules h (rules_after made rules) ≡ covering_rules h (rules_after (covering_changes h made) rules)
   covering_made [] rules = refl
   covering_made (c ∷ made) rules =
       let kept = covering_changes h made in
       let rest = covering_made made (rules_after_change c rules) in
       elim (cases_Bool (Covers (rule_of c))) [
-        | inl on ↦ rest ∙ ap (λ cs. covering h (rules_after cs rules)) (sym (cond-true (Covers (rule_of c)) (c ∷ kept) kept on))
+        | inl on ↦ rest ∙ ap (λ cs. covering_rules h (rules_after cs rules)) (sym (cond-true (Covers (rule_of c)) (c ∷ kept) kept on))
         | inr off ↦
             rest ∙ same_after kept (rules_after_change c rules) rules (covering_kept c off rules)
-            ∙ ap (λ cs. covering h (rules_after cs rules)) (sym (cond-false (Covers (rule_of c)) (c ∷ kept) kept off))
+            ∙ ap (λ cs. covering_rules h (rules_after cs rules)) (sym (cond-false (Covers (rule_of c)) (c ∷ kept) kept off))
       ]
 
   -- the lookup depends on them alone
-  lookup_by_covering : (xs ys : List Rule) → covering h xs ≡ covering h ys → lookup h xs ≡ lookup h ys
+  lookup_by_covering : (xs ys : List Rule) → covering_rules h xs ≡ covering_rules h ys → lookup h xs ≡ lookup h ys
   lookup_by_covering xs ys same = ap (λ rs. option_map_or (λ (r : Rule). r.action) (find (is_top rs) rs) Discard) same
 
 -- ---- possible outcomes
 
-module _ (place : Place) (dst : ℕ) (xs ys : List Rule) (same : covering (header_at place dst) xs ≡ covering (header_at place dst) ys) (mixed : List Rule) (held : IsSameSet mixed xs) where
+module _ (place : Place) (dst : ℕ) (xs ys : List Rule) (same : covering_rules (header_at place dst) xs ≡ covering_rules (header_at place dst) ys) (mixed : List Rule) (held : IsSameSet mixed xs) where
   abbrev Covered : Rule → Bool
   Covered r = covers r.key.pattern (header_at place dst)
 
   abbrev covering_here : List Rule → List Rule
-  covering_here rules = covering (header_at place dst) rules
+  covering_here rules = covering_rules (header_at place dst) rules
 
   abbrev rest_of : List Rule → List Rule
   rest_of rules = filter (λ r. not (Covered r)) rules
@@ -194,7 +194,7 @@ module _ (place : Place) (dst : ℕ) (xs ys : List Rule) (same : covering (heade
   )
 
   same_outcome : (net : Network) → outcome net mixed place dst ≡ outcome net other place dst
-  same_outcome net = ap (acted net place) (lookup_by_covering (header_at place dst) mixed other (sym covered))
+  same_outcome net = ap (action_outcome net place) (lookup_by_covering (header_at place dst) mixed other (sym covered))
 
 -- ---- some of the changes
 
@@ -232,14 +232,14 @@ some_passing p (x ∷ xs) (y ∷ ys) h =
 -- ---- what is possible
 
 -- where the same rules of two tables and the same changes of them cover a packet, the same is possible while the changes are made
-pub possible_by_covering : (net : Network) (place : Place) (dst : ℕ) (xs ys : List Rule) → covering (header_at place dst) xs ≡ covering (header_at place dst) ys
+pub possible_by_covering : (net : Network) (place : Place) (dst : ℕ) (xs ys : List Rule) → covering_rules (header_at place dst) xs ≡ covering_rules (header_at place dst) ys
     → (changes others : List Change) → covering_changes (header_at place dst) changes ≡ covering_changes (header_at place dst) others → (found : Outcome)
     → MayBe net xs changes place dst found → MayBe net ys others place dst found
 possible_by_covering net place dst xs ys same changes others alike found may =
     let h = header_at place dst in
     let made = may.held.made in
     let kept = covering_changes h made in
-    let after : covering h (rules_after made xs) ≡ covering h (rules_after kept ys) = covering_made h made xs ∙ same_after h kept xs ys same in
+    let after : covering_rules h (rules_after made xs) ≡ covering_rules h (rules_after kept ys) = covering_made h made xs ∙ same_after h kept xs ys same in
     let passes = λ (c : Change). covers (rule_of c).key.pattern h in
     record {
       mixed = other place dst (rules_after made xs) (rules_after kept ys) after may.mixed may.held.same;

@@ -2,7 +2,7 @@
 use Rattle.std.specs.Prelude.{◌≡◌, ◌<◌, ℕ, suc, false, List, length, filter}
 use Rattle.net_base.specs.declared.ids.Place.{Place}
 use Rattle.flow_rules.specs.Patterns.{Header, covers}
-use Rattle.flow_rules.specs.Tables.{covering, rules_at}
+use Rattle.flow_rules.specs.Tables.{covering_rules, rules_at}
 use Rattle.path_walk.specs.Outcomes.{header_at}
 use Rattle.dest_classes.specs.declared.Class.{Class}
 use Rattle.update_model.specs.Changes.{rule_of, changes_at, round_after}
@@ -17,8 +17,8 @@ covering_changes h changes = filter (λ c. covers (rule_of c).key.pattern h) cha
 
 -- the same rules of the place's switch, and the same changes of them, cover packets of the class there in both rounds
 pub record AreAlikeAt (u : Rollout) (k : ℕ) (v : Rollout) (j : ℕ) (class : Class) (place : Place) : Type 0 where
-  pub rules : covering (header_at place class.first) (rules_at (tables_before u k) place.switch)
-      ≡ covering (header_at place class.first) (rules_at (tables_before v j) place.switch)
+  pub rules : covering_rules (header_at place class.first) (rules_at (tables_before u k) place.switch)
+      ≡ covering_rules (header_at place class.first) (rules_at (tables_before v j) place.switch)
   pub changes : covering_changes (header_at place class.first) (changes_at place.switch (round_after k u.rounds))
       ≡ covering_changes (header_at place class.first) (changes_at place.switch (round_after j v.rounds))
 

@@ -13,7 +13,7 @@ use Rattle.command_base.specs.Kinds.{limit_of}
 use Rattle.command_base.specs.Lines.{FaultWords}
 use Rattle.command_base.specs.Answers.{Answer, too_long}
 use Rattle.command_base.specs.Dialogues.{Dialogue, Bad, Ends, Reads, FileRead, file_read, and_then, IsGiven, Gives, IsLedTo, LeadsTo, IsWhole, SaysNothing, Lacks, MissesAFile}
-use Rattle.command_base.specs.Readings.{reading, meant}
+use Rattle.command_base.specs.Readings.{reading, meaning_dialogue}
 use Rattle.command_base.specs.Replies.{answer_of, IsEarlyEnd, EndsEarly, IsMet, Meets, IsBad}
 
 gives_on : {A B : Type 0} (held : Option Files) (first mid last : Option FileRead) (d : Dialogue A) (next : A → Dialogue B) (v : A) (w : B) → IsGiven held first d v mid → IsGiven held mid (next v) w last → IsGiven held first (and_then d next) w last
@@ -108,14 +108,14 @@ pub gives_meaning : {A E : Type 0} (held : Option Files) (last : Option FileRead
     → IsFile held name bytes → length bytes ≤ limit_of kind → meaning bytes ≡ Ok value → Gives held last (reading kind words meaning name) value (Some (file_read kind name))
 unfolding reading
 gives_meaning held last kind words meaning name bytes value file within means =
-    record { given = (bytes, file, within, subst (λ r. IsGiven held (Some (file_read kind name)) (meant kind words r) value (Some (file_read kind name))) (sym means) (refl, refl)) }
+    record { given = (bytes, file, within, subst (λ r. IsGiven held (Some (file_read kind name)) (meaning_dialogue kind words r) value (Some (file_read kind name))) (sym means) (refl, refl)) }
 
 -- a file that isn't fetched ends its reading
 pub ends_unfetched : {A E : Type 0} (held : Option Files) (last : Option FileRead) (kind : FileKind) (words : E → FaultWords) (meaning : List ℕ → Result A E) (name : List ℕ) (before now : ℕ) (e : Exit) (selected : List ℕ) (taken : ℕ)
     → EndsEarly held last (Reads kind name Ends) before now e selected taken → EndsEarly held last (reading kind words meaning name) before now e selected taken
 unfolding reading
 ends_unfetched held last kind words meaning name before now e selected taken end =
-    record { ended = ends_before held last (Reads kind name Ends) (λ bs. meant kind words (meaning bs)) before now e selected taken end.ended }
+    record { ended = ends_before held last (Reads kind name Ends) (λ bs. meaning_dialogue kind words (meaning bs)) before now e selected taken end.ended }
 
 is_bad : {A E : Type 0} (held : Option Files) (last : Option FileRead) (kind : FileKind) (words : E → FaultWords) (meaning : List ℕ → Result A E) (name bytes : List ℕ) (before now : ℕ) (e : Exit) (selected : List ℕ) (taken : ℕ)
     → IsFile held name bytes → length bytes ≤ limit_of kind → IsWhole (Some (file_read kind name)) selected taken → IsBad kind words (meaning bytes) e
@@ -124,7 +124,7 @@ unfolding reading
 is_bad held last kind words meaning name bytes before now exit.ReadFault selected taken file within whole bad = absurd bad
 is_bad held last kind words meaning name bytes before now exit.Memory selected taken file within whole bad = tt
 is_bad held last kind words meaning name bytes before now (exit.Says reply) selected taken file within whole bad =
-    (bytes, file, inl (within, subst (λ r. IsLedTo SaysNothing held (Some (file_read kind name)) (meant kind words r) (answer_of reply) selected taken) (sym bad.1) (bad.2, whole)))
+    (bytes, file, inl (within, subst (λ r. IsLedTo SaysNothing held (Some (file_read kind name)) (meaning_dialogue kind words r) (answer_of reply) selected taken) (sym bad.1) (bad.2, whole)))
 
 -- bytes that mean nothing end the reading with the line on them
 pub ends_bad : {A E : Type 0} (held : Option Files) (last : Option FileRead) (kind : FileKind) (words : E → FaultWords) (meaning : List ℕ → Result A E) (name bytes : List ℕ) (before now : ℕ) (e : Exit) (selected : List ℕ) (taken : ℕ)

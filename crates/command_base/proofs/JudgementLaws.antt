@@ -10,7 +10,7 @@ use Rattle.command_base.specs.Answers.{Answer}
 use Rattle.command_base.specs.Dialogues.{Dialogue}
 use Rattle.command_base.specs.Judgements.{IsJudgement, SaysTooMany, SaysHolds, SaysWhyNot, most_classes}
 use Rattle.command_base.specs.JudgedFiles.{FilesAreGood, FilesAreRefused, FilesMakeTooMany, WritesWhy, RefusalPromise}
-use Rattle.command_base.specs.Runs.{IsSettled, Answered}
+use Rattle.command_base.specs.Runs.{IsComplete, Answered}
 use Rattle.command_base.proofs.MeaningLaws.{MeansOnly}
 use Rattle.command_base.proofs.AnswerLaws.{SaysOfFiles, says_of_files, says_also, meant, wrote, status_of, text_of, texts_same, first_byte}
 use Rattle.command_base.proofs.RunLaws.{settled_refused, settled_bad}
@@ -130,7 +130,7 @@ module _ {D : Type 0} {Mean : D → Type 0} {count : D → ℕ} {good : D → Ty
 
 -- what a run that judges its files refuses
 pub refusals : {D : Type 0} {Mean : D → Type 0} {count : D → ℕ} {good : D → Type 0} {says : D → Answer → Type 0} {why : D → List ℕ → Type 0} {old new : Option (List ℕ)} {result : Status}
-    → (IsSettled result → JudgesFiles Mean count good says why old new result) → RefusalPromise Mean count good why old new result
+    → (IsComplete result → JudgesFiles Mean count good says why old new result) → RefusalPromise Mean count good why old new result
 refusals {D} {Mean} {count} {good} {says} {why} {old} {new} {result} judges = record {
   refused = λ settled. refused (judges settled);
   first = λ d mean is. first (judges (settled_refused _ is)) is d mean;

@@ -18,7 +18,7 @@ use Rattle.command_base.specs.Lines.{FaultWords, net_words, config_words, demand
 use Rattle.command_base.specs.Answers.{Answer, bad_answer, too_long}
 use Rattle.command_base.specs.Dialogues.{Dialogue, Bad, Ends, Reads, and_then}
 use Rattle.command_base.specs.Meanings.{IsReadAs, Means, IsAnswerOver}
-use Rattle.command_base.specs.Readings.{reading, meant, reading_policy, reading_update, reading_plan_files}
+use Rattle.command_base.specs.Readings.{reading, meaning_dialogue, reading_policy, reading_update, reading_plan_files}
 use Rattle.command_base.specs.Names.{UpdateNames, PlanNames}
 use Rattle.certificates.specs.Updates.{Update}
 use Rattle.command_base.specs.Updates.{PlanMeaning, IsPolicyOf, FilesMeanUpdate, FilesMeanOnePlan}
@@ -84,14 +84,14 @@ means_parts files (Reads kind name more) next w (bytes, held, within, means) =
     let (v, first, rest) = means_parts files (more bytes) next w means in
     (v, (bytes, held, within, first), rest)
 
-meant_ok : {A E : Type 0} (files : Files) (kind : FileKind) (words : E → FaultWords) (r : Result A E) (v : A) → Means files (meant kind words r) v → r ≡ Ok v
+meant_ok : {A E : Type 0} (files : Files) (kind : FileKind) (words : E → FaultWords) (r : Result A E) (v : A) → Means files (meaning_dialogue kind words r) v → r ≡ Ok v
 meant_ok files kind words (Ok value) v means = ap Ok means
 meant_ok files kind words (Err fault) v means = absurd means
 
 -- the reading of a file means what the file is read as, and nothing else
 pub means_read : {A E : Type 0} (files : Files) (kind : FileKind) (words : E → FaultWords) (meaning : List ℕ → Result A E) (name : List ℕ) (v : A) → IsReadAs files kind meaning name v → Means files (reading kind words meaning name) v
 unfolding reading
-means_read files kind words meaning name v is = (is.bytes, is.held, is.within, subst (λ r. Means files (meant kind words r) v) (sym is.means) refl)
+means_read files kind words meaning name v is = (is.bytes, is.held, is.within, subst (λ r. Means files (meaning_dialogue kind words r) v) (sym is.means) refl)
 
 pub read_means : {A E : Type 0} (files : Files) (kind : FileKind) (words : E → FaultWords) (meaning : List ℕ → Result A E) (name : List ℕ) (v : A) → Means files (reading kind words meaning name) v → IsReadAs files kind meaning name v
 unfolding reading

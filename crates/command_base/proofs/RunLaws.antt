@@ -8,7 +8,7 @@ use Rattle.command_base.specs.declared.status.Status.TheVariants as status
 use Rattle.command_base.specs.Answers.{Answer}
 use Rattle.command_base.specs.Dialogues.{Dialogue, Bad, Ends, Reads, FileRead, file_read, and_then, IsLedTo, LeadsTo}
 use Rattle.command_base.specs.Meanings.{IsAnswerOver}
-use Rattle.command_base.specs.Runs.{IsSettled, EndsAs, Answered, AnswersAll, AnswersFront}
+use Rattle.command_base.specs.Runs.{IsComplete, EndsAs, Answered, AnswersAll, AnswersFront}
 use Rattle.command_base.proofs.MeaningLaws.{over_as}
 
 leads_told : {E : Type 0} (says : E → Answer → Type 0) (files : Files) (last : Option FileRead) (d : Dialogue E) (answer : Answer) (selected : List ℕ) (taken : ℕ) → IsLedTo says (Some files) last d answer selected taken → IsAnswerOver says files d answer
@@ -30,13 +30,13 @@ pub told_front : {E : Type 0} (says : E → Answer → Type 0) (held : Option Fi
 told_front says None d old new answer selected taken leads front = tt
 told_front says (Some files) d old new answer selected taken leads front = (answer, leads_told says files None d answer selected taken leads.led, front)
 
-pub settled_done : (s : Status) → s ≡ status.Done → IsSettled s
+pub settled_done : (s : Status) → s ≡ status.Done → IsComplete s
 settled_done s is = record { read = λ e. cc; written = λ e. cc; memory = λ e. cc }
 
-pub settled_refused : (s : Status) → s ≡ status.Refused → IsSettled s
+pub settled_refused : (s : Status) → s ≡ status.Refused → IsComplete s
 settled_refused s is = record { read = λ e. cc; written = λ e. cc; memory = λ e. cc }
 
-pub settled_bad : (s : Status) → s ≡ status.BadFile → IsSettled s
+pub settled_bad : (s : Status) → s ≡ status.BadFile → IsComplete s
 settled_bad s is = record { read = λ e. cc; written = λ e. cc; memory = λ e. cc }
 
 -- the answer of several commands' dialogue is that of the one command
@@ -45,7 +45,7 @@ pub answered_as : {A B : Type 0} (says : A → Answer → Type 0) (others : B �
 answered_as says others f files d old new result same a =
     record { answer = a.answer; over = over_as says others f files d a.answer same a.over; status_is = a.status_is; written = a.written }
 
-pub settled_not_a_run : (s : Status) → s ≡ status.NotARun → IsSettled s
+pub settled_not_a_run : (s : Status) → s ≡ status.NotARun → IsComplete s
 settled_not_a_run s is = record { read = λ e. cc; written = λ e. cc; memory = λ e. cc }
 
 -- how a run of a command that reads no file ends, whose dialogue ends at once with what is one of several commands' ends

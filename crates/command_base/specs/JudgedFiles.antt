@@ -6,7 +6,7 @@ use Rattle.command_base.specs.declared.status.Status.{Status}
 use Rattle.command_base.specs.declared.status.Status.TheVariants as status
 use Rattle.command_base.specs.Judgements.{most_classes}
 use Rattle.command_base.specs.Lines.{classes_line}
-use Rattle.command_base.specs.Runs.{IsSettled}
+use Rattle.command_base.specs.Runs.{IsComplete}
 
 -- the files mean something good, with few enough classes
 pub record FilesAreGood {D : Type 0} (Mean : D → Type 0) (count : D → ℕ) (good : D → Type 0) : Type 0 where
@@ -37,8 +37,8 @@ pub record WritesWhy (why : List ℕ → Type 0) (old new : Option (List ℕ)) :
 -- what was written before and after the run, and how it ended
 pub record RefusalPromise {D : Type 0} (Mean : D → Type 0) (count : D → ℕ) (good : D → Type 0) (why : D → List ℕ → Type 0) (old new : Option (List ℕ)) (result : Status) : Type 0 where
   -- Refused comes exactly where the files mean something that isn't good, with at most 8192 classes; the line says why.
-  pub refused : IsSettled result → ((result ≡ status.Refused) ↔ FilesAreRefused Mean count good)
+  pub refused : IsComplete result → ((result ≡ status.Refused) ↔ FilesAreRefused Mean count good)
   pub first : (m : D) → Mean m → result ≡ status.Refused → WritesWhy (why m) old new
   -- Too many classes are a bad file, and their line is written for no other cause.
-  pub classes : IsSettled result → (many : FilesMakeTooMany Mean count) → (result ≡ status.BadFile) × Appends old new (classes_line (count many.meaning))
+  pub classes : IsComplete result → (many : FilesMakeTooMany Mean count) → (result ≡ status.BadFile) × Appends old new (classes_line (count many.meaning))
   pub classes_only : (before : List ℕ) (classes : ℕ) → old ≡ Some before → result ≡ status.BadFile → Appends old new (classes_line classes) → FilesMakeTooMany Mean count

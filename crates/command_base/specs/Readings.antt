@@ -17,13 +17,13 @@ use Rattle.certificates.specs.Updates.{Update}
 use Rattle.command_base.specs.Updates.{PlanMeaning}
 
 -- ends with what the bytes mean, or where the file is bad
-abbrev pub meant : {A E : Type 0} → FileKind → (E → FaultWords) → Result A E → Dialogue A
-meant kind words (Ok value) = Ends value
-meant kind words (Err fault) = Bad kind (words fault)
+abbrev pub meaning_dialogue : {A E : Type 0} → FileKind → (E → FaultWords) → Result A E → Dialogue A
+meaning_dialogue kind words (Ok value) = Ends value
+meaning_dialogue kind words (Err fault) = Bad kind (words fault)
 
 -- reads a file of the kind
 unfoldable pub reading : {A E : Type 0} → FileKind → (E → FaultWords) → (List ℕ → Result A E) → List ℕ → Dialogue A
-reading kind words meaning name = Reads kind name (λ bytes. meant kind words (meaning bytes))
+reading kind words meaning name = Reads kind name (λ bytes. meaning_dialogue kind words (meaning bytes))
 
 -- reads a network
 abbrev pub reading_topology : List ℕ → Dialogue Network

@@ -9,7 +9,7 @@ use Rattle.command_base.specs.Dialogues.{Dialogue, LeadsTo}
 use Rattle.command_base.specs.Meanings.{IsAnswerOver}
 
 -- it neither failed at the outside nor wanted memory
-pub record IsSettled (s : Status) : Type 0 where
+pub record IsComplete (s : Status) : Type 0 where
   pub read : s ≢ status.ReadFault
   pub written : s ≢ status.WriteFault
   pub memory : s ≢ status.Memory

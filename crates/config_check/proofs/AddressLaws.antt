@@ -12,7 +12,7 @@ use Rattle.topology.specs.Networks.{Network}
 use Rattle.flow_rules.specs.Tables.{rules_at}
 use Rattle.flow_rules.specs.declared.rules.Rule.{Rule}
 use Rattle.flow_rules.proofs.LookupLaws.{lookup_same}
-use Rattle.path_walk.specs.Outcomes.{acted}
+use Rattle.path_walk.specs.Outcomes.{action_outcome}
 use Rattle.path_walk.specs.Paths.{Trace, IsPath, Forwards, outcome_in, ended_by}
 use Rattle.dest_classes.specs.Classes.{classes_of}
 use Rattle.dest_classes.proofs.ClassLaws.{class_of}
@@ -36,7 +36,7 @@ module _ (net : Network) (tables : List (List Rule)) (demands : List DemandView)
 
     outcome_same : (place : Place) → outcome_in net tables place a ≡ outcome_in net tables place b
     outcome_same place =
-        ap (acted net place) (lookup_same place.port place.vlan a b (rules_at tables place.switch) (each_get_or (AllByRecursion TreatsAlike) tables place.switch.0 [] tables_alike tt))
+        ap (action_outcome net place) (lookup_same place.port place.vlan a b (rules_at tables place.switch) (each_get_or (AllByRecursion TreatsAlike) tables place.switch.0 [] tables_alike tt))
 
     path_same : (entry : Place) (trace : Trace) → IsPath net tables entry a trace → IsPath net tables entry b trace
     path_same entry trace path = record {

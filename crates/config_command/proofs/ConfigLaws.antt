@@ -8,7 +8,7 @@ use Rattle.command_base.specs.declared.status.Status.{Status}
 use Rattle.command_base.specs.declared.kinds.FileKind.TheVariants as kind
 use Rattle.command_base.specs.Lines.{net_words, config_words}
 use Rattle.command_base.specs.Meanings.{Means}
-use Rattle.command_base.specs.Runs.{IsSettled, Answered}
+use Rattle.command_base.specs.Runs.{IsComplete, Answered}
 use Rattle.command_base.proofs.MeaningLaws.{MeansOnly, means_then, means_parts, means_read, read_means, means_policy, policy_means}
 use Rattle.command_base.proofs.JudgementLaws.{judges, judged_done, judged_then, refusals}
 use Rattle.command_base.proofs.RunLaws.{settled_done}
@@ -41,7 +41,7 @@ config_means files names m means =
 pub config_meant : (files : Files) (names : ConfigNames) → MeansOnly files (config_dialogue names) (FilesMean files names)
 config_meant files names = record { means = means_config files names; only = config_means files names }
 
-pub promised : (files : Files) (names : ConfigNames) (old new : Option (List ℕ)) (result : Status) → (IsSettled result → Answered IsConfigAnswer files (config_dialogue names) old new result) → ConfigPromise files names old new result
+pub promised : (files : Files) (names : ConfigNames) (old new : Option (List ℕ)) (result : Status) → (IsComplete result → Answered IsConfigAnswer files (config_dialogue names) old new result) → ConfigPromise files names old new result
 promised files names old new result answered = record {
   done = λ settled. judged_done (judges (config_meant files names) (answered settled));
   keeps = λ m mean is. keeps_good m.net m.tables m.demands (judged_then (judges (config_meant files names) (answered (settled_done _ is))) is m mean);

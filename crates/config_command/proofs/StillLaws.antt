@@ -23,7 +23,7 @@ use Rattle.net_base.proofs.ItemLaws.{in_from_get}
 use Rattle.demands.proofs.MeetsLaws.{good_meets}
 use Rattle.config_check.specs.Everywhere.{HasGoodPathEverywhere}
 use Rattle.update_model.specs.Runs.{AreEnabled, state_after}
-use Rattle.update_model.specs.States.{State, IsEnabled, entered, hopped, lost, with_packet, settled_count, state_after_event}
+use Rattle.update_model.specs.States.{State, IsEnabled, entered_packet, hopped_packet, lost_packet, with_packet, settled_count, state_after_event}
 use Rattle.update_model.specs.declared.Packet.{Packet}
 use Rattle.update_model.specs.declared.Phase.TheVariants.{Settled, Running}
 use Rattle.update_model.specs.declared.Event.{Event}
@@ -61,7 +61,7 @@ each_with_packet P f packets i p at step all =
     (each_set P packets i (f p) all (step (each_at P packets p all (in_from_get packets i p at))))
 
 module _ (net : Network) (tables : List (List Rule)) where
-  hopped_follows : (p : Packet) (found : Outcome) → p.ended ≡ UnderWay → outcome_in net tables p.at p.dst ≡ found → Follows net tables p → Follows net tables (hopped p found)
+  hopped_follows : (p : Packet) (found : Outcome) → p.ended ≡ UnderWay → outcome_in net tables p.at p.dst ≡ found → Follows net tables p → Follows net tables (hopped_packet p found)
   hopped_follows p (Go next) under is f = record {
     entry = f.entry;
     dst = f.dst;
@@ -69,12 +69,12 @@ module _ (net : Network) (tables : List (List Rule)) where
     walk = IsWalk-push (Forwards net tables p.dst) p.entry f.rest next f.walk (subst (λ x. Forwards net tables p.dst x next) (sym f.at_is) is);
     at_is = end_of-push p.entry f.rest next;
     visits_are = ap (λ v. v ++ stop_of next ∷ []) f.visits_are ∙ sym (map-push stop_of (p.entry ∷ f.rest) next);
-    ended = subst (λ e. EndedSo net tables (hopped p (Go next)) e) (sym under) tt;
+    ended = subst (λ e. EndedSo net tables (hopped_packet p (Go next)) e) (sym under) tt;
   }
   hopped_follows p Discard under is f = record { entry = f.entry; dst = f.dst; rest = f.rest; walk = f.walk; at_is = f.at_is; visits_are = f.visits_are; ended = (refl, is) }
   hopped_follows p (Leave port vlan) under is f = record { entry = f.entry; dst = f.dst; rest = f.rest; walk = f.walk; at_is = f.at_is; visits_are = f.visits_are; ended = (refl, is) }
 
-  lost_follows : (p : Packet) → Follows net tables p → Follows net tables (lost p)
+  lost_follows : (p : Packet) → Follows net tables p → Follows net tables (lost_packet p)
   lost_follows p f = record { entry = f.entry; dst = f.dst; rest = f.rest; walk = f.walk; at_is = f.at_is; visits_are = f.visits_are; ended = tt }
 
   still_after : (s : State) (e : Event) → Still net tables s → IsEnabled net [] s e → Still net tables (state_after_event net [] s e)
@@ -84,20 +84,20 @@ module _ (net : Network) (tables : List (List Rule)) where
   still_after s (event.Enter place dst) still may = record {
     phase = still.phase;
     tables_are = still.tables_are;
-    packets = each_append (Follows net tables) s.packets (entered place dst (settled_count s.phase) ∷ []) still.packets
+    packets = each_append (Follows net tables) s.packets (entered_packet place dst (settled_count s.phase) ∷ []) still.packets
         (record { entry = may.0; dst = may.1; rest = []; walk = tt; at_is = refl; visits_are = refl; ended = tt }, tt);
   }
   still_after s (event.Hop i) still may = record {
     phase = still.phase;
     tables_are = still.tables_are;
-    packets = each_with_packet (Follows net tables) (λ p. hopped p (outcome_in net s.tables p.at p.dst)) s.packets i may.0 may.1
+    packets = each_with_packet (Follows net tables) (λ p. hopped_packet p (outcome_in net s.tables p.at p.dst)) s.packets i may.0 may.1
         (λ f. hopped_follows may.0 (outcome_in net s.tables may.0.at may.0.dst) may.2 (ap (λ t. outcome_in net t may.0.at may.0.dst) (sym still.tables_are)) f)
         still.packets;
   }
   still_after s (event.Lose i) still may = record {
     phase = still.phase;
     tables_are = still.tables_are;
-    packets = each_with_packet (Follows net tables) lost s.packets i may.0 may.1 (lost_follows may.0) still.packets;
+    packets = each_with_packet (Follows net tables) lost_packet s.packets i may.0 may.1 (lost_follows may.0) still.packets;
   }
 
   still_run : (s : State) (events : List Event) → Still net tables s → AreEnabled net [] s events → Still net tables (state_after net [] s events)

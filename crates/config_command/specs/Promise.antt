@@ -4,7 +4,7 @@ use Rattle.file_access.specs.Outside.{Files}
 use Rattle.command_base.specs.declared.status.Status.{Status}
 use Rattle.command_base.specs.declared.status.Status.TheVariants as status
 use Rattle.command_base.specs.JudgedFiles.{RefusalPromise}
-use Rattle.command_base.specs.Runs.{IsSettled}
+use Rattle.command_base.specs.Runs.{IsComplete}
 use Rattle.config_command.specs.Names.{ConfigNames}
 use Rattle.config_command.specs.Configs.{ConfigMeaning, FilesMean, Holds, FilesHold, KeepsPacketsGood, config_count}
 use Rattle.config_command.specs.Verdicts.{IsBreaksLine}
@@ -12,7 +12,7 @@ use Rattle.config_command.specs.Verdicts.{IsBreaksLine}
 -- the files and their names, what was written before and after the run, and how it ended
 pub record ConfigPromise (files : Files) (names : ConfigNames) (old new : Option (List ℕ)) (result : Status) : Type 0 where
   -- Done comes exactly where the files are read, there are at most 8192 classes, and each has a good path.
-  pub done : IsSettled result → ((result ≡ status.Done) ↔ FilesHold files names)
+  pub done : IsComplete result → ((result ≡ status.Done) ↔ FilesHold files names)
   -- Then every packet of every run over the configuration, in which nothing is changed, meets the demands.
   pub keeps : (m : ConfigMeaning) → FilesMean files names m → result ≡ status.Done → KeepsPacketsGood m.net m.tables m.demands
   -- Refused comes exactly where some class has no good path, and the line names the first of them; too many classes are a bad file.

@@ -12,7 +12,7 @@ use Rattle.round_tables.specs.Loading.{ArePrepared, IsFirstRoundFault}
 use Rattle.round_tables.specs.declared.loading.RoundFault.{RoundFault}
 use Rattle.round_tables.specs.declared.loading.RoundFault.TheVariants.{BadChange, Unclear}
 use Rattle.round_tables.proofs.SoundLaws.{IsSound, no_bad_sound, no_unclear_sound}
-use Rattle.breaking_walks.specs.Rounds.{update_of, SwitchesArePrepared}
+use Rattle.breaking_walks.specs.Rounds.{round_rollout, SwitchesArePrepared}
 use Rattle.breaking_walks.specs.declared.round.PreparedRound.{PreparedRound}
 use Rattle.counter_run.specs.Updates.{IsClassed, rollout_of}
 use Rattle.counter_run.specs.declared.update.ClassedUpdate.{ClassedUpdate}
@@ -35,7 +35,7 @@ module _ (update : ClassedUpdate) (classed : IsClassed update) where
   no_fault k less (Unclear s) first = no_unclear_sound u k s (sound k less) first.unclear
 
 -- a round for which each switch of its tables is prepared
-pub switches_prepared : (round : PreparedRound) (p : PreparedState) → ArePrepared (update_of round) round.number p → length p.mixes ≡ switch_count round.net.now → round.mixes.now ≡ p.mixes → SwitchesArePrepared round
+pub switches_prepared : (round : PreparedRound) (p : PreparedState) → ArePrepared (round_rollout round) round.number p → length p.mixes ≡ switch_count round.net.now → round.mixes.now ≡ p.mixes → SwitchesArePrepared round
 switches_prepared round p prepared count same = record {
   count = ap length same ∙ count;
   each = λ s mixed at.
@@ -43,5 +43,5 @@ switches_prepared round p prepared count same = record {
       let below = slice_get_within p.mixes s.0 mixed there in
       let mixes = prepared.count in
       let read : mix_at p.mixes s ≡ mixed = get_or_from_slice_get p.mixes s.0 mixed (record { prepared = None; room = 0; aimed = None }) there in
-      subst (IsMixed (rules_at (tables_before (update_of round) round.number) s) (changes_at s (round_after round.number round.rounds.now))) read (prepared.each s (omega arith));
+      subst (IsMixed (rules_at (tables_before (round_rollout round) round.number) s) (changes_at s (round_after round.number round.rounds.now))) read (prepared.each s (omega arith));
 }

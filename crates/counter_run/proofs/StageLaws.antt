@@ -28,9 +28,9 @@ use Rattle.round_mix.specs.Prepared.{AreGood, AreClear}
 use Rattle.certificates.specs.Steps.{switches_along}
 use Rattle.schedule_pilot.proofs.VisitLaws.{walk_within}
 use Rattle.outcome_changes.specs.Giving.{GiveOutcome}
-use Rattle.counter_run.specs.Showing.{HopStep, step_events, update_in}
+use Rattle.counter_run.specs.Showing.{HopStep, step_events, shown_rollout}
 use Rattle.counter_run.specs.Steps.{IsStage, IsStep, AreSteps, GoOnAlong, GoOnBy}
-use Rattle.counter_run.specs.declared.showing.Stage.{Stage}
+use Rattle.counter_run.specs.declared.showing.ShownRound.{ShownRound}
 use Rattle.counter_run.proofs.ShownLaws.{along_stops, end_in}
 
 -- ---- the tables of a stage
@@ -44,10 +44,10 @@ rules_of_one [] i t at = absurd (let f : None ≡ Some t = at in cc)
 rules_of_one (x ∷ tables) zero t at = let f : Some x ≡ Some t = at in let g : x ≡ t = cc in ap (λ (y : TableState). y.rules) g
 rules_of_one (x ∷ tables) (suc i) t at = rules_of_one tables i t at
 
-module _ (stage : Stage) (is : IsStage stage) where
+module _ (stage : ShownRound) (is : IsStage stage) where
   -- the tables before the round, and the round
   abbrev tables : List (List Rule)
-  tables = tables_before (update_in stage) stage.round.number
+  tables = tables_before (shown_rollout stage) stage.round.number
 
   abbrev round : List Change
   round = round_after stage.round.number stage.round.rounds.now
@@ -70,12 +70,12 @@ module _ (stage : Stage) (is : IsStage stage) where
     clear_here = subst (λ rules. AreClear rules (changes_at s round)) (rules_here s t at) (is.clear stage.round.number is.within s)
 
   module _ (place : Place) (t : TableState) (at : slice_get stage.tables.now place.switch.0 ≡ Some t) (dst : ℕ) (wanted : Outcome) where
-    pub may_be_here : IsPossible (update_in stage) stage.round.number dst place wanted → MayBe stage.round.net.now t.rules (changes_at place.switch round) place dst wanted
+    pub may_be_here : IsPossible (shown_rollout stage) stage.round.number dst place wanted → MayBe stage.round.net.now t.rules (changes_at place.switch round) place dst wanted
     may_be_here may = subst (λ rules. MayBe stage.round.net.now rules (changes_at place.switch round) place dst wanted) (rules_here place.switch t at) may
 
     -- the events of changes that give the outcome, and of a hop after them
     pub hop_added : (numbers : List ℕ) (old new : List Event) → GiveOutcome stage.round.net.now t.rules round place dst wanted numbers
-        → new ≡ old ++ step_events (record { place = place; changes = numbers }) → GoOnBy (update_in stage) stage.round.number dst place wanted old new
+        → new ≡ old ++ step_events (record { place = place; changes = numbers }) → GoOnBy (shown_rollout stage) stage.round.number dst place wanted old new
     hop_added numbers old new gives added = record {
       step = record { place = place; changes = numbers };
       is_step = record { place_is = refl; gives = subst (λ rules. GiveOutcome stage.round.net.now rules round place dst wanted numbers) (sym (rules_here place.switch t at)) gives };

@@ -24,7 +24,7 @@ use Rattle.demands.specs.Good.{switches_of}
 use Rattle.update_model.specs.Changes.{switch_of, AppliesTo, rules_after, changes_at, round_after, IsGoodRound}
 use Rattle.update_model.specs.Mixtures.{Rollout, tables_before}
 use Rattle.update_model.specs.Runs.{AreEnabled, state_after}
-use Rattle.update_model.specs.States.{State, hopped, with_packet, IsHopping}
+use Rattle.update_model.specs.States.{State, hopped_packet, with_packet, IsHopping}
 use Rattle.update_model.specs.declared.Change.{Change}
 use Rattle.update_model.specs.declared.Event.TheVariants as event
 use Rattle.update_model.specs.declared.Packet.{Packet}
@@ -54,7 +54,7 @@ packet_under_way k entry dst place visits = record { entry = entry; dst = dst; a
 -- a packet after the last hop of a walk
 abbrev pub ended_packet : Option Outcome → Packet → Packet
 ended_packet None p = p
-ended_packet (Some found) p = hopped p found
+ended_packet (Some found) p = hopped_packet p found
 
 -- the hops are made one after the other, and then this is the packet
 pub record AreHops (u : Rollout) (P : List Packet → Type 0) (st : State) (steps : List HopStep) (last : Packet) : Type 0 where
@@ -121,11 +121,11 @@ module _ (u : Rollout) (k : ℕ) (good : IsGoodRound (tables_before u k) (round_
           (made.here ∙ ap (rules_after (changes_numbered (round_after k u.rounds) s.changes)) (led.untouched place.switch fresh))
           ∙ step.gives.gives
 
-      pub step_packets : (state_after u.net u.rounds st (step_events s)).packets ≡ hopped (packet_at place visits) wanted ∷ []
+      pub step_packets : (state_after u.net u.rounds st (step_events s)).packets ≡ hopped_packet (packet_at place visits) wanted ∷ []
       step_packets =
           ap (λ (x : State). x.packets) (state_append u.net u.rounds st (map event.Change s.changes) (event.Hop 0 ∷ []))
-          ∙ ap (with_packet (λ p. hopped p (outcome_in u.net changed.tables p.at p.dst)) 0) packets_then
-          ∙ ap (λ (o : Outcome). hopped (packet_at place visits) o ∷ []) outcome_then
+          ∙ ap (with_packet (λ p. hopped_packet p (outcome_in u.net changed.tables p.at p.dst)) 0) packets_then
+          ∙ ap (λ (o : Outcome). hopped_packet (packet_at place visits) o ∷ []) outcome_then
 
       pub step_enabled : AreEnabled u.net u.rounds st (step_events s)
       step_enabled =
@@ -146,7 +146,7 @@ module _ (u : Rollout) (k : ℕ) (good : IsGoodRound (tables_before u k) (round_
           subst (λ (x : State). IsLed x next (visits ++ stop_of next ∷ []) used_now) (sym (state_append u.net u.rounds st (map event.Change s.changes) (event.Hop 0 ∷ []))) (record {
             running = made.phase ∙ led.running;
             packets = sym (ap (λ (x : State). x.packets) (state_append u.net u.rounds st (map event.Change s.changes) (event.Hop 0 ∷ []))) ∙ step_packets
-                ∙ ap (λ (o : Outcome). hopped (packet_at place visits) o ∷ []) goes;
+                ∙ ap (λ (o : Outcome). hopped_packet (packet_at place visits) o ∷ []) goes;
             switches = map-push (λ (t : Stop). t.switch) visits (stop_of next) ∙ ap (λ (l : List SwitchId). l ++ next.switch ∷ []) led.switches;
             count = made.count ∙ led.count;
             untouched = λ t out. made.elsewhere t (not_here t out) ∙ led.untouched t (not_before t out);
@@ -186,7 +186,7 @@ module _ (u : Rollout) (k : ℕ) (good : IsGoodRound (tables_before u k) (round_
         record {
           enabled = subst (AreEnabled u.net u.rounds st) (sym (append-nil (step_events s))) (step_enabled st place visits used led fresh found s step);
           packets = ap (λ es. (state_after u.net u.rounds st es).packets) (append-nil (step_events s)) ∙ step_packets st place visits used led fresh found s step
-              ∙ ap (λ (v : List Stop). hopped (packet_at place v) found ∷ []) (sym (append-nil visits));
+              ∙ ap (λ (v : List Stop). hopped_packet (packet_at place v) found ∷ []) (sym (append-nil visits));
           before = subst (HoldsBefore u.net u.rounds P st) (sym (append-nil (step_events s)))
               (step_before st place visits used led fresh found s step (distinct_now st place visits used [] led here));
         }

@@ -16,10 +16,10 @@ use Rattle.update_model.specs.declared.Event.{Event}
 use Rattle.update_model.specs.declared.Event.TheVariants as event
 use Rattle.update_model.specs.declared.Packet.{Packet}
 use Rattle.certificates.specs.Consistent.{trace_of}
-use Rattle.schedule_pilot.specs.Offered.{counted}
+use Rattle.schedule_pilot.specs.Offered.{numbers_from_one}
 use Rattle.outcome_changes.specs.Giving.{IsChangeAt}
-use Rattle.breaking_walks.specs.Rounds.{update_of}
-use Rattle.counter_run.specs.declared.showing.Stage.{Stage}
+use Rattle.breaking_walks.specs.Rounds.{round_rollout}
+use Rattle.counter_run.specs.declared.showing.ShownRound.{ShownRound}
 
 -- a hop at a place, and the changes that are made before it, by their numbers
 pub record HopStep : Type 0 where
@@ -32,7 +32,7 @@ step_events s = map event.Change s.changes ++ event.Hop 0 ∷ []
 
 -- a round that is carried out whole, its changes ascending
 abbrev pub whole_round : List Change → List Event
-whole_round round = event.Start ∷ map event.Change (counted 0 (length round)) ++ event.Settle ∷ []
+whole_round round = event.Start ∷ map event.Change (numbers_from_one 0 (length round)) ++ event.Settle ∷ []
 
 -- such rounds, one after the other
 abbrev pub whole_rounds : List (List Change) → List Event
@@ -63,5 +63,5 @@ abbrev pub AreFewFor : Network → List (List Change) → List Event → Type 0
 AreFewFor net rounds events = length events ≤ sum_by length rounds + 2 * length rounds + switch_count net + 1
 
 -- the update of a stage
-abbrev pub update_in : Stage → Rollout
-update_in stage = update_of stage.round
+abbrev pub shown_rollout : ShownRound → Rollout
+shown_rollout stage = round_rollout stage.round

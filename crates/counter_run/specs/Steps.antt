@@ -10,8 +10,8 @@ use Rattle.update_model.specs.Changes.{round_after}
 use Rattle.update_model.specs.Mixtures.{Rollout, tables_before, AreGoodRounds, AreClearRounds}
 use Rattle.update_model.specs.declared.Event.{Event}
 use Rattle.outcome_changes.specs.Giving.{GiveOutcome}
-use Rattle.counter_run.specs.Showing.{HopStep, step_events, update_in}
-use Rattle.counter_run.specs.declared.showing.Stage.{Stage}
+use Rattle.counter_run.specs.Showing.{HopStep, step_events, shown_rollout}
+use Rattle.counter_run.specs.declared.showing.ShownRound.{ShownRound}
 
 -- a hop at the place, before which changes are made that give the place the outcome
 pub record IsStep (u : Rollout) (k dst : ℕ) (place : Place) (wanted : Outcome) (s : HopStep) : Type 0 where
@@ -29,12 +29,12 @@ AreSteps u k dst place (next ∷ rest) end [] = ⊥
 AreSteps u k dst place (next ∷ rest) end (s ∷ steps) = IsStep u k dst place (Go next) s × AreSteps u k dst next rest end steps
 
 -- a round of an update, good and clear as all rounds are, and the tables before it
-pub record IsStage (stage : Stage) : Type 0 where
+pub record IsStage (stage : ShownRound) : Type 0 where
   pub tables : length stage.round.old.now ≡ switch_count stage.round.net.now
   pub within : stage.round.number < length stage.round.rounds.now
-  pub before : rules_of_all stage.tables.now ≡ tables_before (update_in stage) stage.round.number
-  pub good : AreGoodRounds (update_in stage)
-  pub clear : AreClearRounds (update_in stage)
+  pub before : rules_of_all stage.tables.now ≡ tables_before (shown_rollout stage) stage.round.number
+  pub good : AreGoodRounds (shown_rollout stage)
+  pub clear : AreClearRounds (shown_rollout stage)
 
 -- the events go on by those of hops along a walk, and of one at its end
 pub record GoOnAlong (u : Rollout) (k : ℕ) (class : Class) (rest : List Place) (end : Option Outcome) (old new : List Event) : Type 0 where

@@ -5,12 +5,12 @@ ghost use Rattle.dest_classes.specs.Classes.{class_count};
 ghost use Rattle.dest_classes.specs.Numbered.{IsNumbered};
 ghost use Rattle.breaking_walks.specs.Rounds.{SwitchesArePrepared};
 ghost use Rattle.round_survey.specs.Surveys.{AreGood};
-ghost use Rattle.counter_run.specs.Showing.{update_in};
+ghost use Rattle.counter_run.specs.Showing.{shown_rollout};
 ghost use Rattle.counter_run.specs.Explaining.{ClassBreaks, NoneBreaks};
 ghost use Rattle.counter_run.specs.Stages.{IsShownAt, IsFirstAt, NoneBefore};
 ghost use Rattle.counter_run.specs.Steps.{IsStage};
 
-use crate::showing::{Stage, breaking_run};
+use crate::showing::{ShownRound, breaking_run};
 use breaking_walks::breaking_walk;
 use demands::Duties;
 use dest_classes::{ClassMap, NumberedClass};
@@ -21,7 +21,7 @@ use update_model::Events;
 /// A run that shows how a class breaks in a round, if it does.
 fn class_run(
     alloc: Global,
-    stage: Stage<'_>,
+    stage: ShownRound<'_>,
     duties: &Duties,
     numbered: NumberedClass,
 ) -> Result<Option<Events>, Memory>
@@ -35,7 +35,7 @@ fn class_run(
         (λ events. IsShownAt stage.entry duties.now.demands numbered.class events)) }
     ensures none { IfOk result
         (λ found. IfNone found
-        (¬ ClassBreaks (update_in stage.entry) duties.now.demands stage.entry.round.number
+        (¬ ClassBreaks (shown_rollout stage.entry) duties.now.demands stage.entry.round.number
         numbered.class)) }
 {
     stage.round.net.keeps_rules();
@@ -48,7 +48,7 @@ fn class_run(
 /// A run that shows how the first class breaks that does so in a round, if one does. Classes that are marked don't break in it.
 pub(crate) fn round_run(
     alloc: Global,
-    stage: Stage<'_>,
+    stage: ShownRound<'_>,
     duties: &Duties,
     classes: &ClassMap,
     good: &[bool],
@@ -60,14 +60,14 @@ pub(crate) fn round_run(
     requires duties { duties.now.classes ≡ classes.now }
     requires before { NoneBefore stage classes.now duties.now.demands }
     requires count { length good.now ≡ class_count classes.now }
-    requires good { AreGood (update_in stage) duties.now.demands stage.round.number classes.now
+    requires good { AreGood (shown_rollout stage) duties.now.demands stage.round.number classes.now
         good.now }
     ensures some { IfOk result
         (λ found. IfSome found
         (λ events. IsFirstAt stage.entry classes.now duties.now.demands events)) }
     ensures none { IfOk result
         (λ found. IfNone found
-        (NoneBreaks (update_in stage.entry) classes.now duties.now.demands
+        (NoneBreaks (shown_rollout stage.entry) classes.now duties.now.demands
         stage.entry.round.number)) }
 {
     for number in 0..classes.count() {

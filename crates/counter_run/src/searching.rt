@@ -9,8 +9,8 @@ ghost use Rattle.round_tables.specs.PreparedTables.{HasRoomForAll};
 ghost use Rattle.round_tables.specs.Loading.{ArePrepared};
 ghost use Rattle.round_survey.specs.Keeping.{KeepVlans};
 ghost use Rattle.round_survey.specs.Rounds.{IsPreparedRound};
-ghost use Rattle.round_survey.specs.Surveys.{AreGood, HasRoom, WalksStand};
-ghost use Rattle.counter_run.specs.Showing.{AreFewFor, update_in};
+ghost use Rattle.round_survey.specs.Surveys.{AreGood, HasSurveyRoom, WalksStand};
+ghost use Rattle.counter_run.specs.Showing.{AreFewFor, shown_rollout};
 ghost use Rattle.counter_run.specs.Explaining.{NoneBreaks, IsExplained, HasFewEvents, IsFirstBreakingRun};
 ghost use Rattle.counter_run.specs.Stages.{NoneBefore};
 ghost use Rattle.counter_run.specs.Steps.{IsStage};
@@ -19,7 +19,7 @@ ghost use Rattle.counter_run.specs.Updates.{IsClassed, NoneBreaksBefore, rollout
 use crate::Explained;
 use crate::finding::round_run;
 use crate::preparing::{apply, load, make, need_few, start};
-use crate::showing::Stage;
+use crate::showing::ShownRound;
 use crate::update::ClassedUpdate;
 use breaking_walks::PreparedRound;
 use check_reasons::is_touched;
@@ -39,12 +39,12 @@ fn is_unchanged(number: usize, round: &[Change], address: u32) -> bool
 }
 
 /// Marks the classes whose addresses no change of the round covers, and no others.
-fn mark_unchanged(good: &mut [bool], stage: Stage<'_>, duties: &Duties, classes: &ClassMap)
+fn mark_unchanged(good: &mut [bool], stage: ShownRound<'_>, duties: &Duties, classes: &ClassMap)
     requires stage { IsStage stage }
     requires before { NoneBefore stage classes.now duties.now.demands }
     requires count { length good.old ≡ class_count classes.now }
     ensures count { length good.new ≡ length good.old }
-    ensures good { AreGood (update_in stage.entry) duties.now.demands stage.entry.round.number
+    ensures good { AreGood (shown_rollout stage.entry) duties.now.demands stage.entry.round.number
         classes.now good.new }
 {
     let _ = duties;
@@ -58,7 +58,7 @@ fn mark_unchanged(good: &mut [bool], stage: Stage<'_>, duties: &Duties, classes:
 /// Marks classes that don't break in a round: by a survey, or else those whose addresses no change of the round covers.
 fn mark_good(
     alloc: Global,
-    stage: Stage<'_>,
+    stage: ShownRound<'_>,
     duties: &Duties,
     classes: &ClassMap,
     survey: &mut RoundSurvey,
@@ -68,17 +68,17 @@ fn mark_good(
     requires prepared { by_survey ≡ true → IsPreparedRound stage.round }
     requires hosts { classes.now.hosts ≡ stage.round.net.now.hosts }
     requires duties { duties.now.classes ≡ classes.now }
-    requires room { HasRoom classes.now survey.old.classes.items survey.old.came.items
+    requires room { HasSurveyRoom classes.now survey.old.classes.items survey.old.came.items
         survey.old.good.items }
-    requires walks { by_survey ≡ true → WalksStand (update_in stage) stage.round.number
+    requires walks { by_survey ≡ true → WalksStand (shown_rollout stage) stage.round.number
         survey.old.classes.items survey.old.came.items }
     requires before { NoneBefore stage classes.now duties.now.demands }
-    ensures room { OnOk result (HasRoom classes.now survey.new.classes.items
+    ensures room { OnOk result (HasSurveyRoom classes.now survey.new.classes.items
         survey.new.came.items survey.new.good.items) }
     ensures walks { OnOk result (by_survey ≡ true
-        → WalksStand (update_in stage.entry) (suc stage.entry.round.number)
+        → WalksStand (shown_rollout stage.entry) (suc stage.entry.round.number)
         survey.new.classes.items survey.new.came.items) }
-    ensures good { OnOk result (AreGood (update_in stage.entry) duties.now.demands
+    ensures good { OnOk result (AreGood (shown_rollout stage.entry) duties.now.demands
         stage.entry.round.number classes.now survey.new.good.items) }
 {
     if by_survey {
@@ -104,12 +104,12 @@ fn search_round(
     requires loaded { by_survey ≡ true → AreLoaded (rollout_of update) k tables.now.mixes }
     requires keeps { by_survey ≡ true
         → KeepVlans (rules_of_all update.old.now) update.rounds.now }
-    requires room { HasRoom update.classes.now survey.old.classes.items
+    requires room { HasSurveyRoom update.classes.now survey.old.classes.items
         survey.old.came.items survey.old.good.items }
     requires walks { by_survey ≡ true → WalksStand (rollout_of update) k
         survey.old.classes.items survey.old.came.items }
     requires before { NoneBreaksBefore update k }
-    ensures room { OnOk result (HasRoom update.entry.classes.now survey.new.classes.items
+    ensures room { OnOk result (HasSurveyRoom update.entry.classes.now survey.new.classes.items
         survey.new.came.items survey.new.good.items) }
     ensures walks { OnOk result (by_survey ≡ true → WalksStand (rollout_of update.entry) (suc k)
         survey.new.classes.items survey.new.came.items) }
@@ -130,7 +130,7 @@ fn search_round(
         number: k,
         mixes: tables.mixes(),
     };
-    let stage = Stage {
+    let stage = ShownRound {
         round,
         tables: tables.tables(),
     };
@@ -168,7 +168,7 @@ fn search_each(
     requires keeps { keeps_vlans ≡ true
         → KeepVlans (rules_of_all update.old.now) update.rounds.now }
     requires tables { HasRoomForAll (rollout_of update) tables.old }
-    requires room { HasRoom update.classes.now survey.old.classes.items
+    requires room { HasSurveyRoom update.classes.now survey.old.classes.items
         survey.old.came.items survey.old.good.items }
     ensures answer { IfOk result
         (λ found. IsExplained (rollout_of update.entry) update.entry.classes.now

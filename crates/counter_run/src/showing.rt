@@ -6,9 +6,9 @@ ghost use Rattle.flow_rules.specs.Tables.{rules_of_all};
 ghost use Rattle.demands.specs.Duties.{duties_of};
 ghost use Rattle.update_model.specs.Changes.{round_after};
 ghost use Rattle.update_model.specs.Mixtures.{AreGoodRounds, AreClearRounds, IsPossible, IsMixedWalk, tables_before};
-ghost use Rattle.schedule_pilot.specs.Offered.{counted};
+ghost use Rattle.schedule_pilot.specs.Offered.{numbers_from_one};
 ghost use Rattle.breaking_walks.specs.Breaking.{IsBreakingWalk};
-ghost use Rattle.counter_run.specs.Showing.{IsBreakingRun, AreFewFor, update_in, whole_round, whole_rounds};
+ghost use Rattle.counter_run.specs.Showing.{IsBreakingRun, AreFewFor, shown_rollout, whole_round, whole_rounds};
 ghost use Rattle.counter_run.specs.Steps.{IsStage, GoOnAlong, GoOnBy};
 
 use breaking_walks::{BreakingWalk, PreparedRound};
@@ -23,14 +23,14 @@ use update_model::{Change, Event, Events, Rounds};
 
 /// A round of an update, prepared, with the tables before it.
 #[derive(Clone, Copy)]
-pub(crate) struct Stage<'a> {
+pub(crate) struct ShownRound<'a> {
     pub(crate) round: PreparedRound<'a>,
     pub(crate) tables: &'a Config,
 }
 
 /// Adds changes by their numbers, so many from 0 on.
 fn add_every(events: &mut Events, count: usize) -> Result<(), Memory>
-    ensures { OnOk result (events.new ≡ events.old ++ map Event.Change (counted 0 count)) }
+    ensures { OnOk result (events.new ≡ events.old ++ map Event.Change (numbers_from_one 0 count)) }
 {
     for i in 0..count {
         events.add(Event::Change(i))?;
@@ -85,16 +85,16 @@ fn add_changes(events: &mut Events, numbers: &[usize]) -> Result<(), Memory>
 fn add_hop(
     alloc: Global,
     events: &mut Events,
-    stage: Stage<'_>,
+    stage: ShownRound<'_>,
     dst: u32,
     place: Place,
     wanted: Outcome,
 ) -> Result<(), Memory>
     requires stage { IsStage stage }
     requires inside { place.switch.0 < switch_count stage.round.net.now }
-    requires possible { IsPossible (update_in stage) stage.round.number dst place wanted }
+    requires possible { IsPossible (shown_rollout stage) stage.round.number dst place wanted }
     ensures { OnOk result
-        (GoOnBy (update_in stage.entry) stage.entry.round.number dst place wanted events.old
+        (GoOnBy (shown_rollout stage.entry) stage.entry.round.number dst place wanted events.old
         events.new) }
 {
     let table = stage.tables.table(place.switch);
@@ -115,17 +115,17 @@ fn add_hop(
 fn add_hops(
     alloc: Global,
     events: &mut Events,
-    stage: Stage<'_>,
+    stage: ShownRound<'_>,
     class: Class,
     rest: &[Place],
 ) -> Result<Place, Memory>
     requires stage { IsStage stage }
     requires entry { IsEntry stage.round.net.now class.entry }
-    requires walk { IsMixedWalk (update_in stage) stage.round.number class.first class.entry
+    requires walk { IsMixedWalk (shown_rollout stage) stage.round.number class.first class.entry
         rest.now }
     ensures last { IfOk result (λ place. place ≡ end_of class.entry rest.now) }
     ensures along { OnOk result
-        (GoOnAlong (update_in stage.entry) stage.entry.round.number class rest.now None
+        (GoOnAlong (shown_rollout stage.entry) stage.entry.round.number class rest.now None
         events.old events.new) }
 {
     stage.round.net.keeps_rules();
@@ -141,19 +141,19 @@ fn add_hops(
 fn add_walk(
     alloc: Global,
     events: &mut Events,
-    stage: Stage<'_>,
+    stage: ShownRound<'_>,
     class: Class,
     walk: &BreakingWalk,
 ) -> Result<(), Memory>
     requires stage { IsStage stage }
     requires entry { IsEntry stage.round.net.now class.entry }
-    requires walk { IsMixedWalk (update_in stage) stage.round.number class.first class.entry
+    requires walk { IsMixedWalk (shown_rollout stage) stage.round.number class.first class.entry
         walk.now.rest }
     requires end { IfSome walk.now.end
-        (λ found. IsPossible (update_in stage) stage.round.number class.first
+        (λ found. IsPossible (shown_rollout stage) stage.round.number class.first
         (end_of class.entry walk.now.rest) found) }
     ensures { OnOk result
-        (GoOnAlong (update_in stage.entry) stage.entry.round.number class walk.now.rest
+        (GoOnAlong (shown_rollout stage.entry) stage.entry.round.number class walk.now.rest
         walk.now.end events.old events.new) }
 {
     stage.round.net.keeps_rules();
@@ -168,7 +168,7 @@ fn add_walk(
 /// along a breaking walk.
 pub(crate) fn breaking_run(
     alloc: Global,
-    stage: Stage<'_>,
+    stage: ShownRound<'_>,
     duties: &Duties,
     class: Class,
     walk: &BreakingWalk,
@@ -176,14 +176,14 @@ pub(crate) fn breaking_run(
     requires tables { length stage.round.old.now ≡ switch_count stage.round.net.now }
     requires within { stage.round.number < length stage.round.rounds.now }
     requires before { rules_of_all stage.tables.now
-        ≡ tables_before (update_in stage) stage.round.number }
-    requires good { AreGoodRounds (update_in stage) }
-    requires clear { AreClearRounds (update_in stage) }
+        ≡ tables_before (shown_rollout stage) stage.round.number }
+    requires good { AreGoodRounds (shown_rollout stage) }
+    requires clear { AreClearRounds (shown_rollout stage) }
     requires entry { IsEntry stage.round.net.now class.entry }
-    requires walk { IsBreakingWalk (update_in stage) stage.round.number class.first class.entry
+    requires walk { IsBreakingWalk (shown_rollout stage) stage.round.number class.first class.entry
         (duties_of duties.now.demands class.entry class.first) walk.now.rest walk.now.end }
     ensures run { IfOk result
-        (λ events. IsBreakingRun (update_in stage.entry) duties.now.demands
+        (λ events. IsBreakingRun (shown_rollout stage.entry) duties.now.demands
         stage.entry.round.number class events) }
     ensures few { IfOk result
         (λ events. AreFewFor stage.entry.round.net.now stage.entry.round.rounds.now events) }

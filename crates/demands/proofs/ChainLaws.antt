@@ -7,7 +7,7 @@ use Rattle.std.proofs.lemmas.List.Elements.{filter-append}
 use Rattle.std.proofs.lemmas.List.{take_more}
 use Rattle.std.proofs.lemmas.Option.{slice_get_read, slice_get-get_or, get_or_from_slice_get}
 use Rattle.net_base.specs.declared.ids.SwitchId.{SwitchId}
-use Rattle.demands.specs.Chains.{leading}
+use Rattle.demands.specs.Chains.{leading_count}
 use Rattle.demands.specs.Duties.{first_of_each, chain_lt, with_chain}
 
 -- ---- each switch where it stands first
@@ -75,57 +75,57 @@ asymmetric (s ∷ ss) (t ∷ ts) e =
 
 module _ (s : SwitchId) (ss : List SwitchId) where
   -- the chain stands there
-  pub put_none : (cs : List (List SwitchId)) (d : List SwitchId) → leading (s ∷ ss) cs < length cs → chain_lt (s ∷ ss) (get_or cs (leading (s ∷ ss) cs) d) ≡ false → with_chain (s ∷ ss) cs ≡ cs
+  pub put_none : (cs : List (List SwitchId)) (d : List SwitchId) → leading_count (s ∷ ss) cs < length cs → chain_lt (s ∷ ss) (get_or cs (leading_count (s ∷ ss) cs) d) ≡ false → with_chain (s ∷ ss) cs ≡ cs
   put_none [] d lt e = absurd (omega arith)
   put_none (c ∷ cs) d lt e =
       let x = s ∷ ss in
       elim (cases_Bool (chain_lt c x)) [
         | inl before ↦ (
-            let at : leading x (c ∷ cs) ≡ suc (leading x cs) = cond-true (chain_lt c x) (suc (leading x cs)) 0 before in
-            let less : suc (leading x cs) < suc (length cs) = subst (λ n. n < suc (length cs)) at lt in
-            let there : chain_lt x (get_or cs (leading x cs) d) ≡ false = subst (λ n. chain_lt x (get_or (c ∷ cs) n d) ≡ false) at e in
+            let at : leading_count x (c ∷ cs) ≡ suc (leading_count x cs) = cond-true (chain_lt c x) (suc (leading_count x cs)) 0 before in
+            let less : suc (leading_count x cs) < suc (length cs) = subst (λ n. n < suc (length cs)) at lt in
+            let there : chain_lt x (get_or cs (leading_count x cs) d) ≡ false = subst (λ n. chain_lt x (get_or (c ∷ cs) n d) ≡ false) at e in
             cond-false (chain_lt x c) (x ∷ c ∷ cs) (cond (chain_lt c x) (c ∷ with_chain x cs) (c ∷ cs)) (asymmetric c x before)
             ∙ cond-true (chain_lt c x) (c ∷ with_chain x cs) (c ∷ cs) before
             ∙ ap (λ ys. c ∷ ys) (put_none cs d (omega arith) there))
         | inr after ↦ (
-            let at : leading x (c ∷ cs) ≡ 0 = cond-false (chain_lt c x) (suc (leading x cs)) 0 after in
+            let at : leading_count x (c ∷ cs) ≡ 0 = cond-false (chain_lt c x) (suc (leading_count x cs)) 0 after in
             let here : chain_lt x c ≡ false = subst (λ n. chain_lt x (get_or (c ∷ cs) n d) ≡ false) at e in
             cond-false (chain_lt x c) (x ∷ c ∷ cs) (cond (chain_lt c x) (c ∷ with_chain x cs) (c ∷ cs)) here ∙ cond-false (chain_lt c x) (c ∷ with_chain x cs) (c ∷ cs) after)
       ]
 
   -- the chain is put before those that come after it
-  pub put_there : (cs : List (List SwitchId)) (d : List SwitchId) → (leading (s ∷ ss) cs < length cs → chain_lt (s ∷ ss) (get_or cs (leading (s ∷ ss) cs) d) ≡ true)
-      → with_chain (s ∷ ss) cs ≡ insert cs (leading (s ∷ ss) cs) (s ∷ ss)
+  pub put_there : (cs : List (List SwitchId)) (d : List SwitchId) → (leading_count (s ∷ ss) cs < length cs → chain_lt (s ∷ ss) (get_or cs (leading_count (s ∷ ss) cs) d) ≡ true)
+      → with_chain (s ∷ ss) cs ≡ insert cs (leading_count (s ∷ ss) cs) (s ∷ ss)
   put_there [] d h = refl
   put_there (c ∷ cs) d h =
       let x = s ∷ ss in
       elim (cases_Bool (chain_lt c x)) [
         | inl before ↦ (
-            let at : leading x (c ∷ cs) ≡ suc (leading x cs) = cond-true (chain_lt c x) (suc (leading x cs)) 0 before in
-            let there : leading x cs < length cs → chain_lt x (get_or cs (leading x cs) d) ≡ true =
+            let at : leading_count x (c ∷ cs) ≡ suc (leading_count x cs) = cond-true (chain_lt c x) (suc (leading_count x cs)) 0 before in
+            let there : leading_count x cs < length cs → chain_lt x (get_or cs (leading_count x cs) d) ≡ true =
             λ lt. subst (λ n. n < suc (length cs) → chain_lt x (get_or (c ∷ cs) n d) ≡ true) at h (omega arith) in
             cond-false (chain_lt x c) (x ∷ c ∷ cs) (cond (chain_lt c x) (c ∷ with_chain x cs) (c ∷ cs)) (asymmetric c x before)
             ∙ cond-true (chain_lt c x) (c ∷ with_chain x cs) (c ∷ cs) before
             ∙ ap (λ ys. c ∷ ys) (put_there cs d there)
             ∙ ap (λ n. insert (c ∷ cs) n x) (sym at))
         | inr after ↦ (
-            let at : leading x (c ∷ cs) ≡ 0 = cond-false (chain_lt c x) (suc (leading x cs)) 0 after in
+            let at : leading_count x (c ∷ cs) ≡ 0 = cond-false (chain_lt c x) (suc (leading_count x cs)) 0 after in
             let here : chain_lt x c ≡ true = subst (λ n. n < suc (length cs) → chain_lt x (get_or (c ∷ cs) n d) ≡ true) at h (omega arith) in
             cond-true (chain_lt x c) (x ∷ c ∷ cs) (cond (chain_lt c x) (c ∷ with_chain x cs) (c ∷ cs)) here ∙ ap (λ n. insert (c ∷ cs) n x) (sym at))
       ]
 
-pub leading_within : (x : List SwitchId) (cs : List (List SwitchId)) → leading x cs ≤ length cs
+pub leading_within : (x : List SwitchId) (cs : List (List SwitchId)) → leading_count x cs ≤ length cs
 leading_within x [] = omega arith
-leading_within x (c ∷ cs) = let rest = leading_within x cs in cond_both (chain_lt c x) (suc (leading x cs)) 0 (λ n. n ≤ suc (length cs)) (λ _. omega arith) (λ _. omega arith)
+leading_within x (c ∷ cs) = let rest = leading_within x cs in cond_both (chain_lt c x) (suc (leading_count x cs)) 0 (λ n. n ≤ suc (length cs)) (λ _. omega arith) (λ _. omega arith)
 
 -- a list of chains that all come before, and one that doesn't
 pub leading_at : (x : List SwitchId) (cs : List (List SwitchId)) (i : ℕ) (d : List SwitchId) → ((k : ℕ) → k < i → chain_lt (get_or cs k d) x ≡ true) → i ≤ length cs
-    → (i < length cs → chain_lt (get_or cs i d) x ≡ false) → i ≡ leading x cs
+    → (i < length cs → chain_lt (get_or cs i d) x ≡ false) → i ≡ leading_count x cs
 leading_at x [] i d all within stop = omega arith
-leading_at x (c ∷ cs) zero d all within stop = sym (cond-false (chain_lt c x) (suc (leading x cs)) 0 (stop (omega arith)))
+leading_at x (c ∷ cs) zero d all within stop = sym (cond-false (chain_lt c x) (suc (leading_count x cs)) 0 (stop (omega arith)))
 leading_at x (c ∷ cs) (suc i) d all within stop =
     ap suc (leading_at x cs i d (λ k lt. all (suc k) (omega arith)) (omega arith) (λ lt. stop (omega arith)))
-    ∙ sym (cond-true (chain_lt c x) (suc (leading x cs)) 0 (all 0 (omega arith)))
+    ∙ sym (cond-true (chain_lt c x) (suc (leading_count x cs)) 0 (all 0 (omega arith)))
 
 -- ---- the same for chains that are tested to be empty or not
 
@@ -134,12 +134,12 @@ lt_none [] [] e = refl
 lt_none (s ∷ ss) [] e = refl
 lt_none a (t ∷ ts) e = let f = eqb-true (suc (length ts)) 0 e in absurd (omega arith)
 
-pub puts_none : (x : List SwitchId) (cs : List (List SwitchId)) (d : List SwitchId) → (length x == 0) ≡ false → leading x cs < length cs → chain_lt x (get_or cs (leading x cs) d) ≡ false → with_chain x cs ≡ cs
+pub puts_none : (x : List SwitchId) (cs : List (List SwitchId)) (d : List SwitchId) → (length x == 0) ≡ false → leading_count x cs < length cs → chain_lt x (get_or cs (leading_count x cs) d) ≡ false → with_chain x cs ≡ cs
 puts_none [] cs d some lt e = refl
 puts_none (s ∷ ss) cs d some lt e = put_none s ss cs d lt e
 
-pub puts_there : (x : List SwitchId) (cs : List (List SwitchId)) (d : List SwitchId) → (length x == 0) ≡ false → (leading x cs < length cs → chain_lt x (get_or cs (leading x cs) d) ≡ true)
-    → with_chain x cs ≡ insert cs (leading x cs) x
+pub puts_there : (x : List SwitchId) (cs : List (List SwitchId)) (d : List SwitchId) → (length x == 0) ≡ false → (leading_count x cs < length cs → chain_lt x (get_or cs (leading_count x cs) d) ≡ true)
+    → with_chain x cs ≡ insert cs (leading_count x cs) x
 puts_there [] cs d some h = absurd (eqb-false 0 0 some refl)
 puts_there (s ∷ ss) cs d some h = put_there s ss cs d h
 

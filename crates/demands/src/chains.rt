@@ -2,7 +2,7 @@
 ghost use Rattle.std.specs.Prelude.{◌≡◌, ◌<◌, ◌≤◌, ◌==◌, ◌∷◌, ◌≢◌, [], length, slice_get, slice_index_or, IfOk, OnOk};
 ghost use Rattle.std.specs.List.{list_any};
 ghost use Rattle.demands.specs.Duties.{first_of_each, chain_lt, with_chain};
-ghost use Rattle.demands.specs.Chains.{leading};
+ghost use Rattle.demands.specs.Chains.{leading_count};
 
 use crate::Chain;
 use net_base::{Memory, SwitchId};
@@ -76,7 +76,7 @@ impl Chain {
 
 /// How many chains at the front come before this one.
 fn count_before(chains: &[Chain], chain: &Chain) -> usize
-    ensures { result ≡ leading chain.now chains.now }
+    ensures { result ≡ leading_count chain.now chains.now }
 {
     for (i, other) in chains.iter().enumerate() {
         if !other.is_before(chain) {

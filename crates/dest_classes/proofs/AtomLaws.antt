@@ -12,16 +12,16 @@ use Rattle.std.proofs.lemmas.Map.Keys.{IsStrictlyIncreasing-dedup}
 use Rattle.net_base.specs.Blocks.{Block, IsSameClass, in_block}
 use Rattle.net_base.specs.Members.{IsIn}
 use Rattle.net_base.proofs.MemberLaws.{each_at, each_both, each_from_in, in_from_filter}
-use Rattle.dest_classes.specs.Classes.{ascending, boundaries, block_ends}
+use Rattle.dest_classes.specs.Classes.{ascending_numbers, boundaries, block_ends}
 use Rattle.dest_classes.specs.Atoms.{AreFirsts, IsAtomOf, OneAtomIsOneClass, FirstIsOfTheClass}
 use Rattle.dest_classes.proofs.ClassLaws.{in_ascending, each_same}
 use Rattle.dest_classes.proofs.RisingLaws.{contains_from_in, in_from_contains, Rises, in_from_ascending, rises_ascending, same_rising, rises_from_increasing, increasing_from_rises}
 use Rattle.net_base.proofs.ItemLaws.{get_from_in}
 
--- a sorted list without repetitions is `ascending`
-pub ascending_is : (xs ys : List ℕ) → IsPermutation xs ys → IsSorted nat_cmp ys → dedup (λ a b. a == b) ys ≡ ascending xs
+-- a sorted list without repetitions is `ascending_numbers`
+pub ascending_is : (xs ys : List ℕ) → IsPermutation xs ys → IsSorted nat_cmp ys → dedup (λ a b. a == b) ys ≡ ascending_numbers xs
 ascending_is xs ys moved sorted =
-    same_rising (dedup (λ a b. a == b) ys) (ascending xs) (rises_from_increasing (dedup (λ a b. a == b) ys) (IsStrictlyIncreasing-dedup ys sorted)) (rises_ascending xs)
+    same_rising (dedup (λ a b. a == b) ys) (ascending_numbers xs) (rises_from_increasing (dedup (λ a b. a == b) ys) (IsStrictlyIncreasing-dedup ys sorted)) (rises_ascending xs)
     (λ z. (
       λ i.
           let c = Contains-from_dedup (λ a b. a == b) ys z (contains_from_in (dedup (λ a b. a == b) ys) z i) in
@@ -40,12 +40,12 @@ first_is (x ∷ xs) h (inr i) = let lt = each_at (λ y. x < y) xs 0 h.0 i in abs
 pub are_firsts : (blocks : List Block) → AreFirsts (boundaries blocks)
 are_firsts blocks =
     let ends = 0 ∷ filter (λ a. nat_lt a (2 ^ 32)) (flat_map block_ends blocks) in
-    let h = first_is (ascending ends) (rises_ascending ends) (in_ascending 0 ends (inl refl)) in
+    let h = first_is (ascending_numbers ends) (rises_ascending ends) (in_ascending 0 ends (inl refl)) in
     record {
       some = h.0;
       begin = h.1;
-      rise = increasing_from_rises (ascending ends) (rises_ascending ends);
-      fit = each_from_in (λ a. a < 2 ^ 32) (ascending ends)
+      rise = increasing_from_rises (ascending_numbers ends) (rises_ascending ends);
+      fit = each_from_in (λ a. a < 2 ^ 32) (ascending_numbers ends)
           (λ a i. elim (in_from_ascending a ends i) [
             | inl e ↦ omega arith
             | inr j ↦ ltb-true a (2 ^ 32) (in_from_filter (λ a. nat_lt a (2 ^ 32)) a (flat_map block_ends blocks) j).1

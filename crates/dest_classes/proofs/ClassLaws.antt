@@ -9,7 +9,7 @@ use Rattle.net_base.proofs.MemberLaws.{in_filter, in_append_left, in_append_righ
 use Rattle.net_base.proofs.ItemLaws.{get_from_in}
 use Rattle.net_base.specs.declared.ids.Place.{Place}
 use Rattle.topology.specs.Networks.{Network, IsEntry}
-use Rattle.dest_classes.specs.Classes.{with_number, ascending, block_ends, boundaries, classes_of, atom_count, IsClass}
+use Rattle.dest_classes.specs.Classes.{with_number, ascending_numbers, block_ends, boundaries, classes_of, atom_count, IsClass}
 
 pub in_with_this : (x : ℕ) (ys : List ℕ) → IsIn x (with_number x ys)
 in_with_this x [] = inl refl
@@ -23,10 +23,10 @@ in_with x z (y ∷ ys) i =
     cond_both (nat_lt x y) (x ∷ y ∷ ys) (cond (x == y) (y ∷ ys) (y ∷ with_number x ys)) (IsIn z) (λ _. inr i)
     (λ _. cond_both (x == y) (y ∷ ys) (y ∷ with_number x ys) (IsIn z) (λ _. i) (λ _. elim i [ inl e ↦ inl e | inr j ↦ inr (in_with x z ys j) ]))
 
-pub in_ascending : (z : ℕ) (xs : List ℕ) → IsIn z xs → IsIn z (ascending xs)
+pub in_ascending : (z : ℕ) (xs : List ℕ) → IsIn z xs → IsIn z (ascending_numbers xs)
 in_ascending z [] i = absurd i
-in_ascending z (x ∷ xs) (inl e) = subst (λ y. IsIn z (with_number y (ascending xs))) e (in_with_this z (ascending xs))
-in_ascending z (x ∷ xs) (inr i) = in_with x z (ascending xs) (in_ascending z xs i)
+in_ascending z (x ∷ xs) (inl e) = subst (λ y. IsIn z (with_number y (ascending_numbers xs))) e (in_with_this z (ascending_numbers xs))
+in_ascending z (x ∷ xs) (inr i) = in_with x z (ascending_numbers xs) (in_ascending z xs i)
 
 -- the greatest of the numbers that aren't above a number, where the first isn't
 greatest : (z : ℕ) (xs : List ℕ) (a : ℕ) → z ≤ a → (m : ℕ) × IsIn m (z ∷ xs) × (m ≤ a) × ((y : ℕ) → IsIn y (z ∷ xs) → y ≤ a → y ≤ m)

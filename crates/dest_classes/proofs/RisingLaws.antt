@@ -8,7 +8,7 @@ use Rattle.std.proofs.lemmas.Option.{slice_get_within, slice_get-get_or, get_or_
 use Rattle.std.proofs.lemmas.List.Kept.{AllPairs-from_increasing}
 use Rattle.net_base.specs.Members.{IsIn, IsSameSet}
 use Rattle.net_base.proofs.MemberLaws.{each_weaker, each_at, each_from_in}
-use Rattle.dest_classes.specs.Classes.{with_number, ascending}
+use Rattle.dest_classes.specs.Classes.{with_number, ascending_numbers}
 use Rattle.net_base.proofs.ItemLaws.{in_from_get, get_from_in}
 
 pub contains_from_in : {A : Type 0} (xs : List A) (x : A) → IsIn x xs → Contains xs x
@@ -32,9 +32,9 @@ in_from_with x z (y ∷ ys) i =
       | inr k ↦ elim (in_from_with x z ys k) [ inl e ↦ inl e | inr l ↦ inr (inr l) ]
     ])) i
 
-pub in_from_ascending : (z : ℕ) (xs : List ℕ) → IsIn z (ascending xs) → IsIn z xs
+pub in_from_ascending : (z : ℕ) (xs : List ℕ) → IsIn z (ascending_numbers xs) → IsIn z xs
 in_from_ascending z [] i = absurd i
-in_from_ascending z (x ∷ xs) i = elim (in_from_with x z (ascending xs) i) [ inl e ↦ inl e | inr j ↦ inr (in_from_ascending z xs j) ]
+in_from_ascending z (x ∷ xs) i = elim (in_from_with x z (ascending_numbers xs) i) [ inl e ↦ inl e | inr j ↦ inr (in_from_ascending z xs j) ]
 
 rises_with : (x : ℕ) (ys : List ℕ) → Rises ys → Rises (with_number x ys)
 rises_with x [] h = (tt, tt)
@@ -50,9 +50,9 @@ rises_with x (y ∷ ys) h =
       rises_with x ys h.1,
     )))
 
-pub rises_ascending : (xs : List ℕ) → Rises (ascending xs)
+pub rises_ascending : (xs : List ℕ) → Rises (ascending_numbers xs)
 rises_ascending [] = tt
-rises_ascending (x ∷ xs) = rises_with x (ascending xs) (rises_ascending xs)
+rises_ascending (x ∷ xs) = rises_with x (ascending_numbers xs) (rises_ascending xs)
 
 none_below : (x : ℕ) (xs : List ℕ) → AllByRecursion (λ y. x < y) xs → IsIn x xs → ⊥
 none_below x xs h i = let lt = each_at (λ y. x < y) xs x h i in omega arith

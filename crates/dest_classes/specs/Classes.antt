@@ -13,9 +13,9 @@ with_number x [] = x ∷ []
 with_number x (y ∷ ys) = cond (nat_lt x y) (x ∷ y ∷ ys) (cond (x == y) (y ∷ ys) (y ∷ with_number x ys))
 
 -- the numbers of a list, ascending and each once
-abbrev pub ascending : List ℕ → List ℕ
-ascending [] = []
-ascending (x ∷ xs) = with_number x (ascending xs)
+abbrev pub ascending_numbers : List ℕ → List ℕ
+ascending_numbers [] = []
+ascending_numbers (x ∷ xs) = with_number x (ascending_numbers xs)
 
 -- a prefix's first address, and the address after its last
 abbrev pub block_ends : Block → List ℕ
@@ -23,7 +23,7 @@ block_ends b = b.base ∷ (b.base + block_size b) ∷ []
 
 -- the boundaries that the prefixes make between addresses: the first addresses of the atoms
 abbrev pub boundaries : List Block → List ℕ
-boundaries blocks = ascending (0 ∷ filter (λ a. nat_lt a (2 ^ 32)) (flat_map block_ends blocks))
+boundaries blocks = ascending_numbers (0 ∷ filter (λ a. nat_lt a (2 ^ 32)) (flat_map block_ends blocks))
 
 -- the host ports and declared VLANs of a network, and the prefixes that tell addresses apart
 pub record ClassList : Type 0 where

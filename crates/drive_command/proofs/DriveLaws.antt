@@ -9,7 +9,7 @@ use Rattle.command_base.specs.declared.status.Status.TheVariants as status
 use Rattle.command_base.specs.declared.kinds.FileKind.TheVariants as kind
 use Rattle.command_base.specs.Answers.{Answer}
 use Rattle.command_base.specs.Meanings.{Means}
-use Rattle.command_base.specs.Runs.{IsSettled, Answered}
+use Rattle.command_base.specs.Runs.{IsComplete, Answered}
 use Rattle.command_base.proofs.MeaningLaws.{MeansOnly, means_then, means_parts, means_read, read_means}
 use Rattle.command_base.proofs.AnswerLaws.{meant, wrote, status_of, text_of}
 use Rattle.command_base.proofs.JudgementLaws.{SaysOfGood, JudgesFiles, judges_by, says_of, says_good, refusals}
@@ -131,9 +131,9 @@ module _ (files : Files) (names : DriveNames) (old new : Option (List ℕ)) (res
 other_pieces : (m : DriveMeaning) (inputs : List InputLine) (old new : Option (List ℕ)) → DifferInPieces m.inputs inputs → WritesReport m old new → WritesReport (record m { inputs = inputs }) old new
 other_pieces m inputs old new differ writes = record { text = writes.text; report = report_pieces (rollout (task_in m.check)) m.inputs inputs writes.text differ writes.report; written = writes.written }
 
-pub promised : (files : Files) (names : DriveNames) (old new : Option (List ℕ)) (result : Status) → (IsSettled result → Answered IsDriveAnswer files (drive_dialogue names) old new result) → DrivePromise files names old new result
+pub promised : (files : Files) (names : DriveNames) (old new : Option (List ℕ)) (result : Status) → (IsComplete result → Answered IsDriveAnswer files (drive_dialogue names) old new result) → DrivePromise files names old new result
 promised files names old new result answered =
-    let judges : IsSettled result → JudgesFiles (FilesMeanDrive files names) drive_count IsCertifiedDrive SaysDriven (λ m. IsReasonLine m.check) old new result =
+    let judges : IsComplete result → JudgesFiles (FilesMeanDrive files names) drive_count IsCertifiedDrive SaysDriven (λ m. IsReasonLine m.check) old new result =
     λ settled. judges_drive files names old new result (answered settled) in
     record {
       done = λ settled. done files names old new result (judges settled);

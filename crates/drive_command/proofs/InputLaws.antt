@@ -13,7 +13,7 @@ use Rattle.driver_input.specs.Lines.{IsInput}
 use Rattle.driver_input.specs.declared.inputs.Input.{Input}
 use Rattle.driver_input.specs.declared.inputs.Input.TheVariants.{Start, Feed}
 use Rattle.driver_input.specs.declared.inputs.InputLine.{InputLine}
-use Rattle.update_driver.specs.Drivers.{DriverState, first_driver, fed, started_driver, start_fault}
+use Rattle.update_driver.specs.Drivers.{DriverState, first_driver, driver_after_bytes, started_driver, start_fault}
 use Rattle.update_driver.specs.Calls as call
 use Rattle.update_driver.specs.Calls.{Call, IsCall, after_call, after_calls, driver_after, bytes_in, bytes_from, each_byte, byte_by_byte}
 use Rattle.update_driver.specs.Laws.{BeginsAnswered}
@@ -53,7 +53,7 @@ module _ (net : Network) (rounds : List (List Change)) where
             (may, one ∙ sym (cond-true test (started_driver net rounds d) d may)))
         | inr refused ↦ absurd (let f : Err (NotARun line) ≡ Ok e = sym (cond-false test (Ok (started_driver net rounds d)) (Err (NotARun line)) refused) ∙ is in cc)
       ]
-  taken_input line (Feed s bytes) d e is = (tt, (let f : Ok (fed rounds s bytes d) ≡ Ok e = is in cc))
+  taken_input line (Feed s bytes) d e is = (tt, (let f : Ok (driver_after_bytes rounds s bytes d) ≡ Ok e = is in cc))
 
   take_input : (line : ℕ) (i : Input) (d : DriverState) → MayCall d (call_of i) → after_input net rounds line i d ≡ Ok (after_call net rounds d (call_of i))
   take_input line Start d may =
@@ -111,7 +111,7 @@ module _ (net : Network) (rounds : List (List Change)) where
 
   may_feed : (s : SwitchId) (bytes : List ℕ) (d : DriverState) → MayCallAll d (map (λ b. call.Feed s (b ∷ [])) bytes)
   may_feed s [] d = tt
-  may_feed s (b ∷ bytes) d = (tt, may_feed s bytes (fed rounds s (b ∷ []) d))
+  may_feed s (b ∷ bytes) d = (tt, may_feed s bytes (driver_after_bytes rounds s (b ∷ []) d))
 
   may_each : (d : DriverState) (c : Call) → MayCall d c → MayCallAll d (each_byte c)
   may_each d call.Start may = (may, tt)

@@ -12,7 +12,7 @@ use Rattle.topology.specs.Networks.{Network, IsNetwork, IsName}
 use Rattle.update_model.specs.declared.Change.{Change}
 use Rattle.schedule_replay.specs.EventTexts.{event_text, HasLine}
 use Rattle.net_base.specs.Lines.{text_of, is_comment}
-use Rattle.schedule_replay.specs.Schedules.{schedule_in, numbered}
+use Rattle.schedule_replay.specs.Schedules.{schedule_in, numbered_lines}
 use Rattle.schedule_replay.specs.Traces.{phase_line}
 use Rattle.schedule_replay.proofs.EventsAgain.{lines_between}
 use Rattle.schedule_replay.proofs.Printed.{Lacks-from, decimal_from, name_from}
@@ -131,7 +131,7 @@ module _ (d : DriverState) where
 
     -- read as a schedule, the report is the log
     pub report_read : (rounds : List (List Change)) → length net.names ≤ 128 → AllByRecursion (HasLine net) d.log → length d.log ≤ 4000000
-        → schedule_in net (report_text net rounds d) ≡ Ok (numbered (1 + length (front_lines net d)) d.log)
+        → schedule_in net (report_text net rounds d) ≡ Ok (numbered_lines (1 + length (front_lines net d)) d.log)
     unfolding report_text
     report_read rounds few lines short =
         lines_between net keeps (front_lines net d) d.log (last_line d (length rounds) ∷ []) front_comments front_lacks lines short (front_short few) (refl, tt) (last_lacks (length rounds), tt)

@@ -8,7 +8,7 @@ use Rattle.net_base.specs.declared.ids.SwitchId.{SwitchId}
 use Rattle.topology.specs.Networks.{Network, switch_count}
 use Rattle.update_model.specs.Mixtures.{Rollout}
 use Rattle.update_model.specs.Runs.{IsRun}
-use Rattle.schedule_replay.specs.Schedules.{schedule_in, numbered}
+use Rattle.schedule_replay.specs.Schedules.{schedule_in, numbered_lines}
 use Rattle.driver_input.specs.Faults as input_fault
 use Rattle.driver_input.specs.Inputs.{inputs_in}
 use Rattle.driver_input.specs.declared.fault.InputFault.{InputFault}
@@ -71,7 +71,7 @@ pub record IsReport (u : Rollout) (inputs : List InputLine) (text : List ℕ) : 
   pub driven : driven_by u.net u.rounds inputs ≡ Ok driver
   pub carries_out : CarriesOut u inputs driver
   pub text_is : text ≡ report_text u.net u.rounds driver
-  pub means : schedule_in u.net text ≡ Ok (numbered (first_line u.net driver) driver.log)
+  pub means : schedule_in u.net text ≡ Ok (numbered_lines (first_line u.net driver) driver.log)
 
 -- the driver is given all inputs, and the answer is the report on it
 pub record SaysReport (u : Rollout) (inputs : List InputLine) (answer : Answer) : Type 0 where

@@ -6,7 +6,7 @@ use Rattle.update_model.specs.declared.Change.{Change}
 use Rattle.driver_input.specs.declared.inputs.Input.{Input}
 use Rattle.driver_input.specs.declared.inputs.Input.TheVariants.{Start, Feed}
 use Rattle.driver_input.specs.declared.inputs.InputLine.{InputLine}
-use Rattle.update_driver.specs.Drivers.{DriverState, first_driver, fed, started_driver, start_fault}
+use Rattle.update_driver.specs.Drivers.{DriverState, first_driver, driver_after_bytes, started_driver, start_fault}
 use Rattle.update_driver.specs.Calls as call
 use Rattle.update_driver.specs.Calls.{Call, byte_by_byte}
 use Rattle.drive_command.specs.declared.driving.DriveFault.{DriveFault}
@@ -15,7 +15,7 @@ use Rattle.drive_command.specs.declared.driving.DriveFault.TheVariants.{NotARun}
 -- a driver after the input of this line; a start that is refused is none
 abbrev pub after_input : Network → List (List Change) → ℕ → Input → DriverState → Result DriverState DriveFault
 after_input net rounds line Start d = if is_none (start_fault net rounds d) then Ok (started_driver net rounds d) else Err (NotARun line)
-after_input net rounds line (Feed s bytes) d = Ok (fed rounds s bytes d)
+after_input net rounds line (Feed s bytes) d = Ok (driver_after_bytes rounds s bytes d)
 
 -- a driver after inputs in order, or the line of the first start that is refused
 abbrev pub after_inputs : Network → List (List Change) → DriverState → List InputLine → Result DriverState DriveFault

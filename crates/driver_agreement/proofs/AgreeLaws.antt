@@ -12,7 +12,7 @@ use Rattle.net_base.specs.declared.ids.SwitchId.{SwitchId}
 use Rattle.net_base.proofs.MemberLaws.{each_append}
 use Rattle.topology.specs.Networks.{Network, switch_count}
 use Rattle.update_model.specs.Changes.{switch_of, changes_at, round_after}
-use Rattle.update_model.specs.States.{settled, settled_count}
+use Rattle.update_model.specs.States.{phase_after_settle, settled_count}
 use Rattle.update_model.specs.Worlds as worlds
 use Rattle.update_model.specs.declared.Change.{Change}
 use Rattle.update_model.specs.declared.Event.{Event}
@@ -25,7 +25,7 @@ use Rattle.round_messages.specs.Requests.{Request, is_changed, switch_numbered, 
 use Rattle.round_messages.specs.ToSwitch.{messages_to, AreFor}
 use Rattle.round_messages.proofs.Requests.{requests_from-push, round_count, request_count}
 use Rattle.round_messages.proofs.BySwitch.{each_round, round_alone, messages_in_turn}
-use Rattle.switch_session.specs.Channels.{ChannelState, first_channel, hello, is_open, is_failed, asked, after_byte}
+use Rattle.switch_session.specs.Channels.{ChannelState, first_channel, hello, is_open, is_failed, after_request, after_byte}
 use Rattle.switch_session.specs.declared.Session.{Session}
 use Rattle.switch_session.specs.declared.Session.TheVariants.{Waiting, Open, Failed}
 use Rattle.switch_session.proofs.TalkLaws.{front_nil}
@@ -34,7 +34,7 @@ use Rattle.turned_rounds.specs.declared.outgoing.Outgoing.{Outgoing}
 use Rattle.turned_rounds.proofs.NumberLaws.{batch_is}
 use Rattle.two_way_runs.specs.States as two_way
 use Rattle.update_driver.specs.Drivers as one
-use Rattle.update_driver.specs.Drivers.{DriverState as OnwardState, channel_at, with_channel, none_outstanding, change_events, is_answered, messages_for, barrier_in, told, told_all}
+use Rattle.update_driver.specs.Drivers.{DriverState as OnwardState, channel_at, with_channel, none_outstanding, change_events, is_answered, messages_for, barrier_in, told_channel, told_all}
 use Rattle.update_driver.specs.Calls as onward
 use Rattle.update_driver.specs.Laws.{begun_count}
 use Rattle.update_driver.proofs.SoundLaws.{IsSound, MayBegin, sound_first, sound_fed, sound_call, may_begin, begun, none_is}
@@ -42,7 +42,7 @@ use Rattle.update_driver.proofs.AskedLaws.{barrier_for, told_at}
 use Rattle.update_driver.proofs.PieceLaws.{parts, fed-append}
 use Rattle.two_way_driver.specs.PeerStates.{PeerState}
 use Rattle.two_way_driver.specs.Peers.{first_peer, failure_in, peer_after, asks, answers}
-use Rattle.two_way_driver.specs.Drivers.{DriverState, peer_at, with_peer, saying, sends, is_to_open, asked_from, sent_out, settled_in, all_answered, settled_if_answered, log_if, change_notes, made, carried_out, answered, sent_again, opened, running_round, asked_round, heard, fed_byte, fed, first_words, first_driver, flagged, first_not_open, started_with, start_fault_in, started_in}
+use Rattle.two_way_driver.specs.Drivers.{DriverState, peer_at, with_peer, with_said, sends, is_to_open, asked_from, sent_out, settled_in, all_answered, settled_if_answered, log_if, change_notes, made_state, carried_out, answered_state, sent_again, opened_state, running_round, asked_round, heard_state, fed_byte, state_after_bytes, first_words, first_driver, flagged_state, first_not_open, started_with, start_fault_in, started_in}
 use Rattle.two_way_driver.specs.Calls.{DriverView, with_state, start_fault}
 use Rattle.two_way_driver.specs.Laws.{after_call, after_calls, driver_after, event_in, events_in, phase_of}
 use Rattle.two_way_driver.specs.Sending.{texts_to, texts_for}
@@ -110,24 +110,24 @@ module _ (net : Network) (rounds inverses : List (List Change)) where
     all_same = same_waits e.peers d.channels (f.peers ∙ sym f.channels) (λ i less. (let count = f.peers in (f.each (switch_numbered i) (omega arith)).asked))
 
     abbrev done : DriverState
-    done = saying (Log logged.Settle ∷ []) (record e { stage = Settled (suc k) })
+    done = with_said (Log logged.Settle ∷ []) (record e { stage = Settled (suc k) })
 
-    follows_done : Follows (record d { phase = settled d.phase; log = d.log ++ event.Settle ∷ [] }) done
+    follows_done : Follows (record d { phase = phase_after_settle d.phase; log = d.log ++ event.Settle ∷ [] }) done
     follows_done = record {
       channels = f.channels;
       peers = f.peers;
       onward = tt;
-      phase = ap settled (sym phase_is);
+      phase = ap phase_after_settle (sym phase_is);
       each = λ s less. (let h = f.each s less in
           subst (PeerAs (channel_at d s) (peer_at e s)) (sym (quiet s e.said (Log logged.Settle ∷ []) refl)) h);
       events = more_events e.said (Log logged.Settle ∷ []) d.log (event.Settle ∷ []) f.events refl;
-      next = f.next ∙ ap (first_xid net rounds) (ap begun_count phase_is ∙ sym (ap (λ (p : Phase). begun_count (settled p)) phase_is));
+      next = f.next ∙ ap (first_xid net rounds) (ap begun_count phase_is ∙ sym (ap (λ (p : Phase). begun_count (phase_after_settle p)) phase_is));
     }
 
     follows_settled : Follows (one.settled_if_answered d) (settled_if_answered e)
     unfolding settled_if_answered settled_in
     follows_settled =
-        let Both : Bool → Bool → Stage → Type 0 = λ s t stage. Follows (cond s (record d { phase = settled d.phase; log = d.log ++ event.Settle ∷ [] }) d) (cond t (settled_in stage e) e) in
+        let Both : Bool → Bool → Stage → Type 0 = λ s t stage. Follows (cond s (record d { phase = phase_after_settle d.phase; log = d.log ++ event.Settle ∷ [] }) d) (cond t (settled_in stage e) e) in
         let by : (t : Bool) → Both t t (Onward k) = λ t. elim t as (λ t. Both t t (Onward k)) [ true ↦ follows_done | false ↦ f ] in
         subst (Both (none_outstanding d.channels) (all_answered e.peers)) (sym runs) (subst (λ t. Both t (all_answered e.peers) (Onward k)) all_same (by (all_answered e.peers)))
 
@@ -184,9 +184,9 @@ module _ (net : Network) (rounds inverses : List (List Change)) where
     put_is : peer_at put s ≡ q
     put_is = get_or-set_same e.peers s.0 q first_peer (let count = f.peers in omega arith)
 
-    came_is : fed_byte net rounds inverses s b e ≡ heard net rounds inverses s (cond (is_answered c.outstanding after.outstanding) Answered (unanswered_heard b c p (texts_to s e.said) h)) put
+    came_is : fed_byte net rounds inverses s b e ≡ heard_state net rounds inverses s (cond (is_answered c.outstanding after.outstanding) Answered (unanswered_heard b c p (texts_to s e.said) h)) put
     unfolding fed_byte
-    came_is = ap (λ (x : Heard). heard net rounds inverses s x put) (heard_is b c p (texts_to s e.said) h)
+    came_is = ap (λ (x : Heard). heard_state net rounds inverses s x put) (heard_is b c p (texts_to s e.said) h)
 
     abbrev more : List ℕ
     more = (g b c p (texts_to s e.said) h).more
@@ -196,8 +196,8 @@ module _ (net : Network) (rounds inverses : List (List Change)) where
       abbrev d_next : OnwardState
       d_next = with_channel s after d
 
-      d_is : one.fed rounds s (b ∷ []) d ≡ d_next
-      d_is = cond-false (is_answered c.outstanding after.outstanding) (one.made rounds s (with_channel s after d)) (with_channel s after d) none
+      d_is : one.driver_after_bytes rounds s (b ∷ []) d ≡ d_next
+      d_is = cond-false (is_answered c.outstanding after.outstanding) (one.made_driver rounds s (with_channel s after d)) (with_channel s after d) none
 
       -- these words are said
       worded : (words : List Said) (texts : List (List ℕ)) → texts_to s words ≡ texts → concat texts ≡ more → ((t : SwitchId) → s.0 ≢ t.0 → texts_to t words ≡ []) → events_in words ≡ []
@@ -210,23 +210,23 @@ module _ (net : Network) (rounds inverses : List (List Change)) where
       unworded : more ≡ [] → Follows d_next put
       unworded empty = subst (λ (l : List Said). Follows d_next (record put { said = l })) (append-nil e.said) (worded [] [] refl (sym empty) (λ t ne. refl) refl)
 
-      broken : (x : Session) → more ≡ [] → Follows d_next (heard net rounds inverses s (failure_in x) put)
+      broken : (x : Session) → more ≡ [] → Follows d_next (heard_state net rounds inverses s (failure_in x) put)
       broken Waiting empty = unworded empty
       broken Open empty = unworded empty
       broken (Failed why) empty = worded (Fails s why ∷ []) [] refl (sym empty) (λ t ne. refl) refl
 
-      opening : (is_open after.session && not (is_open c.session)) ≡ true → Follows d_next (opened net (asked_round rounds inverses e.stage) s put)
-      unfolding opened peer_after
+      opening : (is_open after.session && not (is_open c.session)) ≡ true → Follows d_next (opened_state net (asked_round rounds inverses e.stage) s put)
+      unfolding opened_state peer_after
       opening t =
           let (unasked, empty) = opened_none b c p (texts_to s e.said) h t in
           let none_asked : (peer_at put s).asked ≡ None = ap (λ (r : PeerState). r.asked) put_is ∙ unasked in
           subst (λ (o : Option ℕ). Follows d_next (option_map_or (λ x. sent_again net (asked_round rounds inverses e.stage) s x put) o put)) (sym none_asked) (unworded empty)
 
-      hears : Follows d_next (heard net rounds inverses s (unanswered_heard b c p (texts_to s e.said) h) put)
+      hears : Follows d_next (heard_state net rounds inverses s (unanswered_heard b c p (texts_to s e.said) h) put)
       hears =
           let x = p.channel.sent in
           let text = drop (length x) (x ++ more) in
-          let Hears : Heard → Type 0 = λ y. Follows d_next (heard net rounds inverses s y put) in
+          let Hears : Heard → Type 0 = λ y. Follows d_next (heard_state net rounds inverses s y put) in
           let quiet_heard = cond (is_failed c.session) Nothing (failure_in after.session) in
           let none_more = more_none b c p (texts_to s e.said) h in
           cond_both (is_open after.session && not (is_open c.session)) Opened (cond (ltb (length x) (length (x ++ more))) (Replied text) quiet_heard) Hears opening
@@ -243,31 +243,31 @@ module _ (net : Network) (rounds inverses : List (List Change)) where
       abbrev freed : DriverState
       freed = record e { peers = set e.peers s.0 free }
 
-      answered_is : (round : List Change) → answered round s put ≡ settled_if_answered (carried_out round s e.stage freed)
-      unfolding answered answers peer_after
+      answered_is : (round : List Change) → answered_state round s put ≡ settled_if_answered (carried_out round s e.stage freed)
+      unfolding answered_state answers peer_after
       answered_is round =
-          let More : ℕ → PeerState = λ x. record q { channel = asked [] x q.channel; behind = None } in
-          let End : Option ℕ → PeerState → DriverState = λ o r. cond (is_some o) (made round s (with_peer s r put)) (settled_if_answered (carried_out round s e.stage (with_peer s r put))) in
-          ap (λ (r : PeerState). End r.behind (option_map_or (λ x. record r { channel = asked [] x r.channel; behind = None }) r.behind (record r { asked = None }))) put_is
+          let More : ℕ → PeerState = λ x. record q { channel = after_request [] x q.channel; behind = None } in
+          let End : Option ℕ → PeerState → DriverState = λ o r. cond (is_some o) (made_state round s (with_peer s r put)) (settled_if_answered (carried_out round s e.stage (with_peer s r put))) in
+          ap (λ (r : PeerState). End r.behind (option_map_or (λ x. record r { channel = after_request [] x r.channel; behind = None }) r.behind (record r { asked = None }))) put_is
           ∙ ap (λ (o : Option ℕ). End o (option_map_or More o free)) h.behind
           ∙ ap (λ (l : List PeerState). settled_if_answered (carried_out round s e.stage (record e { peers = l }))) (set-set e.peers s.0 q free)
 
       abbrev logged_too : List Change → OnwardState
       logged_too round = record (with_channel s after d) { log = d.log ++ change_events s 0 round }
 
-      follows_made : (round : List Change) → Follows (logged_too round) (made round s freed)
-      unfolding made
+      follows_made : (round : List Change) → Follows (logged_too round) (made_state round s freed)
+      unfolding made_state
       follows_made round =
           let notes = change_notes s 0 round in
           follows_put d e f s within after free (logged_too round) (record freed { in_force = set e.in_force s.0 true; said = e.said ++ notes }) refl refl
           (subst (PeerAs after free) (sym (quiet s e.said notes (changes_quiet s s 0 round))) (peer_answered b c p (texts_to s e.said) h hit))
           (λ t ne. quiet t e.said notes (changes_quiet t s 0 round)) (more_events e.said notes d.log (change_events s 0 round) f.events (notes_are s 0 round)) refl refl refl
 
-      made_stage : (round : List Change) → (made round s freed).stage ≡ e.stage
-      unfolding made
+      made_stage : (round : List Change) → (made_state round s freed).stage ≡ e.stage
+      unfolding made_state
       made_stage round = refl
 
-      by_stage : (stage : Stage) → e.stage ≡ stage → Follows (one.made rounds s (with_channel s after d)) (answered (running_round rounds e.stage) s put)
+      by_stage : (stage : Stage) → e.stage ≡ stage → Follows (one.made_driver rounds s (with_channel s after d)) (answered_state (running_round rounds e.stage) s put)
       by_stage (Settled k) is =
           let (some, gone) = parts (is_some c.outstanding) after.outstanding hit in
           let none : c.outstanding ≡ None = none_at d.channels s.0 (sound.waits k (sym f.phase ∙ ap phase_of is)) in
@@ -275,22 +275,22 @@ module _ (net : Network) (rounds inverses : List (List Change)) where
       by_stage (Onward k) is =
           let round = round_after k rounds in
           let runs : worlds.running_round d.phase rounds ≡ round = ap (λ (y : Phase). worlds.running_round y rounds) (sym f.phase ∙ ap phase_of is) in
-          let to : answered (running_round rounds e.stage) s put ≡ settled_if_answered (made round s freed) =
-          ap (λ (y : Stage). answered (running_round rounds y) s put) is ∙ answered_is round ∙ ap (λ (y : Stage). settled_if_answered (carried_out round s y freed)) is in
-          let from : one.made rounds s (with_channel s after d) ≡ one.settled_if_answered (logged_too round) =
+          let to : answered_state (running_round rounds e.stage) s put ≡ settled_if_answered (made_state round s freed) =
+          ap (λ (y : Stage). answered_state (running_round rounds y) s put) is ∙ answered_is round ∙ ap (λ (y : Stage). settled_if_answered (carried_out round s y freed)) is in
+          let from : one.made_driver rounds s (with_channel s after d) ≡ one.settled_if_answered (logged_too round) =
           ap (λ l. one.settled_if_answered (logged_too l)) runs in
-          subst (λ (y : OnwardState). Follows y (answered (running_round rounds e.stage) s put)) (sym from)
-          (subst (Follows (one.settled_if_answered (logged_too round))) (sym to) (follows_settled (logged_too round) (made round s freed) k (made_stage round ∙ is) (follows_made round)))
+          subst (λ (y : OnwardState). Follows y (answered_state (running_round rounds e.stage) s put)) (sym from)
+          (subst (Follows (one.settled_if_answered (logged_too round))) (sym to) (follows_settled (logged_too round) (made_state round s freed) k (made_stage round ∙ is) (follows_made round)))
       by_stage (Undone k) is = absurd (subst IsOnward is f.onward)
 
-    byte_follows : Follows (one.fed rounds s (b ∷ []) d) (fed_byte net rounds inverses s b e)
+    byte_follows : Follows (one.driver_after_bytes rounds s (b ∷ []) d) (fed_byte net rounds inverses s b e)
     byte_follows =
-        let Came : Bool → DriverState = λ t. heard net rounds inverses s (cond t Answered (unanswered_heard b c p (texts_to s e.said) h)) put in
+        let Came : Bool → DriverState = λ t. heard_state net rounds inverses s (cond t Answered (unanswered_heard b c p (texts_to s e.said) h)) put in
         elim (cases_Bool (is_answered c.outstanding after.outstanding)) [
           | inl hit ↦ (
-              let d_is_made : one.fed rounds s (b ∷ []) d ≡ one.made rounds s (with_channel s after d) = cond-true (is_answered c.outstanding after.outstanding) (one.made rounds s (with_channel s after d)) (with_channel s after d) hit in
+              let d_is_made : one.driver_after_bytes rounds s (b ∷ []) d ≡ one.made_driver rounds s (with_channel s after d) = cond-true (is_answered c.outstanding after.outstanding) (one.made_driver rounds s (with_channel s after d)) (with_channel s after d) hit in
               subst (λ (y : OnwardState). Follows y (fed_byte net rounds inverses s b e)) (sym d_is_made)
-              (subst (Follows (one.made rounds s (with_channel s after d))) (sym (came_is ∙ ap Came hit)) (by_stage hit e.stage refl)))
+              (subst (Follows (one.made_driver rounds s (with_channel s after d))) (sym (came_is ∙ ap Came hit)) (by_stage hit e.stage refl)))
           | inr none ↦
               subst (λ (y : OnwardState). Follows y (fed_byte net rounds inverses s b e)) (sym (d_is none))
               (subst (Follows (with_channel s after d)) (sym (came_is ∙ ap Came none)) (hears none))
@@ -303,23 +303,23 @@ module _ (net : Network) (rounds inverses : List (List Change)) where
   set_same (x ∷ xs) zero = refl
   set_same (x ∷ xs) (suc i) = ap (λ l. x ∷ l) (set_same xs i)
 
-  no_bytes : (s : SwitchId) (d : OnwardState) → one.fed rounds s [] d ≡ d
+  no_bytes : (s : SwitchId) (d : OnwardState) → one.driver_after_bytes rounds s [] d ≡ d
   no_bytes s d =
       let c = channel_at d s in
-      cond-false (is_answered c.outstanding c.outstanding) (one.made rounds s (with_channel s c d)) (with_channel s c d) (never c.outstanding)
+      cond-false (is_answered c.outstanding c.outstanding) (one.made_driver rounds s (with_channel s c d)) (with_channel s c d) (never c.outstanding)
       ∙ ap (λ (l : List ChannelState). let r : OnwardState = record d { channels = l } in r) (set_same d.channels s.0)
     where
       never : (o : Option ℕ) → (is_some o && is_none o) ≡ false
       never None = refl
       never (Some n) = refl
 
-  fed_follows : (s : SwitchId) (bytes : List ℕ) (d : OnwardState) (e : DriverState) → s.0 < switch_count net → IsSound net rounds d → Follows d e → Follows (one.fed rounds s bytes d) (fed net rounds inverses s bytes e)
+  fed_follows : (s : SwitchId) (bytes : List ℕ) (d : OnwardState) (e : DriverState) → s.0 < switch_count net → IsSound net rounds d → Follows d e → Follows (one.driver_after_bytes rounds s bytes d) (state_after_bytes net rounds inverses s bytes e)
   fed_follows s [] d e within sound f = subst (λ (y : OnwardState). Follows y e) (sym (no_bytes s d)) f
   fed_follows s (b ∷ bytes) d e within sound f =
       let count = f.channels in
       let first = byte_follows s within b d e sound f in
-      subst (λ (y : OnwardState). Follows y (fed net rounds inverses s bytes (fed_byte net rounds inverses s b e))) (sym (fed-append rounds s (b ∷ []) bytes d (omega arith)))
-      (fed_follows s bytes (one.fed rounds s (b ∷ []) d) (fed_byte net rounds inverses s b e) within (sound_fed net rounds d s (b ∷ []) sound) first)
+      subst (λ (y : OnwardState). Follows y (state_after_bytes net rounds inverses s bytes (fed_byte net rounds inverses s b e))) (sym (fed-append rounds s (b ∷ []) bytes d (omega arith)))
+      (fed_follows s bytes (one.driver_after_bytes rounds s (b ∷ []) d) (fed_byte net rounds inverses s b e) within (sound_fed net rounds d s (b ∷ []) sound) first)
 
 -- ---- a round starts
 
@@ -410,22 +410,22 @@ module _ (net : Network) (rounds inverses : List (List Change)) (few : switch_co
     -- one switch, to which its messages are sent
     module _ (s : SwitchId) (c : ChannelState) (p : PeerState) (texts : List (List ℕ)) (seen : PeerAs c p texts) (free : c.outstanding ≡ None) where
       abbrev told_so : List Message → PeerState → List (List ℕ) → Type 0
-      told_so ms q more = PeerAs (told ms c) q (texts ++ more)
+      told_so ms q more = PeerAs (told_channel ms c) q (texts ++ more)
 
       unasked : (t : Bool) → told_so [] p (cond t [] [])
       unasked true = subst (PeerAs c p) (sym (append-nil texts)) seen
       unasked false = subst (PeerAs c p) (sym (append-nil texts)) seen
 
-      asked_so : (ms : List Message) (x : ℕ) → c.session ≡ Open → PeerAs (asked (flat_map wire_text ms) x c) (asks x p) (texts ++ map wire_text ms)
+      asked_so : (ms : List Message) (x : ℕ) → c.session ≡ Open → PeerAs (after_request (flat_map wire_text ms) x c) (asks x p) (texts ++ map wire_text ms)
       unfolding asks
       asked_so ms x is =
           let q : PeerState = record p { asked = Some x } in
           let open_now : is_open p.channel.session ≡ true = ap (λ (y : ChannelState). is_open y.session) seen.channel ∙ ap is_open is in
           let none : is_some p.channel.outstanding ≡ false = ap (λ (y : ChannelState). is_some y.outstanding) seen.channel ∙ ap is_some free in
-          let last : PeerState = record q { channel = asked [] x p.channel } in
+          let last : PeerState = record q { channel = after_request [] x p.channel } in
           let is_last : cond (is_open p.channel.session) (cond (is_some p.channel.outstanding) (record q { behind = Some x }) last) q ≡ last =
           cond-true (is_open p.channel.session) (cond (is_some p.channel.outstanding) (record q { behind = Some x }) last) q open_now ∙ cond-false (is_some p.channel.outstanding) (record q { behind = Some x }) last none in
-          subst (λ (r : PeerState). PeerAs (asked (flat_map wire_text ms) x c) r (texts ++ map wire_text ms)) (sym is_last) (record {
+          subst (λ (r : PeerState). PeerAs (after_request (flat_map wire_text ms) x c) r (texts ++ map wire_text ms)) (sym is_last) (record {
             channel = ap (λ (y : ChannelState). let r : ChannelState = record { session = y.session; unread = y.unread; sent = p.channel.sent ++ []; outstanding = Some x } in r) seen.channel;
             behind = seen.behind;
             asked = refl;
@@ -440,7 +440,7 @@ module _ (net : Network) (rounds inverses : List (List Change)) (few : switch_co
       is_told (d ∷ ds) ms are opens =
           let (x, is) = barrier_for (d ∷ ds) d ms (inl refl) are in
           let open_now = opens d ds refl in
-          let Told : Option ℕ → Session → Type 0 = λ o y. PeerAs (option_map_or (λ z. asked (flat_map wire_text ms) z c) o c) (option_map_or (λ z. asks z p) o p) (texts ++ cond (is_open y) (map wire_text ms) []) in
+          let Told : Option ℕ → Session → Type 0 = λ o y. PeerAs (option_map_or (λ z. after_request (flat_map wire_text ms) z c) o c) (option_map_or (λ z. asks z p) o p) (texts ++ cond (is_open y) (map wire_text ms) []) in
           subst (λ (o : Option ℕ). Told o c.session) (sym is) (subst (Told (Some x)) (sym open_now) (asked_so ms x open_now))
 
   -- a start is refused by both or by none
@@ -531,7 +531,7 @@ module _ (net : Network) (rounds inverses : List (List Change)) (few : switch_co
         not_false false e = absurd (let g : true ≡ false = e in cc)
 
     abbrev noted : DriverState
-    noted = flagged false (saying (Log logged.Start ∷ []) e)
+    noted = flagged_state false (with_said (Log logged.Start ∷ []) e)
 
     next_is_first : e.next ≡ first_xid net rounds k
     next_is_first = f.next ∙ ap (λ (p : Phase). first_xid net rounds (begun_count p)) settled_is
@@ -539,13 +539,13 @@ module _ (net : Network) (rounds inverses : List (List Change)) (few : switch_co
     abbrev sent : DriverState
     sent = sent_out net changes (Onward k) noted
 
-    sent_follows : Follows net rounds inverses (begun net rounds d) (sent_out net changes (Onward k) (flagged false (saying (Log logged.Start ∷ []) e)))
+    sent_follows : Follows net rounds inverses (begun net rounds d) (sent_out net changes (Onward k) (flagged_state false (with_said (Log logged.Start ∷ []) e)))
     unfolding sent_out
     sent_follows = record {
       channels = length-told (settled_count d.phase) 0 d.channels ∙ f.channels;
       peers = length-asked (xid_behind e.next (length changes)) changes 0 e.peers ∙ f.peers;
       onward = tt;
-      phase = sym (ap one.started settled_is);
+      phase = sym (ap one.started_phase settled_is);
       each = λ s within. (
           let c = channel_at d s in
           let p = peer_at e s in
@@ -555,9 +555,9 @@ module _ (net : Network) (rounds inverses : List (List Change)) (few : switch_co
           let ms_are = messages_are k less s in
           let place : 0 + s.0 ≡ s.0 = omega arith in
           let free : c.outstanding ≡ None = none_at d.channels s.0 (sound.waits k settled_is) in
-          let c_is : get_or (told_all net rounds (settled_count d.phase) 0 d.channels) s.0 first_channel ≡ told ms c =
+          let c_is : get_or (told_all net rounds (settled_count d.phase) 0 d.channels) s.0 first_channel ≡ told_channel ms c =
           ap (λ (q : Phase). get_or (told_all net rounds (settled_count q) 0 d.channels) s.0 first_channel) settled_is ∙ told_at net rounds k 0 d.channels s.0 first_channel (omega arith)
-          ∙ ap (λ (j : ℕ). told (messages_for net rounds k (switch_numbered j)) c) place ∙ ap (λ (l : List Message). told l c) ms_are in
+          ∙ ap (λ (j : ℕ). told_channel (messages_for net rounds k (switch_numbered j)) c) place ∙ ap (λ (l : List Message). told_channel l c) ms_are in
           let p_is : get_or (asked_from (xid_behind e.next (length changes)) changes 0 e.peers) s.0 first_peer ≡ option_map_or (λ x. asks x p) (barrier_in ms) p =
           ap (λ (y : ℕ). get_or (asked_from (xid_behind y (length changes)) changes 0 e.peers) s.0 first_peer) next_is_first ∙ asked_is k less e.peers s f.peers within in
           let words = (e.said ++ Log logged.Start ∷ []) ++ sends (is_to_open e.peers) (batch_of net e.next changes) in
@@ -570,14 +570,14 @@ module _ (net : Network) (rounds inverses : List (List Change)) (few : switch_co
           ∙ ap (λ (l : List (List ℕ)). cond (is_open c.session) l []) (batch_texts k less s)) in
           let told_too = is_told k less s c p (texts_to s e.said) seen free (changes_at s changes) ms (subst (AreFor (changes_at s changes)) ms_are (each_round net rounds k s drivable.plan)) (opens s within) in
           subst (λ (x : ChannelState). PeerAs x (get_or (asked_from (xid_behind e.next (length changes)) changes 0 e.peers) s.0 first_peer) (texts_to s words)) (sym c_is)
-          (subst (λ (x : PeerState). PeerAs (told ms c) x (texts_to s words)) (sym p_is)
-          (subst (PeerAs (told ms c) (option_map_or (λ x. asks x p) (barrier_in ms) p)) (sym texts_is) told_too)));
+          (subst (λ (x : PeerState). PeerAs (told_channel ms c) x (texts_to s words)) (sym p_is)
+          (subst (PeerAs (told_channel ms c) (option_map_or (λ x. asks x p) (barrier_in ms) p)) (sym texts_is) told_too)));
       events = silent_words (e.said ++ Log logged.Start ∷ []) (sends (is_to_open e.peers) (batch_of net e.next changes)) (d.log ++ event.Start ∷ [])
           (more_events e.said (Log logged.Start ∷ []) d.log (event.Start ∷ []) f.events refl) (sends_silent (is_to_open e.peers) (batch_of net e.next changes));
-      next = ap (λ (y : ℕ). xid_behind y (length (batch_of net y changes))) next_is_first ∙ batch_xid k less ∙ ap (first_xid net rounds) (sym (ap (λ (q : Phase). begun_count (one.started q)) settled_is));
+      next = ap (λ (y : ℕ). xid_behind y (length (batch_of net y changes))) next_is_first ∙ batch_xid k less ∙ ap (first_xid net rounds) (sym (ap (λ (q : Phase). begun_count (one.started_phase q)) settled_is));
     }
 
-    sent_stage : (sent_out net changes (Onward k) (flagged false (saying (Log logged.Start ∷ []) e))).stage ≡ Onward k
+    sent_stage : (sent_out net changes (Onward k) (flagged_state false (with_said (Log logged.Start ∷ []) e))).stage ≡ Onward k
     unfolding sent_out
     sent_stage = refl
 
@@ -613,7 +613,7 @@ module _ (net : Network) (rounds inverses : List (List Change)) (few : switch_co
         | inl granted ↦ subst (λ t. Both t t) (sym granted) (started_in net rounds e.stage e, refl, starts d e sound f (none_is net rounds (one.start_fault net rounds d) granted))
         | inr refused ↦ subst (λ t. Both t t) (sym refused) (e, refl, f)
       ])
-  call_follows d e (onward.Feed s bytes) ok sound f = (fed net rounds inverses s bytes e, refl, fed_follows net rounds inverses s bytes d e ok sound f)
+  call_follows d e (onward.Feed s bytes) ok sound f = (state_after_bytes net rounds inverses s bytes e, refl, fed_follows net rounds inverses s bytes d e ok sound f)
 
   calls_follow : (d : OnwardState) (w : DriverView) (calls : List onward.Call) → AllByRecursion (onward.IsCall net) calls → IsSound net rounds d → FollowsView d w
       → FollowsView (onward.after_calls net rounds d calls) (after_calls w (map two_way_call calls))

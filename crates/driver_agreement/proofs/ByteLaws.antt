@@ -5,7 +5,7 @@ use Rattle.std.proofs.lemmas.Bool.{cases_Bool}
 use Rattle.std.proofs.lemmas.List.{drop_at}
 use Rattle.openflow10.specs.Layout.{number_at}
 use Rattle.switch_session.specs.Fronts.{front_of, type_in, xid_in}
-use Rattle.switch_session.specs.Channels.{ChannelState, is_failed, failed, echo_reply, is_outstanding, answered, taken_open, taken_by, taken, acted, after_byte}
+use Rattle.switch_session.specs.Channels.{ChannelState, is_failed, after_failure, echo_reply, is_outstanding, after_reply, taken_open, taken_by, after_message, after_front, after_byte}
 use Rattle.switch_session.specs.Laws.{ReadsAll}
 use Rattle.switch_session.specs.declared.Cause.{Cause}
 use Rattle.switch_session.specs.declared.Cause.TheVariants as cause
@@ -59,9 +59,9 @@ module _ (c : ChannelState) where
   grows_kept a other same others session outstanding =
       grows_none a other same others (λ w. let was = sym session ∙ w in (was, outstanding was)) (λ o. inl (sym session ∙ o))
 
-  grows_failed : (cause : Cause) (base : ChannelState) (other : List ℕ → ChannelState) → base.sent ≡ c.sent → ((x : List ℕ) → other x ≡ with_sent (failed cause base) x) → Grows c (failed cause base) other
+  grows_failed : (cause : Cause) (base : ChannelState) (other : List ℕ → ChannelState) → base.sent ≡ c.sent → ((x : List ℕ) → other x ≡ with_sent (after_failure cause base) x) → Grows c (after_failure cause base) other
   grows_failed why base other same others =
-      grows_none (failed why base) other same others (λ w. let f : Failed why ≡ Waiting = w in absurd (cc)) (λ o. let f : Failed why ≡ Open = o in absurd (cc))
+      grows_none (after_failure why base) other same others (λ w. let f : Failed why ≡ Waiting = w in absurd (cc)) (λ o. let f : Failed why ≡ Open = o in absurd (cc))
 
   module _ (m u : List ℕ) (none : u ≡ []) where
     abbrev base : ChannelState
@@ -70,22 +70,22 @@ module _ (c : ChannelState) where
     abbrev base_of : List ℕ → ChannelState
     base_of x = with_sent base x
 
-    grows_answered : (xid : ℕ) → c.session ≡ Open → Grows c (answered xid base) (λ x. answered xid (base_of x))
+    grows_answered : (xid : ℕ) → c.session ≡ Open → Grows c (after_reply xid base) (λ x. after_reply xid (base_of x))
     grows_answered xid is =
-        elim (is_outstanding xid c.outstanding) as (λ b. Grows c (cond b (record base { outstanding = None }) (failed (cause.Xid xid) base)) (λ x. cond b (record (base_of x) { outstanding = None }) (failed (cause.Xid xid) (base_of x)))) [
+        elim (is_outstanding xid c.outstanding) as (λ b. Grows c (cond b (record base { outstanding = None }) (after_failure (cause.Xid xid) base)) (λ x. cond b (record (base_of x) { outstanding = None }) (after_failure (cause.Xid xid) (base_of x)))) [
           | true ↦ grows_kept (record base { outstanding = None }) (λ x. record (base_of x) { outstanding = None }) refl (λ x. refl) refl (λ w. let f : Waiting ≡ Open = sym w ∙ is in absurd (cc))
-          | false ↦ grows_failed (cause.Xid xid) base (λ x. failed (cause.Xid xid) (base_of x)) refl (λ x. refl)
+          | false ↦ grows_failed (cause.Xid xid) base (λ x. after_failure (cause.Xid xid) (base_of x)) refl (λ x. refl)
         ]
 
     grows_open : c.session ≡ Open → Grows c (taken_open m base) (λ x. taken_open m (base_of x))
     grows_open is =
         let why = cause.Error (number_at 8 2 m) (number_at 10 2 m) in
         let echo : ChannelState → ChannelState = λ ch. record ch { sent = ch.sent ++ echo_reply m } in
-        elim (eqb (type_in m) 1) as (λ b. Grows c (cond b (failed why base) (cond (eqb (type_in m) 2) (echo base) (cond (eqb (type_in m) 19) (answered (xid_in m) base) base)))
-        (λ x. cond b (failed why (base_of x)) (cond (eqb (type_in m) 2) (echo (base_of x)) (cond (eqb (type_in m) 19) (answered (xid_in m) (base_of x)) (base_of x))))) [
-          | true ↦ grows_failed why base (λ x. failed why (base_of x)) refl (λ x. refl)
-          | false ↦ elim (eqb (type_in m) 2) as (λ b. Grows c (cond b (echo base) (cond (eqb (type_in m) 19) (answered (xid_in m) base) base))
-              (λ x. cond b (echo (base_of x)) (cond (eqb (type_in m) 19) (answered (xid_in m) (base_of x)) (base_of x)))) [
+        elim (eqb (type_in m) 1) as (λ b. Grows c (cond b (after_failure why base) (cond (eqb (type_in m) 2) (echo base) (cond (eqb (type_in m) 19) (after_reply (xid_in m) base) base)))
+        (λ x. cond b (after_failure why (base_of x)) (cond (eqb (type_in m) 2) (echo (base_of x)) (cond (eqb (type_in m) 19) (after_reply (xid_in m) (base_of x)) (base_of x))))) [
+          | true ↦ grows_failed why base (λ x. after_failure why (base_of x)) refl (λ x. refl)
+          | false ↦ elim (eqb (type_in m) 2) as (λ b. Grows c (cond b (echo base) (cond (eqb (type_in m) 19) (after_reply (xid_in m) base) base))
+              (λ x. cond b (echo (base_of x)) (cond (eqb (type_in m) 19) (after_reply (xid_in m) (base_of x)) (base_of x)))) [
                 | true ↦ record {
                   more = echo_reply m;
                   sent = refl;
@@ -94,7 +94,7 @@ module _ (c : ChannelState) where
                   waits = λ w. let f : Waiting ≡ Open = sym w ∙ is in absurd (cc);
                   opens = λ o. inl o;
                 }
-                | false ↦ elim (eqb (type_in m) 19) as (λ b. Grows c (cond b (answered (xid_in m) base) base) (λ x. cond b (answered (xid_in m) (base_of x)) (base_of x))) [
+                | false ↦ elim (eqb (type_in m) 19) as (λ b. Grows c (cond b (after_reply (xid_in m) base) base) (λ x. cond b (after_reply (xid_in m) (base_of x)) (base_of x))) [
                   | true ↦ grows_answered (xid_in m) is
                   | false ↦ grows_kept base base_of refl (λ x. refl) refl (λ w. refl)
                 ]
@@ -103,24 +103,24 @@ module _ (c : ChannelState) where
 
     grows_by : (s : Session) → c.session ≡ s → Grows c (taken_by s m base) (λ x. taken_by s m (base_of x))
     grows_by Waiting is =
-        elim (eqb (type_in m) 0) as (λ b. Grows c (cond b (record base { session = Open }) (failed cause.NoHello base)) (λ x. cond b (record (base_of x) { session = Open }) (failed cause.NoHello (base_of x)))) [
+        elim (eqb (type_in m) 0) as (λ b. Grows c (cond b (record base { session = Open }) (after_failure cause.NoHello base)) (λ x. cond b (record (base_of x) { session = Open }) (after_failure cause.NoHello (base_of x)))) [
           | true ↦ grows_none (record base { session = Open }) (λ x. record (base_of x) { session = Open }) refl (λ x. refl) (λ w. let f : Open ≡ Waiting = w in absurd (cc)) (λ o. inr (is, refl))
-          | false ↦ grows_failed cause.NoHello base (λ x. failed cause.NoHello (base_of x)) refl (λ x. refl)
+          | false ↦ grows_failed cause.NoHello base (λ x. after_failure cause.NoHello (base_of x)) refl (λ x. refl)
         ]
     grows_by Open is = grows_open is
     grows_by (Failed why) is = grows_kept base base_of refl (λ x. refl) refl (λ w. refl)
 
-    grows_taken : Grows c (taken m base) (λ x. taken m (base_of x))
-    unfolding taken
+    grows_taken : Grows c (after_message m base) (λ x. after_message m (base_of x))
+    unfolding after_message
     grows_taken = grows_by c.session refl
 
 module _ (b : ℕ) (c : ChannelState) (reads : ReadsAll c) where
   abbrev come : List ℕ
   come = c.unread ++ b ∷ []
 
-  by_front : is_failed c.session ≡ false → (f : Front) → front_of come ≡ f → Grows c (acted f (with_unread c come)) (λ x. acted f (with_sent (with_unread c come) x))
+  by_front : is_failed c.session ≡ false → (f : Front) → front_of come ≡ f → Grows c (after_front f (with_unread c come)) (λ x. after_front f (with_sent (with_unread c come) x))
   by_front going Short at = grows_kept c (with_unread c come) (λ x. with_sent (with_unread c come) x) refl (λ x. refl) refl (λ w. refl)
-  by_front going (Fault why) at = grows_failed c why (with_unread c come) (λ x. failed why (with_sent (with_unread c come) x)) refl (λ x. refl)
+  by_front going (Fault why) at = grows_failed c why (with_unread c come) (λ x. after_failure why (with_sent (with_unread c come) x)) refl (λ x. refl)
   by_front going (Message n) at =
       grows_taken c (take n come) (drop n come) (ap (drop n) (sym (append-nil come)) ∙ drop_at come [] n (message_ends c.unread b n (reads going) at))
 

@@ -13,7 +13,7 @@ use Rattle.command_base.specs.Answers.{Answer}
 use Rattle.command_base.specs.Names.{PlanNames}
 use Rattle.command_base.specs.Readings.{reading_plan_files}
 use Rattle.command_base.specs.Updates.{FilesMeanOnePlan}
-use Rattle.command_base.specs.Runs.{IsSettled, Answered}
+use Rattle.command_base.specs.Runs.{IsComplete, Answered}
 use Rattle.command_base.proofs.MeaningLaws.{plan_files_meant}
 use Rattle.command_base.proofs.AnswerLaws.{SaysOfFiles, says_of_files, done_means, wrote, status_of, text_of}
 use Rattle.command_base.proofs.RunLaws.{settled_done}
@@ -44,9 +44,9 @@ carried net rounds own_texts is few_rounds few_changes h =
       each = λ k s. each_round net rounds k s h;
     }
 
-pub promised : (files : Files) (names : PlanNames) (old new : Option (List ℕ)) (result : Status) → (IsSettled result → Answered IsEmitAnswer files (reading_plan_files names) old new result) → EmitPromise files names old new result
+pub promised : (files : Files) (names : PlanNames) (old new : Option (List ℕ)) (result : Status) → (IsComplete result → Answered IsEmitAnswer files (reading_plan_files names) old new result) → EmitPromise files names old new result
 promised files names old new result answered =
-    let says : IsSettled result → SaysOfFiles (FilesMeanOnePlan files names) IsEmitAnswer old new result = λ settled. says_of_files (plan_files_meant files names) (answered settled) in
+    let says : IsComplete result → SaysOfFiles (FilesMeanOnePlan files names) IsEmitAnswer old new result = λ settled. says_of_files (plan_files_meant files names) (answered settled) in
     record {
       done = λ settled. done_means (says settled) (λ m v. status_of _ _ _ v.answer_is);
       lines = λ m mean is. let r = says (settled_done _ is) in wrote r _ (text_of r.answer _ _ (r.said m mean).answer_is);

@@ -6,14 +6,14 @@ use Rattle.command_base.specs.declared.status.Status.{Status}
 use Rattle.command_base.specs.declared.status.Status.TheVariants as status
 use Rattle.command_base.specs.Names.{PlanNames}
 use Rattle.command_base.specs.Updates.{PlanMeaning, FilesMeanOnePlan}
-use Rattle.command_base.specs.Runs.{IsSettled}
+use Rattle.command_base.specs.Runs.{IsComplete}
 use Rattle.emit_command.specs.Lines.{emit_text}
 use Rattle.emit_command.specs.ReadBack.{ReadsBack}
 
 -- the files and their names, what was written before and after the run, and how it ended
 pub record EmitPromise (files : Files) (names : PlanNames) (old new : Option (List ℕ)) (result : Status) : Type 0 where
   -- Done comes exactly where both files are read.
-  pub done : IsSettled result → ((result ≡ status.Done) ↔ ((m : PlanMeaning) × FilesMeanOnePlan files names m))
+  pub done : IsComplete result → ((result ≡ status.Done) ↔ ((m : PlanMeaning) × FilesMeanOnePlan files names m))
   -- What is written then is one line for each message of the plan.
   pub lines : (m : PlanMeaning) → FilesMeanOnePlan files names m → result ≡ status.Done → Appends old new (emit_text m.net m.plan.rounds)
   -- Read back, these lines are the plan's rounds, switch by switch.

@@ -12,7 +12,7 @@ use Rattle.check_reasons.specs.Positions.{position_count}
 use Rattle.mixed_walks.specs.Walks.{WalkState}
 
 -- the steps and the switches where a packet may leave are those of switches below a count
-pub record AreWithin (count : ℕ) (noted : WalkState) : Type 0 where
+pub record AreStepsBelow (count : ℕ) (noted : WalkState) : Type 0 where
   pub steps : All (λ e. (e.from.0 < count) × (e.to.0 < count)) noted.steps
   pub leaving : All (λ s. s.0 < count) noted.leaving
 

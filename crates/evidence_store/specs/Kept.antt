@@ -8,7 +8,7 @@ use Rattle.evidence_store.specs.declared.EvidenceStore.TheInside.{Inside}
 
 -- nothing stands twice, the keys are those of the evidence, the use in force of each class is at hand, and the picks are of
 -- these classes, at most 8192
-pub record IsKept (s : Inside) : Type 0 where
+pub record IsStoreKept (s : Inside) : Type 0 where
   pub stored : IsStored s.evidence
   pub keys : AreKeysOf s.keys s.evidence
   pub in_force : AreInForce s.evidence.picks s.in_force.items

@@ -5,7 +5,7 @@ ghost use Rattle.dest_classes.specs.Classes.{class_count};
 ghost use Rattle.dest_classes.specs.Numbered.{IsNumbered};
 ghost use Rattle.demands.specs.Duties.{ClassDuties, duties_of};
 ghost use Rattle.demands.specs.OfClass.{HaveSameDuties};
-ghost use Rattle.evidence_store.specs.Guards.{AreWithin, AreGuardsFound};
+ghost use Rattle.evidence_store.specs.Guards.{AreStepsBelow, AreGuardsFound};
 ghost use Rattle.evidence_store.specs.Last.{HoldsLast};
 
 use crate::least::least_befores;
@@ -179,7 +179,7 @@ impl LastSets {
         requires number { numbered.number < class_count duties.now.classes }
         requires class { IsNumbered duties.now.classes numbered }
         requires entry { numbered.class.entry.switch.0 < switch_count net.now }
-        requires within { AreWithin (switch_count net.now) walk.now }
+        requires within { AreStepsBelow (switch_count net.now) walk.now }
         requires last { HoldsLast net.now duties.now self.old }
         ensures found { IfOk result
             (AreGuardsFound net.now numbered.class.entry.switch walk.now

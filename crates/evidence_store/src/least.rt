@@ -7,7 +7,7 @@ ghost use Rattle.dest_classes.specs.Classes.{class_count};
 ghost use Rattle.demands.specs.Duties.{duties_of};
 ghost use Rattle.certificates.specs.Valid.{IsChain};
 ghost use Rattle.dest_classes.specs.Numbered.{IsNumbered};
-ghost use Rattle.evidence_store.specs.Guards.{AreWithin, IsGuardFound, IsChainFound, AreGuardsFound, if_all};
+ghost use Rattle.evidence_store.specs.Guards.{AreStepsBelow, IsGuardFound, IsChainFound, AreGuardsFound, if_all};
 
 use certificates::Befores;
 use demands::Duties;
@@ -36,7 +36,7 @@ fn least_guard(
     earlier: Option<&Before>,
 ) -> Result<Option<Before>, Memory>
     requires start { start.0 < switch_count net.now }
-    requires within { AreWithin (switch_count net.now) walk.now }
+    requires within { AreStepsBelow (switch_count net.now) walk.now }
     ensures { IfOk result
         (IsGuardFound net.now start walk.now waypoint (option_copied earlier.entry)) }
 {
@@ -82,7 +82,7 @@ fn add_chain(
     befores: &mut Befores,
 ) -> Result<bool, Memory>
     requires start { start.0 < switch_count net.now }
-    requires within { AreWithin (switch_count net.now) walk.now }
+    requires within { AreStepsBelow (switch_count net.now) walk.now }
     ensures { IfOk result (IsChainFound net.now start walk.now chain.now befores.old befores.new) }
 {
     for (place, waypoint) in chain.iter().enumerate() {
@@ -107,7 +107,7 @@ fn add_chains(
     requires number { numbered.number < class_count duties.now.classes }
     requires class { IsNumbered duties.now.classes numbered }
     requires entry { numbered.class.entry.switch.0 < switch_count net.now }
-    requires within { AreWithin (switch_count net.now) walk.now }
+    requires within { AreStepsBelow (switch_count net.now) walk.now }
     requires none { befores.old ≡ [] }
     ensures { IfOk result
         (λ all. AreGuardsFound net.now numbered.class.entry.switch walk.now
@@ -136,7 +136,7 @@ pub(crate) fn least_befores(
     requires number { numbered.number < class_count duties.now.classes }
     requires class { IsNumbered duties.now.classes numbered }
     requires entry { numbered.class.entry.switch.0 < switch_count net.now }
-    requires within { AreWithin (switch_count net.now) walk.now }
+    requires within { AreStepsBelow (switch_count net.now) walk.now }
     ensures { IfOk result
         (AreGuardsFound net.now numbered.class.entry.switch walk.now
         (duties_of duties.now.demands numbered.class.entry numbered.class.first).chains) }

@@ -48,9 +48,9 @@ impl Model for EvidenceStore {
 
     ghost view = { λ s. record { evidence = s.evidence; classes = length s.in_force.items } };
 
-    ghost use Rattle.evidence_store.specs.Kept.{IsKept};
+    ghost use Rattle.evidence_store.specs.Kept.{IsStoreKept};
 
-    ghost invariant = { IsKept };
+    ghost invariant = { IsStoreKept };
 }
 
 /// Evidence of no picks.

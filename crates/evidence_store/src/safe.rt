@@ -9,7 +9,7 @@ ghost use Rattle.demands.specs.Duties.{duties_of};
 ghost use Rattle.certificates.specs.Ordered.{chain_positions, positions};
 ghost use Rattle.dest_classes.specs.Numbered.{IsNumbered};
 ghost use Rattle.check_reasons.specs.Positions.{position_count, sets_of};
-ghost use Rattle.evidence_store.specs.Guards.{AreWithin, IsGuarded};
+ghost use Rattle.evidence_store.specs.Guards.{AreStepsBelow, IsGuarded};
 
 use acyclic_numbering::{Edge, Numbering, lowers};
 use check_reasons::{earlier_set, from_place, set_at};
@@ -57,7 +57,7 @@ fn guards_chain(
     indices: &[u64],
 ) -> bool
     requires start { start.0 < 128 }
-    requires within { AreWithin 128 walk.now }
+    requires within { AreStepsBelow 128 walk.now }
     requires indices { All (λ i. i < length befores.now) indices.now }
     requires enough { length chain.now ≤ length indices.now }
     ensures { IsTrue result
@@ -85,7 +85,7 @@ pub(crate) fn guards_all(
     requires number { numbered.number < class_count duties.now.classes }
     requires class { IsNumbered duties.now.classes numbered }
     requires start { numbered.class.entry.switch.0 < 128 }
-    requires within { AreWithin 128 walk.now }
+    requires within { AreStepsBelow 128 walk.now }
     requires indices { All (λ i. i < length befores.now) indices.now }
     requires count { length indices.now
         ≡ position_count

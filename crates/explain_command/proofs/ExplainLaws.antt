@@ -5,7 +5,7 @@ use Rattle.std.specs.Io.KnownBytes.{Appends}
 use Rattle.file_access.specs.Outside.{Files}
 use Rattle.command_base.specs.declared.status.Status.{Status}
 use Rattle.command_base.specs.declared.status.Status.TheVariants as status
-use Rattle.command_base.specs.Runs.{IsSettled, Answered}
+use Rattle.command_base.specs.Runs.{IsComplete, Answered}
 use Rattle.command_base.proofs.AnswerLaws.{texts_same, first_byte}
 use Rattle.command_base.proofs.JudgementLaws.{judges, judged_done, judged_then, refusals}
 use Rattle.command_base.proofs.RunLaws.{settled_done}
@@ -65,7 +65,7 @@ module _ (files : Files) (names : CheckNames) (old new : Option (List ℕ)) (res
     | inr none ↦ none.none
   ]
 
-pub promised : (files : Files) (names : CheckNames) (old new : Option (List ℕ)) (result : Status) → (IsSettled result → Answered IsExplainAnswer files (check_dialogue names) old new result) → ExplainPromise files names old new result
+pub promised : (files : Files) (names : CheckNames) (old new : Option (List ℕ)) (result : Status) → (IsComplete result → Answered IsExplainAnswer files (check_dialogue names) old new result) → ExplainPromise files names old new result
 promised files names old new result answered = record {
   done = λ settled. judged_done (judges (check_meant files names) (answered settled));
   run = λ m mean is. run files names old new result (answered (settled_done _ is)) is m mean;

@@ -9,7 +9,7 @@ use Rattle.update_model.specs.declared.Event.TheVariants as event
 use Rattle.certificates.specs.Updates.{Task, rollout}
 use Rattle.certificates.specs.Certified.{classes_for}
 use Rattle.schedule_replay.specs.EventTexts.{schedule_text}
-use Rattle.schedule_replay.specs.Schedules.{schedule_in, numbered, events_of}
+use Rattle.schedule_replay.specs.Schedules.{schedule_in, numbered_lines, events_of}
 use Rattle.counter_run.specs.Explaining.{IsFirstBreakingRun}
 use Rattle.counter_run.specs.Showing.{whole_rounds}
 use Rattle.command_base.proofs.AnswerLaws.{first_byte}
@@ -21,12 +21,12 @@ both (Ok v) P Q R p q f = f v p q
 both (Err e) P Q R p q f = tt
 
 -- the events in numbered lines
-events_numbered : (n : ℕ) (events : List Event) → events_of (numbered n events) ≡ events
+events_numbered : (n : ℕ) (events : List Event) → events_of (numbered_lines n events) ≡ events
 events_numbered n [] = refl
 events_numbered n (e ∷ events) = ap (λ (es : List Event). e ∷ es) (events_numbered (suc n) events)
 
 pub breaking_of : (t : Task) (events : List Event) → IsFirstBreakingRun (rollout t) (classes_for t) t.update.demands events → (text : List ℕ) → text ≡ schedule_text t.update.net events
-    → schedule_in t.update.net text ≡ Ok (numbered 1 events) → IsBreakingSchedule t text
+    → schedule_in t.update.net text ≡ Ok (numbered_lines 1 events) → IsBreakingSchedule t text
 breaking_of t events first text text_is means =
     let same = sym (events_numbered 1 events) in
     record {

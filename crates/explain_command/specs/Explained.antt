@@ -14,7 +14,7 @@ use Rattle.check_reasons.specs.declared.reason.Reason.{Reason}
 use Rattle.round_tables.specs.Sound.{IsFirstRoundReason}
 use Rattle.plan_checker.specs.Checking.{EndsAreGood}
 use Rattle.schedule_replay.specs.EventTexts.{schedule_text}
-use Rattle.schedule_replay.specs.Schedules.{schedule_in, numbered, events_of}
+use Rattle.schedule_replay.specs.Schedules.{schedule_in, numbered_lines, events_of}
 use Rattle.counter_run.specs.Explaining.{ClassBreaks, NoneBreaks, IsFirstBreakingRun}
 use Rattle.counter_run.specs.Showing.{HasGoodTrace}
 use Rattle.command_base.specs.Answers.{Answer}
@@ -57,12 +57,12 @@ pub record IsBreakingSchedule (t : Task) (text : List ℕ) : Type 0 where
   pub first : IsFirstBreakingRun (rollout t) (classes_for t) t.update.demands events
   -- the text is its events, a line each; read as a schedule it means these events
   pub text_is : text ≡ schedule_text t.update.net events
-  pub means : schedule_in t.update.net text ≡ Ok (numbered 1 events)
+  pub means : schedule_in t.update.net text ≡ Ok (numbered_lines 1 events)
   -- what is read can be replayed whole
-  pub replayed : IsRun (rollout t) (events_of (numbered 1 events))
+  pub replayed : IsRun (rollout t) (events_of (numbered_lines 1 events))
   -- there is one packet in the end, whose trace isn't good for its duties
   pub packet : Packet
-  pub only : (state_after_run (rollout t) (events_of (numbered 1 events))).packets ≡ packet ∷ []
+  pub only : (state_after_run (rollout t) (events_of (numbered_lines 1 events))).packets ≡ packet ∷ []
   pub broken : ¬ HasGoodTrace t.update.demands packet
 
 -- the text says that no class breaks in any round

@@ -5,7 +5,7 @@ use Rattle.file_access.specs.Outside.{Files}
 use Rattle.command_base.specs.declared.status.Status.{Status}
 use Rattle.command_base.specs.declared.status.Status.TheVariants as status
 use Rattle.command_base.specs.JudgedFiles.{FilesAreGood, RefusalPromise}
-use Rattle.command_base.specs.Runs.{IsSettled}
+use Rattle.command_base.specs.Runs.{IsComplete}
 use Rattle.check_base.specs.Names.{CheckNames}
 use Rattle.check_base.specs.Checks.{CheckMeaning, FilesMeanPlan, check_count, task_in}
 use Rattle.explain_command.specs.Explained.{CanBeExplained, IsCauseLine, SomethingBreaks, NothingBreaks, WritesBreakingRun, WritesNothingBreaks, nothing_line}
@@ -14,7 +14,7 @@ use Rattle.explain_command.specs.Explained.{CanBeExplained, IsCauseLine, Somethi
 pub record ExplainPromise (files : Files) (names : CheckNames) (old new : Option (List ℕ)) (result : Status) : Type 0 where
   -- Done comes exactly where the five files mean an update and an ordered plan of it, with at most 8192 classes, where both
   -- configurations have good paths for each class, and every round is good and clear.
-  pub done : IsSettled result → ((result ≡ status.Done) ↔ FilesAreGood (FilesMeanPlan files names) check_count CanBeExplained)
+  pub done : IsComplete result → ((result ≡ status.Done) ↔ FilesAreGood (FilesMeanPlan files names) check_count CanBeExplained)
   -- Then either the schedule of a run was written that `replay` carries out, and at whose end a packet breaks its duties; or the line that
   -- every mixed walk is good, and no class breaks in any round.
   pub run : (m : CheckMeaning) → FilesMeanPlan files names m → result ≡ status.Done → WritesBreakingRun m old new ⊎ WritesNothingBreaks m old new

@@ -14,7 +14,7 @@ drawer_of a = record {
 }
 
 -- there is memory for all that it holds
-pub record HasRoom (a : Inside) : Type 0 where
+pub record HasRoomInside (a : Inside) : Type 0 where
   pub piece : 1 ≤ a.piece
   pub reserved : a.room ≤ vec_capacity a.bytes
   pub within : vec_len a.bytes ≤ a.room

@@ -5,7 +5,7 @@ use Rattle.std.specs.Option.{option_map}
 use Rattle.std.specs.List.{list_any}
 use Rattle.std.specs.Map.{lookup}
 use Rattle.std.specs.Str.{bytes_eq}
-use Rattle.file_access.specs.Causes.{raised}
+use Rattle.file_access.specs.Causes.{raised_count}
 
 pub record Shelf : Type 0 where
   -- the most bytes that a take gives
@@ -30,7 +30,7 @@ file_of files name = lookup (λ n. bytes_eq n name) files
 
 -- the next call is one of those that fail
 abbrev pub fails_next : List ℕ → ℕ → Bool
-fails_next failing calls = list_any (λ n. n == raised calls 1) failing
+fails_next failing calls = list_any (λ n. n == raised_count calls 1) failing
 
 -- the name of the file that the name finds, empty where it finds none
 abbrev pub found_name : List (List ℕ × List ℕ) → List ℕ → List ℕ
@@ -40,20 +40,20 @@ found_name files name = if is_some (file_of files name) then name else []
 abbrev pub after_select : Shelf → List ℕ → Shelf
 after_select s name =
     if fails_next s.failing s.calls
-    then record s { name = []; left = None; taken = 0; calls = raised s.calls 1; faults = raised s.faults 1 }
-    else record s { name = found_name s.files name; left = file_of s.files name; taken = 0; calls = raised s.calls 1 }
+    then record s { name = []; left = None; taken = 0; calls = raised_count s.calls 1; faults = raised_count s.faults 1 }
+    else record s { name = found_name s.files name; left = file_of s.files name; taken = 0; calls = raised_count s.calls 1 }
 
 -- how many bytes a take into so much room gives
-abbrev pub given : Shelf → ℕ → ℕ
-given s room = min (min s.piece room) (length (unwrap_or s.left []))
+abbrev pub given_count : Shelf → ℕ → ℕ
+given_count s room = min (min s.piece room) (length (unwrap_or s.left []))
 
 -- after a take into so much room
 abbrev pub taken_from : Shelf → ℕ → Shelf
 taken_from s room =
     if fails_next s.failing s.calls
-    then record s { calls = raised s.calls 1; faults = raised s.faults 1 }
-    else record s { left = option_map (drop (given s room)) s.left; taken = raised s.taken (given s room); calls = raised s.calls 1 }
+    then record s { calls = raised_count s.calls 1; faults = raised_count s.faults 1 }
+    else record s { left = option_map (drop (given_count s room)) s.left; taken = raised_count s.taken (given_count s room); calls = raised_count s.calls 1 }
 
 -- with one file more
-abbrev pub shelved : Shelf → List ℕ → List ℕ → Shelf
-shelved s name bytes = record s { files = s.files ++ (name, bytes) ∷ [] }
+abbrev pub with_file : Shelf → List ℕ → List ℕ → Shelf
+with_file s name bytes = record s { files = s.files ++ (name, bytes) ∷ [] }

@@ -2,11 +2,11 @@
 ghost use Rattle.std.specs.Prelude.{◌≡◌, ◌⊎◌, ◌↔◌, ◌≤◌, ◌<◌, [], None, Some, length, take, drop, IsTrue, IsOk, IsErr, IfOk, OnOk, OnErr, unwrap_or, string_bytes, is_some, map, min};
 ghost use Rattle.std.specs.Option.{option_map};
 ghost use Rattle.std.specs.Io.KnownBytes.{Keeps, Consumes, Appends, IsAtEnd};
-ghost use Rattle.file_access.specs.Causes.{Rose, raised};
+ghost use Rattle.file_access.specs.Causes.{Rose, raised_count};
 ghost use Rattle.file_access.specs.Outside.{IsMissing, Opens};
-ghost use Rattle.file_access.specs.Shelf.{file_of, fails_next, found_name, after_select, given, taken_from, shelved};
+ghost use Rattle.file_access.specs.Shelf.{file_of, fails_next, found_name, after_select, given_count, taken_from, with_file};
 ghost use Rattle.file_access.specs.Stored.{pair_of, left_of, name_of, IsWithin};
-ghost use Rattle.file_access.specs.Drawer.{refuses, accepted, put_into};
+ghost use Rattle.file_access.specs.Drawer.{refuses, accepted_count, put_into};
 
 use crate::{Failed, Sink, Source};
 use net_base::Memory;
@@ -79,7 +79,7 @@ impl MemorySource {
     /// One file more, by a name that none has yet. Err says that memory was wanting; it then holds what it held.
     pub fn add(&mut self, name: String, bytes: Vec<u8>) -> Result<(), Memory>
         requires { file_of self.old.files (string_bytes name) ≡ None }
-        ensures ok { OnOk result (self.new ≡ shelved self.old (string_bytes name) bytes.items) }
+        ensures ok { OnOk result (self.new ≡ with_file self.old (string_bytes name) bytes.items) }
         ensures err { OnErr result (self.new ≡ self.old) }
     {
         self.files.push(StoredFile { name, bytes })?;
@@ -163,7 +163,7 @@ impl Source for MemorySource {
         requires { 0 < length buf.old }
         ensures exact { self.new ≡ taken_from self.old (length buf.old) }
         ensures failed { IsErr result ↔ IsTrue (fails_next self.old.failing self.old.calls) }
-        ensures count { IfOk result (λ n. n ≡ given self.old (length buf.old)) }
+        ensures count { IfOk result (λ n. n ≡ given_count self.old (length buf.old)) }
         ensures bytes { IfOk result (λ n. take n buf.new ≡ take n (unwrap_or self.old.left [])) }
         ensures end { IfOk result (λ n. n ≡ 0 → IsAtEnd self.old.left) }
         ensures later { self.old.faults ≤ self.new.faults }
@@ -198,11 +198,11 @@ impl Model for MemorySink {
 
     ghost Value = { Drawer };
 
-    ghost use Rattle.file_access.specs.Filled.{drawer_of, HasRoom};
+    ghost use Rattle.file_access.specs.Filled.{drawer_of, HasRoomInside};
 
     ghost view = { drawer_of };
 
-    ghost invariant = { HasRoom };
+    ghost invariant = { HasRoomInside };
 }
 
 impl MemorySink {
@@ -251,7 +251,7 @@ impl Sink for MemorySink {
         requires { 0 < length bytes.now }
         ensures exact { self.new ≡ put_into self.old bytes.now }
         ensures failed { IsErr result ↔ IsTrue (refuses self.old) }
-        ensures count { IfOk result (λ n. n ≡ accepted self.old (length bytes.now)) }
+        ensures count { IfOk result (λ n. n ≡ accepted_count self.old (length bytes.now)) }
         ensures some { IfOk result (λ n. 0 < n) }
         ensures later { self.old.faults ≤ self.new.faults }
     {

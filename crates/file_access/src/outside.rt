@@ -2,7 +2,7 @@
 ghost use Rattle.std.specs.Prelude.{◌≡◌, ◌⊎◌, ◌↔◌, ℕ, ◌+◌, ◌<◌, ◌≤◌, List, Bool, length, take, IsTrue, IsOk, IsErr, IfOk, OnOk, OnErr};
 ghost use Rattle.std.specs.declared.option.Option.{Option};
 ghost use Rattle.std.specs.Io.KnownBytes.{Keeps, Consumes, Appends, IsAtEnd};
-ghost use Rattle.file_access.specs.Causes.{Rose, raised};
+ghost use Rattle.file_access.specs.Causes.{Rose, raised_count};
 ghost use Rattle.file_access.specs.Outside.{Files, IsMissing, Opens};
 
 /// The outside refused.
@@ -49,7 +49,7 @@ pub trait Source {
         ensures current { is_current self.new ≡ is_current self.old }
         ensures selected { selected self.new ≡ selected self.old }
         ensures bound { IfOk result (λ n. n ≤ length buf.old) }
-        ensures taken_ok { IfOk result (λ n. taken self.new ≡ raised (taken self.old) n) }
+        ensures taken_ok { IfOk result (λ n. taken self.new ≡ raised_count (taken self.old) n) }
         ensures taken_err { OnErr result (taken self.new ≡ taken self.old) }
         ensures bytes { IfOk result (λ n. Consumes (left self.old) (left self.new)
             (take n buf.new)) }

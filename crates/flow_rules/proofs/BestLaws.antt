@@ -4,7 +4,7 @@ use Rattle.std.specs.Option.{option_map_or}
 use Rattle.net_base.specs.Members.{IsIn}
 use Rattle.net_base.proofs.MemberLaws.{in_filter, in_from_filter}
 use Rattle.flow_rules.specs.Patterns.{Header, covers}
-use Rattle.flow_rules.specs.Tables.{covering, lookup, IsClear}
+use Rattle.flow_rules.specs.Tables.{covering_rules, lookup, IsClear}
 use Rattle.flow_rules.specs.declared.rules.Rule.{Rule}
 use Rattle.flow_rules.specs.declared.rules.Action.TheVariants.{Discard}
 use Rattle.flow_rules.proofs.LookupLaws.{top_of, matched_is_top, matched_none}
@@ -20,13 +20,13 @@ abbrev pub CoversNone : Header → List Rule → Type 0
 CoversNone h rules = (q : Rule) → IsIn q rules → covers q.key.pattern h ≡ true → ⊥
 
 pub best_or_none : (h : Header) (rules : List Rule) → CoversNone h rules ⊎ ((r : Rule) × IsBest h rules r)
-best_or_none h rules = of (covering h rules) refl
+best_or_none h rules = of (covering_rules h rules) refl
   where
-    of : (zs : List Rule) → zs ≡ covering h rules → CoversNone h rules ⊎ ((r : Rule) × IsBest h rules r)
+    of : (zs : List Rule) → zs ≡ covering_rules h rules → CoversNone h rules ⊎ ((r : Rule) × IsBest h rules r)
     of [] e = inl (λ q i c. subst (λ zs. IsIn q zs) (sym e) (in_filter (λ r. covers r.key.pattern h) q rules i c))
     of (z ∷ zs) e =
         let (m, i, top) = top_of z zs in
-        let j : IsIn m (covering h rules) = subst (λ rs. IsIn m rs) e i in
+        let j : IsIn m (covering_rules h rules) = subst (λ rs. IsIn m rs) e i in
         let (k, c) = in_from_filter (λ r. covers r.key.pattern h) m rules j in
         inr (
           m,

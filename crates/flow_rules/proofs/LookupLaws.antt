@@ -10,7 +10,7 @@ use Rattle.net_base.proofs.MemberLaws.{find_passes, in_from_filter, empty_from_n
 use Rattle.net_base.specs.declared.ids.Port.{Port}
 use Rattle.net_base.specs.declared.ids.Vlan.{Vlan}
 use Rattle.flow_rules.specs.Patterns.{Header, covers, admits_port, admits_vlan}
-use Rattle.flow_rules.specs.Tables.{covering, matched, lookup, IsClear}
+use Rattle.flow_rules.specs.Tables.{covering_rules, matched_rule, lookup, IsClear}
 use Rattle.flow_rules.specs.declared.rules.Rule.{Rule}
 use Rattle.flow_rules.specs.declared.rules.Action.TheVariants.{Discard}
 
@@ -52,10 +52,10 @@ top_told rules r e = all_to r.key.priority rules e
 
 module _ (h : Header) (rules : List Rule) (clear : IsClear rules) where
   -- in a clear table the rule of greatest priority among those that cover is the one that matches
-  pub matched_is_top : (r : Rule) → IsIn r (covering h rules) → IsTop (covering h rules) r → matched h rules ≡ Some r
+  pub matched_is_top : (r : Rule) → IsIn r (covering_rules h rules) → IsTop (covering_rules h rules) r → matched_rule h rules ≡ Some r
   matched_is_top r i top =
-      let (y, found, j, passes) = find_passes (is_top (covering h rules)) r (covering h rules) i (top_tested (covering h rules) r top) in
-      let above = top_told (covering h rules) y passes r i in
+      let (y, found, j, passes) = find_passes (is_top (covering_rules h rules)) r (covering_rules h rules) i (top_tested (covering_rules h rules) r top) in
+      let above = top_told (covering_rules h rules) y passes r i in
       let below = top y j in
       let f : y.key.priority ≡ r.key.priority = omega arith in
       let a = in_from_filter (λ q. covers q.key.pattern h) y rules j in
@@ -63,31 +63,31 @@ module _ (h : Header) (rules : List Rule) (clear : IsClear rules) where
       found ∙ ap Some (clear h y r a.0 b.0 a.1 b.1 f)
 
 -- where no rule covers there is no match
-pub matched_none : (h : Header) (rules : List Rule) → ((q : Rule) → ¬ IsIn q (covering h rules)) → matched h rules ≡ None
+pub matched_none : (h : Header) (rules : List Rule) → ((q : Rule) → ¬ IsIn q (covering_rules h rules)) → matched_rule h rules ≡ None
 matched_none h rules none =
-    ap (λ rs. find (is_top rs) rs) (empty_from_none (covering h rules) none)
+    ap (λ rs. find (is_top rs) rs) (empty_from_none (covering_rules h rules) none)
 
 -- clear tables with the same covering rules have the same lookup
-pub lookup_by_set : (h : Header) (xs ys : List Rule) → IsClear xs → IsClear ys → IsSameSet (covering h xs) (covering h ys) → lookup h xs ≡ lookup h ys
-lookup_by_set h xs ys clear_x clear_y same = ap (λ m. option_map_or (λ r. r.action) m Discard) (matched_same (covering h xs) refl)
+pub lookup_by_set : (h : Header) (xs ys : List Rule) → IsClear xs → IsClear ys → IsSameSet (covering_rules h xs) (covering_rules h ys) → lookup h xs ≡ lookup h ys
+lookup_by_set h xs ys clear_x clear_y same = ap (λ m. option_map_or (λ r. r.action) m Discard) (matched_same (covering_rules h xs) refl)
   where
-    matched_same : (zs : List Rule) → zs ≡ covering h xs → matched h xs ≡ matched h ys
+    matched_same : (zs : List Rule) → zs ≡ covering_rules h xs → matched_rule h xs ≡ matched_rule h ys
     matched_same [] e =
-        let none : (q : Rule) → ¬ IsIn q (covering h xs) = λ q i. subst (λ zs. IsIn q zs) (sym e) i in
+        let none : (q : Rule) → ¬ IsIn q (covering_rules h xs) = λ q i. subst (λ zs. IsIn q zs) (sym e) i in
         matched_none h xs none ∙ sym (matched_none h ys (λ q i. none q ((same q).1 i)))
     matched_same (z ∷ zs) e =
         let (m, i, top) = top_of z zs in
-        let j : IsIn m (covering h xs) = subst (λ rs. IsIn m rs) e i in
-        let t : IsTop (covering h xs) m = subst (λ rs. IsTop rs m) e top in
+        let j : IsIn m (covering_rules h xs) = subst (λ rs. IsIn m rs) e i in
+        let t : IsTop (covering_rules h xs) m = subst (λ rs. IsTop rs m) e top in
         matched_is_top h xs clear_x m j t ∙ sym (matched_is_top h ys clear_y m ((same m).0 j) (λ q k. t q ((same q).1 k)))
 
 -- rules that have both addresses or neither cover the same packets
 module _ (port : Port) (vlan : Vlan) (a b : ℕ) where
   pub covering_same : (rules : List Rule) → AllByRecursion (λ r. in_block r.key.pattern.dst a ≡ in_block r.key.pattern.dst b) rules
-      → covering (record { port = port; vlan = vlan; dst = a }) rules ≡ covering (record { port = port; vlan = vlan; dst = b }) rules
+      → covering_rules (record { port = port; vlan = vlan; dst = a }) rules ≡ covering_rules (record { port = port; vlan = vlan; dst = b }) rules
   covering_same [] same = refl
   covering_same (r ∷ rules) same =
-      ap (λ t. cond (admits_port r.key.pattern.in_port port && admits_vlan r.key.pattern.vlan vlan && t) (r ∷ covering (record { port = port; vlan = vlan; dst = a }) rules) (covering (record { port = port; vlan = vlan; dst = a }) rules)) same.0
+      ap (λ t. cond (admits_port r.key.pattern.in_port port && admits_vlan r.key.pattern.vlan vlan && t) (r ∷ covering_rules (record { port = port; vlan = vlan; dst = a }) rules) (covering_rules (record { port = port; vlan = vlan; dst = a }) rules)) same.0
       ∙ ap (λ rs. cond (covers r.key.pattern (record { port = port; vlan = vlan; dst = b })) (r ∷ rs) rs) (covering_same rules same.1)
 
   pub lookup_same : (rules : List Rule) → AllByRecursion (λ r. in_block r.key.pattern.dst a ≡ in_block r.key.pattern.dst b) rules

@@ -6,7 +6,7 @@ use Rattle.std.proofs.lemmas.Bool.{lt-ltb, le-ltb, cases_lt, cases_Bool, cond-tr
 use Rattle.net_base.specs.Members.{IsIn}
 use Rattle.net_base.proofs.MemberLaws.{find_passes, in_append_left, in_append_right, in_append_cases}
 use Rattle.flow_rules.specs.Patterns.{Header, covers}
-use Rattle.flow_rules.specs.Tables.{covering, matched}
+use Rattle.flow_rules.specs.Tables.{covering_rules, matched_rule}
 use Rattle.flow_rules.specs.Scan.{better_of}
 use Rattle.flow_rules.specs.declared.rules.Rule.{Rule}
 use Rattle.flow_rules.proofs.LookupLaws.{is_top, top_tested, top_told, top_of}
@@ -62,10 +62,10 @@ best-push (q ∷ rs) r =
     ]
 
 -- one more rule
-pub matched-push : (h : Header) (rs : List Rule) (r : Rule) → matched h (rs ++ r ∷ []) ≡ cond (covers r.key.pattern h) (better_of (matched h rs) r) (matched h rs)
+pub matched-push : (h : Header) (rs : List Rule) (r : Rule) → matched_rule h (rs ++ r ∷ []) ≡ cond (covers r.key.pattern h) (better_of (matched_rule h rs) r) (matched_rule h rs)
 matched-push h rs r =
     ap best (filter-append (λ x. covers x.key.pattern h) rs (r ∷ []))
-    ∙ elim (covers r.key.pattern h) as (λ b. best (covering h rs ++ cond b (r ∷ []) []) ≡ cond b (better_of (matched h rs) r) (matched h rs)) [
-      | true ↦ best-push (covering h rs) r
-      | false ↦ ap best (append-nil (covering h rs))
+    ∙ elim (covers r.key.pattern h) as (λ b. best (covering_rules h rs ++ cond b (r ∷ []) []) ≡ cond b (better_of (matched_rule h rs) r) (matched_rule h rs)) [
+      | true ↦ best-push (covering_rules h rs) r
+      | false ↦ ap best (append-nil (covering_rules h rs))
     ]

@@ -8,8 +8,8 @@ use Rattle.net_base.proofs.MemberLaws.{in_map, in_filter, in_from_filter}
 use Rattle.net_base.proofs.ItemLaws.{get_from_in, in_from_get}
 use Rattle.flow_rules.specs.Patterns.{Header, covers}
 use Rattle.flow_rules.specs.Scan.{covers_at, priority_at, IsOver, IsBeaten}
-use Rattle.flow_rules.specs.Tables.{covering, matched, patterns_of}
-use Rattle.flow_rules.specs.Tuples.{around, slot_of, link_number, IsLink}
+use Rattle.flow_rules.specs.Tables.{covering_rules, matched_rule, patterns_of}
+use Rattle.flow_rules.specs.Tuples.{pattern_around, slot_of, link_number, IsLink}
 use Rattle.flow_rules.specs.declared.rules.Pattern.{Pattern}
 use Rattle.flow_rules.specs.declared.rules.Rule.{Rule}
 use Rattle.flow_rules.proofs.LookupLaws.{is_top, top_tested, top_told, matched_none}
@@ -86,7 +86,7 @@ split_at (q ∷ rules) (suc i) r e = ap (λ rs. q ∷ rs) (split_at rules i r e)
 
 module _ (h : Header) (rules : List Rule) where
   -- where no position is best no rule matches
-  pub none_matched : ((j : ℕ) → IsBeaten h rules None j) → matched h rules ≡ None
+  pub none_matched : ((j : ℕ) → IsBeaten h rules None j) → matched_rule h rules ≡ None
   none_matched beaten =
       matched_none h rules (λ q i.
       let (k, c) = in_from_filter (λ x. covers x.key.pattern h) q rules i in
@@ -101,7 +101,7 @@ module _ (h : Header) (rules : List Rule) where
         let same : i ≡ x = cc in
         subst (λ (n : ℕ). IsOver rules n j) (sym same) g
 
-    top : (q : Rule) → IsIn q (covering h rules) → q.key.priority ≤ r.key.priority
+    top : (q : Rule) → IsIn q (covering_rules h rules) → q.key.priority ≤ r.key.priority
     top q k =
         let (l, c) = in_from_filter (λ x. covers x.key.pattern h) q rules k in
         let (j, there) = get_from_in rules q l in
@@ -111,29 +111,29 @@ module _ (h : Header) (rules : List Rule) where
         omega arith
 
     -- a rule before it has less priority
-    less_before : covers r.key.pattern h ≡ true → (q : Rule) → IsIn q (covering h (take i rules)) → is_top (covering h rules) q ≡ false
+    less_before : covers r.key.pattern h ≡ true → (q : Rule) → IsIn q (covering_rules h (take i rules)) → is_top (covering_rules h rules) q ≡ false
     less_before hit q k =
         let (l, c) = in_from_filter (λ x. covers x.key.pattern h) q (take i rules) k in
         let (j, less, there) = place_before i rules q l in
         let g = over j q there c in
         let e = priority_of rules j q there in
         let f = priority_of rules i r at in
-        let here : IsIn r (covering h rules) = in_filter (λ x. covers x.key.pattern h) r rules (in_from_get rules i r at) hit in
-        false_from_ne_true (is_top (covering h rules) q) (λ t.
-        let a = top_told (covering h rules) q t r here in
+        let here : IsIn r (covering_rules h rules) = in_filter (λ x. covers x.key.pattern h) r rules (in_from_get rules i r at) hit in
+        false_from_ne_true (is_top (covering_rules h rules) q) (λ t.
+        let a = top_told (covering_rules h rules) q t r here in
         let b = g.above in
         let first = g.first (omega arith) in
         absurd (omega arith))
 
     -- the rule at the best position matches
-    pub best_matched : covers r.key.pattern h ≡ true → matched h rules ≡ Some r
+    pub best_matched : covers r.key.pattern h ≡ true → matched_rule h rules ≡ Some r
     best_matched hit =
         let rest = drop (suc i) rules in
-        let parts : covering h rules ≡ covering h (take i rules) ++ r ∷ covering h rest =
-        ap (covering h) (split_at rules i r at) ∙ filter-append (λ x. covers x.key.pattern h) (take i rules) (r ∷ rest)
-        ∙ ap (λ rs. covering h (take i rules) ++ rs) (cond-true (covers r.key.pattern h) (r ∷ covering h rest) (covering h rest) hit) in
-        ap (find (is_top (covering h rules))) parts ∙ find_none (is_top (covering h rules)) (covering h (take i rules)) (r ∷ covering h rest) (less_before hit)
-        ∙ cond-true (is_top (covering h rules) r) (Some r) (find (is_top (covering h rules)) (covering h rest)) (top_tested (covering h rules) r top)
+        let parts : covering_rules h rules ≡ covering_rules h (take i rules) ++ r ∷ covering_rules h rest =
+        ap (covering_rules h) (split_at rules i r at) ∙ filter-append (λ x. covers x.key.pattern h) (take i rules) (r ∷ rest)
+        ∙ ap (λ rs. covering_rules h (take i rules) ++ rs) (cond-true (covers r.key.pattern h) (r ∷ covering_rules h rest) (covering_rules h rest) hit) in
+        ap (find (is_top (covering_rules h rules))) parts ∙ find_none (is_top (covering_rules h rules)) (covering_rules h (take i rules)) (r ∷ covering_rules h rest) (less_before hit)
+        ∙ cond-true (is_top (covering_rules h rules) r) (Some r) (find (is_top (covering_rules h rules)) (covering_rules h rest)) (top_tested (covering_rules h rules) r top)
 
 -- where a covering rule stands
 place_hit : (h : Header) (rules : List Rule) (j : ℕ) → covers_at h rules j ≡ true → (r : Rule) × (slice_get rules j ≡ Some r) × (covers r.key.pattern h ≡ true)
@@ -152,14 +152,14 @@ slot_at f (q ∷ rules) (suc j) r e = slot_at f rules j r e
 
 -- where the slots of all kinds are seen each position is beaten
 pub all_beaten : (h : Header) (rules : List Rule) (best : Option ℕ) (kinds patterns : List Pattern) (count : ℕ) → patterns ≡ patterns_of rules
-    → ((p : Pattern) (x : Header) → IsIn p patterns → covers p x ≡ true → (k : Pattern) × IsIn k kinds × (around k x ≡ p))
-    → ((k : Pattern) → IsIn k kinds → (j : ℕ) → get_or (map (slot_of count) patterns) j 0 ≡ slot_of count (around k h) → IsBeaten h rules best j)
+    → ((p : Pattern) (x : Header) → IsIn p patterns → covers p x ≡ true → (k : Pattern) × IsIn k kinds × (pattern_around k x ≡ p))
+    → ((k : Pattern) → IsIn k kinds → (j : ℕ) → get_or (map (slot_of count) patterns) j 0 ≡ slot_of count (pattern_around k h) → IsBeaten h rules best j)
     → (j : ℕ) → IsBeaten h rules best j
 all_beaten h rules best kinds patterns count is complete seen j e =
     let (r, at, c) = place_hit h rules j e in
     let here : IsIn r.key.pattern patterns = subst (λ ps. IsIn r.key.pattern ps) (sym is) (in_map (λ (x : Rule). x.key.pattern) r rules (in_from_get rules j r at)) in
     let (k, i, own) = complete r.key.pattern h here c in
-    let slot : get_or (map (slot_of count) patterns) j 0 ≡ slot_of count (around k h) =
+    let slot : get_or (map (slot_of count) patterns) j 0 ≡ slot_of count (pattern_around k h) =
     ap (λ ps. get_or (map (slot_of count) ps) j 0) is ∙ slot_at (slot_of count) rules j r at ∙ ap (slot_of count) (sym own) in
     seen k i j slot e
 

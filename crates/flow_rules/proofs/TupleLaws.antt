@@ -12,7 +12,7 @@ use Rattle.net_base.specs.declared.ids.Port.{Port}
 use Rattle.net_base.specs.declared.ids.Vlan.{Vlan}
 use Rattle.net_base.specs.declared.ids.Vlan.TheVariants as vlan
 use Rattle.flow_rules.specs.Patterns.{Header, covers, admits_port, admits_vlan}
-use Rattle.flow_rules.specs.Tuples.{kind_eq, ports_alike, tests_alike, port_around, test_around, prefix_around, around, slot_of, IsLink, IsSpace}
+use Rattle.flow_rules.specs.Tuples.{kind_eq, ports_alike, tests_alike, port_around, test_around, prefix_around, pattern_around, slot_of, IsLink, IsSpace}
 use Rattle.flow_rules.specs.declared.rules.VlanTest.{VlanTest}
 use Rattle.flow_rules.specs.declared.rules.VlanTest.TheVariants as test
 use Rattle.flow_rules.specs.declared.rules.Pattern.{Pattern}
@@ -63,7 +63,7 @@ abbrev pattern_of : Option Port → VlanTest → Block → Pattern
 pattern_of in_port t dst = record { in_port = in_port; vlan = t; dst = dst }
 
 -- a pattern that covers a packet is the one of its kind that does
-pub around_self : (p : Pattern) (h : Header) → IsBlock p.dst → covers p h ≡ true → around p h ≡ p
+pub around_self : (p : Pattern) (h : Header) → IsBlock p.dst → covers p h ≡ true → pattern_around p h ≡ p
 around_self p h is e =
     let (front, dst) = and_parts _ _ e in
     let (port, vlan) = and_parts _ _ front in
@@ -92,7 +92,7 @@ test_alike (test.Id m) (test.Id n) vlan.Untagged e = refl
 test_alike (test.Id m) (test.Id n) (vlan.Id i) e = refl
 
 -- patterns of one kind have the same one that covers a packet
-around_alike : (a b : Pattern) (h : Header) → kind_eq a b ≡ true → around a h ≡ around b h
+around_alike : (a b : Pattern) (h : Header) → kind_eq a b ≡ true → pattern_around a h ≡ pattern_around b h
 around_alike a b h e =
     let (front, len) = and_parts _ _ e in
     let (port, vlan) = and_parts _ _ front in
@@ -110,7 +110,7 @@ kind_among (k ∷ kinds) p e =
 
 -- each pattern of a space that covers a packet is the packet's own for one of the kinds
 pub space_complete : (heads nexts : List ℕ) (patterns kinds : List Pattern) → IsSpace heads nexts patterns kinds → (p : Pattern) (h : Header) → IsIn p patterns → covers p h ≡ true
-    → (k : Pattern) × IsIn k kinds × (around k h ≡ p)
+    → (k : Pattern) × IsIn k kinds × (pattern_around k h ≡ p)
 space_complete heads nexts patterns kinds is p h i e =
     let (k, j, f) = kind_among kinds p (is.known p i) in
     (k, j, around_alike k p h f ∙ around_self p h (is.blocks p i) e)

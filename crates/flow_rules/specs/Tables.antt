@@ -48,16 +48,16 @@ abbrev pub table_blocks : List (List Rule) → List Block
 table_blocks tables = flat_map (λ rules. map (λ r. r.key.pattern.dst) rules) tables
 
 -- the rules that cover a packet
-abbrev pub covering : Header → List Rule → List Rule
-covering h rules = filter (λ r. covers r.key.pattern h) rules
+abbrev pub covering_rules : Header → List Rule → List Rule
+covering_rules h rules = filter (λ r. covers r.key.pattern h) rules
 
 -- the first of the covering rules whose priority no covering rule exceeds
-abbrev pub matched : Header → List Rule → Option Rule
-matched h rules = find (λ r. list_all (λ q. nat_le q.key.priority r.key.priority) (covering h rules)) (covering h rules)
+abbrev pub matched_rule : Header → List Rule → Option Rule
+matched_rule h rules = find (λ r. list_all (λ q. nat_le q.key.priority r.key.priority) (covering_rules h rules)) (covering_rules h rules)
 
 -- the action of the rule that matches, or discard
 abbrev pub lookup : Header → List Rule → Action
-lookup h rules = option_map_or (λ r. r.action) (matched h rules) Discard
+lookup h rules = option_map_or (λ r. r.action) (matched_rule h rules) Discard
 
 -- the action of the rule of a key, where there is one
 abbrev pub action_of : Key → List Rule → Option Action

@@ -49,8 +49,8 @@ abbrev pub prefix_around : ℕ → ℕ → Block
 prefix_around len address = record { base = address / 2 ^ (32 - len) * 2 ^ (32 - len); len = len }
 
 -- the one pattern of a kind that covers a packet
-abbrev pub around : Pattern → Header → Pattern
-around p h = record { in_port = port_around p.in_port h.port; vlan = test_around p.vlan h.vlan; dst = prefix_around p.dst.len h.dst }
+abbrev pub pattern_around : Pattern → Header → Pattern
+pattern_around p h = record { in_port = port_around p.in_port h.port; vlan = test_around p.vlan h.vlan; dst = prefix_around p.dst.len h.dst }
 
 -- the slot of a pattern, of so many
 abbrev pub slot_of : ℕ → Pattern → ℕ

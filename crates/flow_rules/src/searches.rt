@@ -1,8 +1,8 @@
 //! Searches for the rule that matches a packet: among all rules, and in a space of their patterns.
 ghost use Rattle.std.specs.Prelude.{◌≡◌, ◌⊎◌, ◌<◌, ◌++◌, ℕ, IsTrue, Option, Some, true, length, map, IfOk, IfSome, slice_index_or};
 ghost use Rattle.flow_rules.specs.Scan.{better_of, covers_at, IsBeaten, IsHit, IsOver};
-ghost use Rattle.flow_rules.specs.Tables.{matched, patterns_of};
-ghost use Rattle.flow_rules.specs.Tuples.{around, slot_of, slots_of};
+ghost use Rattle.flow_rules.specs.Tables.{matched_rule, patterns_of};
+ghost use Rattle.flow_rules.specs.Tuples.{pattern_around, slot_of, slots_of};
 
 use crate::rules::{Pattern, Rule};
 use crate::tuple_space::TupleSpace;
@@ -35,7 +35,8 @@ fn better(best: Option<Rule>, rule: Rule) -> Option<Rule>
 
 /// The first of the covering rules of greatest priority, by a look at each rule.
 pub(crate) fn best_of(rules: &[Rule], packet: Packet) -> Option<Rule>
-    ensures { result ≡ matched (record { port = packet.port; vlan = packet.vlan; dst = packet.dst })
+    ensures { result ≡ matched_rule
+        (record { port = packet.port; vlan = packet.vlan; dst = packet.dst })
         rules.now }
 {
     let mut best = None;
@@ -113,7 +114,7 @@ fn best_of_kind(
         → IsBeaten (record { port = packet.port; vlan = packet.vlan; dst = packet.dst }) rules.now
         result j }
     ensures slot { (j : ℕ) → slice_index_or (slots_of space.now) j 0
-        ≡ slot_of space.now.count (around kind.now
+        ≡ slot_of space.now.count (pattern_around kind.now
         (record { port = packet.port; vlan = packet.vlan; dst = packet.dst }))
         → IsBeaten (record { port = packet.port; vlan = packet.vlan; dst = packet.dst }) rules.now
         result j }
@@ -130,7 +131,8 @@ fn best_of_kind(
 /// The first of the covering rules of greatest priority, by a look into one slot for each kind of pattern.
 pub(crate) fn best_in_space(rules: &[Rule], space: &TupleSpace, packet: Packet) -> Option<Rule>
     requires { space.now.patterns ≡ patterns_of rules.now }
-    ensures { result ≡ matched (record { port = packet.port; vlan = packet.vlan; dst = packet.dst })
+    ensures { result ≡ matched_rule
+        (record { port = packet.port; vlan = packet.vlan; dst = packet.dst })
         rules.now }
 {
     let mut best = None;

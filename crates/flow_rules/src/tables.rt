@@ -6,7 +6,7 @@ ghost use Rattle.flow_rules.specs.Overlaps.{IsLeastClash};
 ghost use Rattle.flow_rules.specs.Patterns.{key_eq};
 ghost use Rattle.flow_rules.specs.Replaced.{replaced_in_turn};
 ghost use Rattle.flow_rules.specs.Same.{rule_eq};
-ghost use Rattle.flow_rules.specs.Tables.{lookup, matched, action_of, IsTable, IsClear, keys_of};
+ghost use Rattle.flow_rules.specs.Tables.{lookup, matched_rule, action_of, IsTable, IsClear, keys_of};
 
 use crate::deletes::delete_keys;
 use crate::overlaps::least_clash;
@@ -51,7 +51,7 @@ impl Table {
 
     /// The rule that matches a packet.
     fn best(&self, packet: Packet) -> Option<Rule>
-        ensures { result ≡ matched (record
+        ensures { result ≡ matched_rule (record
             { port = packet.port; vlan = packet.vlan; dst = packet.dst }) self.now.rules }
     {
         match &self.space {

@@ -5,7 +5,7 @@ ghost use Rattle.std.specs.List.{list_any};
 ghost use Rattle.net_base.specs.Blocks.{IsBlock};
 ghost use Rattle.net_base.specs.Members.{IsIn};
 ghost use Rattle.flow_rules.specs.Patterns.{Header, covers};
-ghost use Rattle.flow_rules.specs.Tuples.{ports_alike, tests_alike, are_alike, kind_eq, port_around, test_around, prefix_around, around, slot_of, slots_of, link_number, IsLink};
+ghost use Rattle.flow_rules.specs.Tuples.{ports_alike, tests_alike, are_alike, kind_eq, port_around, test_around, prefix_around, pattern_around, slot_of, slots_of, link_number, IsLink};
 ghost use Rattle.flow_rules.specs.declared.rules.Pattern.{Pattern as PatternModel};
 
 use crate::order::{rank_of_port, rank_of_vlan};
@@ -131,7 +131,7 @@ fn prefix_around(prefix: &Prefix, address: u32) -> Prefix
 
 /// The one pattern of the kind of a pattern that covers a packet.
 fn pattern_around(kind: &Pattern, port: Port, vlan: Vlan, dst: u32) -> Pattern
-    ensures { result ≡ around kind.now (record { port = port; vlan = vlan; dst = dst }) }
+    ensures { result ≡ pattern_around kind.now (record { port = port; vlan = vlan; dst = dst }) }
 {
     Pattern {
         in_port: port_around(kind.in_port, port),
@@ -248,7 +248,8 @@ impl TupleSpace {
     pub fn kinds(&self) -> &[Pattern]
         ensures value { result.now ≡ self.now.kinds }
         ensures complete { (p : PatternModel) (h : Header) → IsIn p self.now.patterns
-            → IsTrue (covers p h) → (k : PatternModel) × IsIn k self.now.kinds × (around k h ≡ p) }
+            → IsTrue (covers p h) → (k : PatternModel) × IsIn k self.now.kinds
+            × (pattern_around k h ≡ p) }
     {
         &self.kinds
     }
@@ -256,7 +257,7 @@ impl TupleSpace {
     /// The last position in the slot that a packet has for the kind of a pattern.
     pub fn first(&self, kind: &Pattern, port: Port, vlan: Vlan, dst: u32) -> Option<usize>
         ensures { IsLink (slots_of self.now)
-            (slot_of self.now.count (around kind.now
+            (slot_of self.now.count (pattern_around kind.now
             (record { port = port; vlan = vlan; dst = dst }))) (length self.now.patterns)
             (link_number result) }
     {

@@ -21,7 +21,7 @@ use Rattle.openflow10.specs.declared.ofp_match.MatchFields.{MatchFields}
 use Rattle.path_walk.specs.UserConfigs.{IsUserPort, IsUserVlan, IsUserAction, IsUserRule}
 use Rattle.config_files.proofs.Ports.{used_shown}
 use Rattle.config_files.proofs.Steps.{need_passed, check_passed}
-use Rattle.flow_stats.specs.Profile.{has_wildcards, has_in_port, has_vlan, has_priority, has_no_timeouts, key_in, action_of, profiled, is_port_used, is_action_used, is_reserved, has_used_ports, rule_in}
+use Rattle.flow_stats.specs.Profile.{has_wildcards, has_in_port, has_vlan, has_priority, has_no_timeouts, key_in, action_of, profile_rule, is_port_used, is_action_used, is_reserved, has_used_ports, rule_in}
 use Rattle.flow_stats.specs.declared.entries.Entry.{Entry}
 use Rattle.flow_stats.specs.declared.entries.EntryActions.{EntryActions}
 use Rattle.flow_stats.specs.declared.entries.EntryActions.TheVariants.{Empty, Output, Other}
@@ -59,8 +59,8 @@ module _ (place : ℕ) (e : Entry) where
   abbrev after_wildcards : Result Rule StatsFault
   after_wildcards = check (has_in_port e.fields.pattern) (Profile place InPort) >>= λ _. after_port
 
-  profiled_shown : (r : Rule) → profiled place e ≡ Ok r → IsProfiled e r
-  unfolding profiled
+  profiled_shown : (r : Rule) → profile_rule place e ≡ Ok r → IsProfiled e r
+  unfolding profile_rule
   profiled_shown r e0 =
       let (h1, e1) = check_passed (has_wildcards e.fields.pattern) (Profile place Wildcards) after_wildcards r e0 in
       let (h2, e2) = check_passed (has_in_port e.fields.pattern) (Profile place InPort) after_port r e1 in
@@ -125,7 +125,7 @@ action_shown net s Other a e used = absurd (let f : None ≡ Some a = e in cc)
 pub rule_shown : (net : Network) (place : ℕ) (s : SwitchId) (e : Entry) (r : Rule) → e.fields.pattern.nw_dst < 2 ^ 32 → rule_in net place s e ≡ Ok r → IsUserRule net s r
 unfolding rule_in has_used_ports has_priority
 rule_shown net place s e r below e0 =
-    let (rule, read, e1) = bind_ok (profiled place e) (λ rule. check (has_used_ports net s rule) (BadPort place) >>= λ _. check (not (is_reserved net rule.key.pattern.vlan)) (ReservedVlan place) >>= λ _. Ok rule) r e0 in
+    let (rule, read, e1) = bind_ok (profile_rule place e) (λ rule. check (has_used_ports net s rule) (BadPort place) >>= λ _. check (not (is_reserved net rule.key.pattern.vlan)) (ReservedVlan place) >>= λ _. Ok rule) r e0 in
     let (used, e2) = check_passed (has_used_ports net s rule) (BadPort place) (check (not (is_reserved net rule.key.pattern.vlan)) (ReservedVlan place) >>= λ _. Ok rule) r e1 in
     let (free, e3) = check_passed (not (is_reserved net rule.key.pattern.vlan)) (ReservedVlan place) (Ok rule) r e2 in
     let shown = profiled_shown place e rule read in

@@ -35,7 +35,7 @@ use Rattle.flow_stats.specs.Lines.{Sent, bytes_in, text_in, sent_in}
 use Rattle.flow_stats.specs.Profile.{rule_in}
 use Rattle.flow_stats.specs.Tables as step
 use Rattle.flow_stats.specs.Tables.{rules_with, with_rule}
-use Rattle.flow_stats.specs.Replies.{Told, nothing_told, with_reply, reply_at, message_at, line_at, told_in, is_whole, incomplete, no_switch, replies_in}
+use Rattle.flow_stats.specs.Replies.{StatsView, nothing_told, with_reply, reply_at, message_at, line_at, told_in, is_whole, incomplete, no_switch, replies_in}
 use Rattle.flow_stats.specs.declared.entries.Entry.{Entry}
 use Rattle.flow_stats.specs.declared.fault.StatsFault.{StatsFault}
 use Rattle.flow_stats.specs.declared.fault.StatsFault.TheVariants.{Memory, BadLine, BadMessage, KeyTwice, Overlap, TooMany, Incomplete, OverCapacity}
@@ -128,15 +128,15 @@ module _ (net : Network) where
         | false ↦ λ t f. absurd (let g : None ≡ Some reply = f in cc)
       ] refl e
 
-  with_reply_kept : (s : SwitchId) (before after : Told) (reply : Reply) → s.0 < switch_count net → AllByRecursion IsBounded reply.entries → AreUserTables net before.entries before.tables
+  with_reply_kept : (s : SwitchId) (before after : StatsView) (reply : Reply) → s.0 < switch_count net → AllByRecursion IsBounded reply.entries → AreUserTables net before.entries before.tables
       → with_reply net s before reply ≡ Ok after → AreUserTables net after.entries after.tables
   unfolding with_reply
   with_reply_kept s before after reply known bounded user e =
       let (tables, read, e1) = bind_ok (in_turn (step.entry_at net s) before.entries before.tables reply.entries)
       (λ tables. let t : Told = record { tables = tables; progress = set before.progress s.0 reply.progress; entries = before.entries + length reply.entries } in Ok t) after e in
-      subst (λ (t : Told). AreUserTables net t.entries t.tables) (ok_is _ after e1) (entries_kept s before.entries before.tables tables reply.entries known bounded user read)
+      subst (λ (t : StatsView). AreUserTables net t.entries t.tables) (ok_is _ after e1) (entries_kept s before.entries before.tables tables reply.entries known bounded user read)
 
-  reply_kept : (number : ℕ) (before after : Told) (sent : Sent) → sent.switch.0 < switch_count net → IsBytes sent.bytes → AreUserTables net before.entries before.tables
+  reply_kept : (number : ℕ) (before after : StatsView) (sent : Sent) → sent.switch.0 < switch_count net → IsBytes sent.bytes → AreUserTables net before.entries before.tables
       → reply_at net number before sent ≡ Ok after → AreUserTables net after.entries after.tables
   unfolding reply_at
   reply_kept number before after sent known h user e =
@@ -172,17 +172,17 @@ module _ (net : Network) where
         | false ↦ λ f. absurd (let g : Err (BadLine number) ≡ Ok sent = f in cc)
       ] e
 
-  message_kept : (number : ℕ) (before after : Told) (line : List ℕ) → AreUserTables net before.entries before.tables → message_at net number before line ≡ Ok after → AreUserTables net after.entries after.tables
+  message_kept : (number : ℕ) (before after : StatsView) (line : List ℕ) → AreUserTables net before.entries before.tables → message_at net number before line ≡ Ok after → AreUserTables net after.entries after.tables
   unfolding message_at
   message_kept number before after line user e =
       let (sent, read, e1) = bind_ok (sent_in net number line) (λ sent. reply_at net number before sent) after e in
       let (known, h) = sent_shown number line sent read in
       reply_kept number before after sent known h user e1
 
-  line_kept : (number : ℕ) (before after : Told) (line : List ℕ) → AreUserTables net before.entries before.tables → line_at net number before line ≡ Ok after → AreUserTables net after.entries after.tables
+  line_kept : (number : ℕ) (before after : StatsView) (line : List ℕ) → AreUserTables net before.entries before.tables → line_at net number before line ≡ Ok after → AreUserTables net after.entries after.tables
   line_kept number before after line user e =
       elim (is_comment line) as (λ b. cond b (Ok before) (message_at net number before line) ≡ Ok after → AreUserTables net after.entries after.tables) [
-        | true ↦ λ f. subst (λ (t : Told). AreUserTables net t.entries t.tables) (ok_is before after f) user
+        | true ↦ λ f. subst (λ (t : StatsView). AreUserTables net t.entries t.tables) (ok_is before after f) user
         | false ↦ λ f. message_kept number before after line user f
       ] e
 
@@ -198,7 +198,7 @@ module _ (net : Network) where
       let (told, read, e1) = bind_ok (told_in net bytes) (λ told. no_switch (incomplete net told.progress) Incomplete >>= λ _. no_switch (over_capacity net told.tables) OverCapacity >>= λ _. Ok told.tables) tables e in
       let (whole, e2) = no_switch_passed (incomplete net told.progress) Incomplete (no_switch (over_capacity net told.tables) OverCapacity >>= λ _. Ok told.tables) tables e1 in
       let (within, e3) = no_switch_passed (over_capacity net told.tables) OverCapacity (Ok told.tables) tables e2 in
-      let user = in_turn-keeps (line_at net) (λ (t : Told). AreUserTables net t.entries t.tables) (λ n before after line. line_kept n before after line) 1 (nothing_told net) told (lines_of bytes) (no_rules net) read in
+      let user = in_turn-keeps (line_at net) (λ (t : StatsView). AreUserTables net t.entries t.tables) (λ n before after line. line_kept n before after line) 1 (nothing_told net) told (lines_of bytes) (no_rules net) read in
       let sum = user.sum in
       let few = user.few in
       subst (IsUserConfig net) (ok_is told.tables tables e3) (record {

@@ -82,8 +82,8 @@ action_of (Output p) = Some (Out p Keep)
 action_of Other = None
 
 -- the rule of an entry whose fields have values of the profile, or the first that hasn't
-unfoldable pub profiled : ℕ → Entry → Result Rule StatsFault
-profiled entry e = do
+unfoldable pub profile_rule : ℕ → Entry → Result Rule StatsFault
+profile_rule entry e = do
   _ ← check (has_wildcards e.fields.pattern) (Profile entry Wildcards)
   _ ← check (has_in_port e.fields.pattern) (Profile entry InPort)
   _ ← check (has_vlan e.fields.pattern) (Profile entry Vlan)
@@ -115,7 +115,7 @@ is_reserved net _ = false
 -- the rule of an entry of a switch, or the first refusal
 unfoldable pub rule_in : Network → ℕ → SwitchId → Entry → Result Rule StatsFault
 rule_in net entry s e = do
-  rule ← profiled entry e
+  rule ← profile_rule entry e
   _ ← check (has_used_ports net s rule) (BadPort entry)
   _ ← check (not (is_reserved net rule.key.pattern.vlan)) (ReservedVlan entry)
   Ok rule

@@ -16,27 +16,27 @@ use Rattle.flow_stats.specs.declared.fault.StatsFault.{StatsFault}
 use Rattle.flow_stats.specs.declared.fault.StatsFault.TheVariants.{BadMessage, Incomplete, OverCapacity}
 use Rattle.flow_stats.specs.declared.messages.Progress.{Progress}
 use Rattle.flow_stats.specs.declared.messages.Progress.TheVariants.{Awaited, Begun, Whole}
-use Rattle.flow_stats.specs.declared.read.Told as code
+use Rattle.flow_stats.specs.declared.read.StatsSoFar as code
 
 -- what lines tell: the tables, how much of its table each switch has told, and the number of entries
-pub record Told : Type 0 where
+pub record StatsView : Type 0 where
   pub tables : List (List Rule)
   pub progress : List Progress
   pub entries : ℕ
 
 -- what is told without where it lies in memory
-abbrev pub told_seen : code.Told → Told
+abbrev pub told_seen : code.StatsSoFar → StatsView
 told_seen t = record { tables = rules_of_all t.config; progress = t.progress.items; entries = t.entries }
 
 -- it has a table and a progress for each switch, the marks of the rules, and at most 2048 entries
-pub record AreFor (net : Network) (t : code.Told) : Type 0 where
+pub record AreFor (net : Network) (t : code.StatsSoFar) : Type 0 where
   pub tables : length t.config ≡ switch_count net
   pub index : AreIndexed (rules_of_all t.config) t.index
   pub progress : length t.progress.items ≡ switch_count net
   pub entries : t.entries ≤ 2048
 
 -- before the first line
-abbrev pub nothing_told : Network → Told
+abbrev pub nothing_told : Network → StatsView
 nothing_told net = record { tables = replicate (switch_count net) []; progress = replicate (switch_count net) Awaited; entries = 0 }
 
 -- whether a progress is that of a table which is told
@@ -56,30 +56,30 @@ abbrev pub is_whole : List Progress → SwitchId → Bool
 is_whole progress s = is_told (slice_index_or progress s.0 Awaited)
 
 -- with the entries of a reply of the switch, which are numbered over the file
-unfoldable pub with_reply : Network → SwitchId → Told → Reply → Result Told StatsFault
+unfoldable pub with_reply : Network → SwitchId → StatsView → Reply → Result StatsView StatsFault
 with_reply net s before reply = do
   tables ← in_turn (entry_at net s) before.entries before.tables reply.entries
   Ok (record { tables = tables; progress = slice_set before.progress s.0 reply.progress; entries = before.entries + length reply.entries })
 
 -- with a message: a reply of a switch whose last one doesn't stand yet
-unfoldable pub reply_at : Network → ℕ → Told → Sent → Result Told StatsFault
+unfoldable pub reply_at : Network → ℕ → StatsView → Sent → Result StatsView StatsFault
 reply_at net number before sent = do
   reply ← need (reply_in sent.bytes) (BadMessage number)
   _ ← check (not (is_whole before.progress sent.switch)) (BadMessage number)
   with_reply net sent.switch before reply
 
 -- with the message of a line
-unfoldable pub message_at : Network → ℕ → Told → List ℕ → Result Told StatsFault
+unfoldable pub message_at : Network → ℕ → StatsView → List ℕ → Result StatsView StatsFault
 message_at net number before line = do
   sent ← sent_in net number line
   reply_at net number before sent
 
 -- with a line, which may be a comment
-abbrev pub line_at : Network → ℕ → Told → List ℕ → Result Told StatsFault
+abbrev pub line_at : Network → ℕ → StatsView → List ℕ → Result StatsView StatsFault
 line_at net number before line = if is_comment line then Ok before else message_at net number before line
 
 -- what the lines of the file tell, which are numbered from 1; or the first refusal
-abbrev pub told_in : Network → List ℕ → Result Told StatsFault
+abbrev pub told_in : Network → List ℕ → Result StatsView StatsFault
 told_in net bytes = in_turn (line_at net) 1 (nothing_told net) (lines_of bytes)
 
 -- the least switch whose last message says that more follow

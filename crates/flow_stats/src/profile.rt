@@ -145,9 +145,9 @@ fn action_of(actions: EntryActions) -> Option<Action>
 }
 
 /// Reads the fields of an entry, of which each has to have a value of the profile.
-#[tactic(auto, unfolding(crate::specs::Profile::profiled))]
+#[tactic(auto, unfolding(crate::specs::Profile::profile_rule))]
 fn read_fields(place: u32, entry: &Entry) -> Result<Rule, StatsFault>
-    ensures { Gives Memory (λ r. r) result (profile.profiled place entry.now) }
+    ensures { Gives Memory (λ r. r) result (profile.profile_rule place entry.now) }
 {
     let fields = &entry.fields;
     if !has_wildcards(&fields.pattern) {

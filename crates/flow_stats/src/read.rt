@@ -24,7 +24,7 @@ use topology::Net;
 
 /// What the lines so far have told.
 #[derive(Drop)]
-pub struct Told {
+pub struct StatsSoFar {
     pub config: Config,
     /// The marks of their rules.
     pub index: RuleIndex,
@@ -35,7 +35,7 @@ pub struct Told {
 }
 
 /// Whether the last message of the switch stands.
-fn is_whole(told: &Told, switch: SwitchId) -> bool
+fn is_whole(told: &StatsSoFar, switch: SwitchId) -> bool
     requires { switch.0 < length told.now.progress.items }
     ensures { result ≡ replies.is_whole told.now.progress.items switch }
 {
@@ -46,7 +46,7 @@ fn is_whole(told: &Told, switch: SwitchId) -> bool
 }
 
 /// Whether the last message of the switch says that more follow.
-fn is_begun(told: &Told, switch: SwitchId) -> bool
+fn is_begun(told: &StatsSoFar, switch: SwitchId) -> bool
     requires { switch.0 < length told.now.progress.items }
     ensures { result ≡ replies.is_begun (slice_index_or told.now.progress.items switch.0 Awaited) }
 {
@@ -60,7 +60,7 @@ fn is_begun(told: &Told, switch: SwitchId) -> bool
 #[tactic(auto, unfolding(crate::specs::Replies::with_reply))]
 fn add_reply(
     net: &Net,
-    told: &mut Told,
+    told: &mut StatsSoFar,
     switch: SwitchId,
     reply: &FlowReply,
 ) -> Result<(), StatsFault>
@@ -90,7 +90,7 @@ fn add_reply(
 fn read_message(
     alloc: Global,
     net: &Net,
-    told: &mut Told,
+    told: &mut StatsSoFar,
     number: u32,
     sent: &SentMessage,
 ) -> Result<(), StatsFault>
@@ -114,7 +114,7 @@ fn read_message(
 fn read_message_line(
     alloc: Global,
     net: &Net,
-    told: &mut Told,
+    told: &mut StatsSoFar,
     number: u32,
     line: &[u8],
 ) -> Result<(), StatsFault>
@@ -133,7 +133,7 @@ fn read_message_line(
 fn read_line(
     alloc: Global,
     net: &Net,
-    told: &mut Told,
+    told: &mut StatsSoFar,
     number: u32,
     line: &[u8],
 ) -> Result<(), StatsFault>
@@ -151,13 +151,13 @@ fn read_line(
 }
 
 /// Nothing is told, and the tables are empty.
-fn begin(alloc: Global, net: &Net) -> Result<Told, StatsFault>
+fn begin(alloc: Global, net: &Net) -> Result<StatsSoFar, StatsFault>
     ensures told { Gives Memory replies.told_seen result (Ok (replies.nothing_told net.now)) }
     ensures kept { IfOk result (AreFor net.now) }
 {
     let config = Config::make(alloc, net.switches())?;
     let progress = vec![in alloc; Progress::Awaited; net.switches() as usize]?;
-    Ok(Told {
+    Ok(StatsSoFar {
         config,
         index: RuleIndex::new(alloc),
         progress,
@@ -166,7 +166,7 @@ fn begin(alloc: Global, net: &Net) -> Result<Told, StatsFault>
 }
 
 /// Reads the lines one after the other.
-fn read_lines(alloc: Global, net: &Net, bytes: &[u8]) -> Result<Told, StatsFault>
+fn read_lines(alloc: Global, net: &Net, bytes: &[u8]) -> Result<StatsSoFar, StatsFault>
     ensures read { Gives Memory replies.told_seen result (replies.told_in net.now bytes.now) }
     ensures kept { IfOk result (AreFor net.now) }
 {
@@ -178,7 +178,7 @@ fn read_lines(alloc: Global, net: &Net, bytes: &[u8]) -> Result<Told, StatsFault
 }
 
 /// The least switch whose last message says that more follow.
-fn incomplete(net: &Net, told: &Told) -> Option<SwitchId>
+fn incomplete(net: &Net, told: &StatsSoFar) -> Option<SwitchId>
     requires { AreFor net.now told.now }
     ensures { option_map (λ s. s.0) result ≡ replies.incomplete net.now told.now.progress.items }
 {

@@ -9,7 +9,7 @@ use Rattle.command_base.specs.declared.status.Status.{Status}
 use Rattle.command_base.specs.declared.kinds.FileKind.TheVariants as kind
 use Rattle.command_base.specs.Lines.{net_words}
 use Rattle.command_base.specs.Meanings.{Means}
-use Rattle.command_base.specs.Runs.{IsSettled, Answered}
+use Rattle.command_base.specs.Runs.{IsComplete, Answered}
 use Rattle.command_base.proofs.MeaningLaws.{MeansOnly, means_then, means_parts, means_read, read_means}
 use Rattle.command_base.proofs.AnswerLaws.{SaysOfFiles, says_of_files, done_means, wrote, status_of, text_of}
 use Rattle.command_base.proofs.RunLaws.{settled_done}
@@ -44,7 +44,7 @@ writes files names old new result r m mean =
     let says = r.said m mean in
     record { text = _; means = says.means; written = wrote r _ (text_of r.answer _ _ says.answer_is) }
 
-pub promised : (files : Files) (names : ImportNames) (old new : Option (List ℕ)) (result : Status) → (IsSettled result → Answered IsImportAnswer files (import_dialogue names) old new result) → ImportPromise files names old new result
+pub promised : (files : Files) (names : ImportNames) (old new : Option (List ℕ)) (result : Status) → (IsComplete result → Answered IsImportAnswer files (import_dialogue names) old new result) → ImportPromise files names old new result
 promised files names old new result answered = record {
   done = λ settled. done_means (says_of_files (import_meant files names) (answered settled)) (λ m says. status_of _ _ _ says.answer_is);
   same = λ m mean is. writes files names old new result (says_of_files (import_meant files names) (answered (settled_done _ is))) m mean;

@@ -21,7 +21,7 @@ use Rattle.flow_rules.specs.declared.rules.Rule.{Rule}
 use Rattle.flow_rules.specs.declared.rules.Action.{Action}
 use Rattle.flow_rules.specs.declared.rules.Action.TheVariants as action
 use Rattle.flow_rules.specs.declared.rules.Rewrite.{Rewrite}
-use Rattle.path_walk.specs.Outcomes.{acted, sent, rewritten, header_at}
+use Rattle.path_walk.specs.Outcomes.{action_outcome, sent_outcome, rewritten_vlan, header_at}
 use Rattle.path_walk.specs.UserConfigs.{IsUserConfig, IsUserRule, IsUserAction}
 use Rattle.path_walk.specs.declared.Outcome.TheVariants.{Discard, Leave, Go}
 use Rattle.path_walk.proofs.PathLaws.{lookup_each}
@@ -118,7 +118,7 @@ record IsAtLink (net : Network) (v : Vlan) (next : Place) : Type 0 where
   pub vlan_is : next.vlan ≡ v
   pub at_end : IsIn (stop_of next) (ends_of net.links)
 
-sent_at : (net : Network) (stop : Stop) (end : End) (port : Port) (v : Vlan) (next : Place) → end_at net stop ≡ end → sent end port v ≡ Go next → IsAtLink net v next
+sent_at : (net : Network) (stop : Stop) (end : End) (port : Port) (v : Vlan) (next : Place) → end_at net stop ≡ end → sent_outcome end port v ≡ Go next → IsAtLink net v next
 sent_at net stop at.Nothing port v next is e = absurd (let f : Discard ≡ Go next = e in cc)
 sent_at net stop at.Host port v next is e = absurd (let f : Leave port v ≡ Go next = e in cc)
 sent_at net stop (at.Link s p) port v next is e =
@@ -127,14 +127,14 @@ sent_at net stop (at.Link s p) port v next is e =
     let g : place ≡ next = cc in
     subst (IsAtLink net v) g (record { vlan_is = refl; at_end = end_in net stop s p is })
 
-acted_at : (net : Network) (place : Place) (a : Action) (next : Place) → KeepsVlan a → acted net place a ≡ Go next → IsAtLink net place.vlan next
+acted_at : (net : Network) (place : Place) (a : Action) (next : Place) → KeepsVlan a → action_outcome net place a ≡ Go next → IsAtLink net place.vlan next
 acted_at net place action.Discard next keeps e = absurd (let f : Discard ≡ Go next = e in cc)
 acted_at net place (action.Out port rewrite) next keeps e =
     let stop : Stop = record { switch = place.switch; port = port } in
-    let kept : rewritten rewrite place.vlan ≡ place.vlan = ap (λ (r : Rewrite). rewritten r place.vlan) keeps in
-    elim (port.0 == place.port.0) as (λ b. cond b Discard (sent (end_at net stop) port (rewritten rewrite place.vlan)) ≡ Go next → IsAtLink net place.vlan next) [
+    let kept : rewritten_vlan rewrite place.vlan ≡ place.vlan = ap (λ (r : Rewrite). rewritten_vlan r place.vlan) keeps in
+    elim (port.0 == place.port.0) as (λ b. cond b Discard (sent_outcome (end_at net stop) port (rewritten_vlan rewrite place.vlan)) ≡ Go next → IsAtLink net place.vlan next) [
       | true ↦ λ f. absurd (let g : Discard ≡ Go next = f in cc)
-      | false ↦ λ f. sent_at net stop (end_at net stop) port place.vlan next refl (ap (sent (end_at net stop) port) (sym kept) ∙ f)
+      | false ↦ λ f. sent_at net stop (end_at net stop) port place.vlan next refl (ap (sent_outcome (end_at net stop) port) (sym kept) ∙ f)
     ] e
 
 -- ---- the places of mixed walks

@@ -8,7 +8,7 @@ ghost use Rattle.mixed_walks.specs.Walking.{IsNoted, AreFew, IsEntered};
 
 use crate::edges::EdgeSet;
 use crate::marked::WalkedSwitches;
-use crate::reached::Reached;
+use crate::reached::ReachedPlaces;
 use acyclic_numbering::Edge;
 use net_base::{Memory, Place, SwitchId};
 use path_walk::Outcome;
@@ -18,14 +18,14 @@ use std::marker::Model;
 /// The places that walks come to, the steps between their switches, and the switches where a packet may leave or be
 /// discarded.
 #[derive(Drop)]
-pub(crate) struct Noted {
-    reached: Reached,
+pub(crate) struct WalkNotes {
+    reached: ReachedPlaces,
     steps: EdgeSet,
     leaving: WalkedSwitches,
     dropping: WalkedSwitches,
 }
 
-impl Model for Noted {
+impl Model for WalkNotes {
     ghost use Rattle.mixed_walks.specs.Walks.{WalkState};
 
     ghost Value = { WalkState };
@@ -33,17 +33,17 @@ impl Model for Noted {
     ghost view = { λ a. record { places = a.reached; steps = a.steps; leaving = a.leaving; dropping = a.dropping } };
 }
 
-impl Noted {
+impl WalkNotes {
     /// Nothing noted.
-    pub(crate) fn make(alloc: Global) -> Result<Noted, Memory>
+    pub(crate) fn make(alloc: Global) -> Result<WalkNotes, Memory>
         ensures { IfOk result
             (λ noted. noted ≡ record { places = []; steps = []; leaving = []; dropping = [] }) }
     {
-        Ok(Noted {
+        Ok(WalkNotes {
             leaving: WalkedSwitches::make(alloc)?,
             dropping: WalkedSwitches::make(alloc)?,
             steps: EdgeSet::make(alloc)?,
-            reached: Reached::make(alloc)?,
+            reached: ReachedPlaces::make(alloc)?,
         })
     }
 

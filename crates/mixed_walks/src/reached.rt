@@ -14,13 +14,13 @@ use std::marker::Model;
 /// Places, each once, in the order in which they were put. Each slot has the number, from 1, of the place that was put
 /// last of those that share it, 0 where none was.
 #[derive(Drop)]
-pub(crate) struct Reached {
+pub(crate) struct ReachedPlaces {
     places: Vec<Place>,
     slots: Vec<u16>,
     switches: WalkedSwitches,
 }
 
-impl Model for Reached {
+impl Model for ReachedPlaces {
     ghost use Rattle.std.specs.Prelude.{List, vec_capacity};
     ghost use Rattle.net_base.specs.declared.ids.Place.{Place};
     ghost use Rattle.mixed_walks.specs.Marked.{IsPlaceList};
@@ -73,12 +73,12 @@ fn empty_slots(places: &[Place], slots: &mut Vec<u16>)
     }
 }
 
-impl Reached {
+impl ReachedPlaces {
     /// No places, with room for all of any walks: the entry, and at most 64 ports of each of 128 switches.
-    pub(crate) fn make(alloc: Global) -> Result<Reached, Memory>
+    pub(crate) fn make(alloc: Global) -> Result<ReachedPlaces, Memory>
         ensures { IfOk result (λ reached. reached ≡ []) }
     {
-        Ok(Reached {
+        Ok(ReachedPlaces {
             places: Vec::with_capacity(alloc, 8193)?,
             slots: vec![in alloc; 0; 65536]?,
             switches: WalkedSwitches::make(alloc)?,

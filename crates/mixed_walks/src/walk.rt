@@ -10,7 +10,7 @@ ghost use Rattle.update_model.specs.Mixtures.{Rollout};
 ghost use Rattle.mixed_walks.specs.Walks.{switches_of, IsRoundOf, IsWalked, AreTogether};
 ghost use Rattle.mixed_walks.specs.Walking.{IsWalkedTo, IsExpanded, HaveRoom, IsEntered, IsTogetherTo};
 
-use crate::noted::Noted;
+use crate::noted::WalkNotes;
 use acyclic_numbering::Edge;
 use dest_classes::Class;
 use net_base::{Memory, Place, SwitchId};
@@ -23,7 +23,7 @@ use topology::Net;
 /// network: none has more than 128 switches with 64 ports each.
 #[derive(Drop)]
 pub struct WalkRoom {
-    noted: Noted,
+    noted: WalkNotes,
     outcomes: Outcomes,
 }
 
@@ -46,7 +46,7 @@ impl WalkRoom {
     {
         Ok(WalkRoom {
             outcomes: Outcomes::with_room(alloc, 8193)?,
-            noted: Noted::make(alloc)?,
+            noted: WalkNotes::make(alloc)?,
         })
     }
 

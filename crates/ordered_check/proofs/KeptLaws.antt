@@ -18,7 +18,7 @@ use Rattle.ordered_check.specs.Guarded.{HoldsGuarded}
 use Rattle.class_watch.specs.Classes.{AreClasses}
 use Rattle.class_watch.specs.Walks.{HoldsWalks}
 use Rattle.class_watch.proofs.ListLaws.{some_at, read_at}
-use Rattle.ordered_check.specs.Kept.{OrderedState, HasClassRoom, WalksStand, IsSettled, AreSettled}
+use Rattle.ordered_check.specs.Kept.{OrderedState, HasClassRoom, WalksStand, IsSettledBy, AreSettled}
 use Rattle.ordered_check.specs.Firsts.{first_of, IsFirstOfClass, IsFoundBelow}
 use Rattle.ordered_check.proofs.RoundLaws.{found_more}
 
@@ -127,7 +127,7 @@ module _ (t : Task) (e : OrderedEvidence) (k : ℕ) where
     still_touched round touched = subst (AreTouched (classes_for t) round) (sym judged.touched) touched
 
     pub still_settled : AreSettled t e k old → (class : Class) (set : ℕ) (settled : Bool) → slice_get new.classes below ≡ Some class → slice_get new.came below ≡ Some set
-        → slice_get new.settled below ≡ Some settled → IsSettled t e k below class set settled
+        → slice_get new.settled below ≡ Some settled → IsSettledBy t e k below class set settled
     still_settled stand class set settled is came at =
         stand below class set settled (ap (λ (cs : List Class). slice_get cs below) (sym judged.classes) ∙ is) (sym (judged.later below (omega arith)) ∙ came)
         (ap (λ (bs : List Bool). slice_get bs below) (sym judged.settled) ∙ at)

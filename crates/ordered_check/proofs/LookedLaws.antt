@@ -32,7 +32,7 @@ use Rattle.ordered_check.specs.Firsts.{first_of}
 use Rattle.class_watch.specs.Walks.{HoldsWalks}
 use Rattle.class_watch.proofs.ListLaws.{some_at}
 use Rattle.class_watch.proofs.StandLaws.{untouched_walk}
-use Rattle.ordered_check.specs.Kept.{OrderedState, HasClassRoom, IsSettled, AreSettled}
+use Rattle.ordered_check.specs.Kept.{OrderedState, HasClassRoom, IsSettledBy, AreSettled}
 use Rattle.ordered_check.specs.Looked.{MayBePassed, AreLookedAt}
 use Rattle.ordered_check.proofs.KeptLaws.{AreJudged, judged_more}
 use Rattle.ordered_check.proofs.StandLaws.{certificate_stands}
@@ -103,7 +103,7 @@ force_later picks k n pick force none = record {
 
 -- a class that may be passed over has its certificate, and its switches hold its walks
 certified : (t : Task) (e : OrderedEvidence) (k n : ℕ) (class : Class) (set : ℕ) (settled : Bool) → IsUserConfig t.update.net t.update.old → IsValidOrdered t.update.net (length t.rounds) e → k < length t.rounds
-    → RoundsPass t (Ordered e) k → ChangesPass t (Ordered e) k → IsClass (classes_for t) n class → MayBePassed t e k n → IsSettled t e k n class set settled
+    → RoundsPass t (Ordered e) k → ChangesPass t (Ordered e) k → IsClass (classes_for t) n class → MayBePassed t e k n → IsSettledBy t e k n class set settled
     → OrderedCertificate (rollout t) e k n class.first class.entry (class_duties t class) × HoldsWalks (rollout t) k class set
 certified t e k n class set true user valid within before pass is over held = held
 certified t e zero n class set false user valid within before pass is over held = absurd (let h = over.later in omega arith)

@@ -33,7 +33,7 @@ use Rattle.mixed_walks.specs.Walks.{WalkState, Covers, AreTogether}
 use Rattle.class_watch.specs.Classes.{AreClasses}
 use Rattle.class_watch.specs.Walks.{HoldsWalks}
 use Rattle.class_watch.proofs.ListLaws.{get_set_other}
-use Rattle.ordered_check.specs.Kept.{OrderedState, IsSettled, AreSettled}
+use Rattle.ordered_check.specs.Kept.{OrderedState, IsSettledBy, AreSettled}
 use Rattle.ordered_check.specs.Together.{IsMember, AreMembers, AreGathered, AreSafe, AreSettledWith}
 use Rattle.ordered_check.specs.declared.together.Group.{Group}
 
@@ -191,7 +191,7 @@ settled_more t e k members marks old new classes so same each are safe held n cl
           let i = here.among in
           let class_here : m.class ≡ class = class_is (classes_for t) n m.class class (subst (λ (x : ℕ). IsClass (classes_for t) x m.class) here.number (are m i)) (classes.each n class was) in
           let cert = subst (λ (x : ℕ). OrderedCertificate (rollout t) e k x m.class.first m.class.entry (class_duties t m.class)) here.number (safe m i) in
-          subst (IsSettled t e k n class them) (same_Some true settled (sym here.settled_is ∙ at)) (
+          subst (IsSettledBy t e k n class them) (same_Some true settled (sym here.settled_is ∙ at)) (
             subst (λ (c : Class). OrderedCertificate (rollout t) e k n c.first c.entry (class_duties t c)) class_here cert,
             subst (λ (c : Class). HoldsWalks (rollout t) k c them) class_here (subst (HoldsWalks (rollout t) k m.class) (same_Some marks them (sym here.set_is ∙ came)) (held m i)),
           ))

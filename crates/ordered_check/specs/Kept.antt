@@ -51,17 +51,17 @@ WalksStand u k state =
 
 -- a class that is settled in round k has its certificate there, and the set holds its walks of then; of another those of the
 -- round before
-abbrev pub IsSettled : Task → OrderedEvidence → ℕ → ℕ → Class → ℕ → Bool → Type 0
-IsSettled t e k n class set true =
+abbrev pub IsSettledBy : Task → OrderedEvidence → ℕ → ℕ → Class → ℕ → Bool → Type 0
+IsSettledBy t e k n class set true =
     OrderedCertificate (rollout t) e k n class.first class.entry (class_duties t class) × HoldsWalks (rollout t) k class set
-IsSettled t e k n class set false = HoldsWalksBefore (rollout t) k class set
+IsSettledBy t e k n class set false = HoldsWalksBefore (rollout t) k class set
 
 -- each class is one that is settled, or one that isn't
 abbrev pub AreSettled : Task → OrderedEvidence → ℕ → OrderedState → Type 0
 AreSettled t e k state =
     (n : ℕ) (class : Class) (set : ℕ) (settled : Bool) → slice_get state.classes n ≡ Some class
     → slice_get state.came n ≡ Some set → slice_get state.settled n ≡ Some settled
-    → IsSettled t e k n class set settled
+    → IsSettledBy t e k n class set settled
 
 -- the picks, the classes and the atoms that are touched or looked at are the same, and there is as much room
 pub record KeepsRoom (old new : OrderedState) : Type 0 where

@@ -25,13 +25,13 @@ pub(crate) struct GuardedClass {
 
 /// A class whose positions are guarded, if any, with the steps of its walks and the switches where a packet may leave on them.
 #[derive(Drop)]
-pub(crate) struct Guarded {
+pub(crate) struct GuardedWalks {
     last: Option<GuardedClass>,
     steps: Vec<Edge>,
     leaving: Vec<SwitchId>,
 }
 
-impl Model for Guarded {
+impl Model for GuardedWalks {
     ghost use Rattle.ordered_check.specs.Guarded.{GuardedState};
 
     ghost Value = { GuardedState };
@@ -49,10 +49,10 @@ impl GuardedClass {
     }
 }
 
-impl Guarded {
+impl GuardedWalks {
     /// No class, with room for the walks of any: 128 kilobytes.
-    pub(crate) fn make(alloc: Global) -> Result<Guarded, Memory> {
-        Ok(Guarded {
+    pub(crate) fn make(alloc: Global) -> Result<GuardedWalks, Memory> {
+        Ok(GuardedWalks {
             last: None,
             steps: Vec::with_capacity(alloc, 16384)?,
             leaving: Vec::with_capacity(alloc, 128)?,

@@ -18,7 +18,7 @@ ghost use Rattle.ordered_check.specs.Guarded.{HoldsGuarded};
 ghost use Rattle.ordered_check.specs.Judged.{IsWayRound, AreGuardedBelow, IsFirstWayRound};
 
 use crate::cases::OrderedCase;
-use crate::guarded::{Guarded, GuardedClass};
+use crate::guarded::{GuardedClass, GuardedWalks};
 use crate::least::{least_not_lower, least_of};
 use crate::ways::{WayRound, first_way_round};
 use certificates::{OrderedPick, Shared};
@@ -84,7 +84,7 @@ fn way_by_walks(
 fn way_of_class(
     of: &OrderedCase,
     walk: &WalkRoom,
-    guarded: &mut Guarded,
+    guarded: &mut GuardedWalks,
     numbered: NumberedClass,
     pick: OrderedPick,
     shared: &Shared,
@@ -133,7 +133,7 @@ fn way_of_class(
 pub(crate) fn first_of_class(
     of: &OrderedCase,
     walk: &WalkRoom,
-    guarded: &mut Guarded,
+    guarded: &mut GuardedWalks,
     k: usize,
     numbered: NumberedClass,
     pick: OrderedPick,

@@ -18,12 +18,12 @@ ghost use Rattle.check_reasons.specs.AtomMarks.{AreTouched};
 ghost use Rattle.ordered_check.specs.Looked.{AreLookedAt};
 ghost use Rattle.class_watch.specs.Classes.{AreClasses};
 ghost use Rattle.class_watch.specs.Walks.{HoldsWalks, meets_any};
-ghost use Rattle.ordered_check.specs.Kept.{HasClassRoom, WalksStand, IsSettled, AreSettled, KeepsRoom};
+ghost use Rattle.ordered_check.specs.Kept.{HasClassRoom, WalksStand, IsSettledBy, AreSettled, KeepsRoom};
 ghost use Rattle.ordered_check.specs.Together.{IsMember, AreGathered};
 ghost use Rattle.ordered_check.specs.Firsts.{first_of, IsFirstOfClass, IsFoundBelow};
 
 use crate::cases::{OrderedCase, PreparedRound};
-use crate::guarded::Guarded;
+use crate::guarded::GuardedWalks;
 use crate::judging::first_of_class;
 use crate::looking::choose;
 use crate::picks::PicksInForce;
@@ -49,7 +49,7 @@ const MOST_COMPARED: usize = 64;
 #[derive(Drop)]
 pub struct OrderedRoom {
     watch: ClassWatch,
-    guarded: Guarded,
+    guarded: GuardedWalks,
     picks: PicksInForce,
     classes: Vec<Class>,
     touched: TouchedAtoms,
@@ -141,7 +141,7 @@ fn walk_class(
 /// walks are those that were walked last, and where they come to is noted.
 fn judge_class(
     watch: &mut ClassWatch,
-    guarded: &mut Guarded,
+    guarded: &mut GuardedWalks,
     of: &OrderedCase,
     round: &PreparedRound,
     numbered: NumberedClass,
@@ -201,7 +201,7 @@ impl ClassLists {
 /// The room for walks, and the class whose positions were found guarded last.
 #[derive(Drop)]
 struct Walks {
-    guarded: Guarded,
+    guarded: GuardedWalks,
     watch: ClassWatch,
 }
 
@@ -210,7 +210,7 @@ impl Walks {
         ensures { IfOk result (λ w. length w.watch.came.items ≡ count) }
     {
         Ok(Walks {
-            guarded: Guarded::make(alloc)?,
+            guarded: GuardedWalks::make(alloc)?,
             watch: ClassWatch::make(alloc, count, SwitchSet::none())?,
         })
     }
@@ -275,7 +275,7 @@ impl OrderedRoom {
             → slice_get self.old.classes number ≡ Some class
             → slice_get self.old.came number ≡ Some set
             → slice_get self.old.settled number ≡ Some settled
-            → IsSettled of.now.task of.now.evidence round.now.number number class set settled }
+            → IsSettledBy of.now.task of.now.evidence round.now.number number class set settled }
         ensures none { (class : Class) → slice_get self.old.classes number ≡ Some class
             → IfNone result (HasCertificate of.now.task (Ordered of.now.evidence)
             round.now.number number class) }

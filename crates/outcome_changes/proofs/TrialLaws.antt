@@ -10,13 +10,13 @@ use Rattle.net_base.proofs.MemberLaws.{in_map, in_from_map, in_filter, in_from_f
 use Rattle.net_base.proofs.ListLaws.{told_from_distinct}
 use Rattle.topology.specs.Networks.{Network}
 use Rattle.flow_rules.specs.Patterns.{Header, covers, key_eq}
-use Rattle.flow_rules.specs.Tables.{matched}
+use Rattle.flow_rules.specs.Tables.{matched_rule}
 use Rattle.flow_rules.specs.declared.rules.Key.{Key}
 use Rattle.flow_rules.specs.declared.rules.Rule.{Rule}
 use Rattle.flow_rules.specs.declared.rules.Action.TheVariants as action
 use Rattle.flow_rules.proofs.KeyLaws.{key_eq-refl, key_eq-true, cases_key}
 use Rattle.flow_rules.proofs.LookupLaws.{matched_is_top, matched_none}
-use Rattle.path_walk.specs.Outcomes.{header_at, acted, outcome}
+use Rattle.path_walk.specs.Outcomes.{header_at, action_outcome, outcome}
 use Rattle.path_walk.specs.declared.Outcome.{Outcome}
 use Rattle.update_model.specs.Changes.{AppliesTo, rules_after}
 use Rattle.update_model.specs.Mixtures.{IsMixture, MayBe, is_delete}
@@ -129,7 +129,7 @@ module _ (rules : List Rule) (changes : List Change) (good : AreGood rules chang
   )
 
   -- a rule that may match and stands after a trial that turns no key or its key matches there
-  matches_here : (turned : Option Key) (r : Rule) → MayMatch rules changes h r → IsBound turned r → IsIn r (mixed_by turned) → matched h (mixed_by turned) ≡ Some r
+  matches_here : (turned : Option Key) (r : Rule) → MayMatch rules changes h r → IsBound turned r → IsIn r (mixed_by turned) → matched_rule h (mixed_by turned) ≡ Some r
   matches_here turned r may bound i =
       let mixed = mixed_by turned in
       matched_is_top h mixed (clear mixed (is_mixture turned)) r (in_filter (λ x. covers x.key.pattern h) r mixed i may.covering) (λ q j.
@@ -168,7 +168,7 @@ module _ (rules : List Rule) (changes : List Change) (good : AreGood rules chang
       ))
 
   -- what may match does after some trial
-  some_matches : (r : Rule) → MayMatch rules changes h r → SomeTrial h changes (λ turned. matched h (mixed_by turned) ≡ Some r)
+  some_matches : (r : Rule) → MayMatch rules changes h r → SomeTrial h changes (λ turned. matched_rule h (mixed_by turned) ≡ Some r)
   some_matches r may =
       elim may.available [
         | inl i ↦ elim (cases_named r.key (filter is_delete changes)) [
@@ -199,21 +199,21 @@ module _ (rules : List Rule) (changes : List Change) (good : AreGood rules chang
       ]
 
   -- where nothing may match, nothing does after the trial that turns no key
-  misses_here : MayMiss rules changes h → matched h (mixed_by None) ≡ None
+  misses_here : MayMiss rules changes h → matched_rule h (mixed_by None) ≡ None
   misses_here miss = matched_none h (mixed_by None) (λ q j.
       let (m, covered) = in_from_filter (λ x. covers x.key.pattern h) q (mixed_by None) j in
       miss q.key (stands_kept None q m covered refl refl) covered)
 
 module _ (net : Network) (rules : List Rule) (changes : List Change) (good : AreGood rules changes) (clear : AreClear rules changes) (place : Place) (dst : ℕ) where
-  same_outcome : (xs ys : List Rule) → matched (header_at place dst) xs ≡ matched (header_at place dst) ys → outcome net xs place dst ≡ outcome net ys place dst
-  same_outcome xs ys e = ap (λ (o : Option Rule). acted net place (option_map_or (λ r. r.action) o action.Discard)) e
+  same_outcome : (xs ys : List Rule) → matched_rule (header_at place dst) xs ≡ matched_rule (header_at place dst) ys → outcome net xs place dst ≡ outcome net ys place dst
+  same_outcome xs ys e = ap (λ (o : Option Rule). action_outcome net place (option_map_or (λ r. r.action) o action.Discard)) e
 
   -- an outcome that the place may have is that after some trial
   pub some_gives : (wanted : Outcome) → MayBe net rules changes place dst wanted
       → SomeTrial (header_at place dst) changes (λ turned. outcome net (rules_after (filter (is_tried (header_at place dst) turned) changes) rules) place dst ≡ wanted)
   some_gives wanted may =
       let h = header_at place dst in
-      elim (matched h may.mixed) as (λ o. matched h may.mixed ≡ o
+      elim (matched_rule h may.mixed) as (λ o. matched_rule h may.mixed ≡ o
       → SomeTrial h changes (λ turned. outcome net (rules_after (filter (is_tried h turned) changes) rules) place dst ≡ wanted)) [
         | None ↦ λ e.
             let missed = misses_here rules changes good clear h (may_miss rules changes good.applies good.distinct h may.mixed may.held e) in

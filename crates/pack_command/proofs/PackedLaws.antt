@@ -11,7 +11,7 @@ use Rattle.flow_rules.specs.declared.rules.Rule.{Rule}
 use Rattle.path_walk.specs.UserConfigs.{IsUserConfig}
 use Rattle.config_files.proofs.UserTables.{configuration_shown}
 use Rattle.update_model.specs.Changes.{tables_after}
-use Rattle.update_model.specs.Remaining.{remaining}
+use Rattle.update_model.specs.Remaining.{remaining_changes}
 use Rattle.update_model.specs.declared.Change.{Change}
 use Rattle.certificates.specs.Certified.{is_two_phase}
 use Rattle.certificates.specs.Updates.{Update}
@@ -33,7 +33,7 @@ use Rattle.command_base.specs.declared.status.Status.TheVariants as status
 use Rattle.command_base.specs.Names.{UpdateNames}
 use Rattle.command_base.specs.Answers.{Answer}
 use Rattle.command_base.specs.Readings.{reading_update}
-use Rattle.command_base.specs.Runs.{IsSettled, Answered}
+use Rattle.command_base.specs.Runs.{IsComplete, Answered}
 use Rattle.command_base.specs.Updates.{FilesMeanUpdate, WritesPlan}
 use Rattle.command_base.proofs.AnswerLaws.{meant, status_of}
 use Rattle.command_base.proofs.JudgementLaws.{SaysOfGood, refusals}
@@ -61,17 +61,17 @@ PackingIsOne = (to : Target) (old : List (List Rule)) (one other : List (List Ch
 
 -- a packed round is full
 abbrev pub PackedIsFull : Type 0
-PackedIsFull = (to : Target) (tables : List (List Rule)) (round : List Change) → IsPackedRound to tables round → (c : Change) → IsIn c (remaining tables to.new) → ¬ IsIn c round → ¬ CanStand to tables (round ++ c ∷ [])
+PackedIsFull = (to : Target) (tables : List (List Rule)) (round : List Change) → IsPackedRound to tables round → (c : Change) → IsIn c (remaining_changes tables to.new) → ¬ IsIn c round → ¬ CanStand to tables (round ++ c ∷ [])
 
 -- where all changes can be one round, they are the packed one
 abbrev pub OneIsEnough : Type 0
-OneIsEnough = (to : Target) (old : List (List Rule)) → remaining old to.new ≢ [] → AllByRecursion IsTable old → AllByRecursion IsTable to.new → CanStand to old (remaining old to.new)
-    → PacksOrdered to old (remaining old to.new ∷ [])
+OneIsEnough = (to : Target) (old : List (List Rule)) → remaining_changes old to.new ≢ [] → AllByRecursion IsTable old → AllByRecursion IsTable to.new → CanStand to old (remaining_changes old to.new)
+    → PacksOrdered to old (remaining_changes old to.new ∷ [])
 
 -- there are no more packed rounds than changes
 abbrev pub PackedAreFew : Type 0
 PackedAreFew = (to : Target) (old : List (List Rule)) (rounds : List (List Change)) → AllByRecursion IsTable old → AllByRecursion IsTable to.new → PacksOrdered to old rounds
-    → length rounds ≤ length (remaining old to.new)
+    → length rounds ≤ length (remaining_changes old to.new)
 
 all_full : PackedIsFull → (to : Target) (tables : List (List Rule)) (rounds : List (List Change)) → ArePacked to tables rounds → AreFull to tables rounds
 all_full full to tables [] packed = tt
@@ -149,7 +149,7 @@ module _ (apart : AreApart) (packing_apart : PackingIsApart) (u : Update) where
       omega (arith, within, few)
 
   module _ (old_user : IsUserConfig u.net u.old) (new_user : IsUserConfig u.net u.new) where
-    ordered_few : PackedAreFew → (p : Plan) → IsOrderedPlan u p → length p.rounds ≤ length (remaining u.old u.new)
+    ordered_few : PackedAreFew → (p : Plan) → IsOrderedPlan u p → length p.rounds ≤ length (remaining_changes u.old u.new)
     ordered_few few p (inl packed) = few (update_target u) u.old p.rounds (tables_of_user u u.old old_user) (tables_of_user u u.new new_user) packed.packed
     ordered_few few p (inr (stuck, search)) =
         let count = remaining_count (update_target u) u.old new_user u.old (user_start (update_target u) u.old new_user old_user) search.changes search.searched.ends.found in
@@ -157,7 +157,7 @@ module _ (apart : AreApart) (packing_apart : PackingIsApart) (u : Update) where
         let singles = length_rounds search.changes in
         omega arith
 
-    pub never_more_of : PhasedIsCounted → PackedAreFew → (p : Plan) → EndsInOrder u → IsPackPlan u p → length p.rounds ≤ length (remaining u.old u.new)
+    pub never_more_of : PhasedIsCounted → PackedAreFew → (p : Plan) → EndsInOrder u → IsPackPlan u p → length p.rounds ≤ length (remaining_changes u.old u.new)
     never_more_of counted few p ends (inl short) = ordered_few few p short.ordered
     never_more_of counted few p ends (inr (inl phased)) =
         let most = ordered_few few phased.longer phased.ordered in
@@ -172,17 +172,17 @@ module _ (apart : AreApart) (packing_apart : PackingIsApart) (u : Update) where
       ends : PacksOrdered (update_target u) u.old rounds
       few : length rounds ≤ 1
 
-    packs_once : OneIsEnough → CanStand (update_target u) u.old (remaining u.old u.new) → (cs : List Change) → remaining u.old u.new ≡ cs → PacksOnce
+    packs_once : OneIsEnough → CanStand (update_target u) u.old (remaining_changes u.old u.new) → (cs : List Change) → remaining_changes u.old u.new ≡ cs → PacksOnce
     packs_once enough can [] none = record { rounds = []; ends = record { packed = tt; none_remains = none }; few = omega arith }
     packs_once enough can (c ∷ cs) is = record {
-      rounds = remaining u.old u.new ∷ [];
+      rounds = remaining_changes u.old u.new ∷ [];
       ends = enough (update_target u) u.old (λ none. let e : c ∷ cs ≡ [] = sym is ∙ none in cc) (tables_of_user u u.old old_user) (tables_of_user u u.new new_user) can;
       few = omega arith;
     }
 
-    pub one_round_of_all : PhasedIsCounted → PackingIsOne → OneIsEnough → CanStand (update_target u) u.old (remaining u.old u.new) → (p : Plan) → IsPackPlan u p → length p.rounds ≤ 1
+    pub one_round_of_all : PhasedIsCounted → PackingIsOne → OneIsEnough → CanStand (update_target u) u.old (remaining_changes u.old u.new) → (p : Plan) → IsPackPlan u p → length p.rounds ≤ 1
     one_round_of_all counted one enough can p is =
-        let once = packs_once enough can (remaining u.old u.new) refl in
+        let once = packs_once enough can (remaining_changes u.old u.new) refl in
         let within = within_packed one once.rounds once.ends counted p is in
         let few = once.few in
         omega (arith, within, few)
@@ -352,7 +352,7 @@ new_user_of : (files : Files) (names : UpdateNames) (u : Update) → FilesMeanUp
 new_user_of files names u mean = configuration_shown u.net mean.new_is.bytes u.new mean.new_is.means
 
 pub promised : (files : Files) (names : UpdateNames) (old new : Option (List ℕ)) (result : Status) → AreApart → IsOneStuck → PackingIsApart → PackingIsOne → PackedIsFull → OneIsEnough → PackedAreFew → PhasedIsCounted
-    → (IsSettled result → Answered IsPacked files (reading_update names) old new result) → PackPromise files names old new result
+    → (IsComplete result → Answered IsPacked files (reading_update names) old new result) → PackPromise files names old new result
 promised files names old new result apart one packing_apart packing_one full enough few counted answered = record {
   done = λ settled. done files names old new result (answered settled) apart packing_apart;
   wherever = λ settled h. wherever files names old new result (answered settled) apart packing_apart h;

@@ -13,7 +13,7 @@ use Rattle.flow_rules.specs.declared.rules.Rule.{Rule}
 use Rattle.path_walk.specs.UserConfigs.{IsUserConfig}
 use Rattle.update_model.specs.Changes.{switch_of, rule_of, round_after, round_blocks, settled_tables, tables_after, tables_after_change}
 use Rattle.update_model.specs.Ranges.{IsPlanChange}
-use Rattle.update_model.specs.Remaining.{remaining, AreRemaining}
+use Rattle.update_model.specs.Remaining.{remaining_changes, AreRemaining}
 use Rattle.update_model.specs.declared.Change.{Change}
 use Rattle.update_model.proofs.RemainingLaws.{AllUnique, remaining_made}
 use Rattle.certificates.specs.Certified.{KeepsVlan}
@@ -71,7 +71,7 @@ module _ (u : Update) (old_user : IsUserConfig u.net u.old) (new_user : IsUserCo
 
   stands_first : (tables : List (List Rule)) (round : List Change) → IsPackedRound (update_target u) tables round → round ≢ [] → CanStand (update_target u) tables round
   stands_first tables round packed some =
-      elim (filled_stands (CanStand (update_target u) tables) [] (remaining tables u.new) round packed) [
+      elim (filled_stands (CanStand (update_target u) tables) [] (remaining_changes tables u.new) round packed) [
         | inl none ↦ absurd (some none)
         | inr can ↦ can
       ]
@@ -95,7 +95,7 @@ module _ (u : Update) (old_user : IsUserConfig u.net u.old) (new_user : IsUserCo
   past_from tables user [] packed = user
   past_from tables user (round ∷ rounds) packed = past_from (tables_after round tables) (round_users tables user round packed.0).0 rounds packed.2
 
-  sum_from : (tables : List (List Rule)) → AreUsers tables → (rounds : List (List Change)) → ArePacked (update_target u) tables rounds → sum_by length rounds ≤ length (remaining tables u.new)
+  sum_from : (tables : List (List Rule)) → AreUsers tables → (rounds : List (List Change)) → ArePacked (update_target u) tables rounds → sum_by length rounds ≤ length (remaining_changes tables u.new)
   sum_from tables user [] packed = omega arith
   sum_from tables user (round ∷ rounds) packed =
       let made = part_made u.new new_unique tables user.unique round (packed_part (update_target u) tables round packed.0) in
@@ -133,7 +133,7 @@ module _ (u : Update) (old_user : IsUserConfig u.net u.old) (new_user : IsUserCo
         let second = new_user.few in
         omega arith
 
-    pub remaining_few : length (remaining u.old u.new) ≤ 4096
+    pub remaining_few : length (remaining_changes u.old u.new) ≤ 4096
     remaining_few = let few = few_remain u.old u.new in let first = old_user.few in let second = new_user.few in omega arith
 
     pub ranges : IsNetwork u.net → AllByRecursion (AllByRecursion (IsPlanChange u.net)) rounds

@@ -5,7 +5,7 @@ use Rattle.file_access.specs.Outside.{Files}
 use Rattle.net_base.specs.Members.{IsIn}
 use Rattle.flow_rules.specs.declared.rules.Rule.{Rule}
 use Rattle.update_model.specs.Changes.{tables_after}
-use Rattle.update_model.specs.Remaining.{remaining}
+use Rattle.update_model.specs.Remaining.{remaining_changes}
 use Rattle.update_model.specs.declared.Change.{Change}
 use Rattle.certificates.specs.Updates.{Update}
 use Rattle.certificates.specs.declared.Plan.{Plan}
@@ -59,4 +59,4 @@ pub record WritesPackPlan (u : Update) (old new : Option (List ℕ)) : Type 0 wh
 abbrev pub AreFull : Target → List (List Rule) → List (List Change) → Type 0
 AreFull to tables [] = Unit {0}
 AreFull to tables (round ∷ rounds) =
-    ((c : Change) → IsIn c (remaining tables to.new) → ¬ IsIn c round → ¬ CanStand to tables (round ++ c ∷ [])) × AreFull to (tables_after round tables) rounds
+    ((c : Change) → IsIn c (remaining_changes tables to.new) → ¬ IsIn c round → ¬ CanStand to tables (round ++ c ∷ [])) × AreFull to (tables_after round tables) rounds

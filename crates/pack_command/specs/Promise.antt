@@ -2,7 +2,7 @@
 use Rattle.std.specs.Prelude.{◌≡◌, ◌↔◌, ◌≤◌, ℕ, ◌+◌, ◌*◌, false, List, length, Option, Some}
 use Rattle.std.specs.Io.KnownBytes.{Appends}
 use Rattle.file_access.specs.Outside.{Files}
-use Rattle.update_model.specs.Remaining.{remaining}
+use Rattle.update_model.specs.Remaining.{remaining_changes}
 use Rattle.certificates.specs.Certified.{is_two_phase}
 use Rattle.certificates.specs.Updates.{Update}
 use Rattle.certificates.specs.declared.Plan.{Plan}
@@ -19,7 +19,7 @@ use Rattle.command_base.specs.declared.kinds.FileKind.TheVariants as kind
 use Rattle.command_base.specs.Kinds.{limit_of}
 use Rattle.command_base.specs.Names.{UpdateNames}
 use Rattle.command_base.specs.Updates.{FilesMeanUpdate, WritesPlan}
-use Rattle.command_base.specs.Runs.{IsSettled}
+use Rattle.command_base.specs.Runs.{IsComplete}
 use Rattle.check_base.specs.Checks.{FilesAreCertified}
 use Rattle.plan_command.specs.NoPlanLines as lines
 use Rattle.plan_command.specs.NewPlans.{FilesHavePlan, FilesMeanTrees, RefusesBadEnds, HoldBeside}
@@ -29,9 +29,9 @@ use Rattle.pack_command.specs.PackFiles.{IsPackingOrdered, EndsInOrder, FilesHav
 pub record PackPromise (files : Files) (names : UpdateNames) (old new : Option (List ℕ)) (result : Status) : Type 0 where
   -- Done comes exactly where the four files mean an update with at most 8192 classes whose ends are good, and packing or the search
   -- ends ordered, or there are tags and room for two phases.
-  pub done : IsSettled result → ((result ≡ status.Done) ↔ FilesHavePackPlan files names)
+  pub done : IsComplete result → ((result ≡ status.Done) ↔ FilesHavePackPlan files names)
   -- So it comes wherever there is a plan for `plan`.
-  pub wherever : IsSettled result → FilesHavePlan files names → result ≡ status.Done
+  pub wherever : IsComplete result → FilesHavePlan files names → result ≡ status.Done
   -- Then the text of the chosen plan was written: the packed one, or where packing ends stuck that of the search, or that of two phases
   -- where it has fewer rounds or is the only one. Reading it gives this plan.
   pub writes : (u : Update) → FilesMeanUpdate files names u → result ≡ status.Done → WritesPackPlan u old new
@@ -43,7 +43,7 @@ pub record PackPromise (files : Files) (names : UpdateNames) (old new : Option (
   -- Where packing or the search ends ordered it has at most as many rounds as changes lead from the old to the new tables: as many
   -- as an ordered plan of `plan` has.
   pub never_more : (before : List ℕ) (u : Update) (p : Plan) → old ≡ Some before → result ≡ status.Done → FilesMeanUpdate files names u → WritesPlan u.net p old new
-      → EndsInOrder u → length p.rounds ≤ length (remaining u.old u.new)
+      → EndsInOrder u → length p.rounds ≤ length (remaining_changes u.old u.new)
   -- Where there are tags and room for two phases it has at most two rounds for each depth of ingress rules, and four.
   pub few_rounds : (before : List ℕ) (u : Update) (p : Plan) → old ≡ Some before → result ≡ status.Done → FilesMeanUpdate files names u → WritesPlan u.net p old new
       → FitsTwoPhase u.net u.old u.new → length p.rounds ≤ 2 * depth_count u.net u.new + 4
@@ -53,9 +53,9 @@ pub record PackPromise (files : Files) (names : UpdateNames) (old new : Option (
       → IsPackingOrdered u → is_two_phase p.evidence ≡ false → PacksOrdered (update_target u) u.old p.rounds × AreFull (update_target u) u.old p.rounds
   -- Where all changes from the old to the new tables can be one round, it has no more than one.
   pub one_round : (before : List ℕ) (u : Update) (p : Plan) → old ≡ Some before → result ≡ status.Done → FilesMeanUpdate files names u → WritesPlan u.net p old new
-      → CanStand (update_target u) u.old (remaining u.old u.new) → length p.rounds ≤ 1
+      → CanStand (update_target u) u.old (remaining_changes u.old u.new) → length p.rounds ≤ 1
   -- On an update of destination trees it says Done, and packing ends ordered.
-  pub tree : IsSettled result → (u : Update) → FilesMeanTrees files names u → (result ≡ status.Done) × IsPackingOrdered u
+  pub tree : IsComplete result → (u : Update) → FilesMeanTrees files names u → (result ≡ status.Done) × IsPackingOrdered u
   -- There it has at most as many rounds as a class's new path that leaves has places at which the lookup differs between the old and the
   -- new tables; one more where some class's new path is dropped and the lookup differs at its entry; and one more where some rule with
   -- another action in the new tables is picked by the lookup at no place of a class's new path.
@@ -65,9 +65,9 @@ pub record PackPromise (files : Files) (names : UpdateNames) (old new : Option (
   pub refusals : RefusesBadEnds files names old new result
   -- Too few tags, and a switch that is too small, come exactly where packing and the search end stuck; the lines have the numbers and
   -- the rounds of the search.
-  pub too_few : IsSettled result → ((result ≡ status.TooFewTags) ↔ FilesPackNoTags files names)
-  pub too_few_lines : IsSettled result → (none : FilesPackNoTags files names)
+  pub too_few : IsComplete result → ((result ≡ status.TooFewTags) ↔ FilesPackNoTags files names)
+  pub too_few_lines : IsComplete result → (none : FilesPackNoTags files names)
       → Appends old new (lines.too_few_lines none.lack.update.net (length none.lack.update.net.vlans) (length (available_tags none.lack.update.net)) (single_rounds none.lack.stuck.changes))
-  pub too_small : IsSettled result → ((result ≡ status.TooSmall) ↔ FilesPackNoRoom files names)
-  pub too_small_lines : IsSettled result → (none : FilesPackNoRoom files names)
+  pub too_small : IsComplete result → ((result ≡ status.TooSmall) ↔ FilesPackNoRoom files names)
+  pub too_small_lines : IsComplete result → (none : FilesPackNoRoom files names)
       → Appends old new (lines.too_small_lines none.lack.update.net none.lack.switch none.lack.need none.lack.capacity (single_rounds none.lack.stuck.changes))

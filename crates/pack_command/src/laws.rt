@@ -2,7 +2,7 @@
 ghost use Rattle.std.specs.Prelude.{ℕ, List, Option};
 ghost use Rattle.file_access.specs.Outside.{Files};
 ghost use Rattle.command_base.specs.declared.status.Status.{Status};
-ghost use Rattle.command_base.specs.Runs.{IsSettled, Answered};
+ghost use Rattle.command_base.specs.Runs.{IsComplete, Answered};
 ghost use Rattle.command_base.specs.Names.{UpdateNames};
 ghost use Rattle.command_base.specs.Readings.{reading_update};
 ghost use Rattle.pack_command.specs.Packed.{IsPacked};
@@ -18,7 +18,7 @@ use two_phase::laws::depth_rounds_count;
 /// A run whose answer, where it is settled, is that of the command's dialogue over the files keeps the promise of `pack`.
 pub fn pack_promised()
     ensures { (files : Files) (names : UpdateNames) (old new : Option (List ℕ)) (result : Status)
-        → (IsSettled result → Answered IsPacked files (reading_update names) old new result)
+        → (IsComplete result → Answered IsPacked files (reading_update names) old new result)
         → PackPromise files names old new result }
 {
     searches_end_once();

@@ -10,10 +10,10 @@ use Rattle.net_base.specs.declared.ids.Place.{Place}
 use Rattle.net_base.specs.declared.ids.Vlan.{Vlan}
 use Rattle.net_base.specs.declared.ids.Vlan.TheVariants.{Untagged}
 use Rattle.topology.specs.Networks.{IsNetwork}
-use Rattle.flow_rules.specs.Tables.{rules_at, matched, lookup}
+use Rattle.flow_rules.specs.Tables.{rules_at, matched_rule, lookup}
 use Rattle.flow_rules.specs.declared.rules.Rewrite.TheVariants.{Keep}
 use Rattle.flow_rules.specs.declared.rules.Action.TheVariants as action
-use Rattle.path_walk.specs.Outcomes.{acted, header_at}
+use Rattle.path_walk.specs.Outcomes.{action_outcome, header_at}
 use Rattle.path_walk.specs.Paths.{outcome_in, ended_by}
 use Rattle.path_walk.specs.declared.Outcome.{Outcome}
 use Rattle.path_walk.specs.declared.Outcome.TheVariants.{Discard, Leave, Go}
@@ -62,7 +62,7 @@ module _ (n : ℕ) (some : 4 ≤ n) (kept : IsNetwork (ring_network n)) where
 
     turned_back : (i at : ℕ) (v : Vlan) → i < n → ¬ (i ≡ j) → 3 ≡ at → outs dst (place_at i at v) ≡ Discard
     turned_back i at v lt apart same =
-        ap (acted (ring_network n) (place_at i at v)) (sends i at v lt ∙ ap out_of (cond-false (i == j) 1 3 (ne_eqb i j apart)))
+        ap (action_outcome (ring_network n) (place_at i at v)) (sends i at v lt ∙ ap out_of (cond-false (i == j) 1 3 (ne_eqb i j apart)))
         ∙ back_drops (ring_network n) (place_at i at v) (record { 0 = 3 }) Keep same
 
     away : (i d : ℕ) → behind n j i ≡ suc d → ¬ (i ≡ j)
@@ -164,7 +164,7 @@ module _ (n : ℕ) (some : 4 ≤ n) (kept : IsNetwork (ring_network n)) where
 
     none_leaving : (i : ℕ) (v : Vlan) → i < n → (rest : List Place) → IsWalk (Steps (outs dst)) (place_at i 1 v) rest → length (filter (differ dst) (place_at i 1 v ∷ rest)) ≤ n - 1
     none_leaving i v lt [] walk = let m : length (filter (differ dst) (place_at i 1 v ∷ [])) ≤ 1 = most_one (differ dst) (place_at i 1 v) [] in omega (arith, m)
-    none_leaving i v lt (q ∷ rest) walk = absurd (let f : Discard ≡ Go q = sym (ap (acted (ring_network n) (place_at i 1 v)) (none_looks 3 i v lt)) ∙ walk.0 in cc)
+    none_leaving i v lt (q ∷ rest) walk = absurd (let f : Discard ≡ Go q = sym (ap (action_outcome (ring_network n) (place_at i 1 v)) (none_looks 3 i v lt)) ∙ walk.0 in cc)
 
   module _ (p : NewPath (ring_task n)) where
     ring : IsRingClass n some p.class
@@ -190,15 +190,15 @@ module _ (n : ℕ) (some : 4 ≤ n) (kept : IsNetwork (ring_network n)) where
         ]
 
   -- every rule is picked where packets to its destination enter
-  picks : (i j : ℕ) → j < 4 → matched (header_at (place_at i 1 Untagged) (first_of j)) (ring_table 3 i) ≡ Some (ring_rule 3 i j)
+  picks : (i j : ℕ) → j < 4 → matched_rule (header_at (place_at i 1 Untagged) (first_of j)) (ring_table 3 i) ≡ Some (ring_rule 3 i j)
   picks i j less =
       elim (cases_eq j 0) [
-        | inl e ↦ subst (λ k. matched (header_at (place_at i 1 Untagged) (first_of k)) (ring_table 3 i) ≡ Some (ring_rule 3 i k)) (sym e) refl
+        | inl e ↦ subst (λ k. matched_rule (header_at (place_at i 1 Untagged) (first_of k)) (ring_table 3 i) ≡ Some (ring_rule 3 i k)) (sym e) refl
         | inr none ↦ elim (cases_eq j 1) [
-          | inl e ↦ subst (λ k. matched (header_at (place_at i 1 Untagged) (first_of k)) (ring_table 3 i) ≡ Some (ring_rule 3 i k)) (sym e) refl
+          | inl e ↦ subst (λ k. matched_rule (header_at (place_at i 1 Untagged) (first_of k)) (ring_table 3 i) ≡ Some (ring_rule 3 i k)) (sym e) refl
           | inr one ↦ elim (cases_eq j 2) [
-            | inl e ↦ subst (λ k. matched (header_at (place_at i 1 Untagged) (first_of k)) (ring_table 3 i) ≡ Some (ring_rule 3 i k)) (sym e) refl
-            | inr two ↦ (let e : 3 ≡ j = omega arith in subst (λ k. matched (header_at (place_at i 1 Untagged) (first_of k)) (ring_table 3 i) ≡ Some (ring_rule 3 i k)) e refl)
+            | inl e ↦ subst (λ k. matched_rule (header_at (place_at i 1 Untagged) (first_of k)) (ring_table 3 i) ≡ Some (ring_rule 3 i k)) (sym e) refl
+            | inr two ↦ (let e : 3 ≡ j = omega arith in subst (λ k. matched_rule (header_at (place_at i 1 Untagged) (first_of k)) (ring_table 3 i) ≡ Some (ring_rule 3 i k)) e refl)
           ]
         ]
       ]
@@ -226,7 +226,7 @@ module _ (n : ℕ) (some : 4 ≤ n) (kept : IsNetwork (ring_network n)) where
       let (number, is_class) = class_is n some i j lt less in
       let good = (ring_tree n some kept).new_good number (class_of n some i j) is_class in
       let p : NewPath (ring_task n) = record { number = number; class = class_of n some i j; is_class = is_class; trace = good.trace; path = good.path } in
-      m.unmet p (place_at i 1 Untagged) (inl refl) refl (ap (matched (header_at (place_at i 1 Untagged) (first_of j))) (table_at n 3 i lt) ∙ picks i j less ∙ ap Some (sym is))
+      m.unmet p (place_at i 1 Untagged) (inl refl) refl (ap (matched_rule (header_at (place_at i 1 Untagged) (first_of j))) (table_at n 3 i lt) ∙ picks i j less ∙ ap Some (sym is))
 
   pub ring_bounds : AreBounds (ring_task n) (ring_tables n 2) (n - 1) 0 0
   ring_bounds = record {

@@ -15,7 +15,7 @@ use Rattle.dest_classes.specs.Classes.{IsClass, boundaries, atom_count}
 use Rattle.dest_classes.specs.declared.Class.{Class}
 use Rattle.demands.specs.Duties.{DemandView, demand_covers, demands_on, duties_of}
 use Rattle.certificates.specs.Certified.{classes_for}
-use Rattle.ring_sample.specs.Ring.{below, destinations, others, ring_stop, ring_network, ring_demand, ring_demands}
+use Rattle.ring_sample.specs.Ring.{numbers_below, destinations, others, ring_stop, ring_network, ring_demand, ring_demands}
 use Rattle.ring_sample.proofs.Ranges.{in_range, from_range}
 use Rattle.ring_sample.proofs.Ports.{host_in}
 use Rattle.ring_sample.proofs.Walks.{place_at}
@@ -46,7 +46,7 @@ module _ (n : ℕ) (some : 4 ≤ n) where
   pub ring_class : (number : ℕ) (class : Class) → IsClass (classes_for (ring_task n)) number class → IsRingClass class
   unfolding ring_network
   ring_class number class is =
-      let (i, among, same) = in_from_map (λ k. ring_stop k 1) (stop_of class.entry) (below n) (in_from_get (map (λ k. ring_stop k 1) (below n)) is.host (stop_of class.entry) is.host_is) in
+      let (i, among, same) = in_from_map (λ k. ring_stop k 1) (stop_of class.entry) (numbers_below n) (in_from_get (map (λ k. ring_stop k 1) (numbers_below n)) is.host (stop_of class.entry) is.host_is) in
       let (_, within) = from_range 0 n i among in
       record {
         i = i;
@@ -62,7 +62,7 @@ module _ (n : ℕ) (some : 4 ≤ n) where
   pub class_is : (i j : ℕ) → i < n → j < 4 → (number : ℕ) × IsClass (classes_for (ring_task n)) number (class_of i j)
   unfolding ring_network
   class_is i j lt less =
-      let (h, host_is) = get_from_in (map (λ k. ring_stop k 1) (below n)) (ring_stop i 1) (host_in n i lt) in
+      let (h, host_is) = get_from_in (map (λ k. ring_stop k 1) (numbers_below n)) (ring_stop i 1) (host_in n i lt) in
       let (a, atom_is) = get_from_in (boundaries (classes_for (ring_task n)).prefixes) (first_of j) (subst (IsIn (first_of j)) (sym (atoms_are n some)) (in_firsts j less)) in (
         (h * length (classes_for (ring_task n)).vlans + 0) * atom_count (classes_for (ring_task n)) + a,
         record { host = h; vlan = 0; atom = a; number = refl; host_is = host_is; vlan_is = refl; atom_is = atom_is },
@@ -75,7 +75,7 @@ module _ (n : ℕ) (some : 4 ≤ n) where
       let d : DemandView = ring_demand i 0 in
       let entry : Place = place_at i 1 Untagged in
       let there : IsIn d (ring_demands n) =
-      in_flat_map (λ k. map (ring_demand k) (others k)) i d (below n) (in_range 0 n i (omega arith) (omega arith))
+      in_flat_map (λ k. map (ring_demand k) (others k)) i d (numbers_below n) (in_range 0 n i (omega arith) (omega arith))
       (in_map (ring_demand i) 0 (others i) (in_filter (λ j. not (j == i)) 0 destinations (inl refl) (ap not (ne_eqb 0 i (λ e. omega arith))))) in
       let covers : demand_covers d entry (first_of 0) ≡ true = ap (λ b. b && true && true) (stop_eq-refl (ring_stop i 1)) in
       any_in (λ (x : DemandView). x.deliver) d (demands_on (ring_demands n) entry (first_of 0)) (in_filter (λ x. demand_covers x entry (first_of 0)) d (ring_demands n) there covers) refl

@@ -10,11 +10,11 @@ use Rattle.net_base.specs.declared.ids.SwitchId.{SwitchId}
 use Rattle.net_base.specs.declared.ids.Place.{Place}
 use Rattle.net_base.specs.declared.ids.Vlan.TheVariants.{Untagged}
 use Rattle.flow_rules.specs.Patterns.{key_eq}
-use Rattle.flow_rules.specs.Tables.{rules_at, keys_of, matched, lookup}
+use Rattle.flow_rules.specs.Tables.{rules_at, keys_of, matched_rule, lookup}
 use Rattle.flow_rules.specs.declared.rules.Rule.{Rule}
 use Rattle.flow_rules.specs.declared.rules.Action.{Action}
 use Rattle.flow_rules.specs.declared.rules.Action.TheVariants as action
-use Rattle.path_walk.specs.Outcomes.{acted, sent, header_at}
+use Rattle.path_walk.specs.Outcomes.{action_outcome, sent_outcome, header_at}
 use Rattle.path_walk.specs.declared.Outcome.TheVariants.{Discard, Go}
 use Rattle.update_model.specs.Changes.{switch_of, changes_at, rules_after, rules_after_change, tables_after, Applies}
 use Rattle.update_model.specs.Mixtures.{Rollout, IsPossible, MayGo}
@@ -76,8 +76,8 @@ module _ (n : ℕ) (some : 4 ≤ n) (is : IsUserTreeUpdate (ring_task n)) where
   new_there : (i : ℕ) → i < n → IsIn (new_rule i) (rules_at (ring_tables n 3) (sw i))
   new_there i lt = subst (IsIn (new_rule i)) (sym (table_at n 3 i lt)) (inl refl)
 
-  new_picked : (i : ℕ) (p : Place) → i < n → matched (header_at p dst) (rules_at (ring_tables n 3) (sw i)) ≡ Some (new_rule i)
-  new_picked i p lt = ap (matched (header_at p dst)) (table_at n 3 i lt) ∙ refl
+  new_picked : (i : ℕ) (p : Place) → i < n → matched_rule (header_at p dst) (rules_at (ring_tables n 3) (sw i)) ≡ Some (new_rule i)
+  new_picked i p lt = ap (matched_rule (header_at p dst)) (table_at n 3 i lt) ∙ refl
 
   differs : (i : ℕ) → 1 ≤ i → ¬ ((old_rule i).action ≡ (new_rule i).action)
   differs i far e = let f : 2 ≡ 3 = ap port_of (sym (sends_on 2 i far) ∙ e ∙ sends_on 3 i far) in omega (arith, f)
@@ -158,7 +158,7 @@ module _ (n : ℕ) (some : 4 ≤ n) (is : IsUserTreeUpdate (ring_task n)) where
           some = just_it (renewal i) (changes_at (sw i) round) (in_filter (λ d. (switch_of d).0 == i) (renewal i) round renewed (eq-eqb i i refl));
           same = λ x. (λ j. j, λ j. j);
         };
-        is = sym (ap (acted (ring_network n) entry) mixed_sends ∙ ap (λ e. sent e (record { 0 = 3 }) Untagged) (back_end n (omega arith) is.net i lt));
+        is = sym (ap (action_outcome (ring_network n) entry) mixed_sends ∙ ap (λ e. sent_outcome e (record { 0 = 3 }) Untagged) (back_end n (omega arith) is.net i lt));
       }
 
       still_sends : lookup (header_at turn dst) (rules_at tables (sw k)) ≡ out_of 2
@@ -172,7 +172,7 @@ module _ (n : ℕ) (some : 4 ≤ n) (is : IsUserTreeUpdate (ring_task n)) where
       drops = record {
         mixed = rules_at tables (sw k);
         held = record { made = []; some = tt; same = λ x. (λ j. j, λ j. j) };
-        is = sym (ap (acted (ring_network n) turn) still_sends);
+        is = sym (ap (action_outcome (ring_network n) turn) still_sends);
       }
 
       not_yet : ⊥

@@ -6,7 +6,7 @@ use Rattle.net_base.proofs.MemberLaws.{in_append_left, in_append_right, in_appen
 use Rattle.flow_rules.specs.Tables.{IsTable}
 use Rattle.flow_rules.specs.declared.rules.Rule.{Rule}
 use Rattle.update_model.specs.Changes.{tables_after, tables_after_change}
-use Rattle.update_model.specs.Remaining.{remaining, AreRemaining}
+use Rattle.update_model.specs.Remaining.{remaining_changes, AreRemaining}
 use Rattle.update_model.specs.declared.Change.{Change}
 use Rattle.update_model.proofs.RemainingLaws.{AllUnique, remaining_shortens, remaining_made, unique_then}
 use Rattle.table_difference.proofs.WithoutLaws.{unique_tables, remaining_without}
@@ -20,18 +20,18 @@ fewer_stand : (to : Target) (tables : List (List Rule)) (some changes : List Cha
 fewer_stand to tables some changes part can = round_of_fewer to.net tables some changes part to.demands to.classes can
 
 pub packed_once : (to : Target) (tables : List (List Rule)) (one other : List Change) → IsPackedRound to tables one → IsPackedRound to tables other → one ≡ other
-packed_once to tables one other a b = filled_once (CanStand to tables) [] (remaining tables to.new) one other a b
+packed_once to tables one other a b = filled_once (CanStand to tables) [] (remaining_changes tables to.new) one other a b
 
-pub packed_full : (to : Target) (tables : List (List Rule)) (round : List Change) → IsPackedRound to tables round → (c : Change) → IsIn c (remaining tables to.new) → ¬ IsIn c round
+pub packed_full : (to : Target) (tables : List (List Rule)) (round : List Change) → IsPackedRound to tables round → (c : Change) → IsIn c (remaining_changes tables to.new) → ¬ IsIn c round
     → ¬ CanStand to tables (round ++ c ∷ [])
-packed_full to tables round packed c i out = filled_full (CanStand to tables) (fewer_stand to tables) [] (remaining tables to.new) round packed c i out
+packed_full to tables round packed c i out = filled_full (CanStand to tables) (fewer_stand to tables) [] (remaining_changes tables to.new) round packed c i out
 
-pub stuck_alone : (to : Target) (old : List (List Rule)) (rounds : List (List Change)) → PacksStuck to old rounds → (c : Change) → IsIn c (remaining (tables_past rounds old) to.new)
+pub stuck_alone : (to : Target) (old : List (List Rule)) (rounds : List (List Change)) → PacksStuck to old rounds → (c : Change) → IsIn c (remaining_changes (tables_past rounds old) to.new)
     → ¬ CanStand to (tables_past rounds old) (c ∷ [])
 stuck_alone to old rounds stuck c i = packed_full to (tables_past rounds old) [] stuck.none_stands c i (λ j. j)
 
 -- a round with nothing left for it is empty
-none_packed : (to : Target) (tables : List (List Rule)) (round : List Change) → remaining tables to.new ≡ [] → IsPackedRound to tables round → round ≡ []
+none_packed : (to : Target) (tables : List (List Rule)) (round : List Change) → remaining_changes tables to.new ≡ [] → IsPackedRound to tables round → round ≡ []
 none_packed to tables round none packed = subst (λ cs. IsFilled (CanStand to tables) [] cs round) none packed
 
 pub ordered_once : (to : Target) (old : List (List Rule)) (one other : List (List Change)) → PacksOrdered to old one → PacksOrdered to old other → one ≡ other
@@ -44,7 +44,7 @@ ordered_once to old (round ∷ one) (other ∷ others) a b =
     ordered_once to (tables_after round old) one others (record { packed = a.packed.2; none_remains = a.none_remains })
     (record {
       packed = subst (λ r. ArePacked to (tables_after r old) others) (sym same) b.packed.2;
-      none_remains = subst (λ r. remaining (tables_past others (tables_after r old)) to.new ≡ []) (sym same) b.none_remains;
+      none_remains = subst (λ r. remaining_changes (tables_past others (tables_after r old)) to.new ≡ []) (sym same) b.none_remains;
     }) in
     ap (λ r. r ∷ one) same ∙ ap (λ rs. other ∷ rs) rest
 
@@ -58,7 +58,7 @@ stuck_once to old (round ∷ one) (other ∷ others) a b =
     stuck_once to (tables_after round old) one others (record { packed = a.packed.2; some_remain = a.some_remain; none_stands = a.none_stands })
     (record {
       packed = subst (λ r. ArePacked to (tables_after r old) others) (sym same) b.packed.2;
-      some_remain = subst (λ r. remaining (tables_past others (tables_after r old)) to.new ≢ []) (sym same) b.some_remain;
+      some_remain = subst (λ r. remaining_changes (tables_past others (tables_after r old)) to.new ≢ []) (sym same) b.some_remain;
       none_stands = subst (λ r. IsPackedRound to (tables_past others (tables_after r old)) []) (sym same) b.none_stands;
     }) in
     ap (λ r. r ∷ one) same ∙ ap (λ rs. other ∷ rs) rest
@@ -72,7 +72,7 @@ ordered_or_stuck to old (round ∷ one) (other ∷ others) a = λ b.
     ordered_or_stuck to (tables_after round old) one others (record { packed = a.packed.2; none_remains = a.none_remains })
     (record {
       packed = subst (λ r. ArePacked to (tables_after r old) others) (sym same) b.packed.2;
-      some_remain = subst (λ r. remaining (tables_past others (tables_after r old)) to.new ≢ []) (sym same) b.some_remain;
+      some_remain = subst (λ r. remaining_changes (tables_past others (tables_after r old)) to.new ≢ []) (sym same) b.some_remain;
       none_stands = subst (λ r. IsPackedRound to (tables_past others (tables_after r old)) []) (sym same) b.none_stands;
     })
 
@@ -94,16 +94,16 @@ module _ (new : List (List Rule)) (new_unique : AllUnique new) where
   pub record IsMade (now : List (List Rule)) (changes : List Change) : Type 0 where
     pub made : AreRemaining now new changes
     pub unique : AllUnique (tables_after changes now)
-    pub others : (d : Change) → IsIn d (remaining now new) → ¬ IsIn d changes → IsIn d (remaining (tables_after changes now) new)
+    pub others : (d : Change) → IsIn d (remaining_changes now new) → ¬ IsIn d changes → IsIn d (remaining_changes (tables_after changes now) new)
 
-  pub part_made : (now : List (List Rule)) → AllUnique now → (changes : List Change) → IsSubsequence changes (remaining now new) → IsMade now changes
+  pub part_made : (now : List (List Rule)) → AllUnique now → (changes : List Change) → IsSubsequence changes (remaining_changes now new) → IsMade now changes
   part_made now unique [] part = record { made = tt; unique = unique; others = λ d i out. i }
   part_made now unique (c ∷ changes) part =
-      let (front, back, are, behind) = first_part c changes (remaining now new) part in
-      let stands : IsIn c (remaining now new) = subst (IsIn c) (sym are) (in_append_right c front (c ∷ back) (inl refl)) in
+      let (front, back, are, behind) = first_part c changes (remaining_changes now new) part in
+      let stands : IsIn c (remaining_changes now new) = subst (IsIn c) (sym are) (in_append_right c front (c ∷ back) (inl refl)) in
       let (applies, fewer) = remaining_shortens now new unique new_unique c stands in
       let then : AllUnique (tables_after_change c now) = unique_then now c applies unique in
-      let left : remaining (tables_after_change c now) new ≡ front ++ back = remaining_without now new unique new_unique front back c are in
+      let left : remaining_changes (tables_after_change c now) new ≡ front ++ back = remaining_without now new unique new_unique front back c are in
       let rest = part_made (tables_after_change c now) then changes (subst (IsSubsequence changes) (sym left) (part_behind front changes back behind)) in
       record {
         made = (stands, rest.made);
@@ -120,13 +120,13 @@ module _ (new : List (List Rule)) (new_unique : AllUnique new) where
   some_more (c ∷ round) some = omega arith
 
 -- a packed round is some of what remains, in its order
-pub packed_part : (to : Target) (tables : List (List Rule)) (round : List Change) → IsPackedRound to tables round → IsSubsequence round (remaining tables to.new)
+pub packed_part : (to : Target) (tables : List (List Rule)) (round : List Change) → IsPackedRound to tables round → IsSubsequence round (remaining_changes tables to.new)
 packed_part to tables round packed =
-    let (more, are, part) = round_part (CanStand to tables) [] (remaining tables to.new) round packed in
-    subst (λ r. IsSubsequence r (remaining tables to.new)) (sym are) part
+    let (more, are, part) = round_part (CanStand to tables) [] (remaining_changes tables to.new) round packed in
+    subst (λ r. IsSubsequence r (remaining_changes tables to.new)) (sym are) part
 
 packed_count : (to : Target) → AllUnique to.new → (now : List (List Rule)) → AllUnique now → (rounds : List (List Change)) → ArePacked to now rounds
-    → length rounds ≤ length (remaining now to.new)
+    → length rounds ≤ length (remaining_changes now to.new)
 packed_count to new_unique now unique [] packed = omega arith
 packed_count to new_unique now unique (round ∷ rounds) packed =
     let made = part_made to.new new_unique now unique round (packed_part to now round packed.0) in
@@ -136,15 +136,15 @@ packed_count to new_unique now unique (round ∷ rounds) packed =
     omega arith
 
 pub never_more : (to : Target) (old : List (List Rule)) (rounds : List (List Change)) → AllByRecursion IsTable old → AllByRecursion IsTable to.new → PacksOrdered to old rounds
-    → length rounds ≤ length (remaining old to.new)
+    → length rounds ≤ length (remaining_changes old to.new)
 never_more to old rounds old_are new_are ordered = packed_count to (unique_tables to.new new_are) old (unique_tables old old_are) rounds ordered.packed
 
 -- nothing remains behind all that remains
-pub all_made : (to : Target) (old : List (List Rule)) → AllByRecursion IsTable old → AllByRecursion IsTable to.new → remaining (tables_after (remaining old to.new) old) to.new ≡ []
+pub all_made : (to : Target) (old : List (List Rule)) → AllByRecursion IsTable old → AllByRecursion IsTable to.new → remaining_changes (tables_after (remaining_changes old to.new) old) to.new ≡ []
 all_made to old old_are new_are =
-    let made = part_made to.new (unique_tables to.new new_are) old (unique_tables old old_are) (remaining old to.new) (whole (remaining old to.new)) in
-    let count = remaining_made to.new (unique_tables to.new new_are) old (unique_tables old old_are) (remaining old to.new) made.made in
-    empty_of (remaining (tables_after (remaining old to.new) old) to.new) (omega arith)
+    let made = part_made to.new (unique_tables to.new new_are) old (unique_tables old old_are) (remaining_changes old to.new) (whole (remaining_changes old to.new)) in
+    let count = remaining_made to.new (unique_tables to.new new_are) old (unique_tables old old_are) (remaining_changes old to.new) made.made in
+    empty_of (remaining_changes (tables_after (remaining_changes old to.new) old) to.new) (omega arith)
   where
     whole : {A : Type 0} (xs : List A) → IsSubsequence xs xs
     whole [] = tt
@@ -154,10 +154,10 @@ all_made to old old_are new_are =
     empty_of [] e = refl
     empty_of (x ∷ xs) e = absurd (omega arith)
 
-pub one_enough : (to : Target) (old : List (List Rule)) → remaining old to.new ≢ [] → AllByRecursion IsTable old → AllByRecursion IsTable to.new
-    → CanStand to old (remaining old to.new) → PacksOrdered to old (remaining old to.new ∷ [])
+pub one_enough : (to : Target) (old : List (List Rule)) → remaining_changes old to.new ≢ [] → AllByRecursion IsTable old → AllByRecursion IsTable to.new
+    → CanStand to old (remaining_changes old to.new) → PacksOrdered to old (remaining_changes old to.new ∷ [])
 one_enough to old some old_are new_are can = record {
-  packed = (whole_filled (CanStand to old) (fewer_stand to old) [] (remaining old to.new) can, some, tt);
+  packed = (whole_filled (CanStand to old) (fewer_stand to old) [] (remaining_changes old to.new) can, some, tt);
   none_remains = all_made to old old_are new_are;
 }
 
@@ -175,14 +175,14 @@ part_whole (x ∷ xs) (y ∷ ys) (inl (e, h)) n = ap (λ z. z ∷ xs) e ∙ ap (
 part_whole (x ∷ xs) (y ∷ ys) (inr h) n = let m = part_short (x ∷ xs) ys h in absurd (omega arith)
 
 pub one_needed : (to : Target) (old : List (List Rule)) (round : List Change) → AllByRecursion IsTable old → AllByRecursion IsTable to.new
-    → PacksOrdered to old (round ∷ []) → CanStand to old (remaining old to.new)
+    → PacksOrdered to old (round ∷ []) → CanStand to old (remaining_changes old to.new)
 one_needed to old round old_are new_are ordered =
     let part = packed_part to old round ordered.packed.0 in
     let made = part_made to.new (unique_tables to.new new_are) old (unique_tables old old_are) round part in
     let count = remaining_made to.new (unique_tables to.new new_are) old (unique_tables old old_are) round made.made in
-    let none : length (remaining (tables_after round old) to.new) ≡ 0 = ap (λ cs. length cs) ordered.none_remains in
-    let all : round ≡ remaining old to.new = part_whole round (remaining old to.new) part (omega arith) in
-    elim (filled_stands (CanStand to old) [] (remaining old to.new) round ordered.packed.0) [
+    let none : length (remaining_changes (tables_after round old) to.new) ≡ 0 = ap (λ cs. length cs) ordered.none_remains in
+    let all : round ≡ remaining_changes old to.new = part_whole round (remaining_changes old to.new) part (omega arith) in
+    elim (filled_stands (CanStand to old) [] (remaining_changes old to.new) round ordered.packed.0) [
       | inl e ↦ absurd (ordered.packed.1 e)
       | inr can ↦ subst (CanStand to old) all can
     ]

@@ -2,7 +2,7 @@
 use Rattle.std.specs.Prelude.{◌≡◌, ◌≢◌, ◌⊎◌, List, [], ◌∷◌, ◌++◌}
 use Rattle.flow_rules.specs.declared.rules.Rule.{Rule}
 use Rattle.update_model.specs.Changes.{tables_after}
-use Rattle.update_model.specs.Remaining.{remaining}
+use Rattle.update_model.specs.Remaining.{remaining_changes}
 use Rattle.update_model.specs.declared.Change.{Change}
 use Rattle.certificates.specs.Rounds.{CanBeRound}
 use Rattle.table_difference.specs.Targets.{Target}
@@ -19,7 +19,7 @@ CanStand to tables changes = CanBeRound to.net to.demands to.classes tables chan
 
 -- the packed round at the tables
 abbrev pub IsPackedRound : Target → List (List Rule) → List Change → Type 0
-IsPackedRound to tables round = IsFilled (CanStand to tables) [] (remaining tables to.new) round
+IsPackedRound to tables round = IsFilled (CanStand to tables) [] (remaining_changes tables to.new) round
 
 -- each round is the packed round of the tables before it, and isn't empty
 abbrev pub ArePacked : Target → List (List Rule) → List (List Change) → Type 0
@@ -34,10 +34,10 @@ tables_past (round ∷ rounds) tables = tables_past rounds (tables_after round t
 -- packing ends ordered with these rounds: none of the changes remains after them
 pub record PacksOrdered (to : Target) (old : List (List Rule)) (rounds : List (List Change)) : Type 0 where
   pub packed : ArePacked to old rounds
-  pub none_remains : remaining (tables_past rounds old) to.new ≡ []
+  pub none_remains : remaining_changes (tables_past rounds old) to.new ≡ []
 
 -- packing ends stuck after these rounds: some changes remain, and none of them can stand in a round
 pub record PacksStuck (to : Target) (old : List (List Rule)) (rounds : List (List Change)) : Type 0 where
   pub packed : ArePacked to old rounds
-  pub some_remain : remaining (tables_past rounds old) to.new ≢ []
+  pub some_remain : remaining_changes (tables_past rounds old) to.new ≢ []
   pub none_stands : IsPackedRound to (tables_past rounds old) []

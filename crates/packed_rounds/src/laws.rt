@@ -4,7 +4,7 @@ ghost use Rattle.std.specs.List.{AllByRecursion};
 ghost use Rattle.net_base.specs.Members.{IsIn};
 ghost use Rattle.flow_rules.specs.Tables.{IsTable};
 ghost use Rattle.flow_rules.specs.declared.rules.Rule.{Rule};
-ghost use Rattle.update_model.specs.Remaining.{remaining};
+ghost use Rattle.update_model.specs.Remaining.{remaining_changes};
 ghost use Rattle.update_model.specs.declared.Change.{Change};
 ghost use Rattle.table_difference.specs.Targets.{Target};
 ghost use Rattle.packed_rounds.specs.Packing.{CanStand, IsPackedRound, PacksOrdered, PacksStuck, tables_past};
@@ -24,7 +24,7 @@ pub fn packing_ends_once()
 /// No change that a packed round leaves could have stood in it besides.
 pub fn rounds_are_full()
     ensures { (to : Target) (tables : List (List Rule)) (round : List Change)
-        → IsPackedRound to tables round → (c : Change) → IsIn c (remaining tables to.new)
+        → IsPackedRound to tables round → (c : Change) → IsIn c (remaining_changes tables to.new)
         → ¬ IsIn c round → ¬ CanStand to tables (round ++ c ∷ []) }
 {}
 
@@ -32,25 +32,25 @@ pub fn rounds_are_full()
 pub fn stuck_means_stuck()
     ensures { (to : Target) (old : List (List Rule)) (rounds : List (List Change))
         → PacksStuck to old rounds → (c : Change)
-        → IsIn c (remaining (tables_past rounds old) to.new)
+        → IsIn c (remaining_changes (tables_past rounds old) to.new)
         → ¬ CanStand to (tables_past rounds old) (c ∷ []) }
 {}
 
 /// There is one packed round exactly where all changes that lead from the old to the new tables, of which there are some,
 /// can be one round.
 pub fn one_round_where_one_is_enough()
-    ensures enough { (to : Target) (old : List (List Rule)) → remaining old to.new ≢ []
+    ensures enough { (to : Target) (old : List (List Rule)) → remaining_changes old to.new ≢ []
         → AllByRecursion IsTable old → AllByRecursion IsTable to.new
-        → CanStand to old (remaining old to.new)
-        → PacksOrdered to old (remaining old to.new ∷ []) }
+        → CanStand to old (remaining_changes old to.new)
+        → PacksOrdered to old (remaining_changes old to.new ∷ []) }
     ensures needed { (to : Target) (old : List (List Rule)) (round : List Change)
         → AllByRecursion IsTable old → AllByRecursion IsTable to.new
-        → PacksOrdered to old (round ∷ []) → CanStand to old (remaining old to.new) }
+        → PacksOrdered to old (round ∷ []) → CanStand to old (remaining_changes old to.new) }
 {}
 
 /// Packing takes at most as many rounds as changes lead from the old to the new tables, each of which it makes once.
 pub fn never_more_rounds_than_changes()
     ensures { (to : Target) (old : List (List Rule)) (rounds : List (List Change))
         → AllByRecursion IsTable old → AllByRecursion IsTable to.new
-        → PacksOrdered to old rounds → length rounds ≤ length (remaining old to.new) }
+        → PacksOrdered to old rounds → length rounds ≤ length (remaining_changes old to.new) }
 {}

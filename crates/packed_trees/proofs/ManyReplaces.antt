@@ -13,7 +13,7 @@ use Rattle.net_base.specs.declared.ids.Place.{Place}
 use Rattle.flow_rules.specs.Patterns.{Header}
 use Rattle.flow_rules.specs.Tables.{rules_at, lookup, IsTable, IsClear}
 use Rattle.flow_rules.specs.declared.rules.Rule.{Rule}
-use Rattle.path_walk.specs.Outcomes.{acted, header_at}
+use Rattle.path_walk.specs.Outcomes.{action_outcome, header_at}
 use Rattle.path_walk.specs.Paths.{outcome_in}
 use Rattle.path_walk.specs.declared.Outcome.{Outcome}
 use Rattle.update_model.specs.Changes.{switch_of, changes_at, rules_after, rules_after_change, tables_after, Applies}
@@ -165,8 +165,8 @@ module _ (t : Task) (tree : IsTreeUpdate t) (old_once : (s : SwitchId) → IsTab
         let s = place.switch in
         let same = same_set s (rules_after may.held.made (rules_at tables s)) may.mixed (made_fits s may.mixed may.held) may.held.same (header_at place dst) in
         elim (lookup_made s may.held.made (made_wanted s may.mixed may.held) (rules_at tables s) (fit s) (header_at place dst)) [
-          | inl e ↦ inl (may.is ∙ ap (acted t.update.net place) (same ∙ e))
-          | inr e ↦ inr (may.is ∙ ap (acted t.update.net place) (same ∙ e))
+          | inl e ↦ inl (may.is ∙ ap (action_outcome t.update.net place) (same ∙ e))
+          | inr e ↦ inr (may.is ∙ ap (action_outcome t.update.net place) (same ∙ e))
         ]
 
     pub rules_then : AllByRecursion (Applies tables) changes → (s : SwitchId) → rules_at (tables_after changes tables) s ≡ rules_after (changes_at s changes) (rules_at tables s)
@@ -222,8 +222,8 @@ module _ (t : Task) (tree : IsTreeUpdate t) (old_once : (s : SwitchId) → IsTab
             fits_one x (Replace x next) (record { next = next; is = refl; wanted = wanted_here }) first fits in
             let same = same_set x (rules_after_change (Replace x next) first) may.mixed whole (subst (IsSameSet may.mixed) rules_are may.held.same) (header_at place dst) in
             elim (lookup_one x next wanted_here first fits (header_at place dst)) [
-              | inl e ↦ inl (record { mixed = first; held = held; is = may.is ∙ ap (acted t.update.net place) (same ∙ e) })
-              | inr (has, e) ↦ inr (here, has, may.is ∙ ap (acted t.update.net place) (same ∙ e))
+              | inl e ↦ inl (record { mixed = first; held = held; is = may.is ∙ ap (action_outcome t.update.net place) (same ∙ e) })
+              | inr (has, e) ↦ inr (here, has, may.is ∙ ap (action_outcome t.update.net place) (same ∙ e))
             ]
 
         pub possible_more : WasPossible ⊎ IsRenewed

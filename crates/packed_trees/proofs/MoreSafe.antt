@@ -10,7 +10,7 @@ use Rattle.net_base.specs.declared.ids.SwitchId.{SwitchId}
 use Rattle.net_base.specs.declared.ids.Place.{Place}
 use Rattle.topology.specs.Networks.{Network, IsNetwork}
 use Rattle.flow_rules.specs.declared.rules.Action.{Action}
-use Rattle.path_walk.specs.Outcomes.{acted}
+use Rattle.path_walk.specs.Outcomes.{action_outcome}
 use Rattle.path_walk.specs.declared.Outcome.{Outcome}
 use Rattle.path_walk.specs.declared.Outcome.TheVariants.{Discard, Go}
 use Rattle.demands.specs.Duties.{PacketDuties}
@@ -87,15 +87,15 @@ module _ (v : Rollout) (dst : ℕ) (entry : Place) (duties : PacketDuties) (no_c
 
     -- where what becomes possible is the new action at one switch, from where a path leaves over switches that are new
     module _ (net : Network) (is_net : IsNetwork net) (now new : SwitchId → Action)
-        (first : Place) (after : List Place) (tail_walk : IsWalk (Steps (λ p. acted net p (new p.switch))) first after)
-        (tail_ends : (next : Place) → ¬ (acted net (end_of first after) (new (end_of first after).switch) ≡ Go next))
-        (tail_leaves : ¬ (acted net (end_of first after) (new (end_of first after).switch) ≡ Discard))
+        (first : Place) (after : List Place) (tail_walk : IsWalk (Steps (λ p. action_outcome net p (new p.switch))) first after)
+        (tail_ends : (next : Place) → ¬ (action_outcome net (end_of first after) (new (end_of first after).switch) ≡ Go next))
+        (tail_leaves : ¬ (action_outcome net (end_of first after) (new (end_of first after).switch) ≡ Discard))
         (tail_distinct : IsDistinct (switches_along first after)) (agree : AllByRecursion (λ q. now q.switch ≡ new q.switch) after)
-        (enters : IsTrue duties.arrive → ¬ (acted net entry (new entry.switch) ≡ Discard))
-        (either : (p : Place) (found : Outcome) → IsPossible u 0 dst p found → (found ≡ acted net p (now p.switch)) ⊎ (found ≡ acted net p (new p.switch)))
-        (more : (p : Place) (found : Outcome) → IsPossible v 0 dst p found → IsPossible u 0 dst p found ⊎ ((p.switch ≡ first.switch) × (found ≡ acted net p (new p.switch)))) where
+        (enters : IsTrue duties.arrive → ¬ (action_outcome net entry (new entry.switch) ≡ Discard))
+        (either : (p : Place) (found : Outcome) → IsPossible u 0 dst p found → (found ≡ action_outcome net p (now p.switch)) ⊎ (found ≡ action_outcome net p (new p.switch)))
+        (more : (p : Place) (found : Outcome) → IsPossible v 0 dst p found → IsPossible u 0 dst p found ⊎ ((p.switch ≡ first.switch) × (found ≡ action_outcome net p (new p.switch)))) where
       abbrev new_out : Place → Outcome
-      new_out p = acted net p (new p.switch)
+      new_out p = action_outcome net p (new p.switch)
 
       abbrev tail : List SwitchId
       tail = map (λ q. q.switch) after
@@ -108,21 +108,21 @@ module _ (v : Rollout) (dst : ℕ) (entry : Place) (duties : PacketDuties) (no_c
       OnTail p = (q : Place) × IsIn q after × (p.switch ≡ q.switch) × (p.port ≡ q.port)
 
       -- a step by the new action from where the tail has a place
-      tail_step : (p q z : Place) → IsIn z (first ∷ after) → p.switch ≡ z.switch → acted net p (new z.switch) ≡ Go q → OnTail q × IsNext (switches_along first after) p.switch q.switch
+      tail_step : (p q z : Place) → IsIn z (first ∷ after) → p.switch ≡ z.switch → action_outcome net p (new z.switch) ≡ Go q → OnTail q × IsNext (switches_along first after) p.switch q.switch
       tail_step p q z i same goes =
           let (other, e, f, g) = same_go net (new z.switch) p z q same goes (tail_stays z i) in
           let (j, next) = path_next new_out first after tail_walk tail_ends z other i e in
           ((other, j, f, g), subst (λ x. IsNext (switches_along first after) x q.switch) (sym same) (subst (IsNext (switches_along first after) z.switch) (sym f) next))
 
       -- on the tail only the new action is possible
-      on_tail : (p z : Place) (found : Outcome) → IsIn z after → p.switch ≡ z.switch → IsPossible v 0 dst p found → acted net p (new z.switch) ≡ found
+      on_tail : (p z : Place) (found : Outcome) → IsIn z after → p.switch ≡ z.switch → IsPossible v 0 dst p found → action_outcome net p (new z.switch) ≡ found
       on_tail p z found i same may =
           elim (more p found may) [
             | inl m ↦ elim (either p found m) [
-              | inl e ↦ ap (acted net p) (sym (ap now same ∙ each_at (λ q. now q.switch ≡ new q.switch) after z agree i)) ∙ sym e
-              | inr e ↦ ap (λ x. acted net p (new x)) (sym same) ∙ sym e
+              | inl e ↦ ap (action_outcome net p) (sym (ap now same ∙ each_at (λ q. now q.switch ≡ new q.switch) after z agree i)) ∙ sym e
+              | inr e ↦ ap (λ x. action_outcome net p (new x)) (sym same) ∙ sym e
             ]
-            | inr h ↦ ap (λ x. acted net p (new x)) (sym same) ∙ sym h.1
+            | inr h ↦ ap (λ x. action_outcome net p (new x)) (sym same) ∙ sym h.1
           ]
 
       -- a packet that must arrive isn't dropped at the switch of the change
@@ -136,12 +136,12 @@ module _ (v : Rollout) (dst : ℕ) (entry : Place) (duties : PacketDuties) (no_c
             ]
           ]
         where
-          back : (r : Place) (a : Action) → acted net r a ≡ Go p → ((next : Place) → IsIn next after → next.switch ≡ r.switch → a ≡ new next.switch) → ⊥
+          back : (r : Place) (a : Action) → action_outcome net r a ≡ Go p → ((next : Place) → IsIn next after → next.switch ≡ r.switch → a ≡ new next.switch) → ⊥
           back r a goes is_new =
-              let here_drops : acted net p (new first.switch) ≡ Discard = ap (λ x. acted net p (new x)) (sym here) ∙ drops in
+              let here_drops : action_outcome net p (new first.switch) ≡ Discard = ap (λ x. action_outcome net p (new x)) (sym here) ∙ drops in
               let (next, e, f, g) = step_back net is_net r p first a (new first.switch) goes here_drops here (tail_stays first (inl refl)) in
               let (j, _) = path_next new_out first after tail_walk tail_ends first next (inl refl) e in
-              tail_stays next (inr j) (ap (acted net next) (sym (is_new next j f)) ∙ g)
+              tail_stays next (inr j) (ap (action_outcome net next) (sym (is_new next j f)) ∙ g)
 
       pub safe_with_tail : SomeKeepsSafe v 0 dst entry duties
       safe_with_tail =
@@ -161,7 +161,7 @@ module _ (v : Rollout) (dst : ℕ) (entry : Place) (duties : PacketDuties) (no_c
                   | inl reached ↦ elim (more p (Go q) may) [
                     | inl m ↦ (inl (reached_more (MayGo u 0 dst) entry p q reached m), still p.switch q.switch out (lower_then p q reached m))
                     | inr h ↦ (
-                        let step = tail_step p q first (inl refl) h.0 (ap (λ x. acted net p (new x)) (sym h.0) ∙ sym h.1) in
+                        let step = tail_step p q first (inl refl) h.0 (ap (λ x. action_outcome net p (new x)) (sym h.0) ∙ sym h.1) in
                         (inr step.0, along p.switch q.switch step.1))
                   ]
                 ]

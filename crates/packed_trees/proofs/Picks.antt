@@ -10,7 +10,7 @@ use Rattle.net_base.proofs.MemberLaws.{in_map, in_from_map, in_filter, in_from_f
 use Rattle.net_base.proofs.ListLaws.{found_is}
 use Rattle.net_base.specs.declared.ids.SwitchId.{SwitchId}
 use Rattle.flow_rules.specs.Patterns.{Header, covers, admits_port, admits_vlan, key_eq}
-use Rattle.flow_rules.specs.Tables.{rules_at, covering, matched, lookup, IsClear, IsTable}
+use Rattle.flow_rules.specs.Tables.{rules_at, covering_rules, matched_rule, lookup, IsClear, IsTable}
 use Rattle.flow_rules.proofs.KeyLaws.{key_eq-true}
 use Rattle.flow_rules.proofs.LookupLaws.{IsTop, is_top, top_of, top_told, matched_is_top, matched_none}
 use Rattle.flow_rules.specs.declared.rules.Rule.{Rule}
@@ -28,9 +28,9 @@ use Rattle.packed_trees.proofs.ManyReplaces.{AreWanted, AreWantedAt, wanted_ther
 module _ (new rules : List Rule) (fits : Fits new rules) (new_clear : IsClear new) (rules_clear : IsClear rules) (h : Header) where
   -- the rule is the one that matches in the new table
   abbrev IsPicked : Rule → Type 0
-  IsPicked next = matched h new ≡ Some next
+  IsPicked next = matched_rule h new ≡ Some next
 
-  covering_new : (q : Rule) → IsIn q (covering h rules) → (r : Rule) × IsIn r (covering h new) × (q.key ≡ r.key)
+  covering_new : (q : Rule) → IsIn q (covering_rules h rules) → (r : Rule) × IsIn r (covering_rules h new) × (q.key ≡ r.key)
   covering_new q i =
       let (j, c) = in_from_filter (λ x. covers x.key.pattern h) q rules i in
       let (r, k, e) = in_from_map (λ x. x.key) q.key new ((fits.keys q.key).0 (in_map (λ x. x.key) q rules j)) in
@@ -39,10 +39,10 @@ module _ (new rules : List Rule) (fits : Fits new rules) (new_clear : IsClear ne
   -- the rule with its key matches in the other table
   pub picked_at : (next : Rule) → IsPicked next → (r : Rule) → IsIn r rules → r.key ≡ next.key → lookup h rules ≡ r.action
   picked_at next picked r i e =
-      let (j, tested) = found_is (is_top (covering h new)) next (covering h new) picked in
-      let top = top_told (covering h new) next tested in
+      let (j, tested) = found_is (is_top (covering_rules h new)) next (covering_rules h new) picked in
+      let top = top_told (covering_rules h new) next tested in
       let (k, c) = in_from_filter (λ x. covers x.key.pattern h) next new j in
-      let highest : IsTop (covering h rules) r = λ q l.
+      let highest : IsTop (covering_rules h rules) r = λ q l.
       let (x, m, f) = covering_new q l in
       subst (λ y. y.priority ≤ r.key.priority) (sym f) (subst (λ y. x.key.priority ≤ y.priority) (sym e) (top x m)) in
       ap (λ m. option_map_or (λ x. x.action) m Discard)
@@ -56,27 +56,27 @@ module _ (new rules : List Rule) (fits : Fits new rules) (new_clear : IsClear ne
     pub wanted : IsIn next new
     pub same_key : now.key ≡ next.key
     pub differs : ¬ (now.action ≡ next.action)
-    pub picked : matched h new ≡ Some next
+    pub picked : matched_rule h new ≡ Some next
     pub covered : covers next.key.pattern h ≡ true
 
-  uncovered : matched h new ≡ None → (q : Rule) → ¬ IsIn q (covering h new)
-  uncovered none q i = of (covering h new) refl i
+  uncovered : matched_rule h new ≡ None → (q : Rule) → ¬ IsIn q (covering_rules h new)
+  uncovered none q i = of (covering_rules h new) refl i
     where
-      of : (zs : List Rule) → zs ≡ covering h new → IsIn q zs → ⊥
+      of : (zs : List Rule) → zs ≡ covering_rules h new → IsIn q zs → ⊥
       of [] e j = absurd j
       of (z ∷ zs) e j =
           let (m, k, top) = top_of z zs in
-          let found : matched h new ≡ Some m = matched_is_top h new new_clear m (subst (IsIn m) e k) (subst (λ xs. IsTop xs m) e top) in
+          let found : matched_rule h new ≡ Some m = matched_is_top h new new_clear m (subst (IsIn m) e k) (subst (λ xs. IsTop xs m) e top) in
           absurd (let f : Some m ≡ None = sym found ∙ none in cc)
 
-  pub differs_by : (new_fits : Fits new new) → ((next : Rule) → matched h new ≡ Some next → IsIn next new → lookup h new ≡ next.action) → ¬ (lookup h rules ≡ lookup h new) → DiffersBy
+  pub differs_by : (new_fits : Fits new new) → ((next : Rule) → matched_rule h new ≡ Some next → IsIn next new → lookup h new ≡ next.action) → ¬ (lookup h rules ≡ lookup h new) → DiffersBy
   differs_by new_fits new_at ne =
-      elim (matched h new) as (λ m. matched h new ≡ m → DiffersBy) [
+      elim (matched_rule h new) as (λ m. matched_rule h new ≡ m → DiffersBy) [
         | None ↦ λ none. absurd (ne (
             ap (λ m. option_map_or (λ x. x.action) m Discard) (matched_none h rules (λ q i. let (r, j, e) = covering_new q i in uncovered none r j))
             ∙ sym (ap (λ m. option_map_or (λ x. x.action) m Discard) none)))
         | Some next ↦ λ picked. (
-            let (j, tested) = found_is (is_top (covering h new)) next (covering h new) picked in
+            let (j, tested) = found_is (is_top (covering_rules h new)) next (covering_rules h new) picked in
             let (k, c) = in_from_filter (λ x. covers x.key.pattern h) next new j in
             let (r, i, e) = in_from_map (λ x. x.key) next.key rules ((fits.keys next.key).1 (in_map (λ x. x.key) next new k)) in
             record {
@@ -99,7 +99,7 @@ module _ (t : Task) (tree : IsTreeUpdate t) (old_once : (s : SwitchId) → IsTab
   clear_new s = clear_fit t tree old_once new_once s (rules_at t.update.new s) (new_fits s)
 
   -- the new table has the action of the new rule that matches
-  pub new_picked : (s : SwitchId) (h : Header) (next : Rule) → matched h (rules_at t.update.new s) ≡ Some next → IsIn next (rules_at t.update.new s) → lookup h (rules_at t.update.new s) ≡ next.action
+  pub new_picked : (s : SwitchId) (h : Header) (next : Rule) → matched_rule h (rules_at t.update.new s) ≡ Some next → IsIn next (rules_at t.update.new s) → lookup h (rules_at t.update.new s) ≡ next.action
   new_picked s h next picked i =
       picked_at (rules_at t.update.new s) (rules_at t.update.new s) (new_fits s) (clear_new s) (clear_new s) h next picked next i refl
 
@@ -114,7 +114,7 @@ module _ (t : Task) (tree : IsTreeUpdate t) (old_once : (s : SwitchId) → IsTab
     pub clear_now : IsClear (rules_at tables s)
     clear_now = clear_fit t tree old_once new_once s (rules_at tables s) (fit s)
 
-    pub rule_picked : (next : Rule) → matched h (rules_at t.update.new s) ≡ Some next → (r : Rule) → IsIn r (rules_at tables s) → r.key ≡ next.key → lookup h (rules_at tables s) ≡ r.action
+    pub rule_picked : (next : Rule) → matched_rule h (rules_at t.update.new s) ≡ Some next → (r : Rule) → IsIn r (rules_at tables s) → r.key ≡ next.key → lookup h (rules_at tables s) ≡ r.action
     rule_picked = picked_at (rules_at t.update.new s) (rules_at tables s) (fit s) (clear_new s) clear_now h
 
     abbrev pub RuleDiffers : Type 0

@@ -19,7 +19,7 @@ use Rattle.flow_rules.proofs.KeyLaws.{cases_key}
 use Rattle.flow_rules.specs.declared.rules.Key.{Key}
 use Rattle.flow_rules.specs.declared.rules.Rule.{Rule}
 use Rattle.flow_rules.specs.declared.rules.Action.{Action}
-use Rattle.path_walk.specs.Outcomes.{acted, header_at}
+use Rattle.path_walk.specs.Outcomes.{action_outcome, header_at}
 use Rattle.path_walk.specs.Paths.{outcome_in, ended_by}
 use Rattle.path_walk.specs.UserConfigs.{IsUserConfig}
 use Rattle.path_walk.specs.declared.Outcome.{Outcome}
@@ -137,11 +137,11 @@ module _ (t : Task) (tree : IsTreeUpdate t) (is_net : IsNetwork t.update.net) (o
     new_action class dst alike q =
         same_lookup t tree old_user.distinct new_user.distinct new (new_fit t tree old_user.distinct new_user.distinct) q.switch (header_at q dst) (header_at class.entry class.first) alike
 
-    now_same : (class : Class) (dst : ℕ) → Alike dst class.first → (q : Place) → outcome_in net tables q dst ≡ acted net q (now_at class q.switch)
-    now_same class dst alike q = ap (acted net q) (now_action class dst alike q)
+    now_same : (class : Class) (dst : ℕ) → Alike dst class.first → (q : Place) → outcome_in net tables q dst ≡ action_outcome net q (now_at class q.switch)
+    now_same class dst alike q = ap (action_outcome net q) (now_action class dst alike q)
 
-    new_same : (class : Class) (dst : ℕ) → Alike dst class.first → (q : Place) → outcome_in net new q dst ≡ acted net q (new_at class q.switch)
-    new_same class dst alike q = ap (acted net q) (new_action class dst alike q)
+    new_same : (class : Class) (dst : ℕ) → Alike dst class.first → (q : Place) → outcome_in net new q dst ≡ action_outcome net q (new_at class q.switch)
+    new_same class dst alike q = ap (action_outcome net q) (new_action class dst alike q)
 
     -- the lookup at a place is the new one
     abbrev pub IsNewAt : Class → Place → Type 0
@@ -213,7 +213,7 @@ module _ (t : Task) (tree : IsTreeUpdate t) (is_net : IsNetwork t.update.net) (o
           evidence changes class
           (safe_on_path (one_round_of net tables changes) 0 class.first class.entry (duties class) (chainless class) (new_out class) (fine n class is)
           (λ q found i may. elim (possible_either t tree old_user.distinct new_user.distinct tables p.fit changes wanted class.first q found may) [
-            | inl e ↦ inl (e ∙ ap (acted net q) (each_at (IsNewAt class) (places n class is) q agree i))
+            | inl e ↦ inl (e ∙ ap (action_outcome net q) (each_at (IsNewAt class) (places n class is) q agree i))
             | inr e ↦ inl e
           ]))
 
@@ -252,7 +252,7 @@ module _ (t : Task) (tree : IsTreeUpdate t) (is_net : IsNetwork t.update.net) (o
         itself b i = refl
 
         by_new : Place → Outcome
-        by_new q = acted net q (new_at class q.switch)
+        by_new q = action_outcome net q (new_at class q.switch)
 
         abbrev change : Change
         change = Replace h.first.switch next
@@ -267,7 +267,7 @@ module _ (t : Task) (tree : IsTreeUpdate t) (is_net : IsNetwork t.update.net) (o
                   let alike = alike_in h.first.switch next d.wanted other.first class.first inside (change_has class h.first h.differs) in
                   safe_with_tail (one_round_of net tables (changes ++ change ∷ [])) other.first other.entry (duties other) (chainless other) (one_round_of net tables changes) keeps.numbers keeps.sets keeps.safe
                   net is_net (now_at class) (new_at class) h.first h.after
-                  (walk_weaker (Steps (new_out class)) (Steps (λ q. acted net q (new_at class q.switch))) (λ a b e. sym (new_same class class.first itself a) ∙ e) h.first h.after h.walk)
+                  (walk_weaker (Steps (new_out class)) (Steps (λ q. action_outcome net q (new_at class q.switch))) (λ a b e. sym (new_same class class.first itself a) ∙ e) h.first h.after h.walk)
                   (λ q e. subst (λ x. ¬ (new_out class x ≡ Go q)) (sym h.same_end) (path_ends net new class.entry class.first (good n class is).trace (good n class is).path q)
                   (new_same class class.first itself (end_of h.first h.after) ∙ e))
                   (λ e. subst (λ x. ¬ (new_out class x ≡ Discard)) (sym h.same_end) leaving.leaves (new_same class class.first itself (end_of h.first h.after) ∙ e))
@@ -312,7 +312,7 @@ module _ (t : Task) (tree : IsTreeUpdate t) (is_net : IsNetwork t.update.net) (o
                       | inl m ↦ inl m
                       | inr g ↦ (
                           let alike = alike_in class.entry.switch d.next d.wanted other.first class.first g.1 (change_has class class.entry ne) in
-                          let is_new : found ≡ acted net q (new_at class class.entry.switch) = g.2 ∙ new_same class other.first alike q ∙ ap (λ x. acted net q (new_at class x)) g.0 in
+                          let is_new : found ≡ action_outcome net q (new_at class class.entry.switch) = g.2 ∙ new_same class other.first alike q ∙ ap (λ x. action_outcome net q (new_at class x)) g.0 in
                           let here = host_at net (stop_of class.entry) (in_from_get net.hosts is.host (stop_of class.entry) is.host_is) in
                           inr (
                             λ r goes. host_drops net (new_at class class.entry.switch) class.entry q here g.0 (sym (new_same class class.first (λ b j. refl) class.entry) ∙ dropping.drops) r (sym is_new ∙ goes),

@@ -3,7 +3,7 @@ use Rattle.std.specs.Prelude.{◌≡◌, ◌≢◌, ℕ, ◌≤◌, Bool, not, I
 use Rattle.net_base.specs.Members.{IsIn}
 use Rattle.net_base.specs.declared.ids.Place.{Place}
 use Rattle.flow_rules.specs.Same.{action_eq}
-use Rattle.flow_rules.specs.Tables.{rules_at, matched, lookup}
+use Rattle.flow_rules.specs.Tables.{rules_at, matched_rule, lookup}
 use Rattle.flow_rules.specs.declared.rules.Rule.{Rule}
 use Rattle.path_walk.specs.Outcomes.{header_at}
 use Rattle.path_walk.specs.Paths.{Trace, IsPath}
@@ -48,7 +48,7 @@ pub record SomeIsUnmet (t : Task) (now : List (List Rule)) : Type 0 where
   pub change : Change
   pub remains : IsRemainingReplace t now change
   pub unmet : (p : NewPath t) (place : Place) → IsIn place (places_of t p) → place.switch ≡ remains.switch
-      → matched (header_at place p.class.first) (rules_at t.update.new place.switch) ≢ Some remains.next
+      → matched_rule (header_at place p.class.first) (rules_at t.update.new place.switch) ≢ Some remains.next
 
 -- the lookup differs at so many places at most of a class's new path that leaves; the other two numbers are at least 1, the one
 -- where some new path is dropped and the lookup differs at its entry, the other where some rule with another action is picked nowhere

@@ -17,12 +17,12 @@ use Rattle.topology.specs.Networks.{Network, end_at}
 use Rattle.topology.specs.declared.net.End.{End}
 use Rattle.topology.specs.declared.net.End.TheVariants as at
 use Rattle.flow_rules.specs.Patterns.{Header, covers}
-use Rattle.flow_rules.specs.Tables.{rules_at, lookup, covering}
+use Rattle.flow_rules.specs.Tables.{rules_at, lookup, covering_rules}
 use Rattle.flow_rules.proofs.LookupLaws.{is_top}
 use Rattle.flow_rules.specs.declared.rules.Rule.{Rule}
 use Rattle.flow_rules.specs.declared.rules.Action.{Action}
 use Rattle.flow_rules.specs.declared.rules.Action.TheVariants as action
-use Rattle.path_walk.specs.Outcomes.{acted, sent, rewritten, header_at}
+use Rattle.path_walk.specs.Outcomes.{action_outcome, sent_outcome, rewritten_vlan, header_at}
 use Rattle.path_walk.specs.Paths.{Trace, Forwards, outcome_in, ended_by, IsEnd, IsPath}
 use Rattle.path_walk.specs.declared.Ended.{Ended}
 use Rattle.path_walk.specs.UserConfigs.{IsUserConfig, IsUserRule, IsUserAction}
@@ -61,7 +61,7 @@ module _ (net : Network) (tables : List (List Rule)) (dst : ℕ) where
 
 -- what holds of discard and of each rule's action holds of the lookup
 pub lookup_each : (P : Action → Type 0) (h : Header) (rules : List Rule) → P action.Discard → AllByRecursion (λ r. P r.action) rules → P (lookup h rules)
-lookup_each P h rules none all = found (covering h rules) (each_filter (λ r. P r.action) (λ r. covers r.key.pattern h) rules all)
+lookup_each P h rules none all = found (covering_rules h rules) (each_filter (λ r. P r.action) (λ r. covers r.key.pattern h) rules all)
   where
     found_in : (test : Rule → Bool) (rs : List Rule) → AllByRecursion (λ r. P r.action) rs → P (option_map_or (λ r. r.action) (find test rs) action.Discard)
     found_in test [] each = none
@@ -76,16 +76,16 @@ HasVlan v Discard = Unit {0}
 HasVlan v (Leave port vlan) = vlan ≡ v
 HasVlan v (Go next) = next.vlan ≡ v
 
-sent_keeps : (e : End) (port : Port) (v : Vlan) → HasVlan v (sent e port v)
+sent_keeps : (e : End) (port : Port) (v : Vlan) → HasVlan v (sent_outcome e port v)
 sent_keeps at.Host port v = refl
 sent_keeps (at.Link s p) port v = refl
 sent_keeps at.Nothing port v = tt
 
-acted_keeps : (net : Network) (s : SwitchId) (place : Place) (a : Action) → IsUserAction net s a → HasVlan place.vlan (acted net place a)
+acted_keeps : (net : Network) (s : SwitchId) (place : Place) (a : Action) → IsUserAction net s a → HasVlan place.vlan (action_outcome net place a)
 acted_keeps net s place action.Discard user = tt
 acted_keeps net s place (action.Out port rewrite) user =
-    cond_both (port.0 == place.port.0) Discard (sent (end_at net (record { switch = place.switch; port = port })) port (rewritten rewrite place.vlan)) (HasVlan place.vlan) (λ _. tt)
-    (λ _. subst (λ r. HasVlan place.vlan (sent (end_at net (record { switch = place.switch; port = port })) port (rewritten r place.vlan))) (sym user.1) (sent_keeps (end_at net (record { switch = place.switch; port = port })) port place.vlan))
+    cond_both (port.0 == place.port.0) Discard (sent_outcome (end_at net (record { switch = place.switch; port = port })) port (rewritten_vlan rewrite place.vlan)) (HasVlan place.vlan) (λ _. tt)
+    (λ _. subst (λ r. HasVlan place.vlan (sent_outcome (end_at net (record { switch = place.switch; port = port })) port (rewritten_vlan r place.vlan))) (sym user.1) (sent_keeps (end_at net (record { switch = place.switch; port = port })) port place.vlan))
 
 module _ (net : Network) (tables : List (List Rule)) (user : IsUserConfig net tables) (dst : ℕ) where
   -- a user configuration keeps the VLAN

@@ -19,7 +19,7 @@ use Rattle.flow_rules.specs.Tables.{lookup, rules_at}
 use Rattle.flow_rules.specs.declared.rules.Rule.{Rule}
 use Rattle.flow_rules.specs.declared.rules.Action.{Action}
 use Rattle.flow_rules.specs.declared.rules.Action.TheVariants as action
-use Rattle.path_walk.specs.Outcomes.{header_at, rewritten, sent, acted}
+use Rattle.path_walk.specs.Outcomes.{header_at, rewritten_vlan, sent_outcome, action_outcome}
 use Rattle.path_walk.specs.Paths.{outcome_in}
 use Rattle.path_walk.specs.declared.Outcome.TheVariants.{Discard, Leave, Go}
 
@@ -92,7 +92,7 @@ module _ (net : Network) (valid : IsNetwork net) where
         | false ↦ λ f. far_within stop s p net.links (each_last (IsWithin net) net.hosts (flat_map (λ l. l.one ∷ l.other ∷ []) net.links) valid.ports) f
       ] e
 
-  sent_within : (stop : Stop) (end : End) (port : Port) (v : Vlan) (next : Place) → end_at net stop ≡ end → sent end port v ≡ Go next → next.switch.0 < switch_count net
+  sent_within : (stop : Stop) (end : End) (port : Port) (v : Vlan) (next : Place) → end_at net stop ≡ end → sent_outcome end port v ≡ Go next → next.switch.0 < switch_count net
   sent_within stop at.Nothing port v next is e = absurd (let f : Discard ≡ Go next = e in cc)
   sent_within stop at.Host port v next is e = absurd (let f : Leave port v ≡ Go next = e in cc)
   sent_within stop (at.Link s p) port v next is e =
@@ -101,13 +101,13 @@ module _ (net : Network) (valid : IsNetwork net) where
       let g : place ≡ next = cc in
       subst (λ (x : Place). x.switch.0 < switch_count net) g (end_within stop s p is)
 
-  acted_within : (place : Place) (a : Action) (next : Place) → acted net place a ≡ Go next → next.switch.0 < switch_count net
+  acted_within : (place : Place) (a : Action) (next : Place) → action_outcome net place a ≡ Go next → next.switch.0 < switch_count net
   acted_within place action.Discard next e = absurd (let f : Discard ≡ Go next = e in cc)
   acted_within place (action.Out port rewrite) next e =
       let stop : Stop = record { switch = place.switch; port = port } in
-      elim (port.0 == place.port.0) as (λ b. cond b Discard (sent (end_at net stop) port (rewritten rewrite place.vlan)) ≡ Go next → next.switch.0 < switch_count net) [
+      elim (port.0 == place.port.0) as (λ b. cond b Discard (sent_outcome (end_at net stop) port (rewritten_vlan rewrite place.vlan)) ≡ Go next → next.switch.0 < switch_count net) [
         | true ↦ λ f. absurd (let g : Discard ≡ Go next = f in cc)
-        | false ↦ λ f. sent_within stop (end_at net stop) port (rewritten rewrite place.vlan) next refl f
+        | false ↦ λ f. sent_within stop (end_at net stop) port (rewritten_vlan rewrite place.vlan) next refl f
       ] e
 
   -- a hop goes to a switch of the network

@@ -22,24 +22,24 @@ abbrev pub header_at : Place → ℕ → Header
 header_at place dst = record { port = place.port; vlan = place.vlan; dst = dst }
 
 -- the VLAN after a rewrite
-abbrev pub rewritten : Rewrite → Vlan → Vlan
-rewritten Keep v = v
-rewritten (Set id) v = vlan.Id id
-rewritten Strip v = vlan.Untagged
+abbrev pub rewritten_vlan : Rewrite → Vlan → Vlan
+rewritten_vlan Keep v = v
+rewritten_vlan (Set id) v = vlan.Id id
+rewritten_vlan Strip v = vlan.Untagged
 
 -- what becomes of a packet with this VLAN that is sent out of the port with this end
-abbrev pub sent : End → Port → Vlan → Outcome
-sent at.Nothing port v = Discard
-sent at.Host port v = Leave port v
-sent (at.Link s p) port v = Go (record { switch = s; port = p; vlan = v })
+abbrev pub sent_outcome : End → Port → Vlan → Outcome
+sent_outcome at.Nothing port v = Discard
+sent_outcome at.Host port v = Leave port v
+sent_outcome (at.Link s p) port v = Go (record { switch = s; port = p; vlan = v })
 
 -- what an action makes of a packet; nothing is sent back out of its ingress port
-abbrev pub acted : Network → Place → Action → Outcome
-acted net place action.Discard = Discard
-acted net place (action.Out port rewrite) =
+abbrev pub action_outcome : Network → Place → Action → Outcome
+action_outcome net place action.Discard = Discard
+action_outcome net place (action.Out port rewrite) =
     cond (port.0 == place.port.0) Discard
-    (sent (end_at net (record { switch = place.switch; port = port })) port (rewritten rewrite place.vlan))
+    (sent_outcome (end_at net (record { switch = place.switch; port = port })) port (rewritten_vlan rewrite place.vlan))
 
 -- the outcome of the place for the address, in a table with these rules
 abbrev pub outcome : Network → List Rule → Place → ℕ → Outcome
-outcome net rules place dst = acted net place (lookup (header_at place dst) rules)
+outcome net rules place dst = action_outcome net place (lookup (header_at place dst) rules)

@@ -7,7 +7,7 @@ use Rattle.net_base.specs.declared.ids.Stop.{Stop}
 use Rattle.topology.specs.Networks.{Network}
 use Rattle.flow_rules.specs.Tables.{rules_at, lookup}
 use Rattle.flow_rules.specs.declared.rules.Rule.{Rule}
-use Rattle.path_walk.specs.Outcomes.{acted}
+use Rattle.path_walk.specs.Outcomes.{action_outcome}
 use Rattle.path_walk.specs.declared.Outcome.{Outcome}
 use Rattle.path_walk.specs.declared.Outcome.TheVariants.{Discard, Leave, Go}
 use Rattle.path_walk.specs.declared.Ended.{Ended}
@@ -26,7 +26,7 @@ ended_by place (Go next) = UnderWay
 
 -- the outcome at a place, in the tables of all switches
 abbrev pub outcome_in : Network → List (List Rule) → Place → ℕ → Outcome
-outcome_in net tables place dst = acted net place (lookup (record { port = place.port; vlan = place.vlan; dst = dst }) (rules_at tables place.switch))
+outcome_in net tables place dst = action_outcome net place (lookup (record { port = place.port; vlan = place.vlan; dst = dst }) (rules_at tables place.switch))
 
 -- the tables send a packet to the address from the one place to the next
 abbrev pub Forwards : Network → List (List Rule) → ℕ → Place → Place → Type 0

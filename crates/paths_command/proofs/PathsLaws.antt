@@ -8,7 +8,7 @@ use Rattle.config_check.specs.Broken.{IsFirstBreak}
 use Rattle.command_base.specs.declared.status.Status.{Status}
 use Rattle.command_base.specs.declared.status.Status.TheVariants as status
 use Rattle.command_base.specs.JudgedFiles.{RefusalPromise}
-use Rattle.command_base.specs.Runs.{IsSettled, Answered}
+use Rattle.command_base.specs.Runs.{IsComplete, Answered}
 use Rattle.command_base.proofs.JudgementLaws.{judges, judged_done, judged_then, refusals}
 use Rattle.command_base.proofs.RunLaws.{settled_done}
 use Rattle.config_command.specs.Names.{ConfigNames}
@@ -24,8 +24,8 @@ writes : (m : ConfigMeaning) (text : List ℕ) (old new : Option (List ℕ)) →
 writes m text old new is written = record { rows = is.rows; are = is.are; written = subst (λ t. Appends old new t) is.text_is written }
 
 -- of a run of `paths` over a source that tells
-module _ (files : Files) (names : ConfigNames) (old new : Option (List ℕ)) (result : Status) (answered : IsSettled result → Answered IsPathsAnswer files (config_dialogue names) old new result) where
-  done : IsSettled result → (result ≡ status.Done) ↔ FilesHold files names
+module _ (files : Files) (names : ConfigNames) (old new : Option (List ℕ)) (result : Status) (answered : IsComplete result → Answered IsPathsAnswer files (config_dialogue names) old new result) where
+  done : IsComplete result → (result ≡ status.Done) ↔ FilesHold files names
   done settled = judged_done (judges (config_meant files names) (answered settled))
 
   refuses : RefusalPromise (FilesMean files names) config_count Holds IsPathsText old new result
@@ -47,7 +47,7 @@ module _ (files : Files) (names : ConfigNames) (old new : Option (List ℕ)) (re
       let lists = lists_refused is m mean in
       record { lists = lists; first = first_row m lists.rows lists.are b break }
 
-  alike : IsSettled result → (before after : Option (List ℕ)) (other : Status) → IsSettled other → ConfigPromise files names before after other → EndAlike result other
+  alike : IsComplete result → (before after : Option (List ℕ)) (other : Status) → IsComplete other → ConfigPromise files names before after other → EndAlike result other
   alike settled before after other ended p = record {
     done = (λ is. (p.done ended).1 ((done settled).0 is), λ is. (done settled).1 ((p.done ended).0 is));
     refused = (λ is. (p.refusals.refused ended).1 ((refuses.refused settled).0 is), λ is. (refuses.refused settled).1 ((p.refusals.refused ended).0 is));

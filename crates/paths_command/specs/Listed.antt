@@ -11,19 +11,19 @@ use Rattle.command_base.specs.Judgements.{IsJudgement}
 use Rattle.config_command.specs.Configs.{ConfigMeaning, config_count}
 use Rattle.config_command.specs.Verdicts.{classes_under, HoldsUnder}
 use Rattle.paths_command.specs.declared.marks.Counts.{Counts}
-use Rattle.paths_command.specs.declared.listing.Judged as code
+use Rattle.paths_command.specs.declared.listing.JudgedConfig as code
 use Rattle.paths_command.specs.declared.listing.Rooms as room
 use Rattle.paths_command.specs.Rows.{ClassRow, AreFirstRows, AreRows}
 use Rattle.paths_command.specs.Lines.{row_line, paths_text, counts_of}
 
 -- the network, the tables and the demands that are judged
-abbrev pub meaning_of : code.Judged → ConfigMeaning
+abbrev pub meaning_of : code.JudgedConfig → ConfigMeaning
 meaning_of judged =
     let tables = rules_of_all judged.config.now in
     record { net = judged.net.now; tables = tables; demands = judged.demands.now }
 
 -- there is a table for each switch, and the duties are those of the classes under the demands
-pub record IsReady (judged : code.Judged) : Type 0 where
+pub record IsJudgeable (judged : code.JudgedConfig) : Type 0 where
   pub tables : length judged.config.now ≡ switch_count judged.net.now
   pub demands : judged.duties.now.demands ≡ judged.demands.now
   pub classes : judged.duties.now.classes

@@ -7,7 +7,7 @@ use Rattle.config_check.specs.Broken.{IsFirstBreak}
 use Rattle.command_base.specs.declared.status.Status.{Status}
 use Rattle.command_base.specs.declared.status.Status.TheVariants as status
 use Rattle.command_base.specs.JudgedFiles.{RefusalPromise}
-use Rattle.command_base.specs.Runs.{IsSettled}
+use Rattle.command_base.specs.Runs.{IsComplete}
 use Rattle.config_command.specs.Names.{ConfigNames}
 use Rattle.config_command.specs.Configs.{ConfigMeaning, FilesMean, Holds, FilesHold, config_count}
 use Rattle.config_command.specs.Promise.{ConfigPromise}
@@ -46,7 +46,7 @@ pub record EndAlike (one other : Status) : Type 0 where
 pub record PathsPromise (files : Files) (names : ConfigNames) (old new : Option (List ℕ))
     (result : Status) : Type 0 where
   -- Done comes exactly where the files are read, with at most 8192 classes, each with a good path.
-  pub done : IsSettled result → ((result ≡ status.Done) ↔ FilesHold files names)
+  pub done : IsComplete result → ((result ≡ status.Done) ↔ FilesHold files names)
   -- Refused comes exactly where some class has no good path, with the listing; too many classes are a bad file.
   pub refusals : RefusalPromise (FilesMean files names) config_count Holds IsPathsText old new result
   -- In both cases the listing is written: of each class the path and the verdict, and the counts.
@@ -58,5 +58,5 @@ pub record PathsPromise (files : Files) (names : ConfigNames) (old new : Option 
       → IsFirstBreak m.net m.tables m.demands (classes_under m.net m.tables m.demands) b
       → ListsFirstBreak m b old new
   -- So the run ends as a run of `config` over the same words does.
-  pub as_config : IsSettled result → (before after : Option (List ℕ)) (other : Status)
-      → IsSettled other → ConfigPromise files names before after other → EndAlike result other
+  pub as_config : IsComplete result → (before after : Option (List ℕ)) (other : Status)
+      → IsComplete other → ConfigPromise files names before after other → EndAlike result other

@@ -2,7 +2,7 @@
 ghost use Rattle.std.specs.Prelude.{ℕ, List, Option};
 ghost use Rattle.file_access.specs.Outside.{Files};
 ghost use Rattle.command_base.specs.declared.status.Status.{Status};
-ghost use Rattle.command_base.specs.Runs.{IsSettled, Answered};
+ghost use Rattle.command_base.specs.Runs.{IsComplete, Answered};
 ghost use Rattle.config_command.specs.Names.{ConfigNames};
 ghost use Rattle.config_command.specs.Configs.{config_dialogue};
 ghost use Rattle.paths_command.specs.Listed.{IsPathsAnswer};
@@ -11,6 +11,6 @@ ghost use Rattle.paths_command.specs.Promise.{PathsPromise};
 /// A run whose answer, where it is settled, is that of the command's dialogue over the files keeps the promise of `paths`.
 pub fn paths_promised()
     ensures { (files : Files) (names : ConfigNames) (old new : Option (List ℕ)) (result : Status)
-        → (IsSettled result → Answered IsPathsAnswer files (config_dialogue names) old new result)
+        → (IsComplete result → Answered IsPathsAnswer files (config_dialogue names) old new result)
         → PathsPromise files names old new result }
 {}

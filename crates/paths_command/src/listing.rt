@@ -7,7 +7,7 @@ ghost use Rattle.command_base.specs.Judgements.{most_classes};
 ghost use Rattle.command_base.specs.Replies.{answer_of};
 ghost use Rattle.config_command.specs.Configs.{config_count};
 ghost use Rattle.config_command.specs.Verdicts.{classes_under, count_under};
-ghost use Rattle.paths_command.specs.Listed.{IsReady, AreRooms, IsListing, IsPathsAnswer, listed_status, meaning_of};
+ghost use Rattle.paths_command.specs.Listed.{IsJudgeable, AreRooms, IsListing, IsPathsAnswer, listed_status, meaning_of};
 ghost use Rattle.paths_command.specs.Rows.{IsMark};
 
 use crate::lines::{add_counts, add_row};
@@ -26,7 +26,7 @@ use topology::Net;
 
 /// What is judged: a configuration of a network, under demands, and the duties of its classes.
 #[derive(Clone, Copy)]
-pub struct Judged<'a> {
+pub struct JudgedConfig<'a> {
     pub net: &'a Net,
     pub config: &'a Config,
     pub demands: &'a Demands,
@@ -42,8 +42,8 @@ pub struct Rooms {
 }
 
 /// How the class is marked.
-fn mark_of(judged: &Judged<'_>, numbered: NumberedClass, rooms: &mut Rooms) -> Mark
-    requires ready { IsReady judged.now }
+fn mark_of(judged: &JudgedConfig<'_>, numbered: NumberedClass, rooms: &mut Rooms) -> Mark
+    requires ready { IsJudgeable judged.now }
     requires class { IsNumbered judged.now.duties.now.classes numbered }
     requires rooms { AreRooms judged.now.net.now judged.now.duties.now rooms.old }
     ensures mark { IsMark judged.now.net.now (rules_of_all judged.now.config.now)
@@ -51,7 +51,7 @@ fn mark_of(judged: &Judged<'_>, numbered: NumberedClass, rooms: &mut Rooms) -> M
     ensures rooms { AreRooms judged.now.net.now judged.now.duties.now rooms.new }
 {
     judged.net.keeps_rules();
-    let Judged {
+    let JudgedConfig {
         net,
         config,
         demands,
@@ -78,13 +78,13 @@ fn mark_of(judged: &Judged<'_>, numbered: NumberedClass, rooms: &mut Rooms) -> M
 
 /// Adds the line of a class, and counts its mark.
 fn list_class(
-    judged: &Judged<'_>,
+    judged: &JudgedConfig<'_>,
     numbered: NumberedClass,
     rooms: &mut Rooms,
     text: &mut Vec<u8>,
     counts: &mut Counts,
 ) -> Result<(), Memory>
-    requires ready { IsReady judged.now }
+    requires ready { IsJudgeable judged.now }
     requires few { config_count (meaning_of judged.now) ≤ most_classes }
     requires class { IsNumbered judged.now.duties.now.classes numbered }
     requires rooms { AreRooms judged.now.net.now judged.now.duties.now rooms.old }
@@ -116,13 +116,13 @@ fn list_class(
 
 /// Adds the lines of all classes.
 fn list_classes(
-    judged: &Judged<'_>,
+    judged: &JudgedConfig<'_>,
     classes: &ClassMap,
     rooms: &mut Rooms,
     text: &mut Vec<u8>,
     counts: &mut Counts,
 ) -> Result<(), Memory>
-    requires ready { IsReady judged.now }
+    requires ready { IsJudgeable judged.now }
     requires few { config_count (meaning_of judged.now) ≤ most_classes }
     requires classes { classes.now ≡ judged.now.duties.now.classes }
     requires rooms { AreRooms judged.now.net.now judged.now.duties.now rooms.old }
@@ -152,11 +152,11 @@ fn status_of(breaks: u32) -> Status
 /// The listing of few enough classes, with rooms for their paths.
 fn list_in(
     alloc: Global,
-    judged: &Judged<'_>,
+    judged: &JudgedConfig<'_>,
     classes: &ClassMap,
     rooms: &mut Rooms,
 ) -> Result<Reply, Memory>
-    requires ready { IsReady judged.now }
+    requires ready { IsJudgeable judged.now }
     requires few { config_count (meaning_of judged.now) ≤ most_classes }
     requires classes { classes.now ≡ judged.now.duties.now.classes }
     requires rooms { AreRooms judged.now.net.now judged.now.duties.now rooms.old }
@@ -173,8 +173,12 @@ fn list_in(
 }
 
 /// The listing of few enough classes, with their duties.
-fn list_judged(alloc: Global, judged: &Judged<'_>, classes: &ClassMap) -> Result<Reply, Memory>
-    requires ready { IsReady judged.now }
+fn list_judged(
+    alloc: Global,
+    judged: &JudgedConfig<'_>,
+    classes: &ClassMap,
+) -> Result<Reply, Memory>
+    requires ready { IsJudgeable judged.now }
     requires few { config_count (meaning_of judged.now) ≤ most_classes }
     requires classes { classes.now ≡ judged.now.duties.now.classes }
     ensures { IfOk result (λ r. IsPathsAnswer (meaning_of judged.now) (answer_of r)) }
@@ -207,7 +211,7 @@ fn list_all(
     }) (answer_of r)) }
 {
     let duties = Duties::make(alloc, net, demands, classes)?;
-    let judged = Judged {
+    let judged = JudgedConfig {
         net,
         config,
         demands,

@@ -45,7 +45,7 @@ EvidenceStands t (Ordered e) k room = PicksStand e.picks k room.ordered.picks ×
 EvidenceStands t (TwoPhase e) k room = LabelsStand t.update.net e k room.two_phase
 
 -- the rooms fit the case and stand before round k
-pub record IsReady (c : CaseView) (k : ℕ) (room : RoomView) : Type 0 where
+pub record IsReadyToCheck (c : CaseView) (k : ℕ) (room : RoomView) : Type 0 where
   pub fits : Fits c.task room
   pub tables : StandsBefore (rollout c.task) k room.tables
   pub evidence : EvidenceStands c.task c.evidence k room

@@ -8,7 +8,7 @@ use Rattle.dest_classes.specs.declared.ClassFault.TheVariants as class
 use Rattle.demands.specs.Duties.{ClassDuties}
 use Rattle.certificates.specs.Updates.{Task, rollout}
 use Rattle.certificates.specs.Certified.{classes_for}
-use Rattle.round_tables.specs.PreparedTables.{PreparedState, HasRoom}
+use Rattle.round_tables.specs.PreparedTables.{PreparedState, HasTableRoom}
 use Rattle.ordered_check.specs.Kept.{OrderedState, HasClassRoom}
 use Rattle.two_phase_check.specs.declared.labels.LabelsInForce.{LabelsInForce}
 use Rattle.plan_checker.specs.declared.room.RoomFault.{RoomFault}
@@ -27,7 +27,7 @@ pub record RoomView : Type 0 where
 pub record Fits (t : Task) (room : RoomView) : Type 0 where
   pub classes : room.classes ≡ classes_for t
   pub duties : room.duties ≡ record { demands = t.update.demands; classes = room.classes }
-  pub tables : HasRoom (rollout t) room.tables
+  pub tables : HasTableRoom (rollout t) room.tables
   pub ordered : HasClassRoom (classes_for t) room.ordered
   pub path : room.path.switches ≡ switch_count t.update.net
 

@@ -7,7 +7,7 @@ ghost use Rattle.certificates.specs.Certified.{IsCertified, is_two_phase};
 ghost use Rattle.certificates.specs.Consistent.{IsConsistent};
 ghost use Rattle.certificates.specs.Laws.{task_of, update_of};
 ghost use Rattle.certificates.specs.Valid.{IsValidPlan};
-ghost use Rattle.plan_checker.specs.Checking.{EndsAreGood, EvidenceStands, IsReady, IfRefused};
+ghost use Rattle.plan_checker.specs.Checking.{EndsAreGood, EvidenceStands, IsReadyToCheck, IfRefused};
 ghost use Rattle.plan_checker.specs.Fits.{Fits};
 ghost use Rattle.check_reasons.specs.Loaded.{AreLoaded};
 ghost use Rattle.check_reasons.specs.Ranks.{classes_start, stage_of};
@@ -88,11 +88,11 @@ fn classes_reason(case: &Case, k: usize, room: &mut CheckRoom) -> Option<Reason>
 /// The first reason of round k, from 0, if there is one.
 fn round_reason(case: &Case, k: usize, room: &mut CheckRoom) -> Option<Reason>
     requires within { k < length case.now.task.rounds }
-    requires ready { IsReady case.now k room.old }
+    requires ready { IsReadyToCheck case.now k room.old }
     requires ends { EndsAreGood case.now.task }
     requires before { RoundsPass case.now.task case.now.evidence k }
     ensures none { IfNone result (RoundsPass case.now.task case.now.evidence (suc k)
-        × IsReady case.now (suc k) room.new) }
+        × IsReadyToCheck case.now (suc k) room.new) }
     ensures some { IfSome result (IsFirstReason case.now.task case.now.evidence) }
     ensures fits { Fits case.now.task room.new }
 {
@@ -110,7 +110,7 @@ fn round_reason(case: &Case, k: usize, room: &mut CheckRoom) -> Option<Reason>
 /// Readies the rooms for the first round.
 fn start(case: &Case, room: &mut CheckRoom)
     requires { Fits case.now.task room.old }
-    ensures { IsReady case.now 0 room.new }
+    ensures { IsReadyToCheck case.now 0 room.new }
 {
     tables::start(case, &mut room.tables);
     match &case.plan.evidence {
@@ -133,7 +133,7 @@ fn rounds_reason(case: &Case, room: &mut CheckRoom) -> Option<Reason>
     requires ends { EndsAreGood case.now.task }
     ensures none { IfNone result
         (RoundsPass case.now.task case.now.evidence (length case.now.task.rounds)
-        × IsReady case.now (length case.now.task.rounds) room.new) }
+        × IsReadyToCheck case.now (length case.now.task.rounds) room.new) }
     ensures some { IfSome result (IsFirstReason case.now.task case.now.evidence) }
     ensures fits { Fits case.now.task room.new }
 {

@@ -4,7 +4,7 @@ ghost use Rattle.topology.specs.Networks.{switch_count};
 ghost use Rattle.dest_classes.specs.Classes.{class_count};
 ghost use Rattle.certificates.specs.Certified.{classes_for};
 ghost use Rattle.certificates.specs.Laws.{task_of};
-ghost use Rattle.round_tables.specs.PreparedTables.{HasRoom};
+ghost use Rattle.round_tables.specs.PreparedTables.{HasTableRoom};
 ghost use Rattle.ordered_check.specs.Kept.{HasClassRoom};
 ghost use Rattle.plan_checker.specs.Fits.{Fits, IsCauseFor};
 
@@ -87,7 +87,7 @@ struct Rooms {
 impl Rooms {
     fn make(alloc: Global, update: &Rollout<'_>, classes: &ClassMap) -> Result<Rooms, Memory>
         requires { length update.now.old ≡ switch_count update.now.net }
-        ensures tables { IfOk result (λ r. HasRoom update.now r.tables) }
+        ensures tables { IfOk result (λ r. HasTableRoom update.now r.tables) }
         ensures ordered { IfOk result (λ r. HasClassRoom classes.now r.ordered) }
         ensures path { IfOk result (λ r. r.path.switches ≡ switch_count update.now.net) }
     {

@@ -12,7 +12,7 @@ ghost use Rattle.check_reasons.specs.Loaded.{AreLoaded};
 ghost use Rattle.check_reasons.specs.Passed.{ChangesPass, IsFirstFrom};
 ghost use Rattle.check_reasons.specs.Ranks.{end_start, round_start, stage_of};
 ghost use Rattle.plan_checker.specs.Checking.{IsOfChanges};
-ghost use Rattle.round_tables.specs.PreparedTables.{HasRoom, StandsBefore};
+ghost use Rattle.round_tables.specs.PreparedTables.{HasTableRoom, StandsBefore};
 ghost use Rattle.round_tables.specs.Loading.{ArePrepared, IsFirstRoundFault};
 
 use crate::rewriting::rewrite_of;
@@ -61,9 +61,9 @@ fn keeps_tables(case: &Case)
 
 /// Puts the old tables in the place of what is there. No switch is prepared.
 pub fn start(case: &Case, tables: &mut PreparedTables)
-    requires { HasRoom (rollout case.now.task) tables.old }
+    requires { HasTableRoom (rollout case.now.task) tables.old }
     ensures stands { StandsBefore (rollout case.now.task) 0 tables.new }
-    ensures room { HasRoom (rollout case.now.task) tables.new }
+    ensures room { HasTableRoom (rollout case.now.task) tables.new }
 {
     case.keeps_rules();
     tables.start(&rollout_of(case));
@@ -95,7 +95,7 @@ fn fault_reason(case: &Case, k: usize, fault: RoundFault) -> Reason
 fn late_reason(case: &Case, k: usize, tables: &PreparedTables) -> Option<Reason>
     requires round { k < length case.now.task.rounds }
     requires prepared { ArePrepared (rollout case.now.task) k tables.now }
-    requires room { HasRoom (rollout case.now.task) tables.now }
+    requires room { HasTableRoom (rollout case.now.task) tables.now }
     ensures none { IfNone result (ChangesPass case.now.task case.now.evidence k
         × AreLoaded (rollout case.now.task) k tables.now.mixes) }
     ensures some { IfSome result (IsFirstFrom case.now.task case.now.evidence (round_start k)) }
@@ -121,14 +121,14 @@ fn late_reason(case: &Case, k: usize, tables: &PreparedTables) -> Option<Reason>
 /// unclear switch, the first that lacks room, or the first at which a change of an ordered plan sets or strips.
 pub fn load_round(case: &Case, k: usize, tables: &mut PreparedTables) -> Option<Reason>
     requires round { k < length case.now.task.rounds }
-    requires room { HasRoom (rollout case.now.task) tables.old }
+    requires room { HasTableRoom (rollout case.now.task) tables.old }
     requires stands { StandsBefore (rollout case.now.task) k tables.old }
     ensures none { IfNone result (ChangesPass case.now.task case.now.evidence k
         × AreLoaded (rollout case.now.task) k tables.new.mixes
         × ArePrepared (rollout case.now.task) k tables.new) }
     ensures some { IfSome result (IsFirstFrom case.now.task case.now.evidence (round_start k)) }
     ensures place { IfSome result (IsOfChanges k) }
-    ensures room { HasRoom (rollout case.now.task) tables.new }
+    ensures room { HasTableRoom (rollout case.now.task) tables.new }
 {
     match tables.load_round(&rollout_of(case), k) {
         Ok(()) => late_reason(case, k, tables),
@@ -139,11 +139,11 @@ pub fn load_round(case: &Case, k: usize, tables: &mut PreparedTables) -> Option<
 /// Makes the changes of round k, for which the switches are prepared.
 pub fn apply_round(case: &Case, k: usize, tables: &mut PreparedTables)
     requires round { k < length case.now.task.rounds }
-    requires room { HasRoom (rollout case.now.task) tables.old }
+    requires room { HasTableRoom (rollout case.now.task) tables.old }
     requires passed { ChangesPass case.now.task case.now.evidence k }
     requires prepared { ArePrepared (rollout case.now.task) k tables.old }
     ensures stands { StandsBefore (rollout case.now.task) (suc k) tables.new }
-    ensures room { HasRoom (rollout case.now.task) tables.new }
+    ensures room { HasTableRoom (rollout case.now.task) tables.new }
 {
     case.keeps_rules();
     tables.apply_round(&rollout_of(case), k);

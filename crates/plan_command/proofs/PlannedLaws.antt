@@ -14,7 +14,7 @@ use Rattle.command_base.specs.declared.status.Status.TheVariants as status
 use Rattle.command_base.specs.Names.{UpdateNames}
 use Rattle.command_base.specs.Answers.{Answer}
 use Rattle.command_base.specs.Readings.{reading_update}
-use Rattle.command_base.specs.Runs.{IsSettled, Answered}
+use Rattle.command_base.specs.Runs.{IsComplete, Answered}
 use Rattle.command_base.specs.Updates.{FilesMeanUpdate}
 use Rattle.command_base.proofs.AnswerLaws.{meant, status_of}
 use Rattle.command_base.proofs.JudgementLaws.{SaysOfGood, refusals}
@@ -153,9 +153,9 @@ module _ (files : Files) (names : UpdateNames) (old new : Option (List ℕ)) (re
       pub too_small_written : (h : FilesLackRoom files names) → Appends old new (too_small_lines h.update.net h.switch h.need h.capacity (single_rounds h.stuck.changes))
       too_small_written h = law.too_small_written SaysPlanned files names old new result run one h.update h.stuck h.switch h.need h.capacity h.small (small_of h)
 
-pub promised : (files : Files) (names : UpdateNames) (old new : Option (List ℕ)) (result : Status) → AreApart → IsOneStuck → (IsSettled result → Answered IsPlanned files (reading_update names) old new result) → PlanPromise files names old new result
+pub promised : (files : Files) (names : UpdateNames) (old new : Option (List ℕ)) (result : Status) → AreApart → IsOneStuck → (IsComplete result → Answered IsPlanned files (reading_update names) old new result) → PlanPromise files names old new result
 promised files names old new result apart one answered =
-    let runs : IsSettled result → AnswersUpdate SaysPlanned files names old new result = λ settled. run files names old new result (answered settled) in
+    let runs : IsComplete result → AnswersUpdate SaysPlanned files names old new result = λ settled. run files names old new result (answered settled) in
     record {
       done = λ settled. done files names old new result (answered settled) apart;
       writes = λ u mean is. writes files names old new result (answered (settled_done _ is)) is u mean;

@@ -4,7 +4,7 @@ use Rattle.std.specs.Io.KnownBytes.{Appends}
 use Rattle.file_access.specs.Outside.{Files}
 use Rattle.net_base.specs.declared.ids.SwitchId.{SwitchId}
 use Rattle.update_model.specs.declared.Change.{Change}
-use Rattle.update_model.specs.Remaining.{remaining}
+use Rattle.update_model.specs.Remaining.{remaining_changes}
 use Rattle.certificates.specs.Trees.{IsTreeUpdate}
 use Rattle.certificates.specs.declared.Plan.{Plan}
 use Rattle.plan_format.specs.Plans.{plan_in}
@@ -87,7 +87,7 @@ pub record WritesNewPlan (u : Update) (old new : Option (List ℕ)) : Type 0 whe
 pub record WritesOrderedPlan (u : Update) (old new : Option (List ℕ)) : Type 0 where
   pub plan : Plan
   pub searched : IsPlanOf (update_target u) u.old plan
-  pub count : length plan.rounds ≡ length (remaining u.old u.new)
+  pub count : length plan.rounds ≡ length (remaining_changes u.old u.new)
   pub means : plan_in u.net (plan_text u.net plan) ≡ Ok plan
   pub written : Appends old new (plan_text u.net plan)
 

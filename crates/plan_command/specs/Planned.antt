@@ -6,7 +6,7 @@ use Rattle.dest_classes.specs.declared.Class.{Class}
 use Rattle.config_check.specs.declared.Breaks.{Breaks}
 use Rattle.config_check.specs.Ends.{AreGoodEnds, IsFirstEndBreak}
 use Rattle.update_model.specs.declared.Change.{Change}
-use Rattle.update_model.specs.Remaining.{remaining}
+use Rattle.update_model.specs.Remaining.{remaining_changes}
 use Rattle.certificates.specs.Updates.{Update, task_for}
 use Rattle.certificates.specs.Certified.{IsCertified, classes_for, is_two_phase}
 use Rattle.certificates.specs.Consistent.{IsConsistent}
@@ -67,7 +67,7 @@ pub record SaysOrdered (u : Update) (answer : Answer) : Type 0 where
   pub plan : Plan
   pub searched : IsPlanOf (update_target u) u.old plan
   pub says : SaysPlan u.net plan answer
-  pub count : length plan.rounds ≡ length (remaining u.old u.new)
+  pub count : length plan.rounds ≡ length (remaining_changes u.old u.new)
 
 -- the search ended stuck, and there are too few tags
 pub record SaysTooFew (u : Update) (answer : Answer) : Type 0 where

@@ -13,7 +13,7 @@ use Rattle.command_base.specs.Kinds.{limit_of}
 use Rattle.command_base.specs.Names.{UpdateNames}
 use Rattle.certificates.specs.Updates.{Update}
 use Rattle.command_base.specs.Updates.{FilesMeanUpdate, WritesPlan}
-use Rattle.command_base.specs.Runs.{IsSettled}
+use Rattle.command_base.specs.Runs.{IsComplete}
 use Rattle.check_base.specs.Checks.{FilesAreCertified}
 use Rattle.plan_command.specs.NoPlanLines as lines
 use Rattle.plan_command.specs.NewPlans.{FilesHavePlan, FilesLackTags, FilesLackRoom, FilesMeanTrees, WritesNewPlan, WritesOrderedPlan, RefusesBadEnds, HoldBeside}
@@ -22,7 +22,7 @@ use Rattle.plan_command.specs.NewPlans.{FilesHavePlan, FilesLackTags, FilesLackR
 pub record PlanPromise (files : Files) (names : UpdateNames) (old new : Option (List ℕ)) (result : Status) : Type 0 where
   -- Done comes exactly where the four files mean an update with at most 8192 classes whose ends are good, and the search ended
   -- ordered, or it ended stuck and there are tags and room for two phases.
-  pub done : IsSettled result → ((result ≡ status.Done) ↔ FilesHavePlan files names)
+  pub done : IsComplete result → ((result ≡ status.Done) ↔ FilesHavePlan files names)
   -- Then the text of the plan was written: the one of the search, or that of two phases with the rounds of the search as those that
   -- were tried. Reading it gives this plan.
   pub writes : (u : Update) → FilesMeanUpdate files names u → result ≡ status.Done → WritesNewPlan u old new
@@ -33,14 +33,14 @@ pub record PlanPromise (files : Files) (names : UpdateNames) (old new : Option (
       → length text ≤ limit_of kind.Plan → HoldBeside files others names plan text → FilesAreCertified others (record { update = names; plan = plan })
   -- On an update of destination trees it says Done and writes an ordered plan, with one round for each rule that is replaced: never two
   -- phases, too few tags or a switch that is too small.
-  pub tree : IsSettled result → (u : Update) → FilesMeanTrees files names u → (result ≡ status.Done) × WritesOrderedPlan u old new
+  pub tree : IsComplete result → (u : Update) → FilesMeanTrees files names u → (result ≡ status.Done) × WritesOrderedPlan u old new
   -- Refused comes exactly where an end isn't good, and the line names the first break; too many classes are a bad file.
   pub refusals : RefusesBadEnds files names old new result
   -- Too few tags, and a switch that is too small, come exactly where the search ended stuck; the lines have the numbers and the
   -- rounds of the search.
-  pub too_few : IsSettled result → ((result ≡ status.TooFewTags) ↔ FilesLackTags files names)
-  pub too_few_lines : IsSettled result → (lack : FilesLackTags files names)
+  pub too_few : IsComplete result → ((result ≡ status.TooFewTags) ↔ FilesLackTags files names)
+  pub too_few_lines : IsComplete result → (lack : FilesLackTags files names)
       → Appends old new (lines.too_few_lines lack.update.net (length lack.update.net.vlans) (length (available_tags lack.update.net)) (single_rounds lack.stuck.changes))
-  pub too_small : IsSettled result → ((result ≡ status.TooSmall) ↔ FilesLackRoom files names)
-  pub too_small_lines : IsSettled result → (lack : FilesLackRoom files names)
+  pub too_small : IsComplete result → ((result ≡ status.TooSmall) ↔ FilesLackRoom files names)
+  pub too_small_lines : IsComplete result → (lack : FilesLackRoom files names)
       → Appends old new (lines.too_small_lines lack.update.net lack.switch lack.need lack.capacity (single_rounds lack.stuck.changes))

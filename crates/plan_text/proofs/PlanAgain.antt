@@ -28,7 +28,7 @@ use Rattle.certificates.specs.declared.Plan.{Plan}
 use Rattle.certificates.specs.Valid.{IsValidOrdered, IsValidTwoPhase, IsValidEvidence, IsValidPlan}
 use Rattle.plan_format.specs.Evidence.{uses_and_picks_in}
 use Rattle.plan_format.specs.Plans.{spelling_in, ordered_in, two_phase_in, evidence_in, plan_at, plan_in}
-use Rattle.plan_text.specs.PlanText.{numbers_tree, rule_tree, use_tree, pick_tree, table_tree, label_pick_tree, numbered_rounds_tree, with_evidence, plan_members, plan_tree, used_rules, tried_of, once, rules_of}
+use Rattle.plan_text.specs.PlanText.{numbers_tree, rule_tree, use_tree, pick_tree, table_tree, label_pick_tree, numbered_rounds_tree, with_evidence, plan_members, plan_tree, used_rules, tried_of, rules_once, rules_of}
 use Rattle.plan_format.specs.declared.rules.PlanRule.{PlanRule}
 use Rattle.plan_text.proofs.ChangesAgain.{IsInRange, HasNumber, rules_again, rounds_again}
 use Rattle.plan_text.proofs.EvidenceAgain.{numberings_again, befores_again, uses_again, picks_again, labels_again, label_picks_again}
@@ -161,11 +161,11 @@ tried_in_range net rounds changes (TwoPhase e) h = h.tried
 
 -- the list of the rules in use, each with its number
 used_serves : (net : Network) (plan : Plan) → IsValidPlan net plan
-    → Serves net (once (rules_of (plan.rounds ++ tried_of plan.evidence))) plan.rounds × AllByRecursion (AllByRecursion (HasNumber (once (rules_of (plan.rounds ++ tried_of plan.evidence))))) (tried_of plan.evidence)
+    → Serves net (rules_once (rules_of (plan.rounds ++ tried_of plan.evidence))) plan.rounds × AllByRecursion (AllByRecursion (HasNumber (rules_once (rules_of (plan.rounds ++ tried_of plan.evidence))))) (tried_of plan.evidence)
 used_serves net plan valid =
     let tried : List (List Change) = tried_of plan.evidence in
     let all : List (List Change) = plan.rounds ++ tried in
-    let rules : List PlanRule = once (rules_of all) in
+    let rules : List PlanRule = rules_once (rules_of all) in
     let few : sum_by length plan.rounds + sum_by length tried ≤ 2200000 = few_in_all net plan.rounds plan.evidence valid.few_changes valid.evidence in
     let count : sum_by length all ≡ sum_by length plan.rounds + sum_by length tried = sum_by-append (λ (r : List Change). length r) plan.rounds tried in
     let in_range : AllByRecursion (IsInRange net) rules = used_in_range net all
@@ -184,7 +184,7 @@ pub plan_again : (net : Network) (plan : Plan) → IsNetwork net → IsValidPlan
 unfolding used_rules
 plan_again net plan kept valid =
     let both = used_serves net plan valid in
-    evidence_again net (once (rules_of (plan.rounds ++ tried_of plan.evidence))) plan.rounds kept.names both.0 plan.evidence valid.evidence both.1
+    evidence_again net (rules_once (rules_of (plan.rounds ++ tried_of plan.evidence))) plan.rounds kept.names both.0 plan.evidence valid.evidence both.1
 
 -- ---- as bytes
 
@@ -199,7 +199,7 @@ plan_read : (net : Network) (plan : Plan) → IsNetwork net → IsValidPlan net 
 unfolding used_rules
 plan_read net plan kept valid few =
     let both = used_serves net plan valid in
-    evidence_read net (once (rules_of (plan.rounds ++ tried_of plan.evidence))) plan.rounds plan.evidence kept.few few both.0 valid.evidence
+    evidence_read net (rules_once (rules_of (plan.rounds ++ tried_of plan.evidence))) plan.rounds plan.evidence kept.few few both.0 valid.evidence
 
 -- the bytes of a writer that has written the plan, and a line end
 pub text_again : (net : Network) (plan : Plan) (bytes : List ℕ) (start w : Written) → IsNetwork net → IsValidPlan net plan → before_count plan.evidence < 2 ^ 64

@@ -14,7 +14,7 @@ use Rattle.topology.specs.Networks.{Network}
 use Rattle.update_model.specs.declared.Change.{Change}
 use Rattle.update_model.specs.Ranges.{IsPlanChange}
 use Rattle.plan_format.specs.declared.rules.PlanRule.{PlanRule}
-use Rattle.plan_text.specs.PlanText.{plan_rule_eq, once, plan_rule_of, rules_of, rule_number}
+use Rattle.plan_text.specs.PlanText.{plan_rule_eq, rules_once, plan_rule_of, rules_of, rule_number}
 use Rattle.plan_text.proofs.UsedRules.{plan_rule_eq-true, plan_rule_eq-refl, turned, without, any_kept}
 use Rattle.plan_text.proofs.ChangesAgain.{IsInRange, HasNumber}
 
@@ -23,12 +23,12 @@ use Rattle.plan_text.proofs.ChangesAgain.{IsInRange, HasNumber}
 abbrev IsFound : List PlanRule → PlanRule → Type 0
 IsFound rules p = list_any (plan_rule_eq p) rules ≡ true
 
-found_once : (p : PlanRule) (ps : List PlanRule) → list_any (plan_rule_eq p) (once ps) ≡ list_any (plan_rule_eq p) ps
+found_once : (p : PlanRule) (ps : List PlanRule) → list_any (plan_rule_eq p) (rules_once ps) ≡ list_any (plan_rule_eq p) ps
 found_once p [] = refl
 found_once p (x ∷ ps) =
-    elim (plan_rule_eq p x) as (λ b. plan_rule_eq p x ≡ b → (b || list_any (plan_rule_eq p) (without x (once ps))) ≡ (b || list_any (plan_rule_eq p) ps)) [
+    elim (plan_rule_eq p x) as (λ b. plan_rule_eq p x ≡ b → (b || list_any (plan_rule_eq p) (without x (rules_once ps))) ≡ (b || list_any (plan_rule_eq p) ps)) [
       | true ↦ λ _. refl
-      | false ↦ λ other. any_kept x p (once ps) (turned p x other) ∙ found_once p ps
+      | false ↦ λ other. any_kept x p (rules_once ps) (turned p x other) ∙ found_once p ps
     ] refl
 
 either_true : (b : Bool) → (b || true) ≡ true
@@ -43,7 +43,7 @@ each_found before [] = tt
 each_found before (p ∷ ps) =
     (found_at p before ps, subst (λ (l : List PlanRule). AllByRecursion (IsFound l) ps) (append_assoc before (p ∷ []) ps) (each_found (before ++ p ∷ []) ps))
 
-found_in_once : (ps qs : List PlanRule) → AllByRecursion (IsFound ps) qs → AllByRecursion (IsFound (once ps)) qs
+found_in_once : (ps qs : List PlanRule) → AllByRecursion (IsFound ps) qs → AllByRecursion (IsFound (rules_once ps)) qs
 found_in_once ps [] hs = tt
 found_in_once ps (q ∷ qs) hs = (found_once q ps ∙ hs.0, found_in_once ps qs hs.1)
 
@@ -73,14 +73,14 @@ rounds_numbered rules [] hs = tt
 rounds_numbered rules (round ∷ rounds) hs = let h = round_numbered rules round (rules_of rounds) hs in (h.0, rounds_numbered rules rounds h.1)
 
 -- each change has the number of its rule
-pub used_numbered : (rounds : List (List Change)) → AllByRecursion (AllByRecursion (HasNumber (once (rules_of rounds)))) rounds
-used_numbered rounds = rounds_numbered (once (rules_of rounds)) rounds (found_in_once (rules_of rounds) (rules_of rounds) (each_found [] (rules_of rounds)))
+pub used_numbered : (rounds : List (List Change)) → AllByRecursion (AllByRecursion (HasNumber (rules_once (rules_of rounds)))) rounds
+used_numbered rounds = rounds_numbered (rules_once (rules_of rounds)) rounds (found_in_once (rules_of rounds) (rules_of rounds) (each_found [] (rules_of rounds)))
 
 -- ---- ranges
 
-each_once : (P : PlanRule → Type 0) (ps : List PlanRule) → AllByRecursion P ps → AllByRecursion P (once ps)
+each_once : (P : PlanRule → Type 0) (ps : List PlanRule) → AllByRecursion P ps → AllByRecursion P (rules_once ps)
 each_once P [] hs = tt
-each_once P (p ∷ ps) hs = (hs.0, each_filter P (λ q. not (plan_rule_eq p q)) (once ps) (each_once P ps hs.1))
+each_once P (p ∷ ps) hs = (hs.0, each_filter P (λ q. not (plan_rule_eq p q)) (rules_once ps) (each_once P ps hs.1))
 
 change_in_range : (net : Network) (c : Change) → IsPlanChange net c → IsInRange net (plan_rule_of c)
 change_in_range net c h = record {
@@ -103,21 +103,21 @@ rounds_in_range net (round ∷ rounds) hs =
     each_append (IsInRange net) (map plan_rule_of round) (rules_of rounds) (round_in_range net round hs.0) (rounds_in_range net rounds hs.1)
 
 -- each rule is in range
-pub used_in_range : (net : Network) (rounds : List (List Change)) → AllByRecursion (AllByRecursion (IsPlanChange net)) rounds → AllByRecursion (IsInRange net) (once (rules_of rounds))
+pub used_in_range : (net : Network) (rounds : List (List Change)) → AllByRecursion (AllByRecursion (IsPlanChange net)) rounds → AllByRecursion (IsInRange net) (rules_once (rules_of rounds))
 used_in_range net rounds hs = each_once (IsInRange net) (rules_of rounds) (rounds_in_range net rounds hs)
 
 -- ---- how many
 
-shorter : (ps : List PlanRule) → length (once ps) ≤ length ps
+shorter : (ps : List PlanRule) → length (rules_once ps) ≤ length ps
 shorter [] = omega arith
 shorter (p ∷ ps) =
     let h = shorter ps in
     let test : PlanRule → Bool = λ q. not (plan_rule_eq p q) in
-    omega (arith, h, length-filter test (once ps), count_by-le-length test (once ps))
+    omega (arith, h, length-filter test (rules_once ps), count_by-le-length test (rules_once ps))
 
 as_many : (rounds : List (List Change)) → length (rules_of rounds) ≡ sum_by length rounds
 as_many rounds = length-flat_map (map plan_rule_of) rounds ∙ ap (λ (f : List Change → ℕ). sum_by f rounds) (λ j round. length-map round plan_rule_of j)
 
 -- there are at most as many as changes
-pub used_few : (rounds : List (List Change)) → length (once (rules_of rounds)) ≤ sum_by length rounds
+pub used_few : (rounds : List (List Change)) → length (rules_once (rules_of rounds)) ≤ sum_by length rounds
 used_few rounds = omega (arith, shorter (rules_of rounds), as_many rounds)

@@ -7,7 +7,7 @@ use Rattle.std.proofs.lemmas.List.{append-nil}
 use Rattle.std.proofs.lemmas.Grind.{flat_map-append}
 use Rattle.flow_rules.specs.declared.rules.Rule.{Rule}
 use Rattle.flow_rules.proofs.TableLaws.{rule_eq-true, rule_eq-refl}
-use Rattle.plan_text.specs.PlanText.{plan_rule_eq, plan_rule_of, rules_of, once}
+use Rattle.plan_text.specs.PlanText.{plan_rule_eq, plan_rule_of, rules_of, rules_once}
 use Rattle.update_model.specs.declared.Change.{Change}
 use Rattle.plan_format.specs.declared.rules.PlanRule.{PlanRule}
 use Rattle.plan_text.specs.Uses.{with_use, with_uses}
@@ -68,20 +68,20 @@ step x p ys =
     after false = refl
 
 -- one use more
-pub once_push : (ps : List PlanRule) (p : PlanRule) → once (ps ++ p ∷ []) ≡ with_use (once ps) p
+pub once_push : (ps : List PlanRule) (p : PlanRule) → rules_once (ps ++ p ∷ []) ≡ with_use (rules_once ps) p
 once_push [] p = refl
-once_push (x ∷ ps) p = rw (once_push ps p) (step x p (once ps))
+once_push (x ∷ ps) p = rw (once_push ps p) (step x p (rules_once ps))
 
-uses_after : (before ps : List PlanRule) → with_uses (once before) ps ≡ once (before ++ ps)
-uses_after before [] = ap once (sym (append-nil before))
-uses_after before (p ∷ ps) = rw (← once_push before p) (uses_after (before ++ p ∷ []) ps ∙ ap once (append_assoc before (p ∷ []) ps))
+uses_after : (before ps : List PlanRule) → with_uses (rules_once before) ps ≡ rules_once (before ++ ps)
+uses_after before [] = ap rules_once (sym (append-nil before))
+uses_after before (p ∷ ps) = rw (← once_push before p) (uses_after (before ++ p ∷ []) ps ∙ ap rules_once (append_assoc before (p ∷ []) ps))
 
 pub uses_push : (before ps : List PlanRule) (p : PlanRule) → with_uses before (ps ++ p ∷ []) ≡ with_use (with_uses before ps) p
 uses_push before [] p = refl
 uses_push before (q ∷ ps) p = uses_push (with_use before q) ps p
 
 -- the uses of rounds, and then of more rounds
-pub plan_uses : (rounds tried : List (List Change)) → with_uses (with_uses [] (rules_of rounds)) (rules_of tried) ≡ once (rules_of (rounds ++ tried))
+pub plan_uses : (rounds tried : List (List Change)) → with_uses (with_uses [] (rules_of rounds)) (rules_of tried) ≡ rules_once (rules_of (rounds ++ tried))
 plan_uses rounds tried =
     ap (λ before. with_uses before (rules_of tried)) (uses_after [] (rules_of rounds)) ∙ uses_after (rules_of rounds) (rules_of tried)
-    ∙ ap once (sym (flat_map-append (map plan_rule_of) rounds tried))
+    ∙ ap rules_once (sym (flat_map-append (map plan_rule_of) rounds tried))

@@ -91,9 +91,9 @@ abbrev pub plan_rule_eq : PlanRule → PlanRule → Bool
 plan_rule_eq p q = p.switch.0 == q.switch.0 && rule_eq p.rule q.rule
 
 -- each once, where it stands first
-abbrev pub once : List PlanRule → List PlanRule
-once [] = []
-once (p ∷ ps) = p ∷ filter (λ q. not (plan_rule_eq p q)) (once ps)
+abbrev pub rules_once : List PlanRule → List PlanRule
+rules_once [] = []
+rules_once (p ∷ ps) = p ∷ filter (λ q. not (plan_rule_eq p q)) (rules_once ps)
 
 -- the rules that rounds use
 abbrev pub rules_of : List (List Change) → List PlanRule
@@ -106,7 +106,7 @@ tried_of (TwoPhase e) = e.tried
 
 -- the rules of a plan, each once, in order of first use
 unfoldable pub used_rules : Plan → List PlanRule
-used_rules plan = once (rules_of (plan.rounds ++ tried_of plan.evidence))
+used_rules plan = rules_once (rules_of (plan.rounds ++ tried_of plan.evidence))
 
 -- the number of a rule in the list
 abbrev pub rule_number : List PlanRule → PlanRule → ℕ

@@ -21,11 +21,11 @@ pub record IsCertifiedIn (t : Task) (evidence : Evidence) (room : RoomView) : Ty
   pub fits : Fits t room
 
 -- the answer says that there are too many classes, or the first reason why the plan isn't certified
-abbrev pub IsRefusal : Task → Evidence → Answer → Type 0
-IsRefusal t evidence answer =
+abbrev pub IsPlanRefusal : Task → Evidence → Answer → Type 0
+IsPlanRefusal t evidence answer =
     SaysTooMany (class_count (classes_for t)) answer ⊎ SaysWhyNot (class_count (classes_for t)) (IsCertified t evidence) (IsRefusedLine t evidence) answer
 
 -- the verdict on the plan: certified, or what the answer says
 abbrev pub IsVerdictOn : Task → Evidence → PlanVerdict → Type 0
 IsVerdictOn t evidence (Certified room) = IsCertifiedIn t evidence room
-IsVerdictOn t evidence (Refused reply) = IsRefusal t evidence (answer_of reply)
+IsVerdictOn t evidence (Refused reply) = IsPlanRefusal t evidence (answer_of reply)

@@ -7,23 +7,23 @@ use Rattle.command_base.specs.declared.status.Status.{Status}
 use Rattle.command_base.specs.declared.status.Status.TheVariants as status
 use Rattle.command_base.specs.Answers.{Answer}
 use Rattle.command_base.specs.Dialogues.{LeadsTo, Lacks}
-use Rattle.command_base.specs.Runs.{IsSettled, EndsAs, Answered, AnswersAll, AnswersFront}
+use Rattle.command_base.specs.Runs.{IsComplete, EndsAs, Answered, AnswersAll, AnswersFront}
 use Rattle.command_base.proofs.RunLaws.{told_all, told_front}
-use Rattle.planner_run.specs.Commands.{Asked, AsksToServe, asked, dialogue, dialogue_of, dialogue_on, IsSaid, usage_line}
+use Rattle.planner_run.specs.Commands.{Asked, AsksToServe, asked_command, dialogue, dialogue_of, dialogue_on, IsSaid, usage_line}
 
 -- the dialogue of a command is that of the words that ask for it
 pub leads_asked : (held : Option Files) (words : List (List ℕ)) (a : Asked) (answer : Answer) (selected : List ℕ) (taken : ℕ)
-    → Some a ≡ asked words → LeadsTo IsSaid held None (dialogue_of a) answer selected taken → LeadsTo IsSaid held None (dialogue words) answer selected taken
+    → Some a ≡ asked_command words → LeadsTo IsSaid held None (dialogue_of a) answer selected taken → LeadsTo IsSaid held None (dialogue words) answer selected taken
 unfolding dialogue
 leads_asked held words a answer selected taken asks leads = subst (λ b. LeadsTo IsSaid held None (dialogue_on b) answer selected taken) asks leads
 
-pub lacks_asked : (held : Option Files) (words : List (List ℕ)) (a : Asked) → Some a ≡ asked words → Lacks held (dialogue_of a) → Lacks held (dialogue words)
+pub lacks_asked : (held : Option Files) (words : List (List ℕ)) (a : Asked) → Some a ≡ asked_command words → Lacks held (dialogue_of a) → Lacks held (dialogue words)
 unfolding dialogue
 lacks_asked held words a asks lacks = subst (λ b. Lacks held (dialogue_on b)) asks lacks
 
 -- words that are none of the listed forms lead to the usage line
 pub leads_usage : (held : Option Files) (words : List (List ℕ)) (selected : List ℕ) (taken : ℕ)
-    → None ≡ asked words → LeadsTo IsSaid held None (dialogue words) (record { status = status.Usage; text = usage_line }) selected taken
+    → None ≡ asked_command words → LeadsTo IsSaid held None (dialogue words) (record { status = status.Usage; text = usage_line }) selected taken
 unfolding dialogue
 leads_usage held words selected taken asks =
     subst (λ b. LeadsTo IsSaid held None (dialogue_on b) (record { status = status.Usage; text = usage_line }) selected taken) asks (record { led = (refl, tt {0}) })
@@ -53,7 +53,7 @@ module _ (held : Option Files) (words : List (List ℕ)) (old new : Option (List
   wrote_ends status.NotARun (inl fault) front = absurd (cc)
   wrote_ends status.NotARun (inr (same, appends)) front = (answer, leads, sym same, appends)
 
-  pub wrote_all : (result : Status) → (result ≡ status.WriteFault) ⊎ ((result ≡ answer.status) × Appends old new answer.text) → IsSettled result → AnswersAll IsSaid held (dialogue words) old new result
+  pub wrote_all : (result : Status) → (result ≡ status.WriteFault) ⊎ ((result ≡ answer.status) × Appends old new answer.text) → IsComplete result → AnswersAll IsSaid held (dialogue words) old new result
   wrote_all result (inl fault) settled = absurd (settled.written fault)
   wrote_all result (inr (same, appends)) settled = told_all IsSaid held (dialogue words) old new result answer selected taken leads (sym same) appends
 
@@ -62,18 +62,18 @@ module _ (held : Option Files) (words : List (List ℕ)) (old new : Option (List
 
 -- a settled run over a source that tells has the answer of the command that its words ask for
 pub answered : (held : Option Files) (words : List (List ℕ)) (old new : Option (List ℕ)) (result : Status) (files : Files) (a : Asked)
-    → AnswersAll IsSaid held (dialogue words) old new result → held ≡ Some files → asked words ≡ Some a → Answered IsSaid files (dialogue_of a) old new result
+    → AnswersAll IsSaid held (dialogue words) old new result → held ≡ Some files → asked_command words ≡ Some a → Answered IsSaid files (dialogue_of a) old new result
 unfolding dialogue
 answered held words old new result files a all tells asks =
     let there : Answered IsSaid files (dialogue words) old new result = subst (λ h. AnswersAll IsSaid h (dialogue words) old new result) tells all in
     subst (λ b. Answered IsSaid files (dialogue_on b) old new result) asks there
 
 -- words that ask for another command don't ask to serve
-pub unserved : (words : List (List ℕ)) (a : Asked) → asked words ≡ Some a → ¬ AsksToServe (Some a) → ¬ AsksToServe (asked words)
+pub unserved : (words : List (List ℕ)) (a : Asked) → asked_command words ≡ Some a → ¬ AsksToServe (Some a) → ¬ AsksToServe (asked_command words)
 unserved words a asks other serves = other (subst AsksToServe asks serves)
 
 -- a run ends as the dialogue of the command that its words ask for
 pub ended : (held : Option Files) (words : List (List ℕ)) (old new : Option (List ℕ)) (selected : List ℕ) (taken : ℕ) (result : Status) (a : Asked)
-    → EndsAs IsSaid held (dialogue words) old new selected taken result → asked words ≡ Some a → EndsAs IsSaid held (dialogue_of a) old new selected taken result
+    → EndsAs IsSaid held (dialogue words) old new selected taken result → asked_command words ≡ Some a → EndsAs IsSaid held (dialogue_of a) old new selected taken result
 unfolding dialogue
 ended held words old new selected taken result a ends asks = subst (λ b. EndsAs IsSaid held (dialogue_on b) old new selected taken result) asks ends

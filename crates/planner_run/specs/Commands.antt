@@ -108,29 +108,29 @@ asked_under None words = None
 asked_under (Some name) words = asked_by name words
 
 -- what the words after the program's name ask for; nothing where they are none of the listed forms
-abbrev pub asked : List (List ℕ) → Option Asked
-asked [] = None
-asked (word ∷ words) = asked_under (name_in word) words
+abbrev pub asked_command : List (List ℕ) → Option Asked
+asked_command [] = None
+asked_command (word ∷ words) = asked_under (name_in word) words
 
 -- a command without where its names lie in memory
-abbrev pub seen : Command → Asked
-seen (command.Config names) = Config (config.names_seen names)
-seen (command.Paths names) = Paths (config.names_seen names)
-seen (command.Check names) = Check (check.names_seen names)
-seen (command.Certify names) = Certify (check.names_seen names)
-seen (command.Plan names) = Plan (base.names_seen names)
-seen (command.Pack names) = Pack (base.names_seen names)
-seen (command.Upgrade names) = Upgrade (base.plan_names_seen names)
-seen (command.Emit names) = Emit (base.plan_names_seen names)
-seen (command.Replay names) = Replay (replay.names_seen names)
-seen (command.Tables names) = Tables (replay.names_seen names)
-seen (command.Trace names) = Trace (trace.names_seen names)
-seen (command.Simulate names) = Simulate (simulate.names_seen names)
-seen (command.Explain names) = Explain (check.names_seen names)
-seen (command.Import names) = Import (imports.names_seen names)
-seen (command.Drive names) = Drive (drive.names_seen names)
-seen (command.Serve names) = Serve (check.names_seen names)
-seen (command.Sample size) = Sample size.switches
+abbrev pub asked_view : Command → Asked
+asked_view (command.Config names) = Config (config.names_seen names)
+asked_view (command.Paths names) = Paths (config.names_seen names)
+asked_view (command.Check names) = Check (check.names_seen names)
+asked_view (command.Certify names) = Certify (check.names_seen names)
+asked_view (command.Plan names) = Plan (base.names_seen names)
+asked_view (command.Pack names) = Pack (base.names_seen names)
+asked_view (command.Upgrade names) = Upgrade (base.plan_names_seen names)
+asked_view (command.Emit names) = Emit (base.plan_names_seen names)
+asked_view (command.Replay names) = Replay (replay.names_seen names)
+asked_view (command.Tables names) = Tables (replay.names_seen names)
+asked_view (command.Trace names) = Trace (trace.names_seen names)
+asked_view (command.Simulate names) = Simulate (simulate.names_seen names)
+asked_view (command.Explain names) = Explain (check.names_seen names)
+asked_view (command.Import names) = Import (imports.names_seen names)
+asked_view (command.Drive names) = Drive (drive.names_seen names)
+asked_view (command.Serve names) = Serve (check.names_seen names)
+asked_view (command.Sample size) = Sample size.switches
 
 -- of what a command says its answer
 pub data Ending : Type 0 where
@@ -205,7 +205,7 @@ dialogue_on (Some asked) = dialogue_of asked
 
 -- the program's dialogue with its files on these words
 unfoldable pub dialogue : List (List ℕ) → Dialogue Ending
-dialogue words = dialogue_on (asked words)
+dialogue words = dialogue_on (asked_command words)
 
 -- a plan is to be served: then lines are answered one by one, and not the files by one text
 abbrev pub AsksToServe : Option Asked → Type 0

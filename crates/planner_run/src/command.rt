@@ -1,6 +1,6 @@
 //! The words of the command line.
 ghost use Rattle.std.specs.Prelude.{◌≡◌, map, string_bytes, option_map};
-ghost use Rattle.planner_run.specs.Commands.{asked, asked_by, name_in, seen};
+ghost use Rattle.planner_run.specs.Commands.{asked_command, asked_by, name_in, asked_view};
 
 use check_base::{CheckNames, check_names};
 use command_base::{PlanNames, UpdateNames, plan_names, update_names};
@@ -84,7 +84,7 @@ fn name_of(word: &str) -> Option<CommandName>
 
 /// What the words after a command's name ask for; nothing where they are none of its forms.
 fn asked_by(name: CommandName, words: &[String]) -> Option<Command<'_>>
-    ensures { option_map seen result ≡ asked_by name (map string_bytes words.now) }
+    ensures { option_map asked_view result ≡ asked_by name (map string_bytes words.now) }
 {
     match name {
         CommandName::Config => config_names(words).map(Command::Config),
@@ -112,7 +112,7 @@ fn asked_by(name: CommandName, words: &[String]) -> Option<Command<'_>>
 
 /// What the words after the program's name ask for; nothing where they are none of the listed forms.
 pub fn command_of(words: &[String]) -> Option<Command<'_>>
-    ensures { option_map seen result ≡ asked (map string_bytes words.now) }
+    ensures { option_map asked_view result ≡ asked_command (map string_bytes words.now) }
 {
     let [name, rest @ ..] = words else {
         return None;

@@ -6,7 +6,7 @@ ghost use Rattle.file_access.specs.Outside.{Files, AppendsFront, IsMissing};
 ghost use Rattle.command_base.specs.Dialogues.{Lacks};
 ghost use Rattle.command_base.specs.Names.{UpdateNames, PlanNames};
 ghost use Rattle.command_base.specs.Replies.{Meets};
-ghost use Rattle.command_base.specs.Runs.{IsSettled, EndsAs, AnswersAll, AnswersFront};
+ghost use Rattle.command_base.specs.Runs.{IsComplete, EndsAs, AnswersAll, AnswersFront};
 ghost use Rattle.config_command.specs.Names.{ConfigNames};
 ghost use Rattle.config_command.specs.Promise.{ConfigPromise};
 ghost use Rattle.paths_command.specs.Promise.{PathsPromise};
@@ -34,7 +34,7 @@ ghost use Rattle.serve_command.specs.Serving.{IsServeEnd};
 ghost use Rattle.serve_command.specs.Stops.{input_name};
 ghost use Rattle.serve_promise.specs.Promise.{ServePromise};
 ghost use Rattle.sample_command.specs.Promise.{SamplePromise};
-ghost use Rattle.planner_run.specs.Commands.{Config, Paths, Check, Certify, Plan, Pack, Upgrade, Emit, Replay, Tables, Trace, Simulate, Explain, Import, Drive, Serve, Sample, AsksToServe, NamesNoFile, asked, seen, dialogue, dialogue_of, IsSaid, usage_line};
+ghost use Rattle.planner_run.specs.Commands.{Config, Paths, Check, Certify, Plan, Pack, Upgrade, Emit, Replay, Tables, Trace, Simulate, Explain, Import, Drive, Serve, Sample, AsksToServe, NamesNoFile, asked_command, asked_view, dialogue, dialogue_of, IsSaid, usage_line};
 
 use crate::command::{Command, command_of};
 use certify_command::certify;
@@ -79,13 +79,13 @@ const USAGE_LINE: &[u8] = b"unknown command or wrong words\n";
 
 /// The reply to a command. One that names no file leaves the source as it is, so it has no fault of reading.
 fn reply_to<S: Source>(alloc: Global, command: &Command<'_>, source: &mut S) -> Result<Reply, Exit>
-    requires { ¬ AsksToServe (Some (seen command.now)) }
-    ensures meets { Meets IsSaid (S.held source.old) (dialogue_of (seen command.now))
+    requires { ¬ AsksToServe (Some (asked_view command.now)) }
+    ensures meets { Meets IsSaid (S.held source.old) (dialogue_of (asked_view command.now))
         (S.faults source.old) (S.faults source.new) result (S.selected source.new)
         (S.taken source.new) }
     ensures later { S.faults source.old ≤ S.faults source.new }
-    ensures unread { NamesNoFile (Some (seen command.now)) → source.new ≡ source.old }
-    ensures no_read_fault { NamesNoFile (Some (seen command.now))
+    ensures unread { NamesNoFile (Some (asked_view command.now)) → source.new ≡ source.old }
+    ensures no_read_fault { NamesNoFile (Some (asked_view command.now))
         → IfErr result (λ e. e ≢ Exit.ReadFault) }
 {
     match command {
@@ -133,28 +133,28 @@ fn respond<S: Source, K: Sink>(
     sink: &mut K,
 ) -> Status
     // The status and the text are where the dialogue of the words leads, unless a plan is to be served.
-    ensures ends { ¬ AsksToServe (asked (map string_bytes words.now))
+    ensures ends { ¬ AsksToServe (asked_command (map string_bytes words.now))
         → EndsAs IsSaid (S.held source.old) (dialogue (map string_bytes words.now))
         (K.written sink.old) (K.written sink.new) (S.selected source.new) (S.taken source.new)
         result }
 
     // Where the source tells, a settled run has the status and the whole text of the answer over its files.
-    ensures all { ¬ AsksToServe (asked (map string_bytes words.now)) → IsSettled result
+    ensures all { ¬ AsksToServe (asked_command (map string_bytes words.now)) → IsComplete result
         → AnswersAll IsSaid (S.held source.old) (dialogue (map string_bytes words.now))
         (K.written sink.old) (K.written sink.new) result }
-    ensures front { ¬ AsksToServe (asked (map string_bytes words.now))
+    ensures front { ¬ AsksToServe (asked_command (map string_bytes words.now))
         → result ≡ Status.WriteFault
         → AnswersFront IsSaid (S.held source.old) (dialogue (map string_bytes words.now))
         (K.written sink.old) (K.written sink.new) }
-    ensures nothing { ¬ AsksToServe (asked (map string_bytes words.now))
+    ensures nothing { ¬ AsksToServe (asked_command (map string_bytes words.now))
         → (result ≡ Status.ReadFault) ⊎ (result ≡ Status.Memory)
         → Keeps (K.written sink.old) (K.written sink.new) }
 
     // Usage comes exactly for words that are none of the listed forms.
-    ensures usage { IsSettled result
-        → ((result ≡ Status.Usage) ↔ (asked (map string_bytes words.now) ≡ None)) }
+    ensures usage { IsComplete result
+        → ((result ≡ Status.Usage) ↔ (asked_command (map string_bytes words.now) ≡ None)) }
 
-    ensures read_fault { ¬ AsksToServe (asked (map string_bytes words.now))
+    ensures read_fault { ¬ AsksToServe (asked_command (map string_bytes words.now))
         → result ≡ Status.ReadFault
         → Rose (S.faults source.old) (S.faults source.new)
         ⊎ Lacks (S.held source.old) (dialogue (map string_bytes words.now)) }
@@ -163,18 +163,20 @@ fn respond<S: Source, K: Sink>(
 
     // A plan that is served answers the lines of the standard input, one after the other.
     ensures serve { (names : CheckNames)
-        → asked (map string_bytes words.now) ≡ Some (Serve names)
+        → asked_command (map string_bytes words.now) ≡ Some (Serve names)
         → IsServeEnd (S.held source.old) names (K.written sink.old) (K.written sink.new)
         (S.selected source.new) (S.taken source.new) result }
     ensures serve_fault { (names : CheckNames)
-        → asked (map string_bytes words.now) ≡ Some (Serve names) → result ≡ Status.ReadFault
+        → asked_command (map string_bytes words.now) ≡ Some (Serve names) → result
+        ≡ Status.ReadFault
         → Rose (S.faults source.old) (S.faults source.new)
         ⊎ Lacks (S.held source.old) (check_dialogue names)
         ⊎ IsMissing (S.held source.old) input_name }
 
     // Words that name no file leave the source as it is.
-    ensures unread { NamesNoFile (asked (map string_bytes words.now)) → source.new ≡ source.old }
-    ensures no_read_fault { NamesNoFile (asked (map string_bytes words.now))
+    ensures unread { NamesNoFile (asked_command (map string_bytes words.now)) → source.new
+        ≡ source.old }
+    ensures no_read_fault { NamesNoFile (asked_command (map string_bytes words.now))
         → result ≢ Status.ReadFault }
 {
     match command_of(words) {
@@ -200,28 +202,28 @@ pub fn run<S: Source, K: Sink>(
     sink: &mut K,
 ) -> Status
     // The status and the text are where the dialogue of the words leads, unless a plan is to be served.
-    ensures ends { ¬ AsksToServe (asked (map string_bytes words.now))
+    ensures ends { ¬ AsksToServe (asked_command (map string_bytes words.now))
         → EndsAs IsSaid (S.held source.old) (dialogue (map string_bytes words.now))
         (K.written sink.old) (K.written sink.new) (S.selected source.new) (S.taken source.new)
         result }
 
     // Where the source tells, a settled run has the status and the whole text of the answer over its files.
-    ensures all { ¬ AsksToServe (asked (map string_bytes words.now)) → IsSettled result
+    ensures all { ¬ AsksToServe (asked_command (map string_bytes words.now)) → IsComplete result
         → AnswersAll IsSaid (S.held source.old) (dialogue (map string_bytes words.now))
         (K.written sink.old) (K.written sink.new) result }
-    ensures front { ¬ AsksToServe (asked (map string_bytes words.now))
+    ensures front { ¬ AsksToServe (asked_command (map string_bytes words.now))
         → result ≡ Status.WriteFault
         → AnswersFront IsSaid (S.held source.old) (dialogue (map string_bytes words.now))
         (K.written sink.old) (K.written sink.new) }
-    ensures nothing { ¬ AsksToServe (asked (map string_bytes words.now))
+    ensures nothing { ¬ AsksToServe (asked_command (map string_bytes words.now))
         → (result ≡ Status.ReadFault) ⊎ (result ≡ Status.Memory)
         → Keeps (K.written sink.old) (K.written sink.new) }
 
     // Usage comes exactly for words that are none of the listed forms.
-    ensures usage { IsSettled result
-        → ((result ≡ Status.Usage) ↔ (asked (map string_bytes words.now) ≡ None)) }
+    ensures usage { IsComplete result
+        → ((result ≡ Status.Usage) ↔ (asked_command (map string_bytes words.now) ≡ None)) }
 
-    ensures read_fault { ¬ AsksToServe (asked (map string_bytes words.now))
+    ensures read_fault { ¬ AsksToServe (asked_command (map string_bytes words.now))
         → result ≡ Status.ReadFault
         → Rose (S.faults source.old) (S.faults source.new)
         ⊎ Lacks (S.held source.old) (dialogue (map string_bytes words.now)) }
@@ -230,76 +232,78 @@ pub fn run<S: Source, K: Sink>(
 
     // Over a source that tells, each command keeps its promise.
     ensures config { (files : Files) (names : ConfigNames) → S.held source.old ≡ Some files
-        → asked (map string_bytes words.now) ≡ Some (Config names)
+        → asked_command (map string_bytes words.now) ≡ Some (Config names)
         → ConfigPromise files names (K.written sink.old) (K.written sink.new) result }
 
     ensures paths { (files : Files) (names : ConfigNames) → S.held source.old ≡ Some files
-        → asked (map string_bytes words.now) ≡ Some (Paths names)
+        → asked_command (map string_bytes words.now) ≡ Some (Paths names)
         → PathsPromise files names (K.written sink.old) (K.written sink.new) result }
 
     // The headline is the field `keeps` of this promise.
     ensures check { (files : Files) (names : CheckNames) → S.held source.old ≡ Some files
-        → asked (map string_bytes words.now) ≡ Some (Check names)
+        → asked_command (map string_bytes words.now) ≡ Some (Check names)
         → CheckPromise files names (K.written sink.old) (K.written sink.new) result }
     ensures certify { (files : Files) (names : CheckNames) → S.held source.old ≡ Some files
-        → asked (map string_bytes words.now) ≡ Some (Certify names)
+        → asked_command (map string_bytes words.now) ≡ Some (Certify names)
         → CertifyPromise files names (K.written sink.old) (K.written sink.new) result }
     ensures plan { (files : Files) (names : UpdateNames) → S.held source.old ≡ Some files
-        → asked (map string_bytes words.now) ≡ Some (Plan names)
+        → asked_command (map string_bytes words.now) ≡ Some (Plan names)
         → PlanPromise files names (K.written sink.old) (K.written sink.new) result }
     ensures pack { (files : Files) (names : UpdateNames) → S.held source.old ≡ Some files
-        → asked (map string_bytes words.now) ≡ Some (Pack names)
+        → asked_command (map string_bytes words.now) ≡ Some (Pack names)
         → PackPromise files names (K.written sink.old) (K.written sink.new) result }
     ensures upgrade { (files : Files) (names : PlanNames) → S.held source.old ≡ Some files
-        → asked (map string_bytes words.now) ≡ Some (Upgrade names)
+        → asked_command (map string_bytes words.now) ≡ Some (Upgrade names)
         → UpgradePromise files names (K.written sink.old) (K.written sink.new) result }
     ensures emit { (files : Files) (names : PlanNames) → S.held source.old ≡ Some files
-        → asked (map string_bytes words.now) ≡ Some (Emit names)
+        → asked_command (map string_bytes words.now) ≡ Some (Emit names)
         → EmitPromise files names (K.written sink.old) (K.written sink.new) result }
     ensures replay { (files : Files) (names : ReplayNames) → S.held source.old ≡ Some files
-        → asked (map string_bytes words.now) ≡ Some (Replay names)
+        → asked_command (map string_bytes words.now) ≡ Some (Replay names)
         → ReplayPromise files names (K.written sink.old) (K.written sink.new) result }
     ensures tables { (files : Files) (names : ReplayNames) → S.held source.old ≡ Some files
-        → asked (map string_bytes words.now) ≡ Some (Tables names)
+        → asked_command (map string_bytes words.now) ≡ Some (Tables names)
         → TablesPromise files names (K.written sink.old) (K.written sink.new) result }
     ensures trace { (files : Files) (names : TraceNames) → S.held source.old ≡ Some files
-        → asked (map string_bytes words.now) ≡ Some (Trace names)
+        → asked_command (map string_bytes words.now) ≡ Some (Trace names)
         → TracePromise files names (K.written sink.old) (K.written sink.new) result }
     ensures simulate { (files : Files) (names : SimulateNames) → S.held source.old ≡ Some files
-        → asked (map string_bytes words.now) ≡ Some (Simulate names)
+        → asked_command (map string_bytes words.now) ≡ Some (Simulate names)
         → SimulatePromise files names (K.written sink.old) (K.written sink.new) result }
     ensures explain { (files : Files) (names : CheckNames) → S.held source.old ≡ Some files
-        → asked (map string_bytes words.now) ≡ Some (Explain names)
+        → asked_command (map string_bytes words.now) ≡ Some (Explain names)
         → ExplainPromise files names (K.written sink.old) (K.written sink.new) result }
     ensures import { (files : Files) (names : ImportNames) → S.held source.old ≡ Some files
-        → asked (map string_bytes words.now) ≡ Some (Import names)
+        → asked_command (map string_bytes words.now) ≡ Some (Import names)
         → ImportPromise files names (K.written sink.old) (K.written sink.new) result }
     ensures drive { (files : Files) (names : DriveNames) → S.held source.old ≡ Some files
-        → asked (map string_bytes words.now) ≡ Some (Drive names)
+        → asked_command (map string_bytes words.now) ≡ Some (Drive names)
         → DrivePromise files names (K.written sink.old) (K.written sink.new) result }
 
     // A plan that is served answers the lines of the standard input, one after the other.
     ensures serve { (names : CheckNames)
-        → asked (map string_bytes words.now) ≡ Some (Serve names)
+        → asked_command (map string_bytes words.now) ≡ Some (Serve names)
         → IsServeEnd (S.held source.old) names (K.written sink.old) (K.written sink.new)
         (S.selected source.new) (S.taken source.new) result }
     ensures serve_fault { (names : CheckNames)
-        → asked (map string_bytes words.now) ≡ Some (Serve names) → result ≡ Status.ReadFault
+        → asked_command (map string_bytes words.now) ≡ Some (Serve names) → result
+        ≡ Status.ReadFault
         → Rose (S.faults source.old) (S.faults source.new)
         ⊎ Lacks (S.held source.old) (check_dialogue names)
         ⊎ IsMissing (S.held source.old) input_name }
 
     // The second headline is the field `both_ways` of this promise.
     ensures serve_promise { (files : Files) (names : CheckNames) → S.held source.old ≡ Some files
-        → asked (map string_bytes words.now) ≡ Some (Serve names)
+        → asked_command (map string_bytes words.now) ≡ Some (Serve names)
         → ServePromise files names (K.written sink.old) (K.written sink.new) (S.taken source.new)
         result }
 
     // Words that name no file leave the source as it is.
-    ensures unread { NamesNoFile (asked (map string_bytes words.now)) → source.new ≡ source.old }
+    ensures unread { NamesNoFile (asked_command (map string_bytes words.now)) → source.new
+        ≡ source.old }
 
     // The promise of a command that reads no file holds over every source.
-    ensures sample { (n : ℕ) → asked (map string_bytes words.now) ≡ Some (Sample n)
+    ensures sample { (n : ℕ) → asked_command (map string_bytes words.now) ≡ Some (Sample n)
         → SamplePromise n (K.written sink.old) (K.written sink.new) result }
 {
     config_promised();

@@ -1,5 +1,5 @@
 //! A test of changes that are tried on the tables of two switches.
-ghost use Rattle.round_tables.specs.Trials.{IsSettled};
+ghost use Rattle.round_tables.specs.Trials.{IsBetweenTrials};
 
 use crate::empty_tables::no_rules;
 use flow_rules::{Action, Config, Key, Pattern, Rewrite, Rule, VlanTest};
@@ -69,8 +69,8 @@ fn tries(
     change: &Change,
     is_kept: bool,
 ) -> bool
-    requires { IsSettled net.now trial.old }
-    ensures { IsSettled net.now trial.new }
+    requires { IsBetweenTrials net.now trial.old }
+    ensures { IsBetweenTrials net.now trial.new }
 {
     if !applies(trial.tables(), change) || !trial.begin(alloc, net, change).expect(rt, "room") {
         return false;
@@ -91,7 +91,7 @@ fn first_wrong(
     net: &Net,
     steps: &[(Change, bool, bool)],
 ) -> Option<usize>
-    requires { IsSettled net.now trial.old }
+    requires { IsBetweenTrials net.now trial.old }
 {
     for (i, (change, is_kept, want)) in steps.iter().enumerate() {
         if tries(rt, alloc, trial, net, change, *is_kept) != *want {

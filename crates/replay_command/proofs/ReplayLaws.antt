@@ -18,12 +18,12 @@ use Rattle.command_base.specs.declared.kinds.FileKind.TheVariants as kind
 use Rattle.command_base.specs.Lines.{net_words, config_words, plan_words}
 use Rattle.command_base.specs.Answers.{Answer}
 use Rattle.command_base.specs.Meanings.{Means}
-use Rattle.command_base.specs.Runs.{IsSettled, Answered}
+use Rattle.command_base.specs.Runs.{IsComplete, Answered}
 use Rattle.command_base.proofs.MeaningLaws.{MeansOnly, means_then, means_parts, means_read, read_means}
 use Rattle.command_base.proofs.AnswerLaws.{SaysOfFiles, says_of_files, meant, wrote, status_of, text_of}
 use Rattle.command_base.proofs.RunLaws.{settled_done, settled_not_a_run}
 use Rattle.replay_command.specs.Names.{ReplayNames}
-use Rattle.replay_command.specs.Replayed.{ReplayMeaning, replay_dialogue, schedule_words, traces_of, IsRunAnswer, IsReplayAnswer, SaysOfRun, SaysNotARun, FilesMeanReplay, FilesAreARun, FilesAreNoRun, FirstStopsAt, NamesFirstLine, update_in, begun}
+use Rattle.replay_command.specs.Replayed.{ReplayMeaning, replay_dialogue, schedule_words, traces_of, IsRunAnswer, IsReplayAnswer, SaysOfRun, SaysNotARun, FilesMeanReplay, FilesAreARun, FilesAreNoRun, FirstStopsAt, NamesFirstLine, replay_rollout, begin_state}
 use Rattle.replay_command.specs.Promise.{ReplayPromise}
 
 -- the dialogue means what the files mean, and nothing else
@@ -57,11 +57,11 @@ next_enabled net rounds state [] line rest enabled = enabled.0
 next_enabled net rounds state (l ∷ first) line rest enabled = next_enabled net rounds (state_after_event net rounds state l.event) first line rest enabled.1
 
 -- a schedule that stops is no run
-stops_no_run : (m : ReplayMeaning) (number : ℕ) → FirstStopsAt m number → ¬ IsRun (update_in m) (events_of m.schedule)
+stops_no_run : (m : ReplayMeaning) (number : ℕ) → FirstStopsAt m number → ¬ IsRun (replay_rollout m) (events_of m.schedule)
 stops_no_run m number at run =
     let s = at.stops in
-    let all = subst (λ lines. AreEnabled m.net m.plan.rounds (begun m).state (events_of lines)) s.before.parts run in
-    let next = next_enabled m.net m.plan.rounds (begun m).state s.first s.line s.rest all in
+    let all = subst (λ lines. AreEnabled m.net m.plan.rounds (begin_state m).state (events_of lines)) s.before.parts run in
+    let next = next_enabled m.net m.plan.rounds (begin_state m).state s.first s.line s.rest all in
     s.not_enabled (subst (λ w. IsEnabled w.net w.rounds w.state s.line.event) (sym s.before.after) next)
 
 -- what is said of a schedule, by the status
@@ -74,11 +74,11 @@ module _ (text : ReplayMeaning → List ℕ) (m : ReplayMeaning) (answer : Answe
   stop_says (inl v) is = absurd (let e = status_of answer _ _ v.answer_is in cc)
   stop_says (inr v) is = v
 
-  run_says : IsRunAnswer text m answer → IsRun (update_in m) (events_of m.schedule) → SaysOfRun text m answer
+  run_says : IsRunAnswer text m answer → IsRun (replay_rollout m) (events_of m.schedule) → SaysOfRun text m answer
   run_says (inl v) run = v
   run_says (inr v) run = absurd (stops_no_run m v.line v.first run)
 
-  no_run_says : IsRunAnswer text m answer → ¬ IsRun (update_in m) (events_of m.schedule) → SaysNotARun m answer
+  no_run_says : IsRunAnswer text m answer → ¬ IsRun (replay_rollout m) (events_of m.schedule) → SaysNotARun m answer
   no_run_says (inl v) none = absurd (none v.run)
   no_run_says (inr v) none = v
 
@@ -115,7 +115,7 @@ module _ (text : ReplayMeaning → List ℕ) (files : Files) (names : ReplayName
       let says = stop_says text m a.answer (run.said m mean) (a.status_is ∙ is) in
       record { line = says.line; first = says.first; written = wrote run _ (text_of a.answer _ _ says.answer_is) }
 
-pub promised : (files : Files) (names : ReplayNames) (old new : Option (List ℕ)) (result : Status) → (IsSettled result → Answered IsReplayAnswer files (replay_dialogue names) old new result) → ReplayPromise files names old new result
+pub promised : (files : Files) (names : ReplayNames) (old new : Option (List ℕ)) (result : Status) → (IsComplete result → Answered IsReplayAnswer files (replay_dialogue names) old new result) → ReplayPromise files names old new result
 promised files names old new result answered = record {
   done = λ settled. done traces_of files names old new result (answered settled);
   traces = λ m mean is. written_of traces_of files names old new result (answered (settled_done _ is)) is m mean;

@@ -5,16 +5,16 @@ use Rattle.file_access.specs.Outside.{Files}
 use Rattle.schedule_replay.specs.Traces.{traces_text}
 use Rattle.command_base.specs.declared.status.Status.{Status}
 use Rattle.command_base.specs.declared.status.Status.TheVariants as status
-use Rattle.command_base.specs.Runs.{IsSettled}
+use Rattle.command_base.specs.Runs.{IsComplete}
 use Rattle.replay_command.specs.Names.{ReplayNames}
-use Rattle.replay_command.specs.Replayed.{ReplayMeaning, FilesMeanReplay, FilesAreARun, FilesAreNoRun, NamesFirstLine, ended}
+use Rattle.replay_command.specs.Replayed.{ReplayMeaning, FilesMeanReplay, FilesAreARun, FilesAreNoRun, NamesFirstLine, end_state}
 
 -- the files and their names, what was written before and after the run, and how it ended
 pub record ReplayPromise (files : Files) (names : ReplayNames) (old new : Option (List ℕ)) (result : Status) : Type 0 where
   -- Done comes exactly where all files are read and the events are a run of the plan's rounds from the old tables.
-  pub done : IsSettled result → ((result ≡ status.Done) ↔ FilesAreARun files names)
+  pub done : IsComplete result → ((result ≡ status.Done) ↔ FilesAreARun files names)
   -- Then the traces of the last state of this run were written.
-  pub traces : (m : ReplayMeaning) → FilesMeanReplay files names m → result ≡ status.Done → Appends old new (traces_text m.net (ended m))
+  pub traces : (m : ReplayMeaning) → FilesMeanReplay files names m → result ≡ status.Done → Appends old new (traces_text m.net (end_state m))
   -- NotARun comes exactly where all files are read and some event isn't enabled; the line names that of the first one.
-  pub not_a_run : IsSettled result → ((result ≡ status.NotARun) ↔ FilesAreNoRun files names)
+  pub not_a_run : IsComplete result → ((result ≡ status.NotARun) ↔ FilesAreNoRun files names)
   pub first : (m : ReplayMeaning) → FilesMeanReplay files names m → result ≡ status.NotARun → NamesFirstLine m old new

@@ -57,16 +57,16 @@ replay_dialogue names =
     Ends (record { net = net; old = old; plan = plan; schedule = schedule })))))
 
 -- the old tables and the rounds of the plan
-abbrev pub update_in : ReplayMeaning → Rollout
-update_in m = record { net = m.net; old = m.old; rounds = m.plan.rounds }
+abbrev pub replay_rollout : ReplayMeaning → Rollout
+replay_rollout m = record { net = m.net; old = m.old; rounds = m.plan.rounds }
 
 -- the network before the first event
-abbrev pub begun : ReplayMeaning → WorldState
-begun m = record { net = m.net; rounds = m.plan.rounds; state = first_state m.old }
+abbrev pub begin_state : ReplayMeaning → WorldState
+begin_state m = record { net = m.net; rounds = m.plan.rounds; state = first_state m.old }
 
 -- the network after all events
-abbrev pub ended : ReplayMeaning → WorldState
-ended m = record { net = m.net; rounds = m.plan.rounds; state = state_after_run (update_in m) (events_of m.schedule) }
+abbrev pub end_state : ReplayMeaning → WorldState
+end_state m = record { net = m.net; rounds = m.plan.rounds; state = state_after_run (replay_rollout m) (events_of m.schedule) }
 
 -- on a file in whose line something stands that can't happen: an event that isn't enabled, or a start that is refused
 abbrev pub not_a_run_line : ℕ → List ℕ
@@ -74,13 +74,13 @@ not_a_run_line line = codes "not a run: line " ++ decimal line ++ codes "\n"
 
 -- the events are a run, and the answer is this text of it
 pub record SaysOfRun (text : ReplayMeaning → List ℕ) (m : ReplayMeaning) (answer : Answer) : Type 0 where
-  pub run : IsRun (update_in m) (events_of m.schedule)
+  pub run : IsRun (replay_rollout m) (events_of m.schedule)
   pub answer_is : answer ≡ record { status = status.Done; text = text m }
 
 -- the first event that isn't enabled stands in this line
 pub record FirstStopsAt (m : ReplayMeaning) (number : ℕ) : Type 0 where
   pub world : WorldState
-  pub stops : StopsAt (begun m) world m.schedule number
+  pub stops : StopsAt (begin_state m) world m.schedule number
 
 -- an event isn't enabled, and the answer names the line of the first one
 pub record SaysNotARun (m : ReplayMeaning) (answer : Answer) : Type 0 where
@@ -94,7 +94,7 @@ IsRunAnswer text m answer = SaysOfRun text m answer ⊎ SaysNotARun m answer
 
 -- the traces at the end of a run
 abbrev pub traces_of : ReplayMeaning → List ℕ
-traces_of m = traces_text m.net (ended m)
+traces_of m = traces_text m.net (end_state m)
 
 -- the answer of `replay`
 abbrev pub IsReplayAnswer : ReplayMeaning → Answer → Type 0
@@ -111,13 +111,13 @@ pub record FilesMeanReplay (files : Files) (names : ReplayNames) (m : ReplayMean
 pub record FilesAreARun (files : Files) (names : ReplayNames) : Type 0 where
   pub meaning : ReplayMeaning
   pub mean : FilesMeanReplay files names meaning
-  pub run : IsRun (update_in meaning) (events_of meaning.schedule)
+  pub run : IsRun (replay_rollout meaning) (events_of meaning.schedule)
 
 -- the files are read, and an event isn't enabled
 pub record FilesAreNoRun (files : Files) (names : ReplayNames) : Type 0 where
   pub meaning : ReplayMeaning
   pub mean : FilesMeanReplay files names meaning
-  pub stops : ¬ IsRun (update_in meaning) (events_of meaning.schedule)
+  pub stops : ¬ IsRun (replay_rollout meaning) (events_of meaning.schedule)
 
 -- the line that was written names the line of the first event that isn't enabled
 pub record NamesFirstLine (m : ReplayMeaning) (old new : Option (List ℕ)) : Type 0 where

@@ -4,8 +4,8 @@ use Rattle.std.specs.List.{range_with_len}
 use Rattle.std.proofs.lemmas.Bool.{ne_eqb}
 use Rattle.std.proofs.lemmas.List.{length-append}
 use Rattle.flow_rules.specs.declared.rules.Rule.{Rule}
-use Rattle.update_model.specs.Remaining.{changes_between, changes_from, remaining}
-use Rattle.ring_sample.specs.Ring.{below, ring_table, ring_tables}
+use Rattle.update_model.specs.Remaining.{changes_between, changes_from, remaining_changes}
+use Rattle.ring_sample.specs.Ring.{numbers_below, ring_table, ring_tables}
 
 -- at a switch that has no destination
 all_differ : (k : ℕ) → 4 ≤ k → length (changes_between (record { 0 = k }) (ring_table 2 k) (ring_table 3 k)) ≡ 4
@@ -36,7 +36,7 @@ all_on : (m : ℕ) → changes_on 0 (suc (suc (suc (suc m)))) ≡ 12 + 4 * m
 all_on m =
     omega (arith, more_on 0 (suc (suc (suc m))), more_on 1 (suc (suc m)), more_on 2 (suc m), more_on 3 m, three_differ.0, three_differ.1, three_differ.2, three_differ.3, far_on m 4 (omega arith))
 
-pub changes_are : (n : ℕ) → 4 ≤ n → length (remaining (ring_tables n 2) (ring_tables n 3)) ≡ 4 * (n - 1)
+pub changes_are : (n : ℕ) → 4 ≤ n → length (remaining_changes (ring_tables n 2) (ring_tables n 3)) ≡ 4 * (n - 1)
 unfolding ring_tables
 changes_are n some =
     let m : ℕ = n - 4 in

@@ -15,7 +15,7 @@ use Rattle.net_base.specs.declared.ids.Place.{Place}
 use Rattle.net_base.specs.declared.ids.Vlan.{Vlan}
 use Rattle.flow_rules.specs.Tables.{rules_at, lookup}
 use Rattle.flow_rules.specs.declared.rules.Action.TheVariants as action
-use Rattle.path_walk.specs.Outcomes.{acted, header_at}
+use Rattle.path_walk.specs.Outcomes.{action_outcome, header_at}
 use Rattle.path_walk.specs.Paths.{outcome_in, ended_by}
 use Rattle.path_walk.specs.declared.Outcome.TheVariants.{Discard}
 use Rattle.path_walk.specs.declared.Ended.TheVariants.{Left, Dropped}
@@ -24,7 +24,7 @@ use Rattle.demands.specs.Good.{HasGoodPath, switches_of}
 use Rattle.certificates.specs.Trees.{LeavesOrStays}
 use Rattle.certificates.proofs.Consistency.{switches_are}
 use Rattle.certificates.proofs.TreePaths.{no_chains}
-use Rattle.ring_sample.specs.Ring.{below, destinations, others, ring_stop, ring_network, ring_prefix, ring_table, ring_tables, ring_demand, ring_demands}
+use Rattle.ring_sample.specs.Ring.{numbers_below, destinations, others, ring_stop, ring_network, ring_prefix, ring_table, ring_tables, ring_demand, ring_demands}
 use Rattle.ring_sample.proofs.PolicyAgain.{each_other}
 use Rattle.ring_sample.proofs.Ways.{IsWay, IsFar}
 use Rattle.ring_sample.proofs.Walks.{place_at, out_of, rest_from, drops_at}
@@ -95,7 +95,7 @@ pub record IsRingDemand (d : DemandView) : Type 0 where
 pub ring_demand_of : (n : ℕ) (d : DemandView) → IsIn d (ring_demands n) → IsRingDemand d
 unfolding ring_demands
 ring_demand_of n d there =
-    let (i, _, among) = in_from_flat_map (λ k. map (ring_demand k) (others k)) d (below n) there in
+    let (i, _, among) = in_from_flat_map (λ k. map (ring_demand k) (others k)) d (numbers_below n) there in
     let (j, other, is) = in_from_map (ring_demand i) d (others i) among in
     record { i = i; j = j; other = other; is = is }
 
@@ -145,7 +145,7 @@ module _ (n i : ℕ) (vlan : Vlan) (dst out : ℕ) where
   module _ (into : ℕ) (move : ℕ → ℕ) (way : IsWay n out into move) (lt : i < n) where
     to_none : IsToNone dst → ClassPath n out entry dst
     to_none h =
-        dropped (ap (acted (ring_network n) entry) (ap (lookup (header_at entry dst)) (table_at n out i lt) ∙ h.looks out i entry))
+        dropped (ap (action_outcome (ring_network n) entry) (ap (lookup (header_at entry dst)) (table_at n out i lt) ∙ h.looks out i entry))
         (not_asked n i vlan dst (λ k less inside. absurd (h.none k less inside)))
 
     module _ (j : ℕ) (h : IsTo dst j) (far : ℕ → ℕ) (is_far : IsFar n j move far) where

@@ -16,7 +16,7 @@ use Rattle.flow_rules.specs.Overlaps.{keys_clash}
 use Rattle.flow_rules.specs.Patterns.{key_eq}
 use Rattle.flow_rules.specs.declared.rules.Rule.{Rule}
 use Rattle.config_files.specs.Configuration.{port_in, some_port, priority_in, dst_in, pattern_in, action_in, rule_in, rules_with, with_rule, rule_to, switch_in, rule_at, is_over, over_capacity, items_in, filled_in, tables_in, configuration_in}
-use Rattle.ring_sample.specs.Ring.{below, ring_name, ring_network, destinations, ring_prefix, ring_rule, ring_table, ring_tables}
+use Rattle.ring_sample.specs.Ring.{numbers_below, ring_name, ring_network, destinations, ring_prefix, ring_rule, ring_table, ring_tables}
 use Rattle.ring_sample.specs.RingTrees.{rule_tree, configuration_tree}
 use Rattle.ring_sample.proofs.Ranges.{group_turns}
 use Rattle.ring_sample.proofs.Names.{named}
@@ -67,11 +67,11 @@ module _ (n : ℕ) (few : n ≤ 128) (port : ℕ) (low : 2 ≤ port) (high : por
 
   -- the tables of the first k switches
   abbrev tables_of : ℕ → List (List Rule)
-  tables_of k = map (ring_table port) (below k) ++ replicate (n - k) []
+  tables_of k = map (ring_table port) (numbers_below k) ++ replicate (n - k) []
 
   next_tables : (m k : ℕ) → k < n → m ≤ 4 * k → in_turn (rule_at (ring_network n)) m (tables_of k) (map (rule_tree port k) destinations) ≡ Ok (tables_of (k + 1))
   next_tables m k lt small =
-      let before = map (ring_table port) (below k) in
+      let before = map (ring_table port) (numbers_below k) in
       let after : List (List Rule) = replicate (n - (k + 1)) [] in
       let left : n - k ≡ suc (n - (k + 1)) = omega arith in
       let here : tables_of k ≡ tables_with k lt before after [] = ap (λ (c : ℕ). before ++ replicate c []) left in
@@ -85,20 +85,20 @@ module _ (n : ℕ) (few : n ≤ 128) (port : ℕ) (low : 2 ≤ port) (high : por
   unfolding ring_tables
   whole =
       let none : n - n ≡ 0 = omega arith in
-      ap (λ (c : ℕ). map (ring_table port) (below n) ++ replicate c []) none ∙ append-nil (map (ring_table port) (below n))
+      ap (λ (c : ℕ). map (ring_table port) (numbers_below n) ++ replicate c []) none ∙ append-nil (map (ring_table port) (numbers_below n))
 
   many : switch_count (ring_network n) ≡ n
   unfolding ring_network
   many = length-map-range_with_len ring_name 0 n
 
-  rules_again : in_turn (rule_at (ring_network n)) 0 (replicate (switch_count (ring_network n)) []) (flat_map (λ i. map (rule_tree port i) destinations) (below n)) ≡ Ok (ring_tables n port)
+  rules_again : in_turn (rule_at (ring_network n)) 0 (replicate (switch_count (ring_network n)) []) (flat_map (λ i. map (rule_tree port i) destinations) (numbers_below n)) ≡ Ok (ring_tables n port)
   rules_again =
-      let all : in_turn (rule_at (ring_network n)) 0 (tables_of 0) (flat_map (λ i. map (rule_tree port i) destinations) (below n)) ≡ Ok (tables_of (0 + n)) =
+      let all : in_turn (rule_at (ring_network n)) 0 (tables_of 0) (flat_map (λ i. map (rule_tree port i) destinations) (numbers_below n)) ≡ Ok (tables_of (0 + n)) =
       group_turns (rule_at (ring_network n)) (λ i. map (rule_tree port i) destinations) tables_of n (λ k. omega arith) next_tables n 0 0 (omega arith) (omega arith) in
       let none : n - 0 ≡ switch_count (ring_network n) = omega (arith, many) in
       let same : 0 + n ≡ n = omega arith in
-      subst (λ (c : ℕ). in_turn (rule_at (ring_network n)) 0 (replicate c []) (flat_map (λ i. map (rule_tree port i) destinations) (below n)) ≡ Ok (ring_tables n port)) none
-      (subst (λ (ts : List (List Rule)). in_turn (rule_at (ring_network n)) 0 (tables_of 0) (flat_map (λ i. map (rule_tree port i) destinations) (below n)) ≡ Ok ts) (ap tables_of same ∙ whole) all)
+      subst (λ (c : ℕ). in_turn (rule_at (ring_network n)) 0 (replicate c []) (flat_map (λ i. map (rule_tree port i) destinations) (numbers_below n)) ≡ Ok (ring_tables n port)) none
+      (subst (λ (ts : List (List Rule)). in_turn (rule_at (ring_network n)) 0 (tables_of 0) (flat_map (λ i. map (rule_tree port i) destinations) (numbers_below n)) ≡ Ok ts) (ap tables_of same ∙ whole) all)
 
   within_capacity : (i : ℕ) → i < n → is_over (ring_network n) (ring_tables n port) i ≡ false
   unfolding ring_network ring_tables
@@ -110,7 +110,7 @@ module _ (n : ℕ) (few : n ≤ 128) (port : ℕ) (low : 2 ≤ port) (high : por
 
   tables_again : tables_in (ring_network n) (configuration_tree n port) ≡ Ok (ring_tables n port)
   unfolding tables_in items_in filled_in configuration_tree
-  tables_again = rw (list_of-items_of (flat_map (λ i. map (rule_tree port i) destinations) (below n)), rules_again, none_over) refl
+  tables_again = rw (list_of-items_of (flat_map (λ i. map (rule_tree port i) destinations) (numbers_below n)), rules_again, none_over) refl
 
   pub configuration_again : (bytes : List ℕ) (d : Data) → d ≡ configuration_tree n port → tree_in bytes ≡ Some d → configuration_in (ring_network n) bytes ≡ Ok (ring_tables n port)
   unfolding configuration_in

@@ -6,7 +6,7 @@ use Rattle.serde_json.specs.Data.{Data, depth, items_depth}
 use Rattle.serde_json.specs.Written.{has_float, items_have_float}
 use Rattle.serde_json.specs.View.{items_of}
 use Rattle.net_base.proofs.MemberLaws.{each_append}
-use Rattle.ring_sample.specs.Ring.{below, destinations, others}
+use Rattle.ring_sample.specs.Ring.{numbers_below, destinations, others}
 use Rattle.ring_sample.specs.RingTrees.{list_tree, switch_tree, link_tree, host_tree, topology_tree, rule_tree, configuration_tree, demand_tree, policy_tree}
 
 -- it has no float, and lists and objects stand at most so deep in it
@@ -50,21 +50,21 @@ demand_flat i j = record { no_float = refl; shallow = omega arith }
 pub topology_flat : (n : ℕ) → IsFlat 3 (topology_tree n)
 unfolding topology_tree
 topology_flat n =
-    let switches = list_flat 1 (map switch_tree (below n)) (map_flat 1 switch_tree (below n) switch_flat) in
-    let links = list_flat 1 (map (link_tree n) (below n)) (map_flat 1 (link_tree n) (below n) (link_flat n)) in
-    let hosts = list_flat 1 (map host_tree (below n)) (map_flat 1 host_tree (below n) host_flat) in
+    let switches = list_flat 1 (map switch_tree (numbers_below n)) (map_flat 1 switch_tree (numbers_below n) switch_flat) in
+    let links = list_flat 1 (map (link_tree n) (numbers_below n)) (map_flat 1 (link_tree n) (numbers_below n) (link_flat n)) in
+    let hosts = list_flat 1 (map host_tree (numbers_below n)) (map_flat 1 host_tree (numbers_below n) host_flat) in
     record { no_float = rw (switches.no_float, links.no_float, hosts.no_float) refl; shallow = omega (arith, switches.shallow, links.shallow, hosts.shallow) }
 
 pub configuration_flat : (n port : ℕ) → IsFlat 3 (configuration_tree n port)
 unfolding configuration_tree
 configuration_flat n port =
     let group : ℕ → List Data = λ i. map (rule_tree port i) destinations in
-    let rules = list_flat 1 (flat_map group (below n)) (flat_flat 1 group (below n) (λ i. map_flat 1 (rule_tree port i) destinations (rule_flat port i))) in
+    let rules = list_flat 1 (flat_map group (numbers_below n)) (flat_flat 1 group (numbers_below n) (λ i. map_flat 1 (rule_tree port i) destinations (rule_flat port i))) in
     record { no_float = rw rules.no_float refl; shallow = omega (arith, rules.shallow) }
 
 pub policy_flat : (n : ℕ) → IsFlat 3 (policy_tree n)
 unfolding policy_tree
 policy_flat n =
     let group : ℕ → List Data = λ i. map (demand_tree i) (others i) in
-    let demands = list_flat 1 (flat_map group (below n)) (flat_flat 1 group (below n) (λ i. map_flat 1 (demand_tree i) (others i) (demand_flat i))) in
+    let demands = list_flat 1 (flat_map group (numbers_below n)) (flat_flat 1 group (numbers_below n) (λ i. map_flat 1 (demand_tree i) (others i) (demand_flat i))) in
     record { no_float = rw demands.no_float refl; shallow = omega (arith, demands.shallow) }

@@ -18,7 +18,7 @@ use Rattle.net_base.specs.Text.{cut_last, decimal_in}
 use Rattle.topology.specs.Networks.{Network, switch_named, is_name_byte, is_name}
 use Rattle.topology.specs.References.{reference_parts}
 use Rattle.topology_files.specs.Topology.{reference}
-use Rattle.ring_sample.specs.Ring.{below, ring_name, ring_stop}
+use Rattle.ring_sample.specs.Ring.{numbers_below, ring_name, ring_stop}
 use Rattle.ring_sample.specs.RingTrees.{port_text}
 
 -- ---- the next switch
@@ -57,7 +57,7 @@ module _ (n k : ℕ) (few : n ≤ 128) (within : k ≤ n) where
   is_it m = bytes_eq (ring_name k) m
 
   abbrev names : List (List ℕ)
-  names = map ring_name (below n)
+  names = map ring_name (numbers_below n)
 
   many : length names ≡ n
   many = length-map-range_with_len ring_name 0 n
@@ -72,11 +72,11 @@ module _ (n k : ℕ) (few : n ≤ 128) (within : k ≤ n) where
   place_is = position_or_len_is is_it names k [] (omega (arith, many)) before at_it
 
 -- the name of the next switch is none of those before
-pub new_name : (k : ℕ) → k < 128 → switch_named (map ring_name (below k)) (ring_name k) ≡ None
+pub new_name : (k : ℕ) → k < 128 → switch_named (map ring_name (numbers_below k)) (ring_name k) ≡ None
 new_name k lt = rw (place_is k k (omega arith) (omega arith), length-map-range_with_len ring_name 0 k, le-ltb k k (omega arith)) refl
 
 -- each name is that of its switch
-pub named : (n k : ℕ) → n ≤ 128 → k < n → switch_named (map ring_name (below n)) (ring_name k) ≡ Some k
+pub named : (n k : ℕ) → n ≤ 128 → k < n → switch_named (map ring_name (numbers_below n)) (ring_name k) ≡ Some k
 named n k few lt = rw (place_is n k few (omega arith), length-map-range_with_len ring_name 0 n, lt-ltb k n lt) refl
 
 digit_passes : (c : ℕ) → is_ascii_digit c ≡ true → is_name_byte c ≡ true
@@ -105,7 +105,7 @@ parts_again i port few =
     let joined : port_text i port ≡ ring_name i ++ 58 ∷ decimal port = append_assoc (ring_name i) (codes ":") (decimal port) in
     rw (joined, cut_last-at 58 (ring_name i) (decimal port) (no_colon port (omega arith)), decimal_in-decimal port 99999 few (omega arith)) refl
 
-pub reference_again : (net : Network) (n i port : ℕ) (field : Field) (place : ℕ) → net.names ≡ map ring_name (below n) → n ≤ 128 → i < n → 1 ≤ port → port ≤ 9
+pub reference_again : (net : Network) (n i port : ℕ) (field : Field) (place : ℕ) → net.names ≡ map ring_name (numbers_below n) → n ≤ 128 → i < n → 1 ≤ port → port ≤ 9
     → reference net field place (port_text i port) ≡ Ok (ring_stop i port)
 unfolding reference
 reference_again net n i port field place names few lt low high =

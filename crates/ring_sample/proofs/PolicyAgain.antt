@@ -14,7 +14,7 @@ use Rattle.net_base.proofs.Prefixes.{prefix_in-text}
 use Rattle.flat_json.proofs.JsonTree.{list_of-items_of}
 use Rattle.demands.specs.Duties.{DemandView}
 use Rattle.demands.specs.Policy.{host_in, source_in, from_in, test_in, through_in, deliver_in, dst_in, cover_in, demand_in, demand_at, members_in, demands_in}
-use Rattle.ring_sample.specs.Ring.{below, ring_name, ring_network, destinations, others, ring_prefix, ring_demand, ring_demands}
+use Rattle.ring_sample.specs.Ring.{numbers_below, ring_name, ring_network, destinations, others, ring_prefix, ring_demand, ring_demands}
 use Rattle.ring_sample.specs.RingTrees.{port_text, demand_tree, policy_tree}
 use Rattle.ring_sample.proofs.Ranges.{flat_more, group_turns}
 use Rattle.ring_sample.proofs.Names.{named, parts_again}
@@ -56,7 +56,7 @@ module _ (n : ℕ) (few : n ≤ 128) where
         (each_again js (suc m) (before ++ ring_demand i j ∷ []) within.1 (omega arith) ∙ ap (λ (ds : List DemandView). Ok ds) (append_assoc before (ring_demand i j ∷ []) (map (ring_demand i) js)))
 
   abbrev demands_of : ℕ → List DemandView
-  demands_of k = flat_map (λ i. map (ring_demand i) (others i)) (below k)
+  demands_of k = flat_map (λ i. map (ring_demand i) (others i)) (numbers_below k)
 
   few_of : (k : ℕ) → length (demands_of k) ≤ 4 * k
   few_of k = few_flat (λ i. map (ring_demand i) (others i)) (λ i. omega (arith, length-map (others i) (ring_demand i), few_others i)) 0 k
@@ -66,16 +66,16 @@ module _ (n : ℕ) (few : n ≤ 128) where
       each_again k lt (others k) m (demands_of k) (each_other k) (omega (arith, few_of k, few_others k))
       ∙ ap (λ (ds : List DemandView). Ok ds) (sym (flat_more (λ i. map (ring_demand i) (others i)) k))
 
-  items_again : in_turn (demand_at (ring_network n)) 0 [] (flat_map (λ i. map (demand_tree i) (others i)) (below n)) ≡ Ok (ring_demands n)
+  items_again : in_turn (demand_at (ring_network n)) 0 [] (flat_map (λ i. map (demand_tree i) (others i)) (numbers_below n)) ≡ Ok (ring_demands n)
   unfolding ring_demands
   items_again =
       let same : 0 + n ≡ n = omega arith in
-      subst (λ (j : ℕ). in_turn (demand_at (ring_network n)) 0 [] (flat_map (λ i. map (demand_tree i) (others i)) (below n)) ≡ Ok (demands_of j)) same
+      subst (λ (j : ℕ). in_turn (demand_at (ring_network n)) 0 [] (flat_map (λ i. map (demand_tree i) (others i)) (numbers_below n)) ≡ Ok (demands_of j)) same
       (group_turns (demand_at (ring_network n)) (λ i. map (demand_tree i) (others i)) demands_of n (λ k. omega (arith, length-map (others k) (demand_tree k), few_others k)) next_demands n 0 0 (omega arith) (omega arith))
 
   members_again : members_in (ring_network n) (policy_tree n) ≡ Ok (ring_demands n)
   unfolding members_in policy_tree
-  members_again = rw (list_of-items_of (flat_map (λ i. map (demand_tree i) (others i)) (below n)), items_again) refl
+  members_again = rw (list_of-items_of (flat_map (λ i. map (demand_tree i) (others i)) (numbers_below n)), items_again) refl
 
   pub policy_again : (bytes : List ℕ) (d : Data) → d ≡ policy_tree n → tree_in bytes ≡ Some d → demands_in (ring_network n) bytes ≡ Ok (ring_demands n)
   unfolding demands_in

@@ -8,7 +8,7 @@ use Rattle.net_base.proofs.MemberLaws.{in_map, in_append_left, in_append_right}
 use Rattle.net_base.proofs.ListLaws.{in_flat_map}
 use Rattle.topology.specs.Networks.{is_used, is_host, used_ports}
 use Rattle.topology.proofs.LinkLaws.{any_from_in}
-use Rattle.ring_sample.specs.Ring.{below, ring_stop, ring_link, ring_network}
+use Rattle.ring_sample.specs.Ring.{numbers_below, ring_stop, ring_link, ring_network}
 use Rattle.ring_sample.proofs.Ranges.{in_range}
 use Rattle.ring_sample.proofs.TopologyAgain.{ends, hosted, linked}
 
@@ -19,7 +19,7 @@ previous n (suc i) some lt = (i, omega arith, (let e : i + 1 ≡ suc i = omega a
 
 module _ (n : ℕ) (i : ℕ) (lt : i < n) where
   pub host_in : IsIn (ring_stop i 1) (hosted 0 n)
-  host_in = in_map (λ k. ring_stop k 1) i (below n) (in_range 0 n i (omega arith) (omega arith))
+  host_in = in_map (λ k. ring_stop k 1) i (numbers_below n) (in_range 0 n i (omega arith) (omega arith))
 
   pub host_is : is_host (ring_network n) (ring_stop i 1) ≡ true
   unfolding ring_network
@@ -33,14 +33,14 @@ module _ (n : ℕ) (i : ℕ) (lt : i < n) where
   unfolding ring_network
   next_used =
       any_from_in (ring_stop i 2) (used_ports (ring_network n)) (in_append_right (ring_stop i 2) (hosted 0 n) (linked n 0 n)
-      (in_flat_map ends (ring_link n i) (ring_stop i 2) (map (ring_link n) (below n)) (in_map (ring_link n) i (below n) (in_range 0 n i (omega arith) (omega arith))) (inl refl)))
+      (in_flat_map ends (ring_link n i) (ring_stop i 2) (map (ring_link n) (numbers_below n)) (in_map (ring_link n) i (numbers_below n) (in_range 0 n i (omega arith) (omega arith))) (inl refl)))
 
   back_used : is_used (ring_network n) (ring_stop i 3) ≡ true
   unfolding ring_network
   back_used =
       let (k, within, is) = previous n i (omega arith) lt in
       any_from_in (ring_stop i 3) (used_ports (ring_network n)) (in_append_right (ring_stop i 3) (hosted 0 n) (linked n 0 n)
-      (in_flat_map ends (ring_link n k) (ring_stop i 3) (map (ring_link n) (below n)) (in_map (ring_link n) k (below n) (in_range 0 n k (omega arith) (omega arith)))
+      (in_flat_map ends (ring_link n k) (ring_stop i 3) (map (ring_link n) (numbers_below n)) (in_map (ring_link n) k (numbers_below n) (in_range 0 n k (omega arith) (omega arith)))
       (inr (inl (ap (λ m. ring_stop m 3) (sym is))))))
 
   way_used : (port : ℕ) → 2 ≤ port → port ≤ 3 → is_used (ring_network n) (ring_stop i port) ≡ true

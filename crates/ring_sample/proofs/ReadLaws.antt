@@ -4,7 +4,7 @@ use Rattle.topology.specs.Networks.{Network, IsNetwork}
 use Rattle.flow_rules.specs.declared.rules.Rule.{Rule}
 use Rattle.dest_classes.specs.Classes.{class_count}
 use Rattle.demands.specs.Duties.{DemandView}
-use Rattle.update_model.specs.Remaining.{remaining}
+use Rattle.update_model.specs.Remaining.{remaining_changes}
 use Rattle.certificates.specs.Trees.{IsTreeUpdate}
 use Rattle.table_difference.specs.SameClasses.{classes_before}
 use Rattle.ring_sample.specs.Ring.{ring_network, ring_tables, ring_demands}
@@ -28,5 +28,5 @@ module _ (n : ℕ) (some : 4 ≤ n) (net : Network) (old new : List (List Rule))
   pub read_classes : class_count (classes_before net old new demands) ≡ 6 * n
   read_classes = moved (λ (x : Network) (o w : List (List Rule)) (d : List DemandView). class_count (classes_before x o w d) ≡ 6 * n) (class_count_is n some)
 
-  pub read_changes : length (remaining old new) ≡ 4 * (n - 1)
-  read_changes = moved (λ (x : Network) (o w : List (List Rule)) (d : List DemandView). length (remaining o w) ≡ 4 * (n - 1)) (changes_are n some)
+  pub read_changes : length (remaining_changes old new) ≡ 4 * (n - 1)
+  read_changes = moved (λ (x : Network) (o w : List (List Rule)) (d : List DemandView). length (remaining_changes o w) ≡ 4 * (n - 1)) (changes_are n some)

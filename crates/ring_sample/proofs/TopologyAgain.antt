@@ -19,7 +19,7 @@ use Rattle.topology.specs.Networks.{Network, used_ports, stop_eq, is_on}
 use Rattle.topology.specs.Growth.{no_network}
 use Rattle.topology_files.specs.Topology.{switch_at, named_at, name_at, switches_in, reference, free_port, link_at, linked_at, links_in, host_at, host_port_at, hosts_in, vlan_at, new_vlan_at, vlans_in, tags_in, range_in, ports_in, members_in, network_in}
 use Rattle.topology.proofs.PortLaws.{count_append}
-use Rattle.ring_sample.specs.Ring.{below, ring_name, ring_stop, ring_link, ring_network}
+use Rattle.ring_sample.specs.Ring.{numbers_below, ring_name, ring_stop, ring_link, ring_network}
 use Rattle.ring_sample.specs.RingTrees.{switch_tree, link_tree, host_tree, topology_tree, port_text}
 use Rattle.ring_sample.proofs.Ranges.{numbered_turns, none_mapped, one_counted, count_mapped}
 use Rattle.ring_sample.proofs.Names.{next_cases, next_apart, new_name, name_form, reference_again}
@@ -28,7 +28,7 @@ use Rattle.ring_sample.proofs.Names.{next_cases, next_apart, new_name, name_form
 
 -- with the first k switches
 abbrev switches_of : ℕ → Network
-switches_of k = record { names = map ring_name (below k); capacities = map (λ i. 64) (below k); links = []; hosts = []; vlans = []; tags = None }
+switches_of k = record { names = map ring_name (numbers_below k); capacities = map (λ i. 64) (numbers_below k); links = []; hosts = []; vlans = []; tags = None }
 
 name_again : (place k : ℕ) → k < 128 → name_at place (switches_of k) (switch_tree k) ≡ Ok (ring_name k)
 unfolding name_at
@@ -47,7 +47,7 @@ switch_again place k lt =
 
 switches_again : (n : ℕ) → n ≤ 128 → switches_in no_network (topology_tree n) ≡ Ok (switches_of n)
 unfolding switches_in topology_tree
-switches_again n few = rw (list_of-items_of (map switch_tree (below n))) (subst (λ (j : ℕ). in_turn switch_at 0 (switches_of 0) (map switch_tree (below n)) ≡ Ok (switches_of j)) (omega arith) (numbered_turns switch_at switch_tree switches_of 128 switch_again n 0 0 (omega arith)))
+switches_again n few = rw (list_of-items_of (map switch_tree (numbers_below n))) (subst (λ (j : ℕ). in_turn switch_at 0 (switches_of 0) (map switch_tree (numbers_below n)) ≡ Ok (switches_of j)) (omega arith) (numbered_turns switch_at switch_tree switches_of 128 switch_again n 0 0 (omega arith)))
 
 -- ---- ports that aren't used
 
@@ -99,7 +99,7 @@ few_linked n s k within =
 few_hosted : (s k : ℕ) → count_by (is_on (record { 0 = s })) (hosted 0 k) ≤ 1
 few_hosted s k =
     let first = one_counted (λ i. i) s 0 k (λ i j low less high same. omega arith) in
-    omega (arith, count_mapped (is_on (record { 0 = s })) (λ i. ring_stop i 1) (below k), first)
+    omega (arith, count_mapped (is_on (record { 0 = s })) (λ i. ring_stop i 1) (numbers_below k), first)
 
 free_again : (net : Network) (field : Field) (place : ℕ) (used : List Stop) (text : List ℕ) (stop : Stop) → reference net field place text ≡ Ok stop → list_any (stop_eq stop) used ≡ false
     → count_by (is_on stop.switch) used < 64 → free_port net field place used text ≡ Ok stop
@@ -110,7 +110,7 @@ free_again net field place used text stop reads none few = rw (reads, none, lt-l
 
 -- with all switches, and the first k links
 abbrev links_of : ℕ → ℕ → Network
-links_of n k = record { names = map ring_name (below n); capacities = map (λ i. 64) (below n); links = map (ring_link n) (below k); hosts = []; vlans = []; tags = None }
+links_of n k = record { names = map ring_name (numbers_below n); capacities = map (λ i. 64) (numbers_below n); links = map (ring_link n) (numbers_below k); hosts = []; vlans = []; tags = None }
 
 module _ (n place k : ℕ) (some : 4 ≤ n) (few : n ≤ 128) (lt : k < n) where
   next_below : (k + 1) % n < n
@@ -139,15 +139,15 @@ module _ (n place k : ℕ) (some : 4 ≤ n) (few : n ≤ 128) (lt : k < n) where
 links_again : (n : ℕ) → 4 ≤ n → n ≤ 128 → links_in (switches_of n) (topology_tree n) ≡ Ok (links_of n n)
 unfolding links_in topology_tree
 links_again n some few =
-    rw (list_of-items_of (map (link_tree n) (below n)))
-    (subst (λ (j : ℕ). in_turn link_at 0 (links_of n 0) (map (link_tree n) (below n)) ≡ Ok (links_of n j)) (omega arith)
+    rw (list_of-items_of (map (link_tree n) (numbers_below n)))
+    (subst (λ (j : ℕ). in_turn link_at 0 (links_of n 0) (map (link_tree n) (numbers_below n)) ≡ Ok (links_of n j)) (omega arith)
     (numbered_turns link_at (link_tree n) (links_of n) n (λ place k lt. link_again n place k some few lt) n 0 0 (omega arith)))
 
 -- ---- host ports
 
 -- with all links, and the first k host ports
 abbrev hosts_of : ℕ → ℕ → Network
-hosts_of n k = record { names = map ring_name (below n); capacities = map (λ i. 64) (below n); links = map (ring_link n) (below n); hosts = map (λ i. ring_stop i 1) (below k); vlans = []; tags = None }
+hosts_of n k = record { names = map ring_name (numbers_below n); capacities = map (λ i. 64) (numbers_below n); links = map (ring_link n) (numbers_below n); hosts = map (λ i. ring_stop i 1) (numbers_below k); vlans = []; tags = None }
 
 module _ (n place k : ℕ) (few : n ≤ 128) (lt : k < n) where
   host_free : free_port (hosts_of n k) Hosts place (used_ports (hosts_of n k)) (port_text k 1) ≡ Ok (ring_stop k 1)
@@ -166,8 +166,8 @@ module _ (n place k : ℕ) (few : n ≤ 128) (lt : k < n) where
 hosts_again : (n : ℕ) → n ≤ 128 → hosts_in (links_of n n) (topology_tree n) ≡ Ok (hosts_of n n)
 unfolding hosts_in topology_tree
 hosts_again n few =
-    rw (list_of-items_of (map host_tree (below n)))
-    (subst (λ (j : ℕ). in_turn host_at 0 (hosts_of n 0) (map host_tree (below n)) ≡ Ok (hosts_of n j)) (omega arith)
+    rw (list_of-items_of (map host_tree (numbers_below n)))
+    (subst (λ (j : ℕ). in_turn host_at 0 (hosts_of n 0) (map host_tree (numbers_below n)) ≡ Ok (hosts_of n j)) (omega arith)
     (numbered_turns host_at host_tree (hosts_of n) n (λ place k lt. host_again n place k few lt) n 0 0 (omega arith)))
 
 -- ---- the file

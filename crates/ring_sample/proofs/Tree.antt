@@ -27,7 +27,7 @@ use Rattle.certificates.specs.Certified.{classes_for, blocks_of}
 use Rattle.certificates.specs.Trees.{IsTreeUpdate, MatchesPrefixAlone, AreApart, LeavesOrStays}
 use Rattle.table_difference.specs.SameClasses.{every_address}
 use Rattle.table_difference.proofs.BoundaryLaws.{same_boundaries}
-use Rattle.ring_sample.specs.Ring.{below, destinations, others, ring_stop, ring_network, ring_prefix, ring_rule, ring_table, ring_tables, ring_demand, ring_demands}
+use Rattle.ring_sample.specs.Ring.{numbers_below, destinations, others, ring_stop, ring_network, ring_prefix, ring_rule, ring_table, ring_tables, ring_demand, ring_demands}
 use Rattle.ring_sample.proofs.Ranges.{in_range, from_range}
 use Rattle.ring_sample.proofs.Ways.{IsWay, IsFar, next_way, back_way, ahead, next_ahead, back, behind, back_behind}
 use Rattle.ring_sample.proofs.Walks.{place_at}
@@ -46,7 +46,7 @@ alone n port = alone_from port 0 n
 
 past_all : (n port i : ℕ) → n ≤ i → rules_at (ring_tables n port) (record { 0 = i }) ≡ []
 unfolding ring_tables
-past_all n port i past = get_or_past (map (ring_table port) (below n)) i [] (let many = length-map-range_with_len (ring_table port) 0 n in omega (arith, many))
+past_all n port i past = get_or_past (map (ring_table port) (numbers_below n)) i [] (let many = length-map-range_with_len (ring_table port) 0 n in omega (arith, many))
 
 keys_same : (n i : ℕ) → keys_of (rules_at (ring_tables n 2) (record { 0 = i })) ≡ keys_of (rules_at (ring_tables n 3) (record { 0 = i }))
 keys_same n i =
@@ -63,8 +63,8 @@ four = map ring_prefix destinations
 in_tables : (n port : ℕ) (b : Block) → IsIn b (table_blocks (ring_tables n port)) → IsIn b four
 unfolding ring_tables
 in_tables n port b there =
-    let (rules, among, inside) = in_from_flat_map (λ (rs : List Rule). map (λ (r : Rule). r.key.pattern.dst) rs) b (map (ring_table port) (below n)) there in
-    let (i, _, is) = in_from_map (ring_table port) rules (below n) among in
+    let (rules, among, inside) = in_from_flat_map (λ (rs : List Rule). map (λ (r : Rule). r.key.pattern.dst) rs) b (map (ring_table port) (numbers_below n)) there in
+    let (i, _, is) = in_from_map (ring_table port) rules (numbers_below n) among in
     subst (λ (rs : List Rule). IsIn b (map (λ (r : Rule). r.key.pattern.dst) rs)) is inside
 
 in_demands : (n : ℕ) (b : Block) → IsIn b (map (λ (d : DemandView). d.dst) (ring_demands n)) → IsIn b four
@@ -78,8 +78,8 @@ in_demands n b there =
 first_has_all : (n : ℕ) → 1 ≤ n → (b : Block) → IsIn b four → IsIn b (table_blocks (ring_tables n 2))
 unfolding ring_tables
 first_has_all n some b i =
-    in_flat_map (λ (rs : List Rule). map (λ (r : Rule). r.key.pattern.dst) rs) (ring_table 2 0) b (map (ring_table 2) (below n))
-    (in_map (ring_table 2) 0 (below n) (in_range 0 n 0 (omega arith) (omega arith))) i
+    in_flat_map (λ (rs : List Rule). map (λ (r : Rule). r.key.pattern.dst) rs) (ring_table 2 0) b (map (ring_table 2) (numbers_below n))
+    (in_map (ring_table 2) 0 (numbers_below n) (in_range 0 n 0 (omega arith) (omega arith))) i
 
 -- each is one of the destinations'
 prefix_of : (b : Block) → IsIn b four → (j : ℕ) × (b ≡ ring_prefix j)
@@ -139,7 +139,7 @@ module _ (n : ℕ) where
     ring_class : (number : ℕ) (class : Class) → IsClass (classes_for ring_task) number class → IsRingClass class
     unfolding ring_network
     ring_class number class is =
-        let (i, among, same) = in_from_map (λ k. ring_stop k 1) (stop_of class.entry) (below n) (in_from_get (map (λ k. ring_stop k 1) (below n)) is.host (stop_of class.entry) is.host_is) in
+        let (i, among, same) = in_from_map (λ k. ring_stop k 1) (stop_of class.entry) (numbers_below n) (in_from_get (map (λ k. ring_stop k 1) (numbers_below n)) is.host (stop_of class.entry) is.host_is) in
         let (_, within) = from_range 0 n i among in
         record {
           i = i;

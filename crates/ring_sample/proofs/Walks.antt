@@ -16,7 +16,7 @@ use Rattle.flow_rules.specs.declared.rules.Rewrite.TheVariants.{Keep}
 use Rattle.flow_rules.specs.declared.rules.Action.{Action}
 use Rattle.flow_rules.specs.declared.rules.Action.TheVariants as action
 use Rattle.flow_rules.specs.declared.rules.Rule.{Rule}
-use Rattle.path_walk.specs.Outcomes.{acted, sent, header_at}
+use Rattle.path_walk.specs.Outcomes.{action_outcome, sent_outcome, header_at}
 use Rattle.path_walk.specs.Paths.{Forwards, outcome_in}
 use Rattle.path_walk.specs.declared.Outcome.{Outcome}
 use Rattle.path_walk.specs.declared.Outcome.TheVariants.{Discard, Leave, Go}
@@ -38,25 +38,25 @@ module _ (n out into : ℕ) (move : ℕ → ℕ) (way : IsWay n out into move) (
   outs p = outcome_in (ring_network n) tables p dst
 
   module _ (i port : ℕ) (vlan : Vlan) (lt : i < n) where
-    acts : (to : ℕ) → cond (i == j) 1 out ≡ to → outs (place_at i port vlan) ≡ acted (ring_network n) (place_at i port vlan) (out_of to)
-    acts to is = ap (acted (ring_network n) (place_at i port vlan)) (sends i port vlan lt ∙ ap out_of is)
+    acts : (to : ℕ) → cond (i == j) 1 out ≡ to → outs (place_at i port vlan) ≡ action_outcome (ring_network n) (place_at i port vlan) (out_of to)
+    acts to is = ap (action_outcome (ring_network n) (place_at i port vlan)) (sends i port vlan lt ∙ ap out_of is)
 
     pub goes_on : ¬ (i ≡ j) → ¬ (out ≡ port) → outs (place_at i port vlan) ≡ Go (place_at (move i) into vlan)
     goes_on apart other =
         acts out (cond-false (i == j) 1 out (ne_eqb i j apart))
-        ∙ cond-false (out == port) Discard (sent (end_at (ring_network n) (ring_stop i out)) (record { 0 = out }) vlan) (ne_eqb out port other)
-        ∙ ap (λ e. sent e (record { 0 = out }) vlan) (way.leads i lt)
+        ∙ cond-false (out == port) Discard (sent_outcome (end_at (ring_network n) (ring_stop i out)) (record { 0 = out }) vlan) (ne_eqb out port other)
+        ∙ ap (λ e. sent_outcome e (record { 0 = out }) vlan) (way.leads i lt)
 
     pub leaves_at : i ≡ j → ¬ (1 ≡ port) → outs (place_at i port vlan) ≡ Leave (record { 0 = 1 }) vlan
     leaves_at here other =
         acts 1 (cond-true (i == j) 1 out (eq-eqb i j here))
-        ∙ cond-false (1 == port) Discard (sent (end_at (ring_network n) (ring_stop i 1)) (record { 0 = 1 }) vlan) (ne_eqb 1 port other)
-        ∙ ap (λ e. sent e (record { 0 = 1 }) vlan) (host_end n i lt)
+        ∙ cond-false (1 == port) Discard (sent_outcome (end_at (ring_network n) (ring_stop i 1)) (record { 0 = 1 }) vlan) (ne_eqb 1 port other)
+        ∙ ap (λ e. sent_outcome e (record { 0 = 1 }) vlan) (host_end n i lt)
 
     pub drops_at : i ≡ j → 1 ≡ port → outs (place_at i port vlan) ≡ Discard
     drops_at here same =
         acts 1 (cond-true (i == j) 1 out (eq-eqb i j here))
-        ∙ cond-true (1 == port) Discard (sent (end_at (ring_network n) (ring_stop i 1)) (record { 0 = 1 }) vlan) (eq-eqb 1 port same)
+        ∙ cond-true (1 == port) Discard (sent_outcome (end_at (ring_network n) (ring_stop i 1)) (record { 0 = 1 }) vlan) (eq-eqb 1 port same)
 
   module _ (far : ℕ → ℕ) (is_far : IsFar n j move far) where
     -- nearer than a switch

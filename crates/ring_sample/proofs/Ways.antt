@@ -11,7 +11,7 @@ use Rattle.topology.specs.Networks.{Network, IsNetwork, stop_eq, far_end, end_at
 use Rattle.topology.specs.declared.net.End.{End}
 use Rattle.topology.specs.declared.net.End.TheVariants as at
 use Rattle.topology.proofs.LinkLaws.{stop_eq-refl, link_back, host_at}
-use Rattle.ring_sample.specs.Ring.{below, ring_stop, ring_link, ring_network}
+use Rattle.ring_sample.specs.Ring.{numbers_below, ring_stop, ring_link, ring_network}
 use Rattle.ring_sample.proofs.Ranges.{none_mapped}
 use Rattle.ring_sample.proofs.Names.{next_cases}
 use Rattle.ring_sample.proofs.Ports.{previous, host_in}
@@ -38,7 +38,7 @@ module _ (n : ℕ) (i : ℕ) (lt : i < n) where
   pub next_end : end_at (ring_network n) (ring_stop i 2) ≡ link_to ((i + 1) % n) 3
   unfolding ring_network
   next_end =
-      cond-false (list_any (stop_eq (ring_stop i 2)) (map (λ k. ring_stop k 1) (below n))) at.Host (far_end (ring_stop i 2) (map (ring_link n) (below n)))
+      cond-false (list_any (stop_eq (ring_stop i 2)) (map (λ k. ring_stop k 1) (numbers_below n))) at.Host (far_end (ring_stop i 2) (map (ring_link n) (numbers_below n)))
       (none_mapped (stop_eq (ring_stop i 2)) (λ k. ring_stop k 1) 0 n (λ k low high. other_port i k 2 1 (λ e. omega arith)))
       ∙ next_far n i 0 n (omega arith) (omega arith)
 

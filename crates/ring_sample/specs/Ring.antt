@@ -15,8 +15,8 @@ use Rattle.demands.specs.Duties.{DemandView}
 use Rattle.certificates.specs.Updates.{Update}
 
 -- the numbers below n, ascending
-abbrev pub below : ℕ → List ℕ
-below n = range_with_len 0 n
+abbrev pub numbers_below : ℕ → List ℕ
+numbers_below n = range_with_len 0 n
 
 -- ---- the network
 
@@ -35,10 +35,10 @@ ring_link n i = record { one = ring_stop i 2; other = ring_stop ((i + 1) % n) 3 
 -- n switches, each with room for 64 entries and a host at port 1; packets come without a tag, and the one tag is 3000
 unfoldable pub ring_network : ℕ → Network
 ring_network n = record {
-  names = map ring_name (below n);
-  capacities = map (λ i. 64) (below n);
-  links = map (ring_link n) (below n);
-  hosts = map (λ i. ring_stop i 1) (below n);
+  names = map ring_name (numbers_below n);
+  capacities = map (λ i. 64) (numbers_below n);
+  links = map (ring_link n) (numbers_below n);
+  hosts = map (λ i. ring_stop i 1) (numbers_below n);
   vlans = Untagged ∷ [];
   tags = Some (record { first = 3000; last = 3000 });
 }
@@ -66,7 +66,7 @@ ring_table port i = map (ring_rule port i) destinations
 
 -- the tables of n switches
 unfoldable pub ring_tables : ℕ → ℕ → List (List Rule)
-ring_tables n port = map (ring_table port) (below n)
+ring_tables n port = map (ring_table port) (numbers_below n)
 
 -- ---- the demands
 
@@ -80,7 +80,7 @@ others i = filter (λ j. not (j == i)) destinations
 
 -- by switch, and then by destination
 unfoldable pub ring_demands : ℕ → List DemandView
-ring_demands n = flat_map (λ i. map (ring_demand i) (others i)) (below n)
+ring_demands n = flat_map (λ i. map (ring_demand i) (others i)) (numbers_below n)
 
 -- ---- the update
 

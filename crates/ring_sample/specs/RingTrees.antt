@@ -3,7 +3,7 @@ use Rattle.std.specs.Prelude.{ℕ, ◌+◌, ◌%◌, ◌==◌, List, [], ◌∷�
 use Rattle.serde_json.specs.Data.{Data, number, unsigned, boolean, string, array, object, no_members, put}
 use Rattle.serde_json.specs.View.{items_of}
 use Rattle.net_base.specs.Text.{prefix_text}
-use Rattle.ring_sample.specs.Ring.{below, ring_name, destinations, others, ring_prefix}
+use Rattle.ring_sample.specs.Ring.{numbers_below, ring_name, destinations, others, ring_prefix}
 
 -- a whole number
 abbrev pub whole_tree : ℕ → Data
@@ -31,8 +31,8 @@ host_tree i = string (port_text i 1)
 unfoldable pub topology_tree : ℕ → Data
 topology_tree n =
     object (put (codes "tags") (list_tree (whole_tree 3000 ∷ whole_tree 3000 ∷ [])) (put (codes "vlans") (list_tree (string (codes "untagged") ∷ []))
-    (put (codes "hosts") (list_tree (map host_tree (below n))) (put (codes "links") (list_tree (map (link_tree n) (below n)))
-    (put (codes "switches") (list_tree (map switch_tree (below n))) no_members)))))
+    (put (codes "hosts") (list_tree (map host_tree (numbers_below n))) (put (codes "links") (list_tree (map (link_tree n) (numbers_below n)))
+    (put (codes "switches") (list_tree (map switch_tree (numbers_below n))) no_members)))))
 
 -- ---- a configuration
 
@@ -42,7 +42,7 @@ rule_tree port i j =
     (put (codes "priority") (whole_tree 100) (put (codes "switch") (string (ring_name i)) no_members))))
 
 unfoldable pub configuration_tree : ℕ → ℕ → Data
-configuration_tree n port = object (put (codes "rules") (list_tree (flat_map (λ i. map (rule_tree port i) destinations) (below n))) no_members)
+configuration_tree n port = object (put (codes "rules") (list_tree (flat_map (λ i. map (rule_tree port i) destinations) (numbers_below n))) no_members)
 
 -- ---- the policy
 
@@ -51,4 +51,4 @@ demand_tree i j =
     object (put (codes "deliver") (boolean true) (put (codes "dst") (string (prefix_text (ring_prefix j))) (put (codes "from") (string (port_text i 1)) no_members)))
 
 unfoldable pub policy_tree : ℕ → Data
-policy_tree n = object (put (codes "demands") (list_tree (flat_map (λ i. map (demand_tree i) (others i)) (below n))) no_members)
+policy_tree n = object (put (codes "demands") (list_tree (flat_map (λ i. map (demand_tree i) (others i)) (numbers_below n))) no_members)

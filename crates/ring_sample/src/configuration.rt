@@ -3,7 +3,7 @@ ghost use Rattle.std.specs.Prelude.{◌≡◌, ◌<◌, ◌≤◌, ◌++◌, ◌
 ghost use Rattle.serde_json.specs.Data.{object, no_members};
 ghost use Rattle.serde_json.specs.View.{view, members_view};
 ghost use Rattle.config_files.specs.Configuration.{configuration_in};
-ghost use Rattle.ring_sample.specs.Ring.{below, destinations, ring_network, ring_tables};
+ghost use Rattle.ring_sample.specs.Ring.{numbers_below, destinations, ring_network, ring_tables};
 ghost use Rattle.ring_sample.specs.RingTrees.{list_tree, rule_tree, configuration_tree};
 
 use crate::size::RingSize;
@@ -77,7 +77,8 @@ fn add_rules(alloc: Global, values: &mut Vec<Value>, port: u16, switch: u32) -> 
 fn rules_value(alloc: Global, switches: u32, port: u16) -> Result<Value, Memory>
     ensures { IfOk result
         (λ v. view v
-        ≡ list_tree (flat_map (λ i. map (rule_tree port i) destinations) (below switches))) }
+        ≡ list_tree (flat_map (λ i. map (rule_tree port i) destinations)
+        (numbers_below switches))) }
 {
     let mut values = Vec::new(alloc);
     for i in 0..switches {

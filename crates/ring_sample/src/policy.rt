@@ -3,7 +3,7 @@ ghost use Rattle.std.specs.Prelude.{◌≡◌, ◌<◌, ◌++◌, Ok, IfOk, OnOk
 ghost use Rattle.serde_json.specs.Data.{object, no_members};
 ghost use Rattle.serde_json.specs.View.{view, members_view};
 ghost use Rattle.demands.specs.Policy.{demands_in};
-ghost use Rattle.ring_sample.specs.Ring.{below, others, ring_network, ring_demands};
+ghost use Rattle.ring_sample.specs.Ring.{numbers_below, others, ring_network, ring_demands};
 ghost use Rattle.ring_sample.specs.RingTrees.{list_tree, demand_tree, policy_tree};
 
 use crate::configuration::DESTINATIONS;
@@ -65,7 +65,7 @@ fn add_demands(alloc: Global, values: &mut Vec<Value>, switch: u32) -> Result<()
 fn demands_value(alloc: Global, switches: u32) -> Result<Value, Memory>
     ensures { IfOk result
         (λ v. view v
-        ≡ list_tree (flat_map (λ i. map (demand_tree i) (others i)) (below switches))) }
+        ≡ list_tree (flat_map (λ i. map (demand_tree i) (others i)) (numbers_below switches))) }
 {
     let mut values = Vec::new(alloc);
     for i in 0..switches {

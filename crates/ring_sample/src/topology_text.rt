@@ -3,7 +3,7 @@ ghost use Rattle.std.specs.Prelude.{◌≡◌, ◌<◌, [], ◌∷◌, Ok, IfOk,
 ghost use Rattle.serde_json.specs.Data.{string, object, no_members};
 ghost use Rattle.serde_json.specs.View.{view, members_view};
 ghost use Rattle.topology_files.specs.Topology.{network_in};
-ghost use Rattle.ring_sample.specs.Ring.{below, ring_network};
+ghost use Rattle.ring_sample.specs.Ring.{numbers_below, ring_network};
 ghost use Rattle.ring_sample.specs.RingTrees.{whole_tree, list_tree, switch_tree, link_tree, host_tree, topology_tree};
 
 use crate::size::RingSize;
@@ -47,7 +47,7 @@ fn switch_value(alloc: Global, switch: u32) -> Result<Value, Memory>
 }
 
 fn switches_value(alloc: Global, switches: u32) -> Result<Value, Memory>
-    ensures { IfOk result (λ v. view v ≡ list_tree (map switch_tree (below switches))) }
+    ensures { IfOk result (λ v. view v ≡ list_tree (map switch_tree (numbers_below switches))) }
 {
     let mut values = Vec::new(alloc);
     for i in 0..switches {
@@ -78,7 +78,8 @@ fn link_value(alloc: Global, switches: u32, switch: u32) -> Result<Value, Memory
 }
 
 fn links_value(alloc: Global, switches: u32) -> Result<Value, Memory>
-    ensures { IfOk result (λ v. view v ≡ list_tree (map (link_tree switches) (below switches))) }
+    ensures { IfOk result
+        (λ v. view v ≡ list_tree (map (link_tree switches) (numbers_below switches))) }
 {
     let mut values = Vec::new(alloc);
     for i in 0..switches {
@@ -88,7 +89,7 @@ fn links_value(alloc: Global, switches: u32) -> Result<Value, Memory>
 }
 
 fn hosts_value(alloc: Global, switches: u32) -> Result<Value, Memory>
-    ensures { IfOk result (λ v. view v ≡ list_tree (map host_tree (below switches))) }
+    ensures { IfOk result (λ v. view v ≡ list_tree (map host_tree (numbers_below switches))) }
 {
     let mut values = Vec::new(alloc);
     for i in 0..switches {

@@ -4,7 +4,7 @@ ghost use Rattle.flow_rules.specs.Tables.{rules_of_all};
 ghost use Rattle.path_walk.specs.UserConfigs.{IsUserConfig};
 ghost use Rattle.command_base.specs.Updates.{meaning_of};
 ghost use Rattle.dest_classes.specs.Classes.{class_count};
-ghost use Rattle.update_model.specs.Remaining.{remaining};
+ghost use Rattle.update_model.specs.Remaining.{remaining_changes};
 ghost use Rattle.certificates.specs.Trees.{IsTreeUpdate};
 ghost use Rattle.table_difference.specs.SameClasses.{classes_before};
 ghost use Rattle.ring_sample.specs.Ring.{ring_network, ring_tables, ring_demands, ring_update as the_ring};
@@ -70,7 +70,7 @@ pub fn ring_update(alloc: Global, size: RingSize) -> Result<UpdateFiles, Memory>
         (λ u. class_count (classes_before u.net (rules_of_all u.old) (rules_of_all u.new) u.demands)
         ≡ 6 * size.switches) }
     ensures differ { IfOk result
-        (λ u. length (remaining (rules_of_all u.old) (rules_of_all u.new))
+        (λ u. length (remaining_changes (rules_of_all u.old) (rules_of_all u.new))
         ≡ 4 * (size.switches - 1)) }
     ensures old_user { IfOk result (λ u. IsUserConfig u.net (rules_of_all u.old)) }
     ensures new_user { IfOk result (λ u. IsUserConfig u.net (rules_of_all u.new)) }

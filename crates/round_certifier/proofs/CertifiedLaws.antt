@@ -34,8 +34,8 @@ use Rattle.plan_checker.proofs.Stages.{all_passed}
 use Rattle.table_difference.specs.Targets.{Target}
 use Rattle.round_judge.specs.Goals.{HasAtoms}
 use Rattle.round_judge.specs.Evidence.{HasEvidenceTo, IsSearchEvidence}
-use Rattle.round_judge.specs.Judged.{IsReady, IsNextRound, AreFirstJudged, AreSafeBelow, AreWithPicks}
-use Rattle.round_judge.specs.declared.judging.Verdict.{Verdict}
+use Rattle.round_judge.specs.Judged.{IsReadyToJudge, IsNextRound, AreFirstJudged, AreSafeBelow, AreWithPicks}
+use Rattle.round_judge.specs.declared.judging.RoundVerdict.{RoundVerdict}
 use Rattle.round_judge.specs.Visits.{marks_at, HoldTables, HoldAfter}
 use Rattle.round_judge.specs.declared.judging.Found.{Found}
 use Rattle.round_judge.proofs.VisitLaws.{all_come}
@@ -101,8 +101,8 @@ module _ (c : CaseView) (ordered : is_two_phase c.evidence ≡ false) (k : ℕ) 
 
   -- what is known so far is enough to judge its classes
   pub ready_for : IsUserConfig c.task.update.net c.task.update.old → (mixes : List MixedState) → AreLoaded (rollout c.task) k mixes → (store : StoreState) (came : List ℕ) (looked : List Bool)
-      → IsCertifiedTo c k store came looked → (to : Target) → to ≡ target_for c.task → IsReady to mixes store
-  ready_for user mixes loaded store came looked so_far to is = subst (λ (a : Target). IsReady a mixes store) (sym is) (record {
+      → IsCertifiedTo c k store came looked → (to : Target) → to ≡ target_for c.task → IsReadyToJudge to mixes store
+  ready_for user mixes loaded store came looked so_far to is = subst (λ (a : Target). IsReadyToJudge a mixes store) (sym is) (record {
     round = (rollout c.task, k, round_of user mixes loaded);
     numberings = so_far.evidence.numberings;
     classes = so_far.classes;
@@ -110,7 +110,7 @@ module _ (c : CaseView) (ordered : is_two_phase c.evidence ≡ false) (k : ℕ) 
 
   -- what is found for them
   pub judged_here : IsUserConfig c.task.update.net c.task.update.old → k < length c.task.rounds → (mixes : List MixedState) → AreLoaded (rollout c.task) k mixes
-      → (store : StoreState) (came : List ℕ) (looked : List Bool) → IsCertifiedTo c k store came looked → (to : Target) → to ≡ target_for c.task → (v : Verdict) (new : List ℕ)
+      → (store : StoreState) (came : List ℕ) (looked : List Bool) → IsCertifiedTo c k store came looked → (to : Target) → to ≡ target_for c.task → (v : RoundVerdict) (new : List ℕ)
       → ((u : Rollout) (j : ℕ) → IsRoundOf to.net mixes u j → IsNextRound to u store.evidence j (round_after k c.task.rounds) → HoldTables to (tables_before u j) came
       → AreFirstJudged to u store.evidence j v × HoldAfter to u j v new)
       → AreFirstJudged (target_for c.task) (rollout c.task) store.evidence k v × HoldAfter (target_for c.task) (rollout c.task) k v new

@@ -7,7 +7,7 @@ ghost use Rattle.certificates.specs.declared.Evidence.TheVariants.{Ordered};
 ghost use Rattle.certificates.specs.declared.OrderedEvidence.{OrderedEvidence as EvidenceOf};
 ghost use Rattle.plan_checker.specs.Checking.{EndsAreGood, EndsAtNew};
 ghost use Rattle.plan_checker.specs.Fits.{Fits};
-ghost use Rattle.round_tables.specs.PreparedTables.{HasRoom, StandsBefore};
+ghost use Rattle.round_tables.specs.PreparedTables.{HasTableRoom, StandsBefore};
 ghost use Rattle.round_judge.specs.Evidence.{IsSearchEvidence};
 ghost use Rattle.round_certifier.specs.Refusals.{IsFirstRefusal, OfRefusal};
 ghost use Rattle.round_certifier.specs.Standing.{IsCertifiedTo, target_for};
@@ -20,7 +20,7 @@ use class_watch::all_classes;
 use net_base::Memory;
 use plan_checker::tables::{apply_round, load_round, start, wrong_end};
 use plan_checker::{CheckRoom, end_reason};
-use round_judge::{Goal, Verdict, put_picks};
+use round_judge::{Goal, RoundVerdict, put_picks};
 use round_tables::PreparedTables;
 use std::alloc::Global;
 
@@ -37,7 +37,7 @@ fn certify_round(
     requires ordered { is_two_phase case.now.evidence ≡ false }
     requires goal { goal.now ≡ target_for case.now.task }
     requires ends { EndsAreGood case.now.task }
-    requires room { HasRoom (rollout case.now.task) tables.old }
+    requires room { HasTableRoom (rollout case.now.task) tables.old }
     requires tables { StandsBefore (rollout case.now.task) k tables.old }
     requires so_far { IsCertifiedTo case.now k so_far.old.store so_far.old.watch.came.items
         so_far.old.looked }
@@ -47,7 +47,7 @@ fn certify_round(
     ensures tables { IfOk result (λ refusal. IfNone refusal
         (StandsBefore (rollout case.now.task) (suc k) tables.new)) }
     ensures some { IfOk result (λ refusal. IfSome refusal (IsFirstRefusal case.now)) }
-    ensures room { HasRoom (rollout case.now.task) tables.new }
+    ensures room { HasTableRoom (rollout case.now.task) tables.new }
 {
     case.keeps_rules();
     if let Some(reason) = load_round(case, k, tables) {
@@ -55,11 +55,11 @@ fn certify_round(
     }
     let round = k as u32 + 1;
     match so_far.judge(alloc, case, goal, k, tables.mixes())? {
-        Verdict::Unsafe(failing) => Ok(Some(Refusal::NoEvidence {
+        RoundVerdict::Unsafe(failing) => Ok(Some(Refusal::NoEvidence {
             round,
             class: failing.number,
         })),
-        Verdict::Safe(found) => {
+        RoundVerdict::Safe(found) => {
             put_picks(alloc, &mut so_far.store, round, found)?;
             apply_round(case, k, tables);
             Ok(None)
@@ -78,7 +78,7 @@ fn certify_all(
     requires ordered { is_two_phase case.now.evidence ≡ false }
     requires goal { goal.now ≡ target_for case.now.task }
     requires ends { EndsAreGood case.now.task }
-    requires room { HasRoom (rollout case.now.task) tables.old }
+    requires room { HasTableRoom (rollout case.now.task) tables.old }
     requires so_far { IsCertifiedTo case.now 0 so_far.old.store so_far.old.watch.came.items
         so_far.old.looked }
     ensures none { IfOk result (λ refusal. IfNone refusal
@@ -86,7 +86,7 @@ fn certify_all(
         so_far.new.watch.came.items so_far.new.looked)) }
     ensures end { IfOk result (λ refusal. IfNone refusal (EndsAtNew case.now.task)) }
     ensures some { IfOk result (λ refusal. IfSome refusal (IsFirstRefusal case.now)) }
-    ensures room { HasRoom (rollout case.now.task) tables.new }
+    ensures room { HasTableRoom (rollout case.now.task) tables.new }
 {
     case.keeps_rules();
     start(case, tables);

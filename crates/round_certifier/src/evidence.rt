@@ -10,7 +10,7 @@ ghost use Rattle.check_reasons.specs.AtomMarks.{AreTouched};
 ghost use Rattle.net_base.specs.Switches.{has};
 ghost use Rattle.evidence_store.specs.Stored.{IsStored, no_evidence};
 ghost use Rattle.round_judge.specs.Goals.{HasAtoms};
-ghost use Rattle.round_judge.specs.Judged.{IsReady, IsNextRound, AreFirstJudged};
+ghost use Rattle.round_judge.specs.Judged.{IsReadyToJudge, IsNextRound, AreFirstJudged};
 ghost use Rattle.round_judge.specs.Visits.{marks_at, HoldTables, HoldAfter};
 
 use certificates::OrderedEvidence;
@@ -19,7 +19,7 @@ use class_watch::{ClassWatch, LookedAtoms};
 use dest_classes::ClassMap;
 use evidence_store::EvidenceStore;
 use net_base::Memory;
-use round_judge::{Goal, Tried, Verdict, judge_in_order, watch_rooms};
+use round_judge::{Goal, RoundVerdict, TriedRound, judge_in_order, watch_rooms};
 use round_mix::Mixed;
 use std::alloc::Global;
 
@@ -79,11 +79,11 @@ impl RoundEvidence {
         goal: &Goal,
         k: usize,
         mixes: &[Mixed],
-    ) -> Result<Verdict, Memory>
+    ) -> Result<RoundVerdict, Memory>
         requires classes { goal.now.classes ≡ classes_for case.now.task }
         requires round { k < length case.now.task.rounds }
         requires atoms { HasAtoms goal.now.classes self.old.looked }
-        requires ready { IsReady goal.now mixes.now self.old.store }
+        requires ready { IsReadyToJudge goal.now mixes.now self.old.store }
         requires came { length self.old.watch.came.items ≡ class_count goal.now.classes }
         ensures judged { IfOk result (λ verdict. (u : Rollout) (j : ℕ)
             → IsRoundOf goal.now.net mixes.now u j
@@ -96,7 +96,7 @@ impl RoundEvidence {
         ensures store { self.new.store ≡ self.old.store }
     {
         self.look(case, goal.classes, k);
-        let tried = Tried {
+        let tried = TriedRound {
             changes: case.plan.rounds.round(k),
             mixes,
             store: &self.store,

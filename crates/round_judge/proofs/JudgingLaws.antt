@@ -28,8 +28,8 @@ use Rattle.dest_classes.specs.Numbered.{IsNumbered}
 use Rattle.dest_classes.specs.declared.NumberedClass.{NumberedClass}
 use Rattle.config_check.proofs.JudgeLaws.{class_within}
 use Rattle.round_judge.specs.declared.judging.Found.{Found}
-use Rattle.round_judge.specs.declared.judging.Judged.{Judged}
-use Rattle.round_judge.specs.declared.judging.Judged.TheVariants.{Kept, New, Unsafe}
+use Rattle.round_judge.specs.declared.judging.ClassVerdict.{ClassVerdict}
+use Rattle.round_judge.specs.declared.judging.ClassVerdict.TheVariants.{Kept, New, Unsafe}
 use Rattle.table_difference.specs.Targets.{Target}
 use Rattle.round_judge.specs.Goals.{duties_in}
 use Rattle.round_judge.specs.declared.unsafe_class.UnsafeClass.{UnsafeClass}
@@ -39,7 +39,7 @@ use Rattle.round_judge.proofs.VisitLaws.{safe_still}
 use Rattle.round_judge.specs.Evidence.{IsCertifiedClass}
 use Rattle.round_judge.specs.Visits.{marks_at}
 use Rattle.round_judge.specs.Judged.{IsNextRound, IsJudged, IsJudgedIfMet, HasFound, HasNotFound, AreSafeBelow, CanBeSafeBelow, IsNewlySafe, IsUnsafe, HasUnsafe, IsNoted, verdict_of}
-use Rattle.round_judge.specs.declared.judging.Verdict.{Verdict}
+use Rattle.round_judge.specs.declared.judging.RoundVerdict.{RoundVerdict}
 
 -- ---- the pick in force
 
@@ -256,14 +256,14 @@ module _ (to : Target) (u : Rollout) (e : OrderedEvidence) (k : ℕ) where
   -- ---- what is noted of the class with a number
 
   -- what holds of all that is found holds with what is noted, where the class is safe
-  pub safe_noted : (m : ℕ) (found new : List Found) (judged : Judged) (failing : Option UnsafeClass) → IsNoted m judged found new failing → failing ≡ None → AreSafeBelow to u e k m found
+  pub safe_noted : (m : ℕ) (found new : List Found) (judged : ClassVerdict) (failing : Option UnsafeClass) → IsNoted m judged found new failing → failing ≡ None → AreSafeBelow to u e k m found
       → ((class : Class) → IsClass to.classes m class → IsJudged to u e k m class judged) → AreSafeBelow to u e k (m + 1) new
   safe_noted m found new Kept failing noted none h judged = subst (AreSafeBelow to u e k (m + 1)) (sym noted.0) (safe_kept m found h judged)
   safe_noted m found new (New evidence) failing noted none h judged =
       subst (AreSafeBelow to u e k (m + 1)) (sym noted.0) (safe_new m found (record { class = m; evidence = evidence }) refl h judged)
   safe_noted m found new (Unsafe f) failing noted none h judged = absurd (none_some f (sym none ∙ noted))
 
-  pub met_noted : (m : ℕ) → m < class_count to.classes → (found new : List Found) (judged : Judged) (failing : Option UnsafeClass) → IsNoted m judged found new failing → failing ≡ None
+  pub met_noted : (m : ℕ) → m < class_count to.classes → (found new : List Found) (judged : ClassVerdict) (failing : Option UnsafeClass) → IsNoted m judged found new failing → failing ≡ None
       → AreMetBelow m found → ((class : Class) → IsClass to.classes m class → IsJudgedIfMet to u e k m class judged) → AreMetBelow (m + 1) new
   met_noted m less found new Kept failing noted none h judged = subst (AreMetBelow (m + 1)) (sym noted.0) (met_kept m found h judged)
   met_noted m less found new (New evidence) failing noted none h judged =
@@ -271,7 +271,7 @@ module _ (to : Target) (u : Rollout) (e : OrderedEvidence) (k : ℕ) where
   met_noted m less found new (Unsafe f) failing noted none h judged = absurd (none_some f (sym none ∙ noted))
 
   -- the class that is noted as failing is not safe by any evidence
-  pub failed_noted : (m : ℕ) → m < class_count to.classes → (found new : List Found) (judged : Judged) (failing : Option UnsafeClass) (f : UnsafeClass) → IsNoted m judged found new failing
+  pub failed_noted : (m : ℕ) → m < class_count to.classes → (found new : List Found) (judged : ClassVerdict) (failing : Option UnsafeClass) (f : UnsafeClass) → IsNoted m judged found new failing
       → failing ≡ Some f → ((class : Class) → IsClass to.classes m class → IsJudgedIfMet to u e k m class judged) → HasUnsafe to u k f
   failed_noted m less found new Kept failing f noted some judged = absurd (none_some f (sym noted.1 ∙ some))
   failed_noted m less found new (New evidence) failing f noted some judged = absurd (none_some f (sym noted.1 ∙ some))
@@ -288,7 +288,7 @@ module _ (to : Target) (u : Rollout) (e : OrderedEvidence) (k : ℕ) where
       ]
 
   -- the class that is noted as failing has the number
-  pub failed_number : (m : ℕ) → m < class_count to.classes → (found new : List Found) (judged : Judged) (failing : Option UnsafeClass) (f : UnsafeClass) → IsNoted m judged found new failing
+  pub failed_number : (m : ℕ) → m < class_count to.classes → (found new : List Found) (judged : ClassVerdict) (failing : Option UnsafeClass) (f : UnsafeClass) → IsNoted m judged found new failing
       → failing ≡ Some f → ((class : Class) → IsClass to.classes m class → IsJudgedIfMet to u e k m class judged) → f.number ≡ m
   failed_number m less found new Kept failing f noted some judged = absurd (none_some f (sym noted.1 ∙ some))
   failed_number m less found new (New evidence) failing f noted some judged = absurd (none_some f (sym noted.1 ∙ some))
@@ -297,7 +297,7 @@ module _ (to : Target) (u : Rollout) (e : OrderedEvidence) (k : ℕ) where
       ap (λ (x : UnsafeClass). x.number) (sym (same_Some g f (sym noted ∙ some))) ∙ (judged class is).0
 
   -- so where those below it are safe, those below its own number are
-  pub failed_below : (m : ℕ) → m < class_count to.classes → (found new : List Found) (judged : Judged) (failing : Option UnsafeClass) (f : UnsafeClass) → IsNoted m judged found new failing
+  pub failed_below : (m : ℕ) → m < class_count to.classes → (found new : List Found) (judged : ClassVerdict) (failing : Option UnsafeClass) (f : UnsafeClass) → IsNoted m judged found new failing
       → failing ≡ Some f → ((class : Class) → IsClass to.classes m class → IsJudgedIfMet to u e k m class judged) → AreSafeBelow to u e k m found → CanBeSafeBelow to u k f.number
   failed_below m less found new judged failing f noted some all safe =
       subst (CanBeSafeBelow to u k) (sym (failed_number m less found new judged failing f noted some all)) (safe_below m found safe)
@@ -323,18 +323,18 @@ numbered_within net valid there here same hosts numbered is = class_within net v
 
 module _ (to : Target) (u : Rollout) (e : OrderedEvidence) (k : ℕ) where
   -- what is found for the class that was made for a number is found for each class with it
-  pub judged_there : (numbered : NumberedClass) (n : ℕ) (class : Class) → numbered.number ≡ n → numbered.class ≡ class → (judged : Judged) → IsJudged to u e k numbered.number numbered.class judged
+  pub judged_there : (numbered : NumberedClass) (n : ℕ) (class : Class) → numbered.number ≡ n → numbered.class ≡ class → (judged : ClassVerdict) → IsJudged to u e k numbered.number numbered.class judged
       → IsJudged to u e k n class judged
   judged_there numbered n class number same judged h =
       subst (λ (x : Class). IsJudged to u e k n x judged) same (subst (λ (i : ℕ). IsJudged to u e k i numbered.class judged) number h)
 
-  pub judged_met : (n : ℕ) (class : Class) (judged : Judged) → IsJudged to u e k n class judged → IsJudgedIfMet to u e k n class judged
+  pub judged_met : (n : ℕ) (class : Class) (judged : ClassVerdict) → IsJudged to u e k n class judged → IsJudgedIfMet to u e k n class judged
   judged_met n class Kept h = λ later. h
   judged_met n class (New evidence) h = h
   judged_met n class (Unsafe f) h = h
 
 -- what holds of the verdict by what is found holds of the one that is given
-pub verdict_there : {E : Type 0} (P : Verdict → Type 0) (found : Vec Found Global) (failing : Result (Option UnsafeClass) E) (result : Result Verdict E)
+pub verdict_there : {E : Type 0} (P : RoundVerdict → Type 0) (found : Vec Found Global) (failing : Result (Option UnsafeClass) E) (result : Result RoundVerdict E)
     → IfOk result (λ v. IsOkAnd failing (λ f. v ≡ verdict_of found f)) → IfOk failing (λ f. P (verdict_of found f)) → IfOk result P
 verdict_there P found failing (Err e) is held = tt
 verdict_there P found (Ok f) (Ok v) is held = subst P (sym is) held

@@ -21,10 +21,10 @@ use Rattle.evidence_store.specs.State.{StoreState}
 use Rattle.evidence_store.specs.Stored.{IsWithPick}
 use Rattle.class_watch.specs.Walks.{HoldsWalks}
 use Rattle.round_judge.specs.declared.judging.Found.{Found}
-use Rattle.round_judge.specs.declared.judging.Judged.{Judged}
-use Rattle.round_judge.specs.declared.judging.Judged.TheVariants.{Kept, New, Unsafe}
-use Rattle.round_judge.specs.declared.judging.Verdict.{Verdict}
-use Rattle.round_judge.specs.declared.judging.Verdict.TheVariants as verdict
+use Rattle.round_judge.specs.declared.judging.ClassVerdict.{ClassVerdict}
+use Rattle.round_judge.specs.declared.judging.ClassVerdict.TheVariants.{Kept, New, Unsafe}
+use Rattle.round_judge.specs.declared.judging.RoundVerdict.{RoundVerdict}
+use Rattle.round_judge.specs.declared.judging.RoundVerdict.TheVariants as verdict
 use Rattle.round_judge.specs.declared.unsafe_class.UnsafeClass.{UnsafeClass}
 use Rattle.table_difference.specs.Targets.{Target}
 use Rattle.round_judge.specs.Goals.{duties_in}
@@ -42,7 +42,7 @@ pub record IsNextRound (to : Target) (u : Rollout) (e : OrderedEvidence) (k : �
   pub certificates : (j n : ℕ) (class : Class) → j < k → IsClass to.classes n class → IsCertifiedClass to u e j n class
 
 -- the switches are prepared for a round, and the evidence so far is of the classes, with numberings of the network
-pub record IsReady (to : Target) (mixes : List MixedState) (store : StoreState) : Type 0 where
+pub record IsReadyToJudge (to : Target) (mixes : List MixedState) (store : StoreState) : Type 0 where
   pub round : (u : Rollout) × (k : ℕ) × IsRoundOf to.net mixes u k
   pub numberings : AllByRecursion (IsValidNumbering to.net) store.evidence.numberings
   pub classes : store.classes ≡ class_count to.classes
@@ -53,19 +53,19 @@ pub record IsUnsafe (to : Target) (u : Rollout) (k : ℕ) (f : UnsafeClass) : Ty
   pub visits : HoldsWalks u k f.class f.visited
 
 -- what is found for a class in round k: the pick in force keeps it safe, or it fails and new evidence does, or nothing does
-abbrev pub IsJudged : Target → Rollout → OrderedEvidence → ℕ → ℕ → Class → Judged → Type 0
+abbrev pub IsJudged : Target → Rollout → OrderedEvidence → ℕ → ℕ → Class → ClassVerdict → Type 0
 IsJudged to u e k n class Kept = IsCertifiedClass to u e k n class
 IsJudged to u e k n class (New evidence) = (¬ IsCertifiedClass to u e k n class) × IsSafeEvidence u k class (duties_in to class) evidence
 IsJudged to u e k n class (Unsafe f) = (f.number ≡ n) × (f.class ≡ class) × IsUnsafe to u k f
 
 -- the same where the class is looked at if the round meets it: if it is kept, the pick in force of the round before does that
-abbrev pub IsJudgedIfMet : Target → Rollout → OrderedEvidence → ℕ → ℕ → Class → Judged → Type 0
+abbrev pub IsJudgedIfMet : Target → Rollout → OrderedEvidence → ℕ → ℕ → Class → ClassVerdict → Type 0
 IsJudgedIfMet to u e k n class Kept = 0 < k → IsJudged to u e k n class Kept
 IsJudgedIfMet to u e k n class (New evidence) = IsJudged to u e k n class (New evidence)
 IsJudgedIfMet to u e k n class (Unsafe f) = IsJudged to u e k n class (Unsafe f)
 
 -- what is noted for class n behind what was found: its new evidence, if there is some, or that it is not safe by any evidence
-abbrev pub IsNoted : ℕ → Judged → List Found → List Found → Option UnsafeClass → Type 0
+abbrev pub IsNoted : ℕ → ClassVerdict → List Found → List Found → Option UnsafeClass → Type 0
 IsNoted n Kept old new failing = (new ≡ old) × (failing ≡ None)
 IsNoted n (New evidence) old new failing = (new ≡ old ++ record { class = n; evidence = evidence } ∷ []) × (failing ≡ None)
 IsNoted n (Unsafe f) old new failing = failing ≡ Some f
@@ -105,17 +105,17 @@ pub record IsFirstUnsafe (to : Target) (u : Rollout) (k : ℕ) (f : UnsafeClass)
   pub below : CanBeSafeBelow to u k f.number
 
 -- what is found for all classes in round k
-abbrev pub AreJudged : Target → Rollout → OrderedEvidence → ℕ → Verdict → Type 0
+abbrev pub AreJudged : Target → Rollout → OrderedEvidence → ℕ → RoundVerdict → Type 0
 AreJudged to u e k (verdict.Safe found) = AreSafeBelow to u e k (class_count to.classes) found.items
 AreJudged to u e k (verdict.Unsafe f) = HasUnsafe to u k f
 
 -- the same where the classes are looked at in order
-abbrev pub AreFirstJudged : Target → Rollout → OrderedEvidence → ℕ → Verdict → Type 0
+abbrev pub AreFirstJudged : Target → Rollout → OrderedEvidence → ℕ → RoundVerdict → Type 0
 AreFirstJudged to u e k (verdict.Safe found) = AreSafeBelow to u e k (class_count to.classes) found.items
 AreFirstJudged to u e k (verdict.Unsafe f) = IsFirstUnsafe to u k f
 
 -- the verdict by what is found, and by the class that is not safe by any evidence, if there is one
-abbrev pub verdict_of : Vec Found Global → Option UnsafeClass → Verdict
+abbrev pub verdict_of : Vec Found Global → Option UnsafeClass → RoundVerdict
 verdict_of found None = verdict.Safe found
 verdict_of found (Some f) = verdict.Unsafe f
 
@@ -134,7 +134,7 @@ pub record AreMetSafe (to : Target) (u : Rollout) (e : OrderedEvidence) (k : ℕ
   pub known : HoldRound to u k came
 
 -- what is found for the classes that round k meets, and where packets come to then
-abbrev pub AreMetJudged : Target → Rollout → OrderedEvidence → ℕ → Verdict → List ℕ → Type 0
+abbrev pub AreMetJudged : Target → Rollout → OrderedEvidence → ℕ → RoundVerdict → List ℕ → Type 0
 AreMetJudged to u e k (verdict.Safe found) came = AreMetSafe to u e k found.items came
 AreMetJudged to u e k (verdict.Unsafe f) came = HasUnsafe to u k f × (0 < k → CanBeSafeBelow to u k f.number) × HoldTables to (tables_before u k) came
 

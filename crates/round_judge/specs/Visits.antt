@@ -5,8 +5,8 @@ use Rattle.dest_classes.specs.Classes.{IsClass, class_count}
 use Rattle.dest_classes.specs.declared.Class.{Class}
 use Rattle.update_model.specs.Mixtures.{Rollout, tables_before}
 use Rattle.class_watch.specs.Walks.{HoldsWalks, HoldsTables}
-use Rattle.round_judge.specs.declared.judging.Verdict.{Verdict}
-use Rattle.round_judge.specs.declared.judging.Verdict.TheVariants as verdict
+use Rattle.round_judge.specs.declared.judging.RoundVerdict.{RoundVerdict}
+use Rattle.round_judge.specs.declared.judging.RoundVerdict.TheVariants as verdict
 use Rattle.table_difference.specs.Targets.{Target}
 
 -- the switches of the class with a number
@@ -25,6 +25,6 @@ pub record HoldRound (to : Target) (u : Rollout) (k : ℕ) (came : List ℕ) : T
 
 -- what is known once all classes were looked at in round k: the switches that they come to after it, where they are safe in
 -- it, otherwise those before it
-abbrev pub HoldAfter : Target → Rollout → ℕ → Verdict → List ℕ → Type 0
+abbrev pub HoldAfter : Target → Rollout → ℕ → RoundVerdict → List ℕ → Type 0
 HoldAfter to u k (verdict.Safe found) came = HoldTables to (tables_before u (suc k)) came
 HoldAfter to u k (verdict.Unsafe f) came = HoldTables to (tables_before u k) came

@@ -15,7 +15,7 @@ ghost use Rattle.round_judge.specs.declared.judging.Found.{Found as FoundOf};
 ghost use Rattle.check_reasons.specs.AtomMarks.{AreTouched};
 ghost use Rattle.class_watch.specs.Walks.{HoldsWalks, HoldsTables};
 ghost use Rattle.round_judge.specs.Evidence.{IsCertifiedClass};
-ghost use Rattle.round_judge.specs.Judged.{IsReady, IsNextRound, IsJudged, IsJudgedIfMet, IsNewlySafe, IsNoted, AreJudged, AreFirstJudged, AreMetJudged, verdict_of};
+ghost use Rattle.round_judge.specs.Judged.{IsReadyToJudge, IsNextRound, IsJudged, IsJudgedIfMet, IsNewlySafe, IsNoted, AreJudged, AreFirstJudged, AreMetJudged, verdict_of};
 ghost use Rattle.round_judge.specs.Visits.{marks_at, HoldTables, HoldRound, HoldAfter};
 
 use crate::goal::Goal;
@@ -33,7 +33,7 @@ use update_model::Change;
 
 /// What is found for a class in a round: the pick in force keeps it safe, new evidence does, or nothing does.
 #[derive(Drop)]
-pub(crate) enum Judged {
+pub(crate) enum ClassVerdict {
     Kept,
     New(ClassEvidence),
     Unsafe(UnsafeClass),
@@ -42,14 +42,14 @@ pub(crate) enum Judged {
 /// What is found for all classes in a round: new evidence for those that the pick in force doesn't keep safe, by ascending
 /// numbers, or a class that is not safe by any evidence.
 #[derive(Drop)]
-pub enum Verdict {
+pub enum RoundVerdict {
     Safe(Vec<Found>),
     Unsafe(UnsafeClass),
 }
 
 /// The changes that are tried as the next round, the switches as they are prepared for that round, and the evidence so far.
 #[derive(Clone, Copy)]
-pub struct Tried<'a> {
+pub struct TriedRound<'a> {
     pub changes: &'a [Change],
     pub mixes: &'a [Mixed],
     pub store: &'a EvidenceStore,
@@ -145,13 +145,13 @@ fn judge_class(
     alloc: Global,
     goal: &Goal,
     watch: &mut ClassWatch,
-    tried: &Tried,
+    tried: &TriedRound,
     last: &mut LastSets,
     numbered: NumberedClass,
-) -> Result<Judged, Memory>
+) -> Result<ClassVerdict, Memory>
     requires number { numbered.number < class_count goal.now.classes }
     requires class { IsNumbered goal.now.classes numbered }
-    requires ready { IsReady goal.now tried.now.mixes.now tried.now.store.now }
+    requires ready { IsReadyToJudge goal.now tried.now.mixes.now tried.now.store.now }
     requires came { length watch.old.came.items ≡ class_count goal.now.classes }
     requires last { HoldsLastOf goal.now last.old }
     ensures judged { IfOk result (λ judged. (u : Rollout) (k : ℕ)
@@ -169,11 +169,11 @@ fn judge_class(
 {
     let visited = goal.walk(watch, tried.mixes, numbered);
     if is_kept(goal, &watch.walk, tried.store, numbered) {
-        return Ok(Judged::Kept);
+        return Ok(ClassVerdict::Kept);
     }
     match goal.find_evidence(alloc, &watch.walk, numbered, last)? {
-        Some(evidence) => Ok(Judged::New(evidence)),
-        None => Ok(Judged::Unsafe(UnsafeClass {
+        Some(evidence) => Ok(ClassVerdict::New(evidence)),
+        None => Ok(ClassVerdict::Unsafe(UnsafeClass {
             number: numbered.number,
             class: numbered.class,
             visited,
@@ -187,12 +187,12 @@ fn judge_if_met(
     alloc: Global,
     goal: &Goal,
     watch: &mut ClassWatch,
-    tried: &Tried,
+    tried: &TriedRound,
     last: &mut LastSets,
     number: u32,
-) -> Result<Judged, Memory>
+) -> Result<ClassVerdict, Memory>
     requires number { number < class_count goal.now.classes }
-    requires ready { IsReady goal.now tried.now.mixes.now tried.now.store.now }
+    requires ready { IsReadyToJudge goal.now tried.now.mixes.now tried.now.store.now }
     requires came { length watch.old.came.items ≡ class_count goal.now.classes }
     requires last { HoldsLastOf goal.now last.old }
     ensures judged { IfOk result (λ judged. (u : Rollout) (k : ℕ) (class : Class)
@@ -212,22 +212,26 @@ fn judge_if_met(
 {
     let numbered = goal.numbered(number);
     if !meets_any(tried.changes, numbered.class, watch.came[number as usize]) {
-        return Ok(Judged::Kept);
+        return Ok(ClassVerdict::Kept);
     }
     judge_class(alloc, goal, watch, tried, last, numbered)
 }
 
 /// Notes what is found for a class behind what is found for others. The result is the class where it is not safe by any evidence.
-fn note(class: u32, judged: Judged, found: &mut Vec<Found>) -> Result<Option<UnsafeClass>, Memory>
+fn note(
+    class: u32,
+    judged: ClassVerdict,
+    found: &mut Vec<Found>,
+) -> Result<Option<UnsafeClass>, Memory>
     ensures { IfOk result (IsNoted class judged found.old.items found.new.items) }
 {
     match judged {
-        Judged::Kept => Ok(None),
-        Judged::New(evidence) => {
+        ClassVerdict::Kept => Ok(None),
+        ClassVerdict::New(evidence) => {
             found.push(Found { class, evidence })?;
             Ok(None)
         }
-        Judged::Unsafe(failing) => Ok(Some(failing)),
+        ClassVerdict::Unsafe(failing) => Ok(Some(failing)),
     }
 }
 
@@ -235,14 +239,14 @@ fn note(class: u32, judged: Judged, found: &mut Vec<Found>) -> Result<Option<Uns
 fn verdict_of(
     found: Vec<Found>,
     failing: Result<Option<UnsafeClass>, Memory>,
-) -> Result<Verdict, Memory>
+) -> Result<RoundVerdict, Memory>
     ensures { IfOk result (λ verdict. IsOkAnd failing (λ f. verdict ≡ verdict_of found f)) }
 {
     match failing {
-        Ok(None) => Ok(Verdict::Safe(found)),
+        Ok(None) => Ok(RoundVerdict::Safe(found)),
         Ok(Some(failing)) => {
             drop(found);
-            Ok(Verdict::Unsafe(failing))
+            Ok(RoundVerdict::Unsafe(failing))
         }
         Err(memory) => {
             drop(found);
@@ -256,12 +260,12 @@ fn verdict_of(
 fn judge_touched(
     goal: &Goal,
     watch: &mut ClassWatch,
-    tried: &Tried,
+    tried: &TriedRound,
     looked: &LookedAtoms,
     last: &mut LastSets,
     found: &mut Vec<Found>,
 ) -> Result<Option<UnsafeClass>, Memory>
-    requires ready { IsReady goal.now tried.now.mixes.now tried.now.store.now }
+    requires ready { IsReadyToJudge goal.now tried.now.mixes.now tried.now.store.now }
     requires came { length watch.old.came.items ≡ class_count goal.now.classes }
     requires last { HoldsLastOf goal.now last.old }
     requires atoms { HasAtoms goal.now.classes looked.now }
@@ -294,10 +298,10 @@ fn judge_met(
     alloc: Global,
     goal: &Goal,
     watch: &mut ClassWatch,
-    tried: &Tried,
+    tried: &TriedRound,
     looked: &LookedAtoms,
-) -> Result<Verdict, Memory>
-    requires ready { IsReady goal.now tried.now.mixes.now tried.now.store.now }
+) -> Result<RoundVerdict, Memory>
+    requires ready { IsReadyToJudge goal.now tried.now.mixes.now tried.now.store.now }
     requires came { length watch.old.came.items ≡ class_count goal.now.classes }
     requires atoms { HasAtoms goal.now.classes looked.now }
     requires touched { AreTouched goal.now.classes tried.now.changes.now looked.now }
@@ -332,13 +336,13 @@ fn take_last(found: &mut Vec<Found>, number: u32) -> Option<ClassEvidence>
 fn judge_next(
     goal: &Goal,
     watch: &mut ClassWatch,
-    tried: &Tried,
+    tried: &TriedRound,
     last: &mut LastSets,
     before: &mut Vec<Found>,
     number: u32,
-) -> Result<Judged, Memory>
+) -> Result<ClassVerdict, Memory>
     requires number { number < class_count goal.now.classes }
-    requires ready { IsReady goal.now tried.now.mixes.now tried.now.store.now }
+    requires ready { IsReadyToJudge goal.now tried.now.mixes.now tried.now.store.now }
     requires came { length watch.old.came.items ≡ class_count goal.now.classes }
     requires last { HoldsLastOf goal.now last.old }
     ensures judged { IfOk result (λ judged. (u : Rollout) (k : ℕ) (class : Class)
@@ -357,7 +361,7 @@ fn judge_next(
     ensures last { OnOk result (HoldsLastOf goal.now last.new) }
 {
     if let Some(evidence) = take_last(before, number) {
-        return Ok(Judged::New(evidence));
+        return Ok(ClassVerdict::New(evidence));
     }
     let alloc = *before.allocator();
     judge_class(alloc, goal, watch, tried, last, goal.numbered(number))
@@ -368,12 +372,12 @@ fn judge_next(
 fn judge_each(
     goal: &Goal,
     watch: &mut ClassWatch,
-    tried: &Tried,
+    tried: &TriedRound,
     last: &mut LastSets,
     before: &mut Vec<Found>,
     found: &mut Vec<Found>,
 ) -> Result<Option<UnsafeClass>, Memory>
-    requires ready { IsReady goal.now tried.now.mixes.now tried.now.store.now }
+    requires ready { IsReadyToJudge goal.now tried.now.mixes.now tried.now.store.now }
     requires came { length watch.old.came.items ≡ class_count goal.now.classes }
     requires last { HoldsLastOf goal.now last.old }
     requires none { found.old.items ≡ [] }
@@ -400,10 +404,10 @@ fn judge_rest(
     alloc: Global,
     goal: &Goal,
     watch: &mut ClassWatch,
-    tried: &Tried,
+    tried: &TriedRound,
     met: Vec<Found>,
-) -> Result<Verdict, Memory>
-    requires ready { IsReady goal.now tried.now.mixes.now tried.now.store.now }
+) -> Result<RoundVerdict, Memory>
+    requires ready { IsReadyToJudge goal.now tried.now.mixes.now tried.now.store.now }
     requires came { length watch.old.came.items ≡ class_count goal.now.classes }
     ensures { IfOk result (λ verdict. (u : Rollout) (k : ℕ)
         → IsRoundOf goal.now.net tried.now.mixes.now u k
@@ -438,10 +442,10 @@ pub fn judge_all(
     alloc: Global,
     goal: &Goal,
     watch: &mut ClassWatch,
-    tried: &Tried,
+    tried: &TriedRound,
     looked: &LookedAtoms,
-) -> Result<Verdict, Memory>
-    requires ready { IsReady goal.now tried.now.mixes.now tried.now.store.now }
+) -> Result<RoundVerdict, Memory>
+    requires ready { IsReadyToJudge goal.now tried.now.mixes.now tried.now.store.now }
     requires came { length watch.old.came.items ≡ class_count goal.now.classes }
     requires atoms { HasAtoms goal.now.classes looked.now }
     requires touched { AreTouched goal.now.classes tried.now.changes.now looked.now }
@@ -453,10 +457,10 @@ pub fn judge_all(
         × HoldAfter goal.now u k verdict watch.new.came.items) }
 {
     match judge_met(alloc, goal, watch, tried, looked)? {
-        Verdict::Unsafe(failing) => Ok(Verdict::Unsafe(failing)),
-        Verdict::Safe(found) => {
+        RoundVerdict::Unsafe(failing) => Ok(RoundVerdict::Unsafe(failing)),
+        RoundVerdict::Safe(found) => {
             if has_picks(tried.store) {
-                return Ok(Verdict::Safe(found));
+                return Ok(RoundVerdict::Safe(found));
             }
             judge_rest(alloc, goal, watch, tried, found)
         }
@@ -467,11 +471,11 @@ pub fn judge_all(
 fn judge_every(
     goal: &Goal,
     watch: &mut ClassWatch,
-    tried: &Tried,
+    tried: &TriedRound,
     last: &mut LastSets,
     found: &mut Vec<Found>,
 ) -> Result<Option<UnsafeClass>, Memory>
-    requires ready { IsReady goal.now tried.now.mixes.now tried.now.store.now }
+    requires ready { IsReadyToJudge goal.now tried.now.mixes.now tried.now.store.now }
     requires came { length watch.old.came.items ≡ class_count goal.now.classes }
     requires last { HoldsLastOf goal.now last.old }
     requires none { found.old.items ≡ [] }
@@ -498,9 +502,9 @@ fn judge_anew(
     alloc: Global,
     goal: &Goal,
     watch: &mut ClassWatch,
-    tried: &Tried,
-) -> Result<Verdict, Memory>
-    requires ready { IsReady goal.now tried.now.mixes.now tried.now.store.now }
+    tried: &TriedRound,
+) -> Result<RoundVerdict, Memory>
+    requires ready { IsReadyToJudge goal.now tried.now.mixes.now tried.now.store.now }
     requires came { length watch.old.came.items ≡ class_count goal.now.classes }
     ensures { IfOk result (λ verdict. (u : Rollout) (k : ℕ)
         → IsRoundOf goal.now.net tried.now.mixes.now u k
@@ -523,10 +527,10 @@ pub fn judge_in_order(
     alloc: Global,
     goal: &Goal,
     watch: &mut ClassWatch,
-    tried: &Tried,
+    tried: &TriedRound,
     looked: &LookedAtoms,
-) -> Result<Verdict, Memory>
-    requires ready { IsReady goal.now tried.now.mixes.now tried.now.store.now }
+) -> Result<RoundVerdict, Memory>
+    requires ready { IsReadyToJudge goal.now tried.now.mixes.now tried.now.store.now }
     requires came { length watch.old.came.items ≡ class_count goal.now.classes }
     requires atoms { HasAtoms goal.now.classes looked.now }
     requires touched { AreTouched goal.now.classes tried.now.changes.now looked.now }

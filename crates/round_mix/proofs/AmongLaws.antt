@@ -11,7 +11,7 @@ use Rattle.net_base.specs.declared.ids.Place.{Place}
 use Rattle.net_base.proofs.MemberLaws.{in_map, in_from_map, in_filter, in_from_filter, in_from_subsequence, in_append_left, in_append_right, in_append_cases, each_at, each_from_in, same_filter, same_through}
 use Rattle.net_base.proofs.ItemLaws.{in_from_get, get_from_in}
 use Rattle.topology.specs.Networks.{Network}
-use Rattle.path_walk.specs.Outcomes.{acted, header_at, outcome}
+use Rattle.path_walk.specs.Outcomes.{action_outcome, header_at, outcome}
 use Rattle.path_walk.specs.declared.Outcome.{Outcome}
 use Rattle.flow_rules.specs.Patterns.{covers, key_eq, admits_port, admits_vlan}
 use Rattle.flow_rules.specs.Tables.{keys_of, IsClear, IsTable}
@@ -30,9 +30,9 @@ use Rattle.update_model.proofs.ChangeLaws.{key_named, writes_key, stands_all_fro
 use Rattle.update_model.proofs.MadeLaws.{distinct_some, each_some}
 use Rattle.update_model.proofs.MatchLaws.{some_filter}
 use Rattle.table_index.specs.Candidates.{IsAscending}
-use Rattle.round_mix.specs.Among.{picked, stands_at, AreOutcomesAmong, HoldCandidates}
+use Rattle.round_mix.specs.Among.{picked_marks, stands_at, AreOutcomesAmong, HoldCandidates}
 use Rattle.round_mix.specs.Found.{AreAllOutcomes}
-use Rattle.round_mix.specs.Marks.{mark_by, change_of, marked, inserted, all_rules, marked_rules, rules_of}
+use Rattle.round_mix.specs.Marks.{mark_by, change_of, marked_rule, inserted_rules, all_rules, marked_rules, rules_of}
 use Rattle.round_mix.specs.Named.{with_mark}
 use Rattle.round_mix.specs.Prepared.{AreGood, AreClear, IsPrepared}
 use Rattle.round_mix.specs.Scan.{scan}
@@ -200,37 +200,37 @@ module _ (K : Key → Bool) where
         clear_filter clear whole held header a b ((same a).0 i) ((same b).0 j)
 
     all_in : (r : Rule) → IsIn r (all_rules table changes) → K r.key ≡ true → IsIn r (all_rules table_in changes_in)
-    all_in r i on = elim (in_append_cases r table (inserted changes) i) [
-      | inl j ↦ in_append_left r table_in (inserted changes_in) (in_filter stays r table j on)
+    all_in r i on = elim (in_append_cases r table (inserted_rules changes) i) [
+      | inl j ↦ in_append_left r table_in (inserted_rules changes_in) (in_filter stays r table j on)
       | inr j ↦ (
           let (c, k, of) = in_from_inserted changes r j in
-          in_append_right r table_in (inserted changes_in)
+          in_append_right r table_in (inserted_rules changes_in)
           (in_inserted changes_in c r (in_filter names_it c changes k (subst (λ z. K z ≡ true) (writes_key r c (insert_writes c r of)) on)) of))
     ]
 
     all_from : (r : Rule) → IsIn r (all_rules table_in changes_in) → IsIn r (all_rules table changes) × (K r.key ≡ true)
-    all_from r i = elim (in_append_cases r table_in (inserted changes_in) i) [
-      | inl j ↦ (let (k, on) = in_from_filter stays r table j in (in_append_left r table (inserted changes) k, on))
+    all_from r i = elim (in_append_cases r table_in (inserted_rules changes_in) i) [
+      | inl j ↦ (let (k, on) = in_from_filter stays r table j in (in_append_left r table (inserted_rules changes) k, on))
       | inr j ↦ (
           let (c, k, of) = in_from_inserted changes_in r j in
           let (l, on) = in_from_filter names_it c changes k in
-          (in_append_right r table (inserted changes) (in_inserted changes c r l of), subst (λ z. K z ≡ true) (sym (writes_key r c (insert_writes c r of))) on))
+          (in_append_right r table (inserted_rules changes) (in_inserted changes c r l of), subst (λ z. K z ≡ true) (sym (writes_key r c (insert_writes c r of))) on))
     ]
 
-    marked_same : (r : Rule) → K r.key ≡ true → marked changes_in r ≡ marked changes r
+    marked_same : (r : Rule) → K r.key ≡ true → marked_rule changes_in r ≡ marked_rule changes r
     marked_same r on = ap (λ o. with_mark r (option_map_or mark_by o Sure)) (change_in changes r on)
 
     member_in : (m : MarkedRule) → IsIn m (marked_rules table changes) → K m.rule.key ≡ true → IsIn m (marked_rules table_in changes_in)
     member_in m i on =
-        let (x, j, e) = in_from_map (marked changes) m (all_rules table changes) i in
+        let (x, j, e) = in_from_map (marked_rule changes) m (all_rules table changes) i in
         let here : K x.key ≡ true = subst (λ (y : MarkedRule). K y.rule.key ≡ true) e on in
-        subst (λ z. IsIn z (marked_rules table_in changes_in)) (marked_same x here ∙ sym e) (in_map (marked changes_in) x (all_rules table_in changes_in) (all_in x j here))
+        subst (λ z. IsIn z (marked_rules table_in changes_in)) (marked_same x here ∙ sym e) (in_map (marked_rule changes_in) x (all_rules table_in changes_in) (all_in x j here))
 
     member_from : (m : MarkedRule) → IsIn m (marked_rules table_in changes_in) → IsIn m (marked_rules table changes) × (K m.rule.key ≡ true)
     member_from m i =
-        let (x, j, e) = in_from_map (marked changes_in) m (all_rules table_in changes_in) i in
+        let (x, j, e) = in_from_map (marked_rule changes_in) m (all_rules table_in changes_in) i in
         let (k, on) = all_from x j in (
-          subst (λ z. IsIn z (marked_rules table changes)) (sym (e ∙ marked_same x on)) (in_map (marked changes) x (all_rules table changes) k),
+          subst (λ z. IsIn z (marked_rules table changes)) (sym (e ∙ marked_same x on)) (in_map (marked_rule changes) x (all_rules table changes) k),
           subst (λ (y : MarkedRule). K y.rule.key ≡ true) (sym e) on,
         )
 
@@ -242,26 +242,26 @@ module _ (table : List Rule) (changes : List Change) (marks : List MarkedRule) (
   whole = scannable table changes marks prepared
 
   -- a marked rule at one of the positions has a key there
-  key_here : (m : MarkedRule) → IsIn m (picked marks positions) → here m.rule.key ≡ true
+  key_here : (m : MarkedRule) → IsIn m (picked_marks marks positions) → here m.rule.key ≡ true
   key_here m i =
-      (key_found m.rule.key (rules_of (picked marks positions))).1
-      (in_map (λ r. r.key) m.rule (rules_of (picked marks positions)) (in_map (λ n. n.rule) m (picked marks positions) i))
+      (key_found m.rule.key (rules_of (picked_marks marks positions))).1
+      (in_map (λ r. r.key) m.rule (rules_of (picked_marks marks positions)) (in_map (λ n. n.rule) m (picked_marks marks positions) i))
 
-  in_marks : (m : MarkedRule) → IsIn m (picked marks positions) → IsIn m marks
+  in_marks : (m : MarkedRule) → IsIn m (picked_marks marks positions) → IsIn m marks
   in_marks m i = let (p, _, at) = in_from_picked marks positions m i in in_from_get marks p m at
 
   -- and a marked rule with such a key stands at one
-  there : (m : MarkedRule) → IsIn m (marked_rules table changes) → here m.rule.key ≡ true → IsIn m (picked marks positions)
+  there : (m : MarkedRule) → IsIn m (marked_rules table changes) → here m.rule.key ≡ true → IsIn m (picked_marks marks positions)
   there m i on =
-      let rules = rules_of (picked marks positions) in
+      let rules = rules_of (picked_marks marks positions) in
       let (r, j, e) = in_from_map (λ x. x.key) m.rule.key rules ((key_found m.rule.key rules).0 on) in
-      let (n, k, f) = in_from_map (λ x. x.rule) r (picked marks positions) j in
+      let (n, k, f) = in_from_map (λ x. x.rule) r (picked_marks marks positions) j in
       let (n_is, n_in) = marked_from table changes prepared.good.applies prepared.good.distinct n (whole.from n (in_marks n k)) in
       let (m_is, m_in) = marked_from table changes prepared.good.applies prepared.good.distinct m i in
       let same = one_by (λ (x : Rule). x.key) (all_rules table changes) n.rule m.rule (keys_apart table changes is_table prepared.good) n_in m_in (sym (ap (λ (x : Rule). x.key) f) ∙ sym e) in
-      subst (λ z. IsIn z (picked marks positions)) (n_is ∙ ap (marked changes) same ∙ sym m_is) k
+      subst (λ z. IsIn z (picked_marks marks positions)) (n_is ∙ ap (marked_rule changes) same ∙ sym m_is) k
 
-  scannable_picked : IsAscending positions → AreScannable (table_in here table changes prepared.good) (changes_in here table changes prepared.good) (picked marks positions)
+  scannable_picked : IsAscending positions → AreScannable (table_in here table changes prepared.good) (changes_in here table changes prepared.good) (picked_marks marks positions)
   scannable_picked up = record {
     good = good_in here table changes prepared.good;
     clear = clear_in here table changes prepared.good prepared.clear;
@@ -270,17 +270,17 @@ module _ (table : List Rule) (changes : List Change) (marks : List MarkedRule) (
     falling = falling_picked marks prepared.falling positions up;
   }
 
-  module _ (net : Network) (place : Place) (dst : ℕ) (list : List Outcome) (up : IsAscending positions) (is : list ≡ map (acted net place) (scan (header_at place dst) (picked marks positions))) where
+  module _ (net : Network) (place : Place) (dst : ℕ) (list : List Outcome) (up : IsAscending positions) (is : list ≡ map (action_outcome net place) (scan (header_at place dst) (picked_marks marks positions))) where
     pub outcomes_among : AreOutcomesAmong net table changes marks positions place dst list
     outcomes_among found =
-        let all = outcomes_from_marks net place dst (table_in here table changes prepared.good) (changes_in here table changes prepared.good) (picked marks positions) list (scannable_picked up) is found in (
+        let all = outcomes_from_marks net place dst (table_in here table changes prepared.good) (changes_in here table changes prepared.good) (picked_marks marks positions) list (scannable_picked up) is found in (
           λ i.
               let o = all.0 i in
               let (mixed, held, same) = mixture_from here table changes prepared.good o.mixed o.held in
               record {
                 mixed = mixed;
                 held = held;
-                is = o.is ∙ ap (acted net place) (lookup_by_set (header_at place dst) o.mixed (filter (stays here) mixed)
+                is = o.is ∙ ap (action_outcome net place) (lookup_by_set (header_at place dst) o.mixed (filter (stays here) mixed)
                     (clear_in here table changes prepared.good prepared.clear o.mixed o.held) (clear_filter here table changes prepared.good prepared.clear mixed held)
                     (same_filter (λ r. covers r.key.pattern (header_at place dst)) o.mixed (filter (stays here) mixed) same));
               },
@@ -315,7 +315,7 @@ module _ (table : List Rule) (changes : List Change) (marks : List MarkedRule) (
 
       same_outcome : (mixed : List Rule) → IsMixture table changes mixed → outcome net (filter (stays here) mixed) place dst ≡ outcome net mixed place dst
       same_outcome mixed held =
-          ap (λ (rs : List Rule). acted net place (option_map_or (λ r. r.action) (find (λ r. list_all (λ q. nat_le q.key.priority r.key.priority) rs) rs) Discard))
+          ap (λ (rs : List Rule). action_outcome net place (option_map_or (λ r. r.action) (find (λ r. list_all (λ q. nat_le q.key.priority r.key.priority) rs) rs) Discard))
           (filter_within (λ r. covers r.key.pattern (header_at place dst)) (stays here) mixed (covers_here mixed held))
 
       pub outcomes_of_all : AreAllOutcomes net table changes place dst list

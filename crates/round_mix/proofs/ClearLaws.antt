@@ -18,7 +18,7 @@ use Rattle.update_model.specs.declared.Change.{Change}
 use Rattle.update_model.specs.declared.Change.TheVariants.{Insert, Delete, Replace}
 use Rattle.update_model.proofs.ChangeLaws.{key_named, writes_key, StandsAfterAll, stands_all_from_in}
 use Rattle.update_model.proofs.MadeLaws.{distinct_some, each_some}
-use Rattle.round_mix.specs.Marks.{marked, inserted, all_rules, marked_rules}
+use Rattle.round_mix.specs.Marks.{marked_rule, inserted_rules, all_rules, marked_rules}
 use Rattle.flow_rules.specs.Frees.{IsFree}
 use Rattle.round_mix.specs.Marks.{rules_of}
 use Rattle.flow_rules.specs.Overlaps.{IsClashAt, IsLeastClash}
@@ -59,13 +59,13 @@ same_written a b (Delete s q) v w = absurd v
 same_written a b (Replace s q) v w = v ∙ sym w
 
 -- the keys of inserted rules
-pub inserted_key : (cs : List Change) (k : Key) → IsIn k (keys_of (inserted cs)) → (c : Change) × IsIn c cs × (r : Rule) × IsInsertOf c r × (key_named c ≡ k)
+pub inserted_key : (cs : List Change) (k : Key) → IsIn k (keys_of (inserted_rules cs)) → (c : Change) × IsIn c cs × (r : Rule) × IsInsertOf c r × (key_named c ≡ k)
 inserted_key cs k i =
-    let (r, j, e) = in_from_map (λ x. x.key) k (inserted cs) i in
+    let (r, j, e) = in_from_map (λ x. x.key) k (inserted_rules cs) i in
     let (c, l, of) = in_from_inserted cs r j in
     (c, l, r, of, sym (writes_key r c (insert_writes c r of)) ∙ sym e)
 
-inserted_distinct : (cs : List Change) → IsDistinct (map key_named cs) → IsDistinct (keys_of (inserted cs))
+inserted_distinct : (cs : List Change) → IsDistinct (map key_named cs) → IsDistinct (keys_of (inserted_rules cs))
 inserted_distinct [] distinct = tt
 inserted_distinct (Insert s r ∷ cs) distinct = (
   λ i. let (c, j, _, _, e) = inserted_key cs r.key i in distinct.0 (subst (λ k. IsIn k (map key_named cs)) e (in_map key_named c cs j)),
@@ -78,8 +78,8 @@ module _ (table : List Rule) (changes : List Change) (is_table : IsTable table) 
   -- no key stands twice among the table's rules and the inserted ones
   pub keys_apart : IsDistinct (keys_of (all_rules table changes))
   keys_apart =
-      subst IsDistinct (sym (map-append (λ (r : Rule). r.key) table (inserted changes)))
-      (distinct_append (keys_of table) (keys_of (inserted changes)) is_table (inserted_distinct changes good.distinct) (λ k i j.
+      subst IsDistinct (sym (map-append (λ (r : Rule). r.key) table (inserted_rules changes)))
+      (distinct_append (keys_of table) (keys_of (inserted_rules changes)) is_table (inserted_distinct changes good.distinct) (λ k i j.
       let (c, l, r, of, e) = inserted_key changes k j in absent c r of (each_at (AppliesTo table) changes c good.applies l) (subst (λ z. IsIn z (keys_of table)) (sym e) i)))
     where
       absent : (c : Change) (r : Rule) → IsInsertOf c r → AppliesTo table c → IsIn (key_named c) (keys_of table) → ⊥
@@ -159,7 +159,7 @@ members_from_free marks free m n i j clash =
     ]
 
 -- the rules of the marked ones
-pub rules_of-marked : (changes : List Change) (rules : List Rule) → rules_of (map (marked changes) rules) ≡ rules
+pub rules_of-marked : (changes : List Change) (rules : List Rule) → rules_of (map (marked_rule changes) rules) ≡ rules
 rules_of-marked changes [] = refl
 rules_of-marked changes (r ∷ rules) = ap (λ xs. r ∷ xs) (rules_of-marked changes rules)
 
@@ -189,11 +189,11 @@ alone_from_sorted marks sorted moved free m n i j clash = free m n (into m i) (i
     into x k = in_permutation sorted marks x (IsPermutation-sym marks sorted moved) k
 
 -- as many marked rules are prepared as the table has rules and the changes insert
-pub prepared_count : (table : List Rule) (changes : List Change) (marks : List MarkedRule) → IsPrepared table changes marks → length marks ≡ length table + length (inserted changes)
+pub prepared_count : (table : List Rule) (changes : List Change) (marks : List MarkedRule) → IsPrepared table changes marks → length marks ≡ length table + length (inserted_rules changes)
 prepared_count table changes marks prepared =
-    length_permutation (marked_rules table changes) marks prepared.rules ∙ length-map (all_rules table changes) (marked changes) ∙ length-append table (inserted changes)
+    length_permutation (marked_rules table changes) marks prepared.rules ∙ length-map (all_rules table changes) (marked_rule changes) ∙ length-append table (inserted_rules changes)
 
-inserted_count : (cs : List Change) → length (inserted cs) ≡ length (filter is_insert cs)
+inserted_count : (cs : List Change) → length (inserted_rules cs) ≡ length (filter is_insert cs)
 inserted_count [] = refl
 inserted_count (Insert s r ∷ cs) = ap suc (inserted_count cs)
 inserted_count (Delete s r ∷ cs) = inserted_count cs
@@ -208,6 +208,6 @@ prepared_needed table changes marks prepared =
 
 pub all_needed : (table : List Rule) (changes : List Change) → length (all_rules table changes) ≡ entries_needed table changes
 all_needed table changes =
-    let both = length-append table (inserted changes) in
+    let both = length-append table (inserted_rules changes) in
     let inserts = inserted_count changes in
     omega arith

@@ -19,7 +19,7 @@ use Rattle.update_model.specs.declared.Change.{Change}
 use Rattle.update_model.specs.declared.Change.TheVariants.{Insert, Delete, Replace}
 use Rattle.update_model.proofs.ChangeLaws.{key_named, writes_key}
 use Rattle.round_mix.specs.Apart.{AreApart}
-use Rattle.round_mix.specs.Marks.{marked, inserted, all_rules, marked_rules, rules_of}
+use Rattle.round_mix.specs.Marks.{marked_rule, inserted_rules, all_rules, marked_rules, rules_of}
 use Rattle.round_mix.specs.Named.{IsNamed, AreMarked}
 use Rattle.round_mix.specs.Prepared.{AreGood, IsFalling, IsPrepared}
 use Rattle.round_mix.specs.declared.Mark.TheVariants.{Sure}
@@ -38,7 +38,7 @@ module _ (table : List Rule) (changes : List Change) (keys : IsDistinct (keys_of
   -- what a change names that inserts nothing stands in the table
   stood : (c : Change) (q : Rule) → IsIn c changes → key_named c ≡ q.key → ((r : Rule) → ¬ IsInsertOf c r) → IsIn q (all_rules table changes) → IsIn q table
   stood c q i key none j =
-      elim (in_append_cases q table (inserted changes) j) [
+      elim (in_append_cases q table (inserted_rules changes) j) [
         | inl k ↦ k
         | inr k ↦ (
             let (d, l, of) = in_from_inserted changes q k in
@@ -48,8 +48,8 @@ module _ (table : List Rule) (changes : List Change) (keys : IsDistinct (keys_of
 
   pub applies_named : (c : Change) → IsIn c changes → IsNamed (all_rules table changes) c → AppliesTo table c
   applies_named (Insert s r) i named = λ k.
-      parts_apart (keys_of table) (keys_of (inserted changes)) r.key (subst IsDistinct (map-append (λ (x : Rule). x.key) table (inserted changes)) keys) k
-      (in_map (λ (x : Rule). x.key) r (inserted changes) (in_inserted changes (Insert s r) r i refl))
+      parts_apart (keys_of table) (keys_of (inserted_rules changes)) r.key (subst IsDistinct (map-append (λ (x : Rule). x.key) table (inserted_rules changes)) keys) k
+      (in_map (λ (x : Rule). x.key) r (inserted_rules changes) (in_inserted changes (Insert s r) r i refl))
   applies_named (Delete s r) i (q, j, e) =
       let same : r ≡ q = rule_eq-true r q e in
       subst (λ x. IsIn x table) (sym same) (stood (Delete s r) q i (ap (λ (x : Rule). x.key) same) (λ x n. n) j)
@@ -58,18 +58,18 @@ module _ (table : List Rule) (changes : List Change) (keys : IsDistinct (keys_of
       subst (λ k. IsIn k (keys_of table)) (sym same) (in_map (λ (x : Rule). x.key) q table (stood (Replace s r) q i same (λ x n. n) j))
 
 -- marks hide no order
-falling_marked : (changes : List Change) (ms : List MarkedRule) → IsFalling ms → IsFalling (map (marked changes) (rules_of ms))
+falling_marked : (changes : List Change) (ms : List MarkedRule) → IsFalling ms → IsFalling (map (marked_rule changes) (rules_of ms))
 falling_marked changes [] falling = tt
 falling_marked changes (m ∷ ms) falling = (
-  each_map (marked changes) (λ n. n.rule.key.priority ≤ m.rule.key.priority) (rules_of ms) (each_map (λ (n : MarkedRule). n.rule) (λ r. r.key.priority ≤ m.rule.key.priority) ms falling.0),
+  each_map (marked_rule changes) (λ n. n.rule.key.priority ≤ m.rule.key.priority) (rules_of ms) (each_map (λ (n : MarkedRule). n.rule) (λ r. r.key.priority ≤ m.rule.key.priority) ms falling.0),
   falling_marked changes ms falling.1,
 )
 
 -- rules that no change marks are sure, and stay so when they change places
-pub sure_moved : (rs : List Rule) (first sorted : List MarkedRule) → first ≡ map (marked []) rs → IsPermutation first sorted → AllByRecursion (λ m. m.mark ≡ Sure) sorted
+pub sure_moved : (rs : List Rule) (first sorted : List MarkedRule) → first ≡ map (marked_rule []) rs → IsPermutation first sorted → AllByRecursion (λ m. m.mark ≡ Sure) sorted
 sure_moved rs first sorted is moved =
     recursion_from_All (λ m. m.mark ≡ Sure) sorted (All-permutation (λ m. m.mark ≡ Sure) first sorted moved
-    (All-from_recursion (λ m. m.mark ≡ Sure) first (subst (AllByRecursion (λ m. m.mark ≡ Sure)) (sym is) (each_map (marked []) (λ m. m.mark ≡ Sure) rs (each_from_in (λ r. Sure ≡ Sure) rs (λ r i. refl))))))
+    (All-from_recursion (λ m. m.mark ≡ Sure) first (subst (AllByRecursion (λ m. m.mark ≡ Sure)) (sym is) (each_map (marked_rule []) (λ m. m.mark ≡ Sure) rs (each_from_in (λ r. Sure ≡ Sure) rs (λ r i. refl))))))
 
 -- marks hide no clash
 alone_by_rules : (table : List Rule) (changes : List Change) (sorted : List MarkedRule) → IsPermutation (all_rules table changes) (rules_of sorted) → AreApart sorted
@@ -77,17 +77,17 @@ alone_by_rules : (table : List Rule) (changes : List Change) (sorted : List Mark
 alone_by_rules table changes sorted moved apart m n i j clash =
     let all = all_rules table changes in
     let back = IsPermutation-sym all (rules_of sorted) moved in
-    let (x, k, e) = in_from_map (marked changes) m all i in
-    let (y, l, f) = in_from_map (marked changes) n all j in
+    let (x, k, e) = in_from_map (marked_rule changes) m all i in
+    let (y, l, f) = in_from_map (marked_rule changes) n all j in
     let (p, p_in, g) = in_from_map (λ (z : MarkedRule). z.rule) x sorted (in_permutation (rules_of sorted) all x back k) in
     let (q, q_in, h) = in_from_map (λ (z : MarkedRule). z.rule) y sorted (in_permutation (rules_of sorted) all y back l) in
     let one : m.rule ≡ p.rule = ap (λ (z : MarkedRule). z.rule) e ∙ g in
     let two : n.rule ≡ q.rule = ap (λ (z : MarkedRule). z.rule) f ∙ h in
     let same : p ≡ q = apart.alone p q p_in q_in (subst (λ z. IsClash p.rule z) two (subst (λ z. IsClash z n.rule) one clash)) in
-    e ∙ ap (marked changes) (g ∙ ap (λ (z : MarkedRule). z.rule) same ∙ sym h) ∙ sym f
+    e ∙ ap (marked_rule changes) (g ∙ ap (λ (z : MarkedRule). z.rule) same ∙ sym h) ∙ sym f
 
 -- the rules of sorted marked ones
-pub moved_rules : (rules : List Rule) (first sorted : List MarkedRule) → first ≡ map (marked []) rules → IsPermutation first sorted → IsPermutation rules (rules_of sorted)
+pub moved_rules : (rules : List Rule) (first sorted : List MarkedRule) → first ≡ map (marked_rule []) rules → IsPermutation first sorted → IsPermutation rules (rules_of sorted)
 moved_rules rules first sorted is moved =
     subst (λ (rs : List Rule). IsPermutation rs (rules_of sorted)) (ap rules_of is ∙ rules_of-marked [] rules) (IsPermutation-map (λ (m : MarkedRule). m.rule) first sorted moved)
 
@@ -108,13 +108,13 @@ good_by_keys table changes sorted last moved distinct state =
 
 -- rules that don't clash are prepared once each change has marked its rule
 pub prepared_by_keys : (table : List Rule) (changes : List Change) (first sorted last : List MarkedRule) → IsTable table
-    → first ≡ map (marked []) (all_rules table changes) → IsPermutation first sorted → IsFalling sorted → AreApart sorted
+    → first ≡ map (marked_rule []) (all_rules table changes) → IsPermutation first sorted → IsFalling sorted → AreApart sorted
     → AreMarked (rules_of sorted) changes last → IsPrepared table changes last
 prepared_by_keys table changes first sorted last is_table is moved falling apart state =
     let all = all_rules table changes in
     let rules_moved : IsPermutation all (rules_of sorted) = moved_rules all first sorted is moved in
     let marks_moved : IsPermutation (marked_rules table changes) last =
-    subst (IsPermutation (marked_rules table changes)) (sym state.marks_are) (IsPermutation-map (marked changes) all (rules_of sorted) rules_moved) in
+    subst (IsPermutation (marked_rules table changes)) (sym state.marks_are) (IsPermutation-map (marked_rule changes) all (rules_of sorted) rules_moved) in
     let good : AreGood table changes = good_by_keys table changes sorted last rules_moved apart.distinct state in
     record {
       good = good;

@@ -23,10 +23,10 @@ use Rattle.update_model.specs.declared.Change.TheVariants.{Insert, Delete, Repla
 use Rattle.update_model.proofs.ChangeLaws.{key_named, applies_all_kept}
 use Rattle.update_model.proofs.MadeLaws.{distinct_some}
 use Rattle.update_model.proofs.MatchLaws.{some_filter}
-use Rattle.round_mix.specs.Marks.{mark_by, change_of, marked, inserted, all_rules, rules_of}
+use Rattle.round_mix.specs.Marks.{mark_by, change_of, marked_rule, inserted_rules, all_rules, rules_of}
 use Rattle.round_mix.specs.Named.{with_mark}
 use Rattle.round_mix.specs.Prepared.{AreGood, AreClear, IsFalling, IsPrepared}
-use Rattle.round_mix.specs.Tried.{settled, settled_where, without, kept}
+use Rattle.round_mix.specs.Tried.{settled_mark, settled_where, marks_without, kept_marks}
 use Rattle.round_mix.specs.declared.Mark.TheVariants.{Sure}
 use Rattle.round_mix.specs.declared.MarkedRule.{MarkedRule}
 use Rattle.round_mix.proofs.ClearLaws.{keys_apart, inserted_key}
@@ -49,30 +49,30 @@ module _ (table : List Rule) (cs : List Change) where
   clear_rest c clear mixed mixture = clear mixed (record { made = c ∷ mixture.made; some = inl (refl, mixture.some); same = mixture.same })
 
   -- the mark by the first change, and by the others
-  this_mark : (c : Change) (q : Rule) → key_eq (key_named c) q.key ≡ true → marked (c ∷ cs) q ≡ with_mark q (mark_by c)
+  this_mark : (c : Change) (q : Rule) → key_eq (key_named c) q.key ≡ true → marked_rule (c ∷ cs) q ≡ with_mark q (mark_by c)
   this_mark c q e = ap (λ (o : Option Change). with_mark q (option_map_or mark_by o Sure)) (cond-true (key_eq (key_named c) q.key) (Some c) (change_of cs q) e)
 
-  other_mark : (c : Change) (q : Rule) → key_eq (key_named c) q.key ≡ false → marked (c ∷ cs) q ≡ marked cs q
+  other_mark : (c : Change) (q : Rule) → key_eq (key_named c) q.key ≡ false → marked_rule (c ∷ cs) q ≡ marked_rule cs q
   other_mark c q e = ap (λ (o : Option Change). with_mark q (option_map_or mark_by o Sure)) (cond-false (key_eq (key_named c) q.key) (Some c) (change_of cs q) e)
 
-  sure_here : (k : Key) (q : Rule) → ¬ IsIn k (map key_named cs) → k ≡ q.key → marked cs q ≡ with_mark q Sure
+  sure_here : (k : Key) (q : Rule) → ¬ IsIn k (map key_named cs) → k ≡ q.key → marked_rule cs q ≡ with_mark q Sure
   sure_here k q fresh e =
       ap (λ (o : Option Change). with_mark q (option_map_or mark_by o Sure)) (unfound cs q (λ i. fresh (subst (λ (x : Key). IsIn x (map key_named cs)) (sym e) i)))
 
-  not_inserted : (c : Change) → AreGood table (c ∷ cs) → ¬ IsIn (key_named c) (keys_of (inserted cs))
+  not_inserted : (c : Change) → AreGood table (c ∷ cs) → ¬ IsIn (key_named c) (keys_of (inserted_rules cs))
   not_inserted c good i = let (d, j, _, _, e) = inserted_key cs (key_named c) i in good.distinct.0 (subst (λ (k : Key). IsIn k (map key_named cs)) e (in_map key_named d cs j))
 
   -- the rule of the first change's key is taken out
-  left_first : (c : Change) (rs : List Rule) → without (key_named c) (map (marked (c ∷ cs)) rs) ≡ map (marked cs) (filter (λ q. not (key_eq q.key (key_named c))) rs)
+  left_first : (c : Change) (rs : List Rule) → marks_without (key_named c) (map (marked_rule (c ∷ cs)) rs) ≡ map (marked_rule cs) (filter (λ q. not (key_eq q.key (key_named c))) rs)
   left_first c [] = refl
   left_first c (q ∷ rs) =
       let p = λ (r : Rule). not (key_eq r.key (key_named c)) in
       elim (key_eq q.key (key_named c)) as (λ b. key_eq q.key (key_named c) ≡ b
-      → cond (not b) (marked (c ∷ cs) q ∷ without (key_named c) (map (marked (c ∷ cs)) rs)) (without (key_named c) (map (marked (c ∷ cs)) rs))
-      ≡ map (marked cs) (cond (not b) (q ∷ filter p rs) (filter p rs))) [
+      → cond (not b) (marked_rule (c ∷ cs) q ∷ marks_without (key_named c) (map (marked_rule (c ∷ cs)) rs)) (marks_without (key_named c) (map (marked_rule (c ∷ cs)) rs))
+      ≡ map (marked_rule cs) (cond (not b) (q ∷ filter p rs) (filter p rs))) [
         | true ↦ λ e. left_first c rs
-        | false ↦ λ e. ap (λ (m : MarkedRule). m ∷ without (key_named c) (map (marked (c ∷ cs)) rs)) (other_mark c q (flips (key_named c) q.key ∙ e))
-            ∙ ap (λ (ms : List MarkedRule). marked cs q ∷ ms) (left_first c rs)
+        | false ↦ λ e. ap (λ (m : MarkedRule). m ∷ marks_without (key_named c) (map (marked_rule (c ∷ cs)) rs)) (other_mark c q (flips (key_named c) q.key ∙ e))
+            ∙ ap (λ (ms : List MarkedRule). marked_rule cs q ∷ ms) (left_first c rs)
       ] refl
 
 module _ (table : List Rule) (cs : List Change) (marks : List MarkedRule) (is_table : IsTable table) where
@@ -81,28 +81,28 @@ module _ (table : List Rule) (cs : List Change) (marks : List MarkedRule) (is_ta
       let c = Insert s r in
       let rs = rules_of marks in
       let same = marks_are table (c ∷ cs) marks prepared in
-      let whole : all_rules (table ++ r ∷ []) cs ≡ all_rules table (c ∷ cs) = append_assoc table (r ∷ []) (inserted cs) in
-      let here : (q : Rule) (b : Bool) → key_eq r.key q.key ≡ b → cond b (settled (marked (Insert s r ∷ cs) q)) (marked (Insert s r ∷ cs) q) ≡ marked cs q = here_at in
-      let is : settled_where r.key marks ≡ map (marked cs) rs =
-      ap (settled_where r.key) same ∙ remap (marked (c ∷ cs)) (λ m. cond (key_eq r.key m.rule.key) (settled m) m) (marked cs) (λ q. here q (key_eq r.key q.key) refl) rs in
+      let whole : all_rules (table ++ r ∷ []) cs ≡ all_rules table (c ∷ cs) = append_assoc table (r ∷ []) (inserted_rules cs) in
+      let here : (q : Rule) (b : Bool) → key_eq r.key q.key ≡ b → cond b (settled_mark (marked_rule (Insert s r ∷ cs) q)) (marked_rule (Insert s r ∷ cs) q) ≡ marked_rule cs q = here_at in
+      let is : settled_where r.key marks ≡ map (marked_rule cs) rs =
+      ap (settled_where r.key) same ∙ remap (marked_rule (c ∷ cs)) (λ m. cond (key_eq r.key m.rule.key) (settled_mark m) m) (marked_rule cs) (λ q. here q (key_eq r.key q.key) refl) rs in
       subst (IsPrepared (table ++ r ∷ []) cs) (sym is)
       (prepared_of (table ++ r ∷ []) cs rs (good_rest table cs c prepared.good) (clear_rest table cs c prepared.clear)
       (subst (λ (xs : List Rule). IsPermutation xs rs) (sym whole) (rules_moved table (c ∷ cs) marks prepared))
-      (falling_by (marked (c ∷ cs)) (marked cs) (λ q. refl) rs (subst IsFalling same prepared.falling)))
+      (falling_by (marked_rule (c ∷ cs)) (marked_rule cs) (λ q. refl) rs (subst IsFalling same prepared.falling)))
     where
-      here_at : (q : Rule) (b : Bool) → key_eq r.key q.key ≡ b → cond b (settled (marked (Insert s r ∷ cs) q)) (marked (Insert s r ∷ cs) q) ≡ marked cs q
-      here_at q true e = ap settled (this_mark table cs (Insert s r) q e) ∙ sym (sure_here table cs r.key q prepared.good.distinct.0 (key_eq-true r.key q.key e))
+      here_at : (q : Rule) (b : Bool) → key_eq r.key q.key ≡ b → cond b (settled_mark (marked_rule (Insert s r ∷ cs) q)) (marked_rule (Insert s r ∷ cs) q) ≡ marked_rule cs q
+      here_at q true e = ap settled_mark (this_mark table cs (Insert s r) q e) ∙ sym (sure_here table cs r.key q prepared.good.distinct.0 (key_eq-true r.key q.key e))
       here_at q false e = other_mark table cs (Insert s r) q e
 
-  first_deleted : (s : SwitchId) (r : Rule) → IsPrepared table (Delete s r ∷ cs) marks → IsPrepared (filter (λ q. not (key_eq q.key r.key)) table) cs (without r.key marks)
+  first_deleted : (s : SwitchId) (r : Rule) → IsPrepared table (Delete s r ∷ cs) marks → IsPrepared (filter (λ q. not (key_eq q.key r.key)) table) cs (marks_without r.key marks)
   first_deleted s r prepared =
       let c = Delete s r in
       let p = λ (q : Rule). not (key_eq q.key r.key) in
       let rs = rules_of marks in
       let all = all_rules table (c ∷ cs) in
-      let stay : filter p (inserted cs) ≡ inserted cs = others_stay r.key (inserted cs) (not_inserted table cs c prepared.good) in
-      let left : filter p all ≡ all_rules (filter p table) cs = filter-append p table (inserted cs) ∙ ap (λ (xs : List Rule). filter p table ++ xs) stay in
-      let is : without r.key marks ≡ map (marked cs) (filter p rs) = ap (without r.key) (marks_are table (c ∷ cs) marks prepared) ∙ left_first table cs c rs in
+      let stay : filter p (inserted_rules cs) ≡ inserted_rules cs = others_stay r.key (inserted_rules cs) (not_inserted table cs c prepared.good) in
+      let left : filter p all ≡ all_rules (filter p table) cs = filter-append p table (inserted_rules cs) ∙ ap (λ (xs : List Rule). filter p table ++ xs) stay in
+      let is : marks_without r.key marks ≡ map (marked_rule cs) (filter p rs) = ap (marks_without r.key) (marks_are table (c ∷ cs) marks prepared) ∙ left_first table cs c rs in
       subst (IsPrepared (filter p table) cs) (sym is)
       (prepared_of (filter p table) cs (filter p rs) (good_rest table cs c prepared.good) (clear_rest table cs c prepared.clear)
       (subst (λ (xs : List Rule). IsPermutation xs (filter p rs)) left (filter_moved p all rs (keys_apart table (c ∷ cs) is_table prepared.good) (rules_moved table (c ∷ cs) marks prepared)))
@@ -113,34 +113,34 @@ module _ (table : List Rule) (cs : List Change) (marks : List MarkedRule) (is_ta
       let c = Replace s r in
       let rs = rules_of marks in
       let same = marks_are table (c ∷ cs) marks prepared in
-      let stay : map (replaced r) (inserted cs) ≡ inserted cs = unreplaced r (inserted cs) (not_inserted table cs c prepared.good) in
+      let stay : map (replaced r) (inserted_rules cs) ≡ inserted_rules cs = unreplaced r (inserted_rules cs) (not_inserted table cs c prepared.good) in
       let left : map (replaced r) (all_rules table (c ∷ cs)) ≡ all_rules (map (replaced r) table) cs =
-      map-append (replaced r) table (inserted cs) ∙ ap (λ (xs : List Rule). map (replaced r) table ++ xs) stay in
-      let here : (q : Rule) (b : Bool) → key_eq r.key q.key ≡ b → cond b (settled (marked (Replace s r ∷ cs) q)) (marked (Replace s r ∷ cs) q) ≡ marked cs (replaced r q) = here_at in
-      let twice : map (marked cs) (map (replaced r) rs) ≡ map (λ q. marked cs (replaced r q)) rs = remap (replaced r) (marked cs) (λ q. marked cs (replaced r q)) (λ q. refl) rs in
-      let is : settled_where r.key marks ≡ map (marked cs) (map (replaced r) rs) =
+      map-append (replaced r) table (inserted_rules cs) ∙ ap (λ (xs : List Rule). map (replaced r) table ++ xs) stay in
+      let here : (q : Rule) (b : Bool) → key_eq r.key q.key ≡ b → cond b (settled_mark (marked_rule (Replace s r ∷ cs) q)) (marked_rule (Replace s r ∷ cs) q) ≡ marked_rule cs (replaced r q) = here_at in
+      let twice : map (marked_rule cs) (map (replaced r) rs) ≡ map (λ q. marked_rule cs (replaced r q)) rs = remap (replaced r) (marked_rule cs) (λ q. marked_rule cs (replaced r q)) (λ q. refl) rs in
+      let is : settled_where r.key marks ≡ map (marked_rule cs) (map (replaced r) rs) =
       ap (settled_where r.key) same
-      ∙ remap (marked (c ∷ cs)) (λ m. cond (key_eq r.key m.rule.key) (settled m) m) (λ q. marked cs (replaced r q)) (λ q. here q (key_eq r.key q.key) refl) rs ∙ sym twice in
+      ∙ remap (marked_rule (c ∷ cs)) (λ m. cond (key_eq r.key m.rule.key) (settled_mark m) m) (λ q. marked_rule cs (replaced r q)) (λ q. here q (key_eq r.key q.key) refl) rs ∙ sym twice in
       subst (IsPrepared (map (replaced r) table) cs) (sym is)
       (prepared_of (map (replaced r) table) cs (map (replaced r) rs) (good_rest table cs c prepared.good) (clear_rest table cs c prepared.clear)
       (subst (λ (xs : List Rule). IsPermutation xs (map (replaced r) rs)) left
       (IsPermutation-map (replaced r) (all_rules table (c ∷ cs)) rs (rules_moved table (c ∷ cs) marks prepared)))
-      (subst IsFalling (sym twice) (falling_by (marked (c ∷ cs)) (λ q. marked cs (replaced r q)) (λ q. order q (key_eq q.key r.key) refl) rs (subst IsFalling same prepared.falling))))
+      (subst IsFalling (sym twice) (falling_by (marked_rule (c ∷ cs)) (λ q. marked_rule cs (replaced r q)) (λ q. order q (key_eq q.key r.key) refl) rs (subst IsFalling same prepared.falling))))
     where
-      here_at : (q : Rule) (b : Bool) → key_eq r.key q.key ≡ b → cond b (settled (marked (Replace s r ∷ cs) q)) (marked (Replace s r ∷ cs) q) ≡ marked cs (replaced r q)
+      here_at : (q : Rule) (b : Bool) → key_eq r.key q.key ≡ b → cond b (settled_mark (marked_rule (Replace s r ∷ cs) q)) (marked_rule (Replace s r ∷ cs) q) ≡ marked_rule cs (replaced r q)
       here_at q true e =
-          ap settled (this_mark table cs (Replace s r) q e)
+          ap settled_mark (this_mark table cs (Replace s r) q e)
           ∙ ap (λ (k : Key). with_mark (record { key = k; action = r.action }) Sure) (sym (key_eq-true r.key q.key e))
           ∙ sym (sure_here table cs r.key r prepared.good.distinct.0 refl)
-          ∙ ap (marked cs) (sym (cond-true (key_eq q.key r.key) r q (flips q.key r.key ∙ e)))
-      here_at q false e = other_mark table cs (Replace s r) q e ∙ ap (marked cs) (sym (cond-false (key_eq q.key r.key) r q (flips q.key r.key ∙ e)))
+          ∙ ap (marked_rule cs) (sym (cond-true (key_eq q.key r.key) r q (flips q.key r.key ∙ e)))
+      here_at q false e = other_mark table cs (Replace s r) q e ∙ ap (marked_rule cs) (sym (cond-false (key_eq q.key r.key) r q (flips q.key r.key ∙ e)))
 
       order : (q : Rule) (b : Bool) → key_eq q.key r.key ≡ b → (cond b r q).key.priority ≡ q.key.priority
       order q true e = ap (λ (k : Key). k.priority) (sym (key_eq-true q.key r.key e))
       order q false e = refl
 
   -- what is kept is prepared for the others, over the table after the change
-  pub made_first : (c : Change) → IsPrepared table (c ∷ cs) marks → IsPrepared (rules_after_change c table) cs (kept c marks)
+  pub made_first : (c : Change) → IsPrepared table (c ∷ cs) marks → IsPrepared (rules_after_change c table) cs (kept_marks c marks)
   made_first (Insert s r) prepared = first_inserted s r prepared
   made_first (Delete s r) prepared = first_deleted s r prepared
   made_first (Replace s r) prepared = first_replaced s r prepared

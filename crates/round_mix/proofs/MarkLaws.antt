@@ -19,7 +19,7 @@ use Rattle.update_model.proofs.Matches.{IsDelete, Writes, IsWritten, IsKept}
 use Rattle.update_model.specs.declared.Change.{Change}
 use Rattle.update_model.specs.declared.Change.TheVariants.{Insert, Delete, Replace}
 use Rattle.update_model.proofs.ChangeLaws.{key_named, writes_key}
-use Rattle.round_mix.specs.Marks.{mark_by, change_of, marked, inserted, all_rules, marked_rules}
+use Rattle.round_mix.specs.Marks.{mark_by, change_of, marked_rule, inserted_rules, all_rules, marked_rules}
 use Rattle.round_mix.specs.Scan.{is_kept}
 use Rattle.round_mix.specs.declared.Mark.{Mark}
 use Rattle.round_mix.specs.declared.Mark.TheVariants.{Sure, Possible, Replaced}
@@ -76,7 +76,7 @@ IsInsertOf (Delete s q) r = ⊥
 IsInsertOf (Replace s q) r = ⊥
 
 -- what is inserted
-pub in_inserted : (changes : List Change) (c : Change) (r : Rule) → IsIn c changes → IsInsertOf c r → IsIn r (inserted changes)
+pub in_inserted : (changes : List Change) (c : Change) (r : Rule) → IsIn c changes → IsInsertOf c r → IsIn r (inserted_rules changes)
 in_inserted [] c r i e = absurd i
 in_inserted (Insert s q ∷ ds) c r (inl same) e = inl (sym (subst (λ x. IsInsertOf x r) same e))
 in_inserted (Insert s q ∷ ds) c r (inr i) e = inr (in_inserted ds c r i e)
@@ -85,7 +85,7 @@ in_inserted (Delete s q ∷ ds) c r (inr i) e = in_inserted ds c r i e
 in_inserted (Replace s q ∷ ds) c r (inl same) e = absurd (subst (λ x. IsInsertOf x r) same e)
 in_inserted (Replace s q ∷ ds) c r (inr i) e = in_inserted ds c r i e
 
-pub in_from_inserted : (changes : List Change) (r : Rule) → IsIn r (inserted changes) → (c : Change) × IsIn c changes × IsInsertOf c r
+pub in_from_inserted : (changes : List Change) (r : Rule) → IsIn r (inserted_rules changes) → (c : Change) × IsIn c changes × IsInsertOf c r
 in_from_inserted [] r i = absurd i
 in_from_inserted (Insert s q ∷ ds) r (inl e) = (Insert s q, inl refl, sym e)
 in_from_inserted (Insert s q ∷ ds) r (inr i) = let (c, j, e) = in_from_inserted ds r i in (c, inr j, e)
@@ -124,13 +124,13 @@ inserts_some (Insert s r ∷ cs) = inl (refl, inserts_some cs)
 inserts_some (Delete s r ∷ cs) = skip_one (inserts_of cs) cs (Delete s r) (inserts_some cs)
 inserts_some (Replace s r ∷ cs) = skip_one (inserts_of cs) cs (Replace s r) (inserts_some cs)
 
-inserts_after : (table : List Rule) (cs : List Change) → rules_after (inserts_of cs) table ≡ table ++ inserted cs
+inserts_after : (table : List Rule) (cs : List Change) → rules_after (inserts_of cs) table ≡ table ++ inserted_rules cs
 inserts_after table [] = sym (append_nil table)
   where
     append_nil : (xs : List Rule) → xs ++ [] ≡ xs
     append_nil [] = refl
     append_nil (x ∷ xs) = ap (λ ys. x ∷ ys) (append_nil xs)
-inserts_after table (Insert s r ∷ cs) = inserts_after (table ++ r ∷ []) cs ∙ append_assoc table (r ∷ []) (inserted cs)
+inserts_after table (Insert s r ∷ cs) = inserts_after (table ++ r ∷ []) cs ∙ append_assoc table (r ∷ []) (inserted_rules cs)
 inserts_after table (Delete s r ∷ cs) = inserts_after table cs
 inserts_after table (Replace s r ∷ cs) = inserts_after table cs
 
@@ -141,17 +141,17 @@ all_mixed table cs =
 
 module _ (table : List Rule) (changes : List Change) (applies : AllByRecursion (AppliesTo table) changes) (distinct : IsDistinct (map key_named changes)) where
   -- a marked rule is a rule with its mark
-  pub marked_from : (m : MarkedRule) → IsIn m (marked_rules table changes) → (m ≡ marked changes m.rule) × IsIn m.rule (all_rules table changes)
+  pub marked_from : (m : MarkedRule) → IsIn m (marked_rules table changes) → (m ≡ marked_rule changes m.rule) × IsIn m.rule (all_rules table changes)
   marked_from m i =
-      let (x, j, e) = in_from_map (marked changes) m (all_rules table changes) i in
-      let same : m.rule ≡ x = ap (λ y. y.rule) e in (e ∙ ap (marked changes) (sym same), subst (λ y. IsIn y (all_rules table changes)) (sym same) j)
+      let (x, j, e) = in_from_map (marked_rule changes) m (all_rules table changes) i in
+      let same : m.rule ≡ x = ap (λ y. y.rule) e in (e ∙ ap (marked_rule changes) (sym same), subst (λ y. IsIn y (all_rules table changes)) (sym same) j)
 
   -- a kept entry has a marked rule, which is sure or replaced
   pub kept_from : (k : Key) → IsKept table changes k → (m : MarkedRule) × IsIn m (marked_rules table changes) × (is_kept m.mark ≡ true) × (m.rule.key ≡ k)
   kept_from k kept =
       let (x, i, e) = in_from_map (λ y. y.key) k table kept.stood in (
-        marked changes x,
-        in_map (marked changes) x (all_rules table changes) (in_append_left x table (inserted changes) i),
+        marked_rule changes x,
+        in_map (marked_rule changes) x (all_rules table changes) (in_append_left x table (inserted_rules changes) i),
         elim (change_of changes x) as (λ o. change_of changes x ≡ o → is_kept (option_map_or mark_by o Sure) ≡ true) [
           | None ↦ λ _. refl
           | Some c ↦ λ f. let (j, named) = change_found changes x c f in by_change c j (named ∙ sym e)
@@ -173,7 +173,7 @@ module _ (table : List Rule) (changes : List Change) (applies : AllByRecursion (
       let found = change_unique changes m.rule c distinct l named in
       both_ways (is_kept (mark_by c)) off (sym (ap (λ o. is_kept (option_map_or mark_by o Sure)) found) ∙ sym (ap (λ y. is_kept y.mark) is) ∙ kept) in
       record {
-        stood = elim (in_append_cases m.rule table (inserted changes) j) [
+        stood = elim (in_append_cases m.rule table (inserted_rules changes) j) [
           | inl l ↦ in_map (λ y. y.key) m.rule table l
           | inr l ↦ (
               let (c, n, of) = in_from_inserted changes m.rule l in
@@ -184,23 +184,23 @@ module _ (table : List Rule) (changes : List Change) (applies : AllByRecursion (
 
   -- a rule that stood or is written is one of a marked rule
   pub available_from : (r : Rule) → IsIn r table ⊎ IsWritten r changes → (m : MarkedRule) × IsIn m (marked_rules table changes) × IsIn r (rules_by m.mark m.rule)
-  available_from r (inl i) = here (in_append_left r table (inserted changes) i)
+  available_from r (inl i) = here (in_append_left r table (inserted_rules changes) i)
     where
       here : IsIn r (all_rules table changes) → (m : MarkedRule) × IsIn m (marked_rules table changes) × IsIn r (rules_by m.mark m.rule)
-      here j = (marked changes r, in_map (marked changes) r (all_rules table changes) j, rules_by_first (option_map_or mark_by (change_of changes r) Sure) r)
+      here j = (marked_rule changes r, in_map (marked_rule changes) r (all_rules table changes) j, rules_by_first (option_map_or mark_by (change_of changes r) Sure) r)
   available_from r (inr w) = by_change w.0 w.1 w.2
     where
       by_change : (c : Change) → IsIn c changes → Writes r c → (m : MarkedRule) × IsIn m (marked_rules table changes) × IsIn r (rules_by m.mark m.rule)
       by_change (Insert s q) i e =
-          let j = in_append_right r table (inserted changes) (in_inserted changes (Insert s q) r i (sym e)) in
-          (marked changes r, in_map (marked changes) r (all_rules table changes) j, rules_by_first (option_map_or mark_by (change_of changes r) Sure) r)
+          let j = in_append_right r table (inserted_rules changes) (in_inserted changes (Insert s q) r i (sym e)) in
+          (marked_rule changes r, in_map (marked_rule changes) r (all_rules table changes) j, rules_by_first (option_map_or mark_by (change_of changes r) Sure) r)
       by_change (Delete s q) i e = absurd e
       by_change (Replace s q) i e =
           let there : IsIn q.key (keys_of table) = each_at (AppliesTo table) changes (Replace s q) applies i in
           let (x, j, f) = in_from_map (λ y. y.key) q.key table there in
           let found = change_unique changes x (Replace s q) distinct i f in (
-            marked changes x,
-            in_map (marked changes) x (all_rules table changes) (in_append_left x table (inserted changes) j),
+            marked_rule changes x,
+            in_map (marked_rule changes) x (all_rules table changes) (in_append_left x table (inserted_rules changes) j),
             subst (λ o. IsIn r (rules_by (option_map_or mark_by o Sure) x)) (sym found)
                 (inr (inl (e ∙ ap (λ (k : Key). let y : Rule = record { key = k; action = q.action } in y) f))),
           )
@@ -210,7 +210,7 @@ module _ (table : List Rule) (changes : List Change) (applies : AllByRecursion (
   available_to m r i j =
       let (is, l) = marked_from m i in
       let first : r ≡ m.rule → IsIn r table ⊎ IsWritten r changes = λ same.
-      elim (in_append_cases m.rule table (inserted changes) l) [
+      elim (in_append_cases m.rule table (inserted_rules changes) l) [
         | inl n ↦ inl (subst (λ y. IsIn y table) (sym same) n)
         | inr n ↦ (let (c, o, of) = in_from_inserted changes m.rule n in inr (c, o, subst (λ y. Writes y c) (sym same) (insert_writes c m.rule of)))
       ] in

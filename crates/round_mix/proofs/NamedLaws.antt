@@ -15,7 +15,7 @@ use Rattle.flow_rules.specs.declared.rules.Rule.{Rule}
 use Rattle.update_model.specs.declared.Change.{Change}
 use Rattle.update_model.specs.declared.Change.TheVariants.{Insert, Delete, Replace}
 use Rattle.update_model.proofs.ChangeLaws.{key_named}
-use Rattle.round_mix.specs.Marks.{mark_by, change_of, marked, rules_of}
+use Rattle.round_mix.specs.Marks.{mark_by, change_of, marked_rule, rules_of}
 use Rattle.round_mix.specs.Named.{names, IsNamed, with_mark, IsMarkedBy, AreMarked}
 use Rattle.round_mix.specs.declared.Mark.{Mark}
 use Rattle.round_mix.specs.declared.Mark.TheVariants.{Sure, Possible, Replaced}
@@ -60,20 +60,20 @@ names_key (Insert s q) r e = key_eq-true q.key r.key e
 names_key (Delete s q) r e = key_eq-true q.key r.key (and_parts (key_eq q.key r.key) (action_eq q.action r.action) e).0
 names_key (Replace s q) r e = key_eq-true q.key r.key e
 
-unchanged : (before : List Change) (c : Change) (r : Rule) → ¬ (key_named c ≡ r.key) → marked before r ≡ marked (before ++ c ∷ []) r
+unchanged : (before : List Change) (c : Change) (r : Rule) → ¬ (key_named c ≡ r.key) → marked_rule before r ≡ marked_rule (before ++ c ∷ []) r
 unchanged before c r other = ap (λ (o : Option Change). with_mark r (option_map_or mark_by o Sure)) (sym (found_before before c r (key_ne (key_named c) r.key other)))
 
-pub all_unchanged : (before : List Change) (c : Change) (rs : List Rule) → ¬ IsIn (key_named c) (keys_of rs) → map (marked before) rs ≡ map (marked (before ++ c ∷ [])) rs
+pub all_unchanged : (before : List Change) (c : Change) (rs : List Rule) → ¬ IsIn (key_named c) (keys_of rs) → map (marked_rule before) rs ≡ map (marked_rule (before ++ c ∷ [])) rs
 all_unchanged before c [] other = refl
 all_unchanged before c (r ∷ rs) other =
-    ap (λ (m : MarkedRule). m ∷ map (marked before) rs) (unchanged before c r (λ e. other (inl e)))
-    ∙ ap (λ (ms : List MarkedRule). marked (before ++ c ∷ []) r ∷ ms) (all_unchanged before c rs (λ i. other (inr i)))
+    ap (λ (m : MarkedRule). m ∷ map (marked_rule before) rs) (unchanged before c r (λ e. other (inl e)))
+    ∙ ap (λ (ms : List MarkedRule). marked_rule (before ++ c ∷ []) r ∷ ms) (all_unchanged before c rs (λ i. other (inr i)))
 
 -- where a sure rule stands among marked ones
 module _ (before : List Change) (r : Rule) where
-  sure_in : (rs : List Rule) (i : ℕ) → slice_get (map (marked before) rs) i ≡ Some (with_mark r Sure) → IsIn r rs × (change_of before r ≡ None)
+  sure_in : (rs : List Rule) (i : ℕ) → slice_get (map (marked_rule before) rs) i ≡ Some (with_mark r Sure) → IsIn r rs × (change_of before r ≡ None)
   sure_in rs i at =
-      let (x, j, e) = in_from_map (marked before) (with_mark r Sure) rs (in_from_get (map (marked before) rs) i (with_mark r Sure) at) in
+      let (x, j, e) = in_from_map (marked_rule before) (with_mark r Sure) rs (in_from_get (map (marked_rule before) rs) i (with_mark r Sure) at) in
       let same : r ≡ x = ap (λ (m : MarkedRule). m.rule) e in (
         subst (λ y. IsIn y rs) (sym same) j,
         subst (λ y. change_of before y ≡ None) (sym same) (unmarked (change_of before x) (sym (ap (λ (m : MarkedRule). m.mark) e))),
@@ -81,24 +81,24 @@ module _ (before : List Change) (r : Rule) where
 
   -- where no key stands twice, the mark of the named rule is all that changes
   mark_put : (c : Change) (rs : List Rule) (i : ℕ) → IsDistinct (keys_of rs) → key_named c ≡ r.key
-      → slice_get (map (marked before) rs) i ≡ Some (with_mark r Sure)
-      → slice_set (map (marked before) rs) i (with_mark r (mark_by c)) ≡ map (marked (before ++ c ∷ [])) rs
+      → slice_get (map (marked_rule before) rs) i ≡ Some (with_mark r Sure)
+      → slice_set (map (marked_rule before) rs) i (with_mark r (mark_by c)) ≡ map (marked_rule (before ++ c ∷ [])) rs
   mark_put c [] i distinct named at = absurd (let f : None ≡ Some (with_mark r Sure) = at in cc)
   mark_put c (q ∷ rs) zero distinct named at =
-      let e : marked before q ≡ with_mark r Sure = cc in
+      let e : marked_rule before q ≡ with_mark r Sure = cc in
       let same : q ≡ r = ap (λ (m : MarkedRule). m.rule) e in
       let off : change_of before q ≡ None = unmarked (change_of before q) (ap (λ (m : MarkedRule). m.mark) e) in
       let key : key_named c ≡ q.key = named ∙ ap (λ (x : Rule). x.key) (sym same) in
       let here : key_eq (key_named c) q.key ≡ true = subst (λ k. key_eq k q.key ≡ true) (sym key) (key_eq-refl q.key) in
-      ap (λ (x : Rule). with_mark x (mark_by c) ∷ map (marked before) rs) (sym same)
-      ∙ ap (λ (o : Option Change). with_mark q (option_map_or mark_by o Sure) ∷ map (marked before) rs) (sym (found_last before c q off here))
-      ∙ ap (λ (ms : List MarkedRule). marked (before ++ c ∷ []) q ∷ ms) (all_unchanged before c rs (λ k. distinct.0 (subst (λ z. IsIn z (keys_of rs)) key k)))
+      ap (λ (x : Rule). with_mark x (mark_by c) ∷ map (marked_rule before) rs) (sym same)
+      ∙ ap (λ (o : Option Change). with_mark q (option_map_or mark_by o Sure) ∷ map (marked_rule before) rs) (sym (found_last before c q off here))
+      ∙ ap (λ (ms : List MarkedRule). marked_rule (before ++ c ∷ []) q ∷ ms) (all_unchanged before c rs (λ k. distinct.0 (subst (λ z. IsIn z (keys_of rs)) key k)))
   mark_put c (q ∷ rs) (suc i) distinct named at =
       let (there, _) = sure_in rs i at in
       let behind : IsIn (key_named c) (keys_of rs) = subst (λ k. IsIn k (keys_of rs)) (sym named) (in_map (λ (x : Rule). x.key) r rs there) in
-      ap (λ (m : MarkedRule). m ∷ slice_set (map (marked before) rs) i (with_mark r (mark_by c)))
+      ap (λ (m : MarkedRule). m ∷ slice_set (map (marked_rule before) rs) i (with_mark r (mark_by c)))
       (unchanged before c q (λ e. distinct.0 (subst (λ k. IsIn k (keys_of rs)) e behind)))
-      ∙ ap (λ (ms : List MarkedRule). marked (before ++ c ∷ []) q ∷ ms) (mark_put c rs i distinct.1 named at)
+      ∙ ap (λ (ms : List MarkedRule). marked_rule (before ++ c ∷ []) q ∷ ms) (mark_put c rs i distinct.1 named at)
 
 -- a member by its position
 pub mark_at : (ms : List MarkedRule) (i : ℕ) (m : MarkedRule) → i < length ms → m ≡ get_or ms i m → slice_get ms i ≡ Some m
@@ -110,7 +110,7 @@ mark_at (n ∷ ms) (suc i) m within is = mark_at ms i m (omega arith) is
 pub none_marked : (ms : List MarkedRule) → AllByRecursion (λ m. m.mark ≡ Sure) ms → AreMarked (rules_of ms) [] ms
 none_marked ms sure = record { marks_are = same ms sure; distinct = tt; named = tt }
   where
-    same : (ms : List MarkedRule) → AllByRecursion (λ m. m.mark ≡ Sure) ms → ms ≡ map (marked []) (rules_of ms)
+    same : (ms : List MarkedRule) → AllByRecursion (λ m. m.mark ≡ Sure) ms → ms ≡ map (marked_rule []) (rules_of ms)
     same [] sure = refl
     same (m ∷ ms) sure = ap (λ (a : Mark). with_mark m.rule a ∷ ms) sure.0 ∙ ap (λ (ns : List MarkedRule). with_mark m.rule Sure ∷ ns) (same ms sure.1)
 
@@ -118,7 +118,7 @@ none_marked ms sure = record { marks_are = same ms sure; distinct = tt; named = 
 pub marked_push : (rs : List Rule) (before : List Change) (c : Change) (old new : List MarkedRule) → IsDistinct (keys_of rs)
     → AreMarked rs before old → IsMarkedBy c old new → AreMarked rs (before ++ c ∷ []) new
 marked_push rs before c old new distinct state by =
-    let at : slice_get (map (marked before) rs) by.place ≡ Some (with_mark by.rule Sure) =
+    let at : slice_get (map (marked_rule before) rs) by.place ≡ Some (with_mark by.rule Sure) =
     subst (λ (ms : List MarkedRule). slice_get ms by.place ≡ Some (with_mark by.rule Sure)) state.marks_are by.at in
     let key = names_key c by.rule by.named in
     let (there, off) = sure_in before by.rule rs by.place at in

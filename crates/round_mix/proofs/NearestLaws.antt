@@ -10,7 +10,7 @@ use Rattle.net_base.specs.Members.{IsIn}
 use Rattle.net_base.proofs.MemberLaws.{in_map}
 use Rattle.net_base.proofs.ItemLaws.{in_from_get, past_end}
 use Rattle.flow_rules.specs.Patterns.{Header, covers}
-use Rattle.flow_rules.specs.Tuples.{around, slot_of, link_number, IsLink}
+use Rattle.flow_rules.specs.Tuples.{pattern_around, slot_of, link_number, IsLink}
 use Rattle.flow_rules.specs.declared.rules.Action.{Action}
 use Rattle.flow_rules.specs.declared.rules.Action.TheVariants.{Discard}
 use Rattle.flow_rules.specs.declared.rules.Pattern.{Pattern}
@@ -94,8 +94,8 @@ back_more start old new rules i m more within so_far then =
 
 -- where the slots of all kinds are seen no covering rule is nearer
 pub all_near : (h : Header) (marks : List MarkedRule) (from : ℕ) (found : Option ℕ) (kinds patterns : List Pattern) (count : ℕ) → patterns ≡ patterns_back marks
-    → ((p : Pattern) (x : Header) → IsIn p patterns → covers p x ≡ true → (k : Pattern) × IsIn k kinds × (around k x ≡ p))
-    → ((k : Pattern) → IsIn k kinds → (i : ℕ) → i < length marks → get_or (map (slot_of count) patterns) i 0 ≡ slot_of count (around k h) → IsNear h marks from found (length marks - 1 - i))
+    → ((p : Pattern) (x : Header) → IsIn p patterns → covers p x ≡ true → (k : Pattern) × IsIn k kinds × (pattern_around k x ≡ p))
+    → ((k : Pattern) → IsIn k kinds → (i : ℕ) → i < length marks → get_or (map (slot_of count) patterns) i 0 ≡ slot_of count (pattern_around k h) → IsNear h marks from found (length marks - 1 - i))
     → (j : ℕ) → IsNear h marks from found j
 all_near h marks from found kinds patterns count is complete seen j le e =
     let (m, at, c) = place_there h marks j e in
@@ -106,7 +106,7 @@ all_near h marks from found kinds patterns count is complete seen j le e =
     subst (λ xs. IsIn m.rule.key.pattern xs) (sym is)
     (in_permutation (reverse ps) ps m.rule.key.pattern (IsPermutation-sym ps (reverse ps) (IsPermutation-reverse ps)) (in_map (λ (x : MarkedRule). x.rule.key.pattern) m marks (in_from_get marks j m at))) in
     let (k, o, own) = complete m.rule.key.pattern h here c in
-    let slot : get_or (map (slot_of count) patterns) i 0 ≡ slot_of count (around k h) =
+    let slot : get_or (map (slot_of count) patterns) i 0 ≡ slot_of count (pattern_around k h) =
     ap (λ xs. get_or (map (slot_of count) xs) i 0) is ∙ slot_back (slot_of count) marks j m at less ∙ ap (slot_of count) (sym own) in
     let back : length marks - 1 - i ≡ j = omega arith in
     subst (λ (x : ℕ). IsNear h marks from found x) back (seen k o i (omega arith) slot) le e

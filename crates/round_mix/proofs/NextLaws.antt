@@ -26,7 +26,7 @@ use Rattle.update_model.specs.declared.Change.{Change}
 use Rattle.update_model.specs.declared.Change.TheVariants.{Insert, Delete, Replace}
 use Rattle.update_model.proofs.ChangeLaws.{key_named}
 use Rattle.round_mix.specs.Faults.{IsGoodAfter}
-use Rattle.round_mix.specs.Marks.{mark_by, change_of, marked, inserted, all_rules, marked_rules, rules_of}
+use Rattle.round_mix.specs.Marks.{mark_by, change_of, marked_rule, inserted_rules, all_rules, marked_rules, rules_of}
 use Rattle.round_mix.specs.Named.{with_mark, IsNamed, IsMarkedBy, AreMarked}
 use Rattle.round_mix.specs.Nearest.{patterns_in}
 use Rattle.round_mix.specs.Prepared.{AreGood, IsFalling, IsPrepared}
@@ -42,14 +42,14 @@ use Rattle.round_mix.proofs.NamedLaws.{found_last, names_key, all_unchanged, mar
 use Rattle.round_mix.proofs.TriedLaws.{marks_are, rules_moved, prepared_of, clear_all, clear_of, clear_more, falling_by, put_moved, put_falling, clash_to}
 
 -- an insert puts its rule behind the others
-inserted_push : (cs : List Change) (c : Change) → inserted (cs ++ c ∷ []) ≡ inserted cs ++ inserted (c ∷ [])
+inserted_push : (cs : List Change) (c : Change) → inserted_rules (cs ++ c ∷ []) ≡ inserted_rules cs ++ inserted_rules (c ∷ [])
 inserted_push [] c = refl
 inserted_push (Insert s r ∷ cs) c = ap (λ (rs : List Rule). r ∷ rs) (inserted_push cs c)
 inserted_push (Delete s r ∷ cs) c = inserted_push cs c
 inserted_push (Replace s r ∷ cs) c = inserted_push cs c
 
-all_push : (table : List Rule) (cs : List Change) (c : Change) → all_rules table (cs ++ c ∷ []) ≡ all_rules table cs ++ inserted (c ∷ [])
-all_push table cs c = ap (λ (rs : List Rule). table ++ rs) (inserted_push cs c) ∙ sym (append_assoc table (inserted cs) (inserted (c ∷ [])))
+all_push : (table : List Rule) (cs : List Change) (c : Change) → all_rules table (cs ++ c ∷ []) ≡ all_rules table cs ++ inserted_rules (c ∷ [])
+all_push table cs c = ap (λ (rs : List Rule). table ++ rs) (inserted_push cs c) ∙ sym (append_assoc table (inserted_rules cs) (inserted_rules (c ∷ [])))
 
 -- no change is found for a key that none names
 pub unfound : (cs : List Change) (r : Rule) → ¬ IsIn r.key (map key_named cs) → change_of cs r ≡ None
@@ -61,11 +61,11 @@ unfound cs r fresh =
 
 -- a good change names a rule of the table or an inserted one
 named_good : (table : List Rule) (cs : List Change) → AreGood table cs → (c : Change) → IsIn c cs → IsNamed (all_rules table cs) c
-named_good table cs good (Insert s r) i = (r, in_append_right r table (inserted cs) (in_inserted cs (Insert s r) r i refl), key_eq-refl r.key)
-named_good table cs good (Delete s r) i = (r, in_append_left r table (inserted cs) (each_at (AppliesTo table) cs (Delete s r) good.applies i), rule_eq-refl r)
+named_good table cs good (Insert s r) i = (r, in_append_right r table (inserted_rules cs) (in_inserted cs (Insert s r) r i refl), key_eq-refl r.key)
+named_good table cs good (Delete s r) i = (r, in_append_left r table (inserted_rules cs) (each_at (AppliesTo table) cs (Delete s r) good.applies i), rule_eq-refl r)
 named_good table cs good (Replace s r) i =
     let (q, j, e) = in_from_map (λ (x : Rule). x.key) r.key table (each_at (AppliesTo table) cs (Replace s r) good.applies i) in
-    (q, in_append_left q table (inserted cs) j, subst (λ (k : Key). key_eq r.key k ≡ true) e (key_eq-refl r.key))
+    (q, in_append_left q table (inserted_rules cs) j, subst (λ (k : Key). key_eq r.key k ≡ true) e (key_eq-refl r.key))
 
 module _ (table : List Rule) (cs : List Change) (marks : List MarkedRule) (is_table : IsTable table) (prepared : IsPrepared table cs marks) where
   abbrev all : List Rule
@@ -89,7 +89,7 @@ module _ (table : List Rule) (cs : List Change) (marks : List MarkedRule) (is_ta
   }
 
   -- a change that inserts nothing is prepared once its rule is marked
-  next_marked : (c : Change) (new : List MarkedRule) → inserted (c ∷ []) ≡ [] → IsMarkedBy c marks new → IsPrepared table (cs ++ c ∷ []) new
+  next_marked : (c : Change) (new : List MarkedRule) → inserted_rules (c ∷ []) ≡ [] → IsMarkedBy c marks new → IsPrepared table (cs ++ c ∷ []) new
   next_marked c new none by =
       let next = cs ++ c ∷ [] in
       let same : all_rules table next ≡ all = all_push table cs c ∙ ap (λ (xs : List Rule). all ++ xs) none ∙ append-nil all in
@@ -104,7 +104,7 @@ module _ (table : List Rule) (cs : List Change) (marks : List MarkedRule) (is_ta
       } in
       subst (IsPrepared table next) (sym state.marks_are)
       (prepared_of table next rs good (clear_all table next is_table good (subst IsClear (sym same) (clear_of table cs prepared.clear))) moved
-      (falling_by (marked cs) (marked next) (λ q. refl) rs (subst IsFalling (marks_are table cs marks prepared) prepared.falling)))
+      (falling_by (marked_rule cs) (marked_rule next) (λ q. refl) rs (subst IsFalling (marks_are table cs marks prepared) prepared.falling)))
 
   module _ (s : SwitchId) (r : Rule) (free : clashes_with r.key marks ≡ false) where
     apart : (q : Rule) → IsIn q all → ¬ IsClash q r
@@ -126,7 +126,7 @@ module _ (table : List Rule) (cs : List Change) (marks : List MarkedRule) (is_ta
     good_so = record {
       applies = λ i.
           let (q, j, e) = in_from_map (λ (x : Rule). x.key) r.key table i in
-          absent (subst (λ k. IsIn k (keys_of all)) (sym e) (in_map (λ (x : Rule). x.key) q all (in_append_left q table (inserted cs) j)));
+          absent (subst (λ k. IsIn k (keys_of all)) (sym e) (in_map (λ (x : Rule). x.key) q all (in_append_left q table (inserted_rules cs) j)));
       fresh = fresh;
     }
 
@@ -138,10 +138,10 @@ module _ (table : List Rule) (cs : List Change) (marks : List MarkedRule) (is_ta
         let next = cs ++ c ∷ [] in
         let good : AreGood table next = good_push table cs c prepared.good good_so in
         let whole : all_rules table next ≡ all ++ r ∷ [] = all_push table cs c in
-        let one : marked next r ≡ m = ap (λ (o : Option Change). with_mark r (option_map_or mark_by o Sure)) (found_last cs c r (unfound cs r fresh) (key_eq-refl r.key)) in
+        let one : marked_rule next r ≡ m = ap (λ (o : Option Change). with_mark r (option_map_or mark_by o Sure)) (found_last cs c r (unfound cs r fresh) (key_eq-refl r.key)) in
         let same : marked_rules table next ≡ marked_rules table cs ++ m ∷ [] =
-        ap (map (marked next)) whole ∙ map-push (marked next) all r
-        ∙ ap (λ (ms : List MarkedRule). ms ++ marked next r ∷ []) (sym (all_unchanged cs c all absent))
+        ap (map (marked_rule next)) whole ∙ map-push (marked_rule next) all r
+        ∙ ap (λ (ms : List MarkedRule). ms ++ marked_rule next r ∷ []) (sym (all_unchanged cs c all absent))
         ∙ ap (λ (x : MarkedRule). marked_rules table cs ++ x ∷ []) one in
         record {
           good = good;

@@ -10,25 +10,25 @@ use Rattle.net_base.proofs.ItemLaws.{in_from_get, past_end}
 use Rattle.flow_rules.specs.Patterns.{Header, covers}
 use Rattle.flow_rules.specs.declared.rules.Action.{Action}
 use Rattle.table_index.specs.Candidates.{IsAscending, AreCandidates}
-use Rattle.round_mix.specs.Among.{picked, blocks_of, AreWithin}
+use Rattle.round_mix.specs.Among.{picked_marks, blocks_of, ArePositionsBelow}
 use Rattle.round_mix.specs.Prepared.{IsFalling}
 use Rattle.round_mix.specs.Scan.{actions_by, is_kept, scan}
 use Rattle.round_mix.proofs.ScanLaws.{scan_covering}
 use Rattle.round_mix.specs.declared.MarkedRule.{MarkedRule}
 
 module _ (marks : List MarkedRule) where
-  pub in_picked : (ps : List ℕ) (i : ℕ) (m : MarkedRule) → IsIn i ps → slice_get marks i ≡ Some m → IsIn m (picked marks ps)
+  pub in_picked : (ps : List ℕ) (i : ℕ) (m : MarkedRule) → IsIn i ps → slice_get marks i ≡ Some m → IsIn m (picked_marks marks ps)
   in_picked [] i m j at = absurd j
   in_picked (p ∷ ps) i m (inl e) at =
-      subst (λ o. IsIn m (option_map_or (λ n. n ∷ picked marks ps) o (picked marks ps))) (sym (ap (slice_get marks) (sym e) ∙ at)) (inl refl)
+      subst (λ o. IsIn m (option_map_or (λ n. n ∷ picked_marks marks ps) o (picked_marks marks ps))) (sym (ap (slice_get marks) (sym e) ∙ at)) (inl refl)
   in_picked (p ∷ ps) i m (inr j) at =
       let rest = in_picked ps i m j at in
-      elim (slice_get marks p) as (λ o. IsIn m (option_map_or (λ n. n ∷ picked marks ps) o (picked marks ps))) [ None ↦ rest | Some n ↦ inr rest ]
+      elim (slice_get marks p) as (λ o. IsIn m (option_map_or (λ n. n ∷ picked_marks marks ps) o (picked_marks marks ps))) [ None ↦ rest | Some n ↦ inr rest ]
 
-  pub in_from_picked : (ps : List ℕ) (m : MarkedRule) → IsIn m (picked marks ps) → (i : ℕ) × IsIn i ps × (slice_get marks i ≡ Some m)
+  pub in_from_picked : (ps : List ℕ) (m : MarkedRule) → IsIn m (picked_marks marks ps) → (i : ℕ) × IsIn i ps × (slice_get marks i ≡ Some m)
   in_from_picked [] m j = absurd j
   in_from_picked (p ∷ ps) m j =
-      elim (slice_get marks p) as (λ o. slice_get marks p ≡ o → IsIn m (option_map_or (λ n. n ∷ picked marks ps) o (picked marks ps)) → (i : ℕ) × IsIn i (p ∷ ps) × (slice_get marks i ≡ Some m)) [
+      elim (slice_get marks p) as (λ o. slice_get marks p ≡ o → IsIn m (option_map_or (λ n. n ∷ picked_marks marks ps) o (picked_marks marks ps)) → (i : ℕ) × IsIn i (p ∷ ps) × (slice_get marks i ≡ Some m)) [
         | None ↦ λ _ k. let (i, l, e) = in_from_picked ps m k in (i, inr l, e)
         | Some n ↦ λ at k. elim k [
           | inl e ↦ (p, inl refl, at ∙ ap Some (sym e))
@@ -37,9 +37,9 @@ module _ (marks : List MarkedRule) where
       ] refl j
 
   -- a loop over the positions goes on to the next
-  pub picked_step : (ps : List ℕ) (i : ℕ) (m : MarkedRule) → i < length ps → slice_get marks (get_or ps i 0) ≡ Some m → picked marks (drop i ps) ≡ m ∷ picked marks (drop (i + 1) ps)
+  pub picked_step : (ps : List ℕ) (i : ℕ) (m : MarkedRule) → i < length ps → slice_get marks (get_or ps i 0) ≡ Some m → picked_marks marks (drop i ps) ≡ m ∷ picked_marks marks (drop (i + 1) ps)
   picked_step ps i m less at =
-      ap (picked marks) (drop_more ps i 0 less) ∙ ap (λ o. option_map_or (λ n. n ∷ picked marks (drop (i + 1) ps)) o (picked marks (drop (i + 1) ps))) at
+      ap (picked_marks marks) (drop_more ps i 0 less) ∙ ap (λ o. option_map_or (λ n. n ∷ picked_marks marks (drop (i + 1) ps)) o (picked_marks marks (drop (i + 1) ps))) at
 
 -- what stands behind has no greater priority
 falling_at : (marks : List MarkedRule) → IsFalling marks → (i j : ℕ) (m n : MarkedRule) → i < j → slice_get marks i ≡ Some m → slice_get marks j ≡ Some n
@@ -51,14 +51,14 @@ falling_at (x ∷ xs) falling zero (suc j) m n less e f =
     subst (λ (y : MarkedRule). n.rule.key.priority ≤ y.rule.key.priority) same (each_at (λ y. y.rule.key.priority ≤ x.rule.key.priority) xs n falling.0 (in_from_get xs j n f))
 falling_at (x ∷ xs) falling (suc i) (suc j) m n less e f = falling_at xs falling.1 i j m n (omega arith) e f
 
-pub falling_picked : (marks : List MarkedRule) → IsFalling marks → (ps : List ℕ) → IsAscending ps → IsFalling (picked marks ps)
+pub falling_picked : (marks : List MarkedRule) → IsFalling marks → (ps : List ℕ) → IsAscending ps → IsFalling (picked_marks marks ps)
 falling_picked marks falling [] up = tt
 falling_picked marks falling (p ∷ ps) up =
     let rest = falling_picked marks falling ps up.1 in
-    elim (slice_get marks p) as (λ o. slice_get marks p ≡ o → IsFalling (option_map_or (λ n. n ∷ picked marks ps) o (picked marks ps))) [
+    elim (slice_get marks p) as (λ o. slice_get marks p ≡ o → IsFalling (option_map_or (λ n. n ∷ picked_marks marks ps) o (picked_marks marks ps))) [
       | None ↦ λ _. rest
       | Some n ↦ λ at. (
-        each_from_in (λ q. q.rule.key.priority ≤ n.rule.key.priority) (picked marks ps) (λ q j.
+        each_from_in (λ q. q.rule.key.priority ≤ n.rule.key.priority) (picked_marks marks ps) (λ q j.
             let (i, k, e) = in_from_picked marks ps q j in falling_at marks falling p i n q (each_at (λ z. p < z) ps i up.0 k) at e),
         rest,
       )
@@ -97,7 +97,7 @@ ascending_few ps size up within = let few = ascending_above ps zero size (omega 
 
 -- the positions of an aimed address are those of prepared rules
 pub aimed_within : (ready : Bool) (aimed : Option ℕ) (marks : List MarkedRule) (ps : List ℕ) → IsSome aimed → IfSome aimed (λ dst. AreCandidates (blocks_of marks) dst ps)
-    → (ms : List MarkedRule) → cond ready (Some marks) None ≡ Some ms → AreWithin ps (length ms)
+    → (ms : List MarkedRule) → cond ready (Some marks) None ≡ Some ms → ArePositionsBelow ps (length ms)
 aimed_within ready None marks ps is are ms e = absurd (both_ways false refl is)
 aimed_within false (Some dst) marks ps is are ms e = absurd (let f : None ≡ Some ms = e in cc)
 aimed_within true (Some dst) marks ps is are ms e = λ i j.

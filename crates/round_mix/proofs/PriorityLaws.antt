@@ -13,7 +13,7 @@ use Rattle.flow_rules.specs.declared.rules.Key.{Key}
 use Rattle.flow_rules.proofs.KeyLaws.{key_ne}
 use Rattle.round_mix.specs.Order.{priority_of}
 use Rattle.round_mix.specs.Prepared.{IsFalling}
-use Rattle.round_mix.specs.Tried.{clashes_with, of_priority, put_in, without}
+use Rattle.round_mix.specs.Tried.{clashes_with, of_priority, put_in, marks_without}
 use Rattle.round_mix.specs.declared.MarkedRule.{MarkedRule}
 
 -- of a fact of all members, that of one of them
@@ -157,13 +157,13 @@ module _ (ms : List MarkedRule) (p a b : ℕ) (first_within : a ≤ length ms) (
       still (x ∷ xs) h = ap (λ (y : MarkedRule). y ∷ map f xs) h.0 ∙ ap (λ (ys : List MarkedRule). x ∷ ys) (still xs h.1)
 
   -- and those of a key of the priority are all between them
-  pub kept_before : (k : Key) → k.priority ≡ p → without k (take a ms) ≡ take a ms
+  pub kept_before : (k : Key) → k.priority ≡ p → marks_without k (take a ms) ≡ take a ms
   kept_before k is =
       all_pass (λ m. not (key_eq m.rule.key k)) (take a ms)
       (each_so (λ m. p < m.rule.key.priority) (λ m. not (key_eq m.rule.key k) ≡ true)
       (λ m less. not_from_false (key_eq m.rule.key k) (key_ne m.rule.key k (λ e. let s = ap (λ (x : Key). x.priority) e in omega arith))) (take a ms) above)
 
-  pub kept_behind : (k : Key) → k.priority ≡ p → without k (drop b ms) ≡ drop b ms
+  pub kept_behind : (k : Key) → k.priority ≡ p → marks_without k (drop b ms) ≡ drop b ms
   kept_behind k is =
       all_pass (λ m. not (key_eq m.rule.key k)) (drop b ms)
       (each_so (λ m. m.rule.key.priority < p) (λ m. not (key_eq m.rule.key k) ≡ true)

@@ -8,10 +8,10 @@ use Rattle.net_base.specs.Members.{IsIn}
 use Rattle.net_base.proofs.MemberLaws.{in_append_left, in_append_right, in_append_cases, each_at, in_map, in_from_map}
 use Rattle.net_base.specs.declared.ids.Place.{Place}
 use Rattle.topology.specs.Networks.{Network}
-use Rattle.path_walk.specs.Outcomes.{acted, header_at}
+use Rattle.path_walk.specs.Outcomes.{action_outcome, header_at}
 use Rattle.path_walk.specs.declared.Outcome.{Outcome}
 use Rattle.flow_rules.specs.Patterns.{Header, covers}
-use Rattle.flow_rules.specs.Tables.{matched, lookup}
+use Rattle.flow_rules.specs.Tables.{matched_rule, lookup}
 use Rattle.flow_rules.specs.declared.rules.Rule.{Rule}
 use Rattle.flow_rules.specs.declared.rules.Action.{Action}
 use Rattle.flow_rules.specs.declared.rules.Action.TheVariants.{Discard}
@@ -20,7 +20,7 @@ use Rattle.update_model.proofs.Matches.{MayMatch, MayMiss}
 use Rattle.update_model.specs.declared.Change.{Change}
 use Rattle.update_model.proofs.MatchLaws.{may_match, may_miss, misses_somewhere, matches_somewhere}
 use Rattle.round_mix.specs.Found.{AreAllOutcomes}
-use Rattle.round_mix.specs.Marks.{marked, all_rules, marked_rules}
+use Rattle.round_mix.specs.Marks.{marked_rule, all_rules, marked_rules}
 use Rattle.round_mix.specs.Prepared.{AreGood, AreClear, IsPrepared, IsFalling}
 use Rattle.round_mix.specs.Scan.{actions_by, is_kept, scan}
 use Rattle.round_mix.specs.declared.Mark.{Mark}
@@ -123,7 +123,7 @@ module _ (h : Header) where
         let (n_is, k) = marked_from table changes prepared.good.applies prepared.good.distinct n (prepared.from n i) in
         let (m_is, l) = marked_from table changes prepared.good.applies prepared.good.distinct m (prepared.from m j) in
         let e = prepared.clear (all_rules table changes) (all_mixed table changes) h n.rule m.rule k l over covered same in
-        n_is ∙ ap (marked changes) e ∙ sym m_is
+        n_is ∙ ap (marked_rule changes) e ∙ sym m_is
 
     -- what may match stands in the scan
     met : (r : Rule) → MayMatch table changes h r → IsIn r.action (scan h marks)
@@ -210,27 +210,27 @@ module _ (h : Header) where
     -- and each lookup's is one of the scan
     pub scan_from_lookup : (mixed : List Rule) → IsMixture table changes mixed → IsIn (lookup h mixed) (scan h marks)
     scan_from_lookup mixed mixture =
-        elim (matched h mixed) as (λ o. matched h mixed ≡ o → IsIn (option_map_or (λ r. r.action) o Discard) (scan h marks)) [
+        elim (matched_rule h mixed) as (λ o. matched_rule h mixed ≡ o → IsIn (option_map_or (λ r. r.action) o Discard) (scan h marks)) [
           | None ↦ λ e. ended (may_miss table changes prepared.good.applies prepared.good.distinct h mixed mixture e)
           | Some r ↦ λ e. met r (may_match table changes prepared.good.applies prepared.good.distinct h mixed mixture r e)
         ] refl
 
 -- what a place makes of the scan's actions are its outcomes over all mixtures
 pub outcomes_from_marks : (net : Network) (place : Place) (dst : ℕ) (table : List Rule) (changes : List Change) (marks : List MarkedRule) (list : List Outcome)
-    → AreScannable table changes marks → list ≡ map (acted net place) (scan (header_at place dst) marks) → AreAllOutcomes net table changes place dst list
+    → AreScannable table changes marks → list ≡ map (action_outcome net place) (scan (header_at place dst) marks) → AreAllOutcomes net table changes place dst list
 outcomes_from_marks net place dst table changes marks list prepared is found = (
   λ i.
-      let (a, j, e) = in_from_map (acted net place) found (scan (header_at place dst) marks) (subst (λ xs. IsIn found xs) is i) in
+      let (a, j, e) = in_from_map (action_outcome net place) found (scan (header_at place dst) marks) (subst (λ xs. IsIn found xs) is i) in
       let (mixed, mixture, f) = lookup_from_scan (header_at place dst) table changes marks prepared a j in
-      record { mixed = mixed; held = mixture; is = e ∙ ap (acted net place) f },
+      record { mixed = mixed; held = mixture; is = e ∙ ap (action_outcome net place) f },
   λ o.
       let j = scan_from_lookup (header_at place dst) table changes marks prepared o.mixed o.held in
       subst (λ xs. IsIn found xs) (sym is)
-      (subst (λ x. IsIn x (map (acted net place) (scan (header_at place dst) marks))) (sym o.is) (in_map (acted net place) (lookup (header_at place dst) o.mixed) (scan (header_at place dst) marks) j)),
+      (subst (λ x. IsIn x (map (action_outcome net place) (scan (header_at place dst) marks))) (sym o.is) (in_map (action_outcome net place) (lookup (header_at place dst) o.mixed) (scan (header_at place dst) marks) j)),
 )
 
 pub outcomes_from_scan : (net : Network) (place : Place) (dst : ℕ) (table : List Rule) (changes : List Change) (marks : List MarkedRule) (list : List Outcome)
-    → IsPrepared table changes marks → list ≡ map (acted net place) (scan (header_at place dst) marks) → AreAllOutcomes net table changes place dst list
+    → IsPrepared table changes marks → list ≡ map (action_outcome net place) (scan (header_at place dst) marks) → AreAllOutcomes net table changes place dst list
 outcomes_from_scan net place dst table changes marks list prepared = outcomes_from_marks net place dst table changes marks list (scannable table changes marks prepared)
 
 -- what is prepared, by the flag

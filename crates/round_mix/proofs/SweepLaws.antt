@@ -25,7 +25,7 @@ use Rattle.flow_rules.proofs.OverlapLaws.{meet_in, meet_out}
 use Rattle.round_mix.specs.Apart.{AreApart}
 use Rattle.round_mix.specs.Marks.{rules_of}
 use Rattle.round_mix.specs.Order.{priority_of, base_of}
-use Rattle.round_mix.specs.Kinds.{has_port, has_vlan, kind_of, tests_port, tests_vlan, kind_eq, clash_between, AreSwept, AreKindsApart, begin_of, end_of, spot_cmp, is_sooner, begins_past, reach_with, turned}
+use Rattle.round_mix.specs.Kinds.{has_port, has_vlan, kind_of, tests_port, tests_vlan, kind_eq, clash_between, AreSwept, AreKindsApart, begin_of, end_of, spot_cmp, is_sooner, begins_past, reach_with, turned_pair}
 use Rattle.round_mix.specs.declared.MarkedRule.{MarkedRule}
 use Rattle.round_mix.specs.declared.kinds.Kind.{Kind}
 use Rattle.round_mix.specs.declared.kinds.Kind.TheVariants as kind
@@ -167,7 +167,7 @@ keys_turn k l e =
     let (h, first, second) = meet_in k.pattern l.pattern meets in
     and_from (l.priority == k.priority) (patterns_meet l.pattern k.pattern) (eq-eqb l.priority k.priority (sym (eqb-true k.priority l.priority top))) (meet_out l.pattern k.pattern h second first)
 
-between_turn : (pair : Pair) (m n : MarkedRule) → clash_between pair n m ≡ true → clash_between (turned pair) m n ≡ true
+between_turn : (pair : Pair) (m n : MarkedRule) → clash_between pair n m ≡ true → clash_between (turned_pair pair) m n ≡ true
 between_turn pair m n e =
     let (front, clash) = and_parts (kind_eq (kind_of n) pair.one && kind_eq (kind_of m) pair.two) (keys_clash n.rule.key m.rule.key) e in
     let (one, two) = and_parts (kind_eq (kind_of n) pair.one) (kind_eq (kind_of m) pair.two) front in
@@ -177,13 +177,13 @@ neither : (a b : Bool) → a ≡ false → b ≡ false → (a || b) ≡ false
 neither a b e f = ap (λ (x : Bool). x || b) e ∙ f
 
 -- two sweeps tell that two kinds are apart
-pub apart_from_sweeps : (pair : Pair) (ms : List MarkedRule) → AreSwept pair ms → AreSwept (turned pair) ms → AreKindsApart pair ms
+pub apart_from_sweeps : (pair : Pair) (ms : List MarkedRule) → AreSwept pair ms → AreSwept (turned_pair pair) ms → AreKindsApart pair ms
 unfolding std_list.IsDistinct
 apart_from_sweeps pair [] a b = tt
 apart_from_sweeps pair (m ∷ ms) a b = (
-  each_both (λ n. clash_between pair m n ≡ false) (λ n. clash_between (turned pair) m n ≡ false) (λ n. (clash_between pair m n || clash_between pair n m) ≡ false)
+  each_both (λ n. clash_between pair m n ≡ false) (λ n. clash_between (turned_pair pair) m n ≡ false) (λ n. (clash_between pair m n || clash_between pair n m) ≡ false)
       (λ n e f. neither (clash_between pair m n) (clash_between pair n m) e (elim (cases_test (clash_between pair n m)) [
-        | inl g ↦ absurd (both_ways (clash_between (turned pair) m n) f (between_turn pair m n g))
+        | inl g ↦ absurd (both_ways (clash_between (turned_pair pair) m n) f (between_turn pair m n g))
         | inr g ↦ g
       ])) ms a.0 b.0,
   apart_from_sweeps pair ms a.1 b.1,

@@ -26,10 +26,10 @@ use Rattle.update_model.specs.declared.Change.TheVariants.{Insert, Delete, Repla
 use Rattle.update_model.proofs.ChangeLaws.{key_named}
 use Rattle.update_model.proofs.MadeLaws.{distinct_some}
 use Rattle.update_model.proofs.MatchLaws.{some_filter}
-use Rattle.round_mix.specs.Marks.{mark_by, marked, all_rules, marked_rules, rules_of}
+use Rattle.round_mix.specs.Marks.{mark_by, marked_rule, all_rules, marked_rules, rules_of}
 use Rattle.round_mix.specs.Named.{with_mark}
 use Rattle.round_mix.specs.Prepared.{AreGood, AreClear, IsFalling, IsPrepared}
-use Rattle.round_mix.specs.Tried.{settled, rule_after, put_in, marked_where, without, is_refused, tried, given_up, settled_where, kept}
+use Rattle.round_mix.specs.Tried.{settled_mark, rule_after, put_in, marked_where, marks_without, is_refused, tried_marks, given_up, settled_where, kept_marks}
 use Rattle.round_mix.specs.Nearest.{patterns_in}
 use Rattle.round_mix.specs.declared.Mark.{Mark}
 use Rattle.round_mix.specs.declared.Mark.TheVariants.{Sure, Possible, Replaced}
@@ -87,14 +87,14 @@ filter_moved p xs ys distinct moved =
     one rs d = distinct_members (λ (r : Rule). r.key) (filter p rs) (distinct_some (λ (r : Rule). r.key) (filter p rs) rs (some_filter p rs) d)
 
 -- what is prepared, by the rules in their order
-pub marks_are : (table : List Rule) (cs : List Change) (marks : List MarkedRule) → IsPrepared table cs marks → marks ≡ map (marked cs) (rules_of marks)
+pub marks_are : (table : List Rule) (cs : List Change) (marks : List MarkedRule) → IsPrepared table cs marks → marks ≡ map (marked_rule cs) (rules_of marks)
 marks_are table cs marks prepared =
-    go marks (each_from_in (λ m. m ≡ marked cs m.rule) marks (λ m i.
+    go marks (each_from_in (λ m. m ≡ marked_rule cs m.rule) marks (λ m i.
     (marked_from table cs prepared.good.applies prepared.good.distinct m (in_permutation (marked_rules table cs) marks m prepared.rules i)).0))
   where
-    go : (ms : List MarkedRule) → AllByRecursion (λ m. m ≡ marked cs m.rule) ms → ms ≡ map (marked cs) (rules_of ms)
+    go : (ms : List MarkedRule) → AllByRecursion (λ m. m ≡ marked_rule cs m.rule) ms → ms ≡ map (marked_rule cs) (rules_of ms)
     go [] h = refl
-    go (m ∷ ms) h = ap (λ (n : MarkedRule). n ∷ ms) h.0 ∙ ap (λ (ns : List MarkedRule). marked cs m.rule ∷ ns) (go ms h.1)
+    go (m ∷ ms) h = ap (λ (n : MarkedRule). n ∷ ms) h.0 ∙ ap (λ (ns : List MarkedRule). marked_rule cs m.rule ∷ ns) (go ms h.1)
 
 pub rules_moved : (table : List Rule) (cs : List Change) (marks : List MarkedRule) → IsPrepared table cs marks → IsPermutation (all_rules table cs) (rules_of marks)
 rules_moved table cs marks prepared =
@@ -102,9 +102,9 @@ rules_moved table cs marks prepared =
     (IsPermutation-map (λ (m : MarkedRule). m.rule) (marked_rules table cs) marks prepared.rules)
 
 pub prepared_of : (table : List Rule) (cs : List Change) (rs : List Rule) → AreGood table cs → AreClear table cs → IsPermutation (all_rules table cs) rs
-    → IsFalling (map (marked cs) rs) → IsPrepared table cs (map (marked cs) rs)
+    → IsFalling (map (marked_rule cs) rs) → IsPrepared table cs (map (marked_rule cs) rs)
 prepared_of table cs rs good clear moved falling =
-    record { good = good; clear = clear; rules = IsPermutation-map (marked cs) (all_rules table cs) rs moved; falling = falling }
+    record { good = good; clear = clear; rules = IsPermutation-map (marked_rule cs) (all_rules table cs) rs moved; falling = falling }
 
 -- all mixtures are clear where the table's rules and the inserted ones are
 pub clear_all : (table : List Rule) (cs : List Change) → IsTable table → AreGood table cs → IsClear (all_rules table cs) → AreClear table cs
@@ -112,7 +112,7 @@ clear_all table cs is_table good clear =
     clear_from_free table cs is_table good (λ m n i j clash.
     let (e, k) = marked_from table cs good.applies good.distinct m i in
     let (f, l) = marked_from table cs good.applies good.distinct n j in
-    e ∙ ap (marked cs) (clear clash.header m.rule n.rule k l clash.first clash.second clash.priority) ∙ sym f)
+    e ∙ ap (marked_rule cs) (clear clash.header m.rule n.rule k l clash.first clash.second clash.priority) ∙ sym f)
 
 pub clear_of : (table : List Rule) (cs : List Change) → AreClear table cs → IsClear (all_rules table cs)
 clear_of table cs clear = clear (all_rules table cs) (all_mixed table cs)
@@ -128,7 +128,7 @@ clear_none table clear mixed mixture h a b i j = clear h a b (there a i) (there 
     there r k = subst (λ cs. IsIn r (rules_after cs table)) (none mixture.made mixture.some) ((mixture.same r).0 k)
 
 -- a table alone
-alone_of : (table rs : List Rule) → IsClear table → IsPermutation table rs → IsFalling (map (marked []) rs) → IsPrepared table [] (map (marked []) rs)
+alone_of : (table rs : List Rule) → IsClear table → IsPermutation table rs → IsFalling (map (marked_rule []) rs) → IsPrepared table [] (map (marked_rule []) rs)
 alone_of table rs clear moved falling =
     prepared_of table [] rs (record { applies = tt; distinct = tt }) (clear_none table clear)
     (subst (λ (xs : List Rule). IsPermutation xs rs) (sym (append-nil table)) moved) falling
@@ -157,7 +157,7 @@ remap f t g same [] = refl
 remap f t g same (x ∷ xs) = ap (λ y. y ∷ map t (map f xs)) (same x) ∙ ap (λ ys. g x ∷ ys) (remap f t g same xs)
 
 -- the mark by one change
-by_one : (c : Change) (q : Rule) (b : Bool) → key_eq (key_named c) q.key ≡ b → marked (c ∷ []) q ≡ cond b (with_mark q (mark_by c)) (with_mark q Sure)
+by_one : (c : Change) (q : Rule) (b : Bool) → key_eq (key_named c) q.key ≡ b → marked_rule (c ∷ []) q ≡ cond b (with_mark q (mark_by c)) (with_mark q Sure)
 by_one c q true e = ap (λ (o : Option Change). with_mark q (option_map_or mark_by o Sure)) (cond-true (key_eq (key_named c) q.key) (Some c) None e)
 by_one c q false e = ap (λ (o : Option Change). with_mark q (option_map_or mark_by o Sure)) (cond-false (key_eq (key_named c) q.key) (Some c) None e)
 
@@ -168,29 +168,29 @@ module _ (table : List Rule) (c : Change) (none : all_rules table (c ∷ []) ≡
       let rs = rules_of marks in
       let same = marks_are table [] marks prepared in
       let good : AreGood table (c ∷ []) = record { applies = (applies, tt); distinct = (λ i. i, tt) } in
-      let is : marked_where (key_named c) (mark_by c) marks ≡ map (marked (c ∷ [])) rs =
+      let is : marked_where (key_named c) (mark_by c) marks ≡ map (marked_rule (c ∷ [])) rs =
       ap (marked_where (key_named c) (mark_by c)) same
-      ∙ remap (marked []) (λ m. cond (key_eq (key_named c) m.rule.key) (with_mark m.rule (mark_by c)) m) (marked (c ∷ [])) (λ q. sym (by_one c q (key_eq (key_named c) q.key) refl)) rs in
+      ∙ remap (marked_rule []) (λ m. cond (key_eq (key_named c) m.rule.key) (with_mark m.rule (mark_by c)) m) (marked_rule (c ∷ [])) (λ q. sym (by_one c q (key_eq (key_named c) q.key) refl)) rs in
       subst (IsPrepared table (c ∷ [])) (sym is)
       (prepared_of table (c ∷ []) rs good (clear_all table (c ∷ []) is_table good (subst IsClear (sym none) (clear_of table [] prepared.clear)))
       (subst (λ (xs : List Rule). IsPermutation xs rs) (sym none) (rules_moved table [] marks prepared))
-      (falling_by (marked []) (marked (c ∷ [])) (λ q. refl) rs (subst IsFalling same prepared.falling)))
+      (falling_by (marked_rule []) (marked_rule (c ∷ [])) (λ q. refl) rs (subst IsFalling same prepared.falling)))
 
   back : IsPrepared table (c ∷ []) marks → IsPrepared table [] (marked_where (key_named c) Sure marks)
   back prepared =
       let rs = rules_of marks in
       let same = marks_are table (c ∷ []) marks prepared in
-      let here : (q : Rule) (b : Bool) → key_eq (key_named c) q.key ≡ b → cond b (with_mark q Sure) (marked (c ∷ []) q) ≡ with_mark q Sure = here_at in
-      let is : marked_where (key_named c) Sure marks ≡ map (marked []) rs =
+      let here : (q : Rule) (b : Bool) → key_eq (key_named c) q.key ≡ b → cond b (with_mark q Sure) (marked_rule (c ∷ []) q) ≡ with_mark q Sure = here_at in
+      let is : marked_where (key_named c) Sure marks ≡ map (marked_rule []) rs =
       ap (marked_where (key_named c) Sure) same
-      ∙ remap (marked (c ∷ [])) (λ m. cond (key_eq (key_named c) m.rule.key) (with_mark m.rule Sure) m) (marked []) (λ q. here q (key_eq (key_named c) q.key) refl) rs in
+      ∙ remap (marked_rule (c ∷ [])) (λ m. cond (key_eq (key_named c) m.rule.key) (with_mark m.rule Sure) m) (marked_rule []) (λ q. here q (key_eq (key_named c) q.key) refl) rs in
       let whole : all_rules table (c ∷ []) ≡ table = none ∙ append-nil table in
       subst (IsPrepared table []) (sym is)
       (alone_of table rs (subst IsClear whole (clear_of table (c ∷ []) prepared.clear))
       (subst (λ (xs : List Rule). IsPermutation xs rs) whole (rules_moved table (c ∷ []) marks prepared))
-      (falling_by (marked (c ∷ [])) (marked []) (λ q. refl) rs (subst IsFalling same prepared.falling)))
+      (falling_by (marked_rule (c ∷ [])) (marked_rule []) (λ q. refl) rs (subst IsFalling same prepared.falling)))
     where
-      here_at : (q : Rule) (b : Bool) → key_eq (key_named c) q.key ≡ b → cond b (with_mark q Sure) (marked (c ∷ []) q) ≡ with_mark q Sure
+      here_at : (q : Rule) (b : Bool) → key_eq (key_named c) q.key ≡ b → cond b (with_mark q Sure) (marked_rule (c ∷ []) q) ≡ with_mark q Sure
       here_at q true e = refl
       here_at q false e = by_one c q false e
 
@@ -199,26 +199,26 @@ abbrev pub replaced : Rule → Rule → Rule
 replaced r q = cond (key_eq q.key r.key) r q
 
 -- the rule of the change's key is taken out
-left_out : (c : Change) (rs : List Rule) → without (key_named c) (map (marked (c ∷ [])) rs) ≡ map (marked []) (filter (λ q. not (key_eq q.key (key_named c))) rs)
+left_out : (c : Change) (rs : List Rule) → marks_without (key_named c) (map (marked_rule (c ∷ [])) rs) ≡ map (marked_rule []) (filter (λ q. not (key_eq q.key (key_named c))) rs)
 left_out c [] = refl
 left_out c (q ∷ rs) =
     let p = λ (r : Rule). not (key_eq r.key (key_named c)) in
     elim (key_eq q.key (key_named c)) as (λ b. key_eq q.key (key_named c) ≡ b
-    → cond (not b) (marked (c ∷ []) q ∷ without (key_named c) (map (marked (c ∷ [])) rs)) (without (key_named c) (map (marked (c ∷ [])) rs))
-    ≡ map (marked []) (cond (not b) (q ∷ filter p rs) (filter p rs))) [
+    → cond (not b) (marked_rule (c ∷ []) q ∷ marks_without (key_named c) (map (marked_rule (c ∷ [])) rs)) (marks_without (key_named c) (map (marked_rule (c ∷ [])) rs))
+    ≡ map (marked_rule []) (cond (not b) (q ∷ filter p rs) (filter p rs))) [
       | true ↦ λ e. left_out c rs
-      | false ↦ λ e. ap (λ (m : MarkedRule). m ∷ without (key_named c) (map (marked (c ∷ [])) rs)) (by_one c q false (flips (key_named c) q.key ∙ e))
+      | false ↦ λ e. ap (λ (m : MarkedRule). m ∷ marks_without (key_named c) (map (marked_rule (c ∷ [])) rs)) (by_one c q false (flips (key_named c) q.key ∙ e))
           ∙ ap (λ (ms : List MarkedRule). with_mark q Sure ∷ ms) (left_out c rs)
     ] refl
 
 -- the table is then what is left
 out : (table after : List Rule) (c : Change) (marks : List MarkedRule) → IsTable table → filter (λ q. not (key_eq q.key (key_named c))) (all_rules table (c ∷ [])) ≡ after
-    → IsClear after → IsPrepared table (c ∷ []) marks → IsPrepared after [] (without (key_named c) marks)
+    → IsClear after → IsPrepared table (c ∷ []) marks → IsPrepared after [] (marks_without (key_named c) marks)
 out table after c marks is_table left clear prepared =
     let rs = rules_of marks in
     let p = λ (r : Rule). not (key_eq r.key (key_named c)) in
     let all = all_rules table (c ∷ []) in
-    let is : without (key_named c) marks ≡ map (marked []) (filter p rs) = ap (without (key_named c)) (marks_are table (c ∷ []) marks prepared) ∙ left_out c rs in
+    let is : marks_without (key_named c) marks ≡ map (marked_rule []) (filter p rs) = ap (marks_without (key_named c)) (marks_are table (c ∷ []) marks prepared) ∙ left_out c rs in
     subst (IsPrepared after []) (sym is)
     (alone_of after (filter p rs) clear
     (subst (λ (xs : List Rule). IsPermutation xs (filter p rs)) left
@@ -267,11 +267,11 @@ put_falling m (n ∷ ns) h =
 
 -- the marks where one rule is inserted
 marked_insert : (c : Change) (r : Rule) (table : List Rule) → key_named c ≡ r.key → mark_by c ≡ Possible → ¬ IsIn r.key (keys_of table)
-    → map (marked (c ∷ [])) (table ++ r ∷ []) ≡ map (marked []) (table ++ []) ++ with_mark r Possible ∷ []
+    → map (marked_rule (c ∷ [])) (table ++ r ∷ []) ≡ map (marked_rule []) (table ++ []) ++ with_mark r Possible ∷ []
 marked_insert c r [] named mark absent =
     ap (λ (m : MarkedRule). m ∷ []) (by_one c r true (subst (λ k. key_eq (key_named c) k ≡ true) named (key_eq-refl (key_named c))) ∙ ap (with_mark r) mark)
 marked_insert c r (q ∷ table) named mark absent =
-    ap (λ (m : MarkedRule). m ∷ map (marked (c ∷ [])) (table ++ r ∷ [])) (by_one c q false (key_ne (key_named c) q.key (λ e. absent (inl (sym named ∙ e)))))
+    ap (λ (m : MarkedRule). m ∷ map (marked_rule (c ∷ [])) (table ++ r ∷ [])) (by_one c q false (key_ne (key_named c) q.key (λ e. absent (inl (sym named ∙ e)))))
     ∙ ap (λ (ms : List MarkedRule). with_mark q Sure ∷ ms) (marked_insert c r table named mark (λ i. absent (inr i)))
 
 -- keys clash exactly where the rules do
@@ -319,7 +319,7 @@ module _ (table : List Rule) (marks : List MarkedRule) where
       ]
 
   -- a change that isn't refused is prepared
-  pub begun : (c : Change) → IsTable table → AppliesTo table c → IsPrepared table [] marks → is_refused c marks ≡ false → IsPrepared table (c ∷ []) (tried c marks)
+  pub begun : (c : Change) → IsTable table → AppliesTo table c → IsPrepared table [] marks → is_refused c marks ≡ false → IsPrepared table (c ∷ []) (tried_marks c marks)
   begun (Insert s r) is_table applies prepared free =
       let c = Insert s r in
       let m = with_mark r Possible in
@@ -361,15 +361,15 @@ module _ (table : List Rule) (marks : List MarkedRule) where
   returned (Replace s r) is_table prepared = back table (Replace s r) refl is_table marks prepared
 
 -- so few entries are needed
-without_few : (k : Key) (ms : List MarkedRule) → length (without k ms) ≤ length ms
+without_few : (k : Key) (ms : List MarkedRule) → length (marks_without k ms) ≤ length ms
 without_few k ms = let both = length-filter_both (λ (m : MarkedRule). not (key_eq m.rule.key k)) (λ m. not (not (key_eq m.rule.key k))) (λ m. refl) ms in omega arith
 
-pub tried_few : (c : Change) (ms : List MarkedRule) → length (tried c ms) ≤ length ms + 1
+pub tried_few : (c : Change) (ms : List MarkedRule) → length (tried_marks c ms) ≤ length ms + 1
 tried_few (Insert s r) ms = let e = length_permutation (with_mark r Possible ∷ ms) (put_in (with_mark r Possible) ms) (put_moved (with_mark r Possible) ms) in omega arith
 tried_few (Delete s r) ms = let e = length-map ms (λ (m : MarkedRule). cond (key_eq r.key m.rule.key) (with_mark m.rule Possible) m) in omega arith
 tried_few (Replace s r) ms = let e = length-map ms (λ (m : MarkedRule). cond (key_eq r.key m.rule.key) (with_mark m.rule (Replaced r.action)) m) in omega arith
 
-pub begun_few : (c : Change) (old new : List MarkedRule) (b : Bool) → (b ≡ true → new ≡ tried c old) → (b ≡ false → new ≡ old) → length new ≤ length old + 1
+pub begun_few : (c : Change) (old new : List MarkedRule) (b : Bool) → (b ≡ true → new ≡ tried_marks c old) → (b ≡ false → new ≡ old) → length new ≤ length old + 1
 begun_few c old new true on off = subst (λ (ms : List MarkedRule). length ms ≤ length old + 1) (sym (on refl)) (tried_few c old)
 begun_few c old new false on off = let same = ap length (off refl) in omega arith
 
@@ -378,10 +378,10 @@ given_few (Insert s r) ms = without_few r.key ms
 given_few (Delete s r) ms = let e = length-map ms (λ (m : MarkedRule). cond (key_eq r.key m.rule.key) (with_mark m.rule Sure) m) in omega arith
 given_few (Replace s r) ms = let e = length-map ms (λ (m : MarkedRule). cond (key_eq r.key m.rule.key) (with_mark m.rule Sure) m) in omega arith
 
-pub kept_few : (c : Change) (ms : List MarkedRule) → length (kept c ms) ≤ length ms
-kept_few (Insert s r) ms = let e = length-map ms (λ (m : MarkedRule). cond (key_eq r.key m.rule.key) (settled m) m) in omega arith
+pub kept_few : (c : Change) (ms : List MarkedRule) → length (kept_marks c ms) ≤ length ms
+kept_few (Insert s r) ms = let e = length-map ms (λ (m : MarkedRule). cond (key_eq r.key m.rule.key) (settled_mark m) m) in omega arith
 kept_few (Delete s r) ms = without_few r.key ms
-kept_few (Replace s r) ms = let e = length-map ms (λ (m : MarkedRule). cond (key_eq r.key m.rule.key) (settled m) m) in omega arith
+kept_few (Replace s r) ms = let e = length-map ms (λ (m : MarkedRule). cond (key_eq r.key m.rule.key) (settled_mark m) m) in omega arith
 
 -- what is prepared stays prepared while its marked rules change
 pub carried : (ready : Bool) (old new : List MarkedRule) (P Q : List MarkedRule → Type 0) → IsSomeAnd (cond ready (Some old) None) P → (P old → Q new)
@@ -418,13 +418,13 @@ settled_pattern Sure r = refl
 settled_pattern Possible r = refl
 
 settled_patterns : (k : Key) (ms : List MarkedRule) → patterns_in (settled_where k ms) ≡ patterns_in ms
-settled_patterns k ms = map_patterns (λ m. cond (key_eq k m.rule.key) (settled m) m) (λ m. by (key_eq k m.rule.key) m) ms
+settled_patterns k ms = map_patterns (λ m. cond (key_eq k m.rule.key) (settled_mark m) m) (λ m. by (key_eq k m.rule.key) m) ms
   where
-    by : (b : Bool) (m : MarkedRule) → (cond b (settled m) m).rule.key.pattern ≡ m.rule.key.pattern
+    by : (b : Bool) (m : MarkedRule) → (cond b (settled_mark m) m).rule.key.pattern ≡ m.rule.key.pattern
     by true m = settled_pattern m.mark m.rule
     by false m = refl
 
-pub tried_patterns : (c : Change) (ms : List MarkedRule) → is_insert c ≡ false → patterns_in (tried c ms) ≡ patterns_in ms
+pub tried_patterns : (c : Change) (ms : List MarkedRule) → is_insert c ≡ false → patterns_in (tried_marks c ms) ≡ patterns_in ms
 tried_patterns (Insert s r) ms off = absurd (both_ways true off refl)
 tried_patterns (Delete s r) ms off = marked_patterns r.key Possible ms
 tried_patterns (Replace s r) ms off = marked_patterns r.key (Replaced r.action) ms
@@ -435,12 +435,12 @@ given_patterns (Delete s r) ms off = marked_patterns r.key Sure ms
 given_patterns (Replace s r) ms off = marked_patterns r.key Sure ms
 
 -- and one that isn't a delete once it is made
-pub kept_patterns : (c : Change) (ms : List MarkedRule) → is_delete c ≡ false → patterns_in (kept c ms) ≡ patterns_in ms
+pub kept_patterns : (c : Change) (ms : List MarkedRule) → is_delete c ≡ false → patterns_in (kept_marks c ms) ≡ patterns_in ms
 kept_patterns (Insert s r) ms off = settled_patterns r.key ms
 kept_patterns (Delete s r) ms off = absurd (both_ways true off refl)
 kept_patterns (Replace s r) ms off = settled_patterns r.key ms
 
-pub begun_patterns : (c : Change) (old new : List MarkedRule) (b : Bool) → (b ≡ true → new ≡ tried c old) → (b ≡ false → new ≡ old) → is_insert c ≡ false → patterns_in new ≡ patterns_in old
+pub begun_patterns : (c : Change) (old new : List MarkedRule) (b : Bool) → (b ≡ true → new ≡ tried_marks c old) → (b ≡ false → new ≡ old) → is_insert c ≡ false → patterns_in new ≡ patterns_in old
 begun_patterns c old new true on off stays = ap patterns_in (on refl) ∙ tried_patterns c old stays
 begun_patterns c old new false on off stays = ap patterns_in (off refl)
 
@@ -468,18 +468,18 @@ settled_priority Sure r = refl
 settled_priority Possible r = refl
 
 settled_falling : (k : Key) (ms : List MarkedRule) → IsFalling ms → IsFalling (settled_where k ms)
-settled_falling k ms h = falling_map (λ m. cond (key_eq k m.rule.key) (settled m) m) (λ m. by (key_eq k m.rule.key) m) ms h
+settled_falling k ms h = falling_map (λ m. cond (key_eq k m.rule.key) (settled_mark m) m) (λ m. by (key_eq k m.rule.key) m) ms h
   where
-    by : (b : Bool) (m : MarkedRule) → (cond b (settled m) m).rule.key.priority ≡ m.rule.key.priority
+    by : (b : Bool) (m : MarkedRule) → (cond b (settled_mark m) m).rule.key.priority ≡ m.rule.key.priority
     by true m = settled_priority m.mark m.rule
     by false m = refl
 
-tried_falling : (c : Change) (ms : List MarkedRule) → IsFalling ms → IsFalling (tried c ms)
+tried_falling : (c : Change) (ms : List MarkedRule) → IsFalling ms → IsFalling (tried_marks c ms)
 tried_falling (Insert s r) ms h = put_falling (with_mark r Possible) ms h
 tried_falling (Delete s r) ms h = marked_falling r.key Possible ms h
 tried_falling (Replace s r) ms h = marked_falling r.key (Replaced r.action) ms h
 
-pub begun_falling : (c : Change) (old new : List MarkedRule) (b : Bool) → (b ≡ true → new ≡ tried c old) → (b ≡ false → new ≡ old) → IsFalling old → IsFalling new
+pub begun_falling : (c : Change) (old new : List MarkedRule) (b : Bool) → (b ≡ true → new ≡ tried_marks c old) → (b ≡ false → new ≡ old) → IsFalling old → IsFalling new
 begun_falling c old new true on off h = subst IsFalling (sym (on refl)) (tried_falling c old h)
 begun_falling c old new false on off h = subst IsFalling (sym (off refl)) h
 
@@ -488,7 +488,7 @@ given_falling (Insert s r) ms h = falling_filter (λ m. not (key_eq m.rule.key r
 given_falling (Delete s r) ms h = marked_falling r.key Sure ms h
 given_falling (Replace s r) ms h = marked_falling r.key Sure ms h
 
-pub kept_falling : (c : Change) (ms : List MarkedRule) → IsFalling ms → IsFalling (kept c ms)
+pub kept_falling : (c : Change) (ms : List MarkedRule) → IsFalling ms → IsFalling (kept_marks c ms)
 kept_falling (Insert s r) ms h = settled_falling r.key ms h
 kept_falling (Delete s r) ms h = falling_filter (λ m. not (key_eq m.rule.key r.key)) ms h
 kept_falling (Replace s r) ms h = settled_falling r.key ms h

@@ -13,7 +13,7 @@ use Rattle.flow_rules.specs.declared.rules.Rule.{Rule}
 use Rattle.update_model.specs.declared.Change.{Change}
 use Rattle.round_mix.specs.Apart.{AreApart}
 use Rattle.round_mix.specs.Faults.{AreUnclear}
-use Rattle.round_mix.specs.Marks.{all_rules, marked, rules_of}
+use Rattle.round_mix.specs.Marks.{all_rules, marked_rule, rules_of}
 use Rattle.round_mix.specs.Prepared.{AreGood, AreClear}
 use Rattle.round_mix.specs.declared.MarkedRule.{MarkedRule}
 use Rattle.round_mix.proofs.ApartLaws.{apart_from_free, apart_moved}
@@ -39,33 +39,33 @@ apart_by_search ms (Some pair) false least e = (λ h. absurd (false≢true h), �
 
 -- the rules of a table and those that good changes insert are apart where all mixtures are clear, whatever their marks
 pub apart_from_clear : (table : List Rule) (changes naming : List Change) → IsTable table → AreGood table changes → AreClear table changes
-    → AreApart (map (marked naming) (all_rules table changes))
+    → AreApart (map (marked_rule naming) (all_rules table changes))
 apart_from_clear table changes naming is_table good clear =
     let rules = all_rules table changes in
     record {
       distinct = subst (λ (rs : List Rule). IsDistinct (keys_of rs)) (sym (rules_of-marked naming rules)) (keys_apart table changes is_table good);
       alone = λ m n in_m in_n clash.
-          let (q, at_q, is_q) = in_from_map (marked naming) m rules in_m in
-          let (r, at_r, is_r) = in_from_map (marked naming) n rules in_n in
+          let (q, at_q, is_q) = in_from_map (marked_rule naming) m rules in_m in
+          let (r, at_r, is_r) = in_from_map (marked_rule naming) n rules in_n in
           let one : m.rule ≡ q = ap (λ (x : MarkedRule). x.rule) is_q in
           let other : n.rule ≡ r = ap (λ (x : MarkedRule). x.rule) is_r in
           let same : m.rule ≡ n.rule = clear rules (all_mixed table changes) clash.header m.rule n.rule (subst (λ (x : Rule). IsIn x rules) (sym one) at_q)
           (subst (λ (x : Rule). IsIn x rules) (sym other) at_r) clash.first clash.second clash.priority in
-          is_q ∙ ap (marked naming) (sym one ∙ same ∙ other) ∙ sym is_r;
+          is_q ∙ ap (marked_rule naming) (sym one ∙ same ∙ other) ∙ sym is_r;
     }
 
 -- so some mixture isn't clear where they aren't apart in some order
 pub unclear_from_marks : (table : List Rule) (changes naming : List Change) (marks sorted : List MarkedRule) → IsTable table → AreGood table changes
-    → marks ≡ map (marked naming) (all_rules table changes) → IsPermutation marks sorted → ¬ AreApart sorted → ¬ AreClear table changes
+    → marks ≡ map (marked_rule naming) (all_rules table changes) → IsPermutation marks sorted → ¬ AreApart sorted → ¬ AreClear table changes
 unclear_from_marks table changes naming marks sorted is_table good same moved apart = λ clear.
-    apart (apart_moved (map (marked naming) (all_rules table changes)) sorted (subst (λ (ms : List MarkedRule). IsPermutation ms sorted) same moved)
+    apart (apart_moved (map (marked_rule naming) (all_rules table changes)) sorted (subst (λ (ms : List MarkedRule). IsPermutation ms sorted) same moved)
     (apart_from_clear table changes naming is_table good clear))
 
 -- where some mixture isn't clear, two positions clash
 pub clash_from_unclear : (table : List Rule) (changes naming : List Change) (marks : List MarkedRule) → IsTable table → AreUnclear table changes
-    → marks ≡ map (marked naming) (all_rules table changes) → ((i : ℕ) → IsFree (rules_of marks) i) → ⊥
+    → marks ≡ map (marked_rule naming) (all_rules table changes) → ((i : ℕ) → IsFree (rules_of marks) i) → ⊥
 clash_from_unclear table changes naming marks is_table unclear same free =
     let rules = all_rules table changes in
-    let there : rules_of marks ≡ rules_of (map (marked changes) rules) = ap rules_of same ∙ rules_of-marked naming rules ∙ sym (rules_of-marked changes rules) in
-    unclear.unclear (clear_from_free table changes is_table unclear.good (members_from_free (map (marked changes) rules) (λ i.
+    let there : rules_of marks ≡ rules_of (map (marked_rule changes) rules) = ap rules_of same ∙ rules_of-marked naming rules ∙ sym (rules_of-marked changes rules) in
+    unclear.unclear (clear_from_free table changes is_table unclear.good (members_from_free (map (marked_rule changes) rules) (λ i.
     subst (λ (rs : List Rule). IsFree rs i) there (free i))))

@@ -22,17 +22,17 @@ abbrev pub blocks_of : List MarkedRule → List Block
 blocks_of marks = map (λ m. m.rule.key.pattern.dst) marks
 
 -- each position is one in the list
-abbrev pub AreWithin : List ℕ → ℕ → Type 0
-AreWithin positions size = (i : ℕ) → IsIn i positions → i < size
+abbrev pub ArePositionsBelow : List ℕ → ℕ → Type 0
+ArePositionsBelow positions size = (i : ℕ) → IsIn i positions → i < size
 
 -- the marked rules at the positions
-abbrev pub picked : List MarkedRule → List ℕ → List MarkedRule
-picked marks [] = []
-picked marks (i ∷ is) = option_map_or (λ m. m ∷ picked marks is) (slice_get marks i) (picked marks is)
+abbrev pub picked_marks : List MarkedRule → List ℕ → List MarkedRule
+picked_marks marks [] = []
+picked_marks marks (i ∷ is) = option_map_or (λ m. m ∷ picked_marks marks is) (slice_get marks i) (picked_marks marks is)
 
 -- whether the key stands at one of the positions
 abbrev pub stands_at : List MarkedRule → List ℕ → Key → Bool
-stands_at marks positions k = list_any (λ r. key_eq r.key k) (rules_of (picked marks positions))
+stands_at marks positions k = list_any (λ r. key_eq r.key k) (rules_of (picked_marks marks positions))
 
 -- an outcome in some mixture from which every rule is left out whose key doesn't stand at one of the positions
 pub record MayBeAmong (net : Network) (table : List Rule) (changes : List Change) (marks : List MarkedRule) (positions : List ℕ) (place : Place) (dst : ℕ) (found : Outcome) : Type 0 where

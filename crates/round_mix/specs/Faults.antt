@@ -41,6 +41,6 @@ pub record AreUnclear (table : List Rule) (changes : List Change) : Type 0 where
   pub unclear : ¬ AreClear table changes
 
 -- what a refusal says
-abbrev pub IsRefusal : List Rule → List Change → MixRefusal → Type 0
-IsRefusal table changes (refusal.BadChange i) = IsFirstBad table changes i
-IsRefusal table changes refusal.Unclear = AreUnclear table changes
+abbrev pub IsMixRefusal : List Rule → List Change → MixRefusal → Type 0
+IsMixRefusal table changes (refusal.BadChange i) = IsFirstBad table changes i
+IsMixRefusal table changes refusal.Unclear = AreUnclear table changes

@@ -58,8 +58,8 @@ abbrev pub clash_between : Pair → MarkedRule → MarkedRule → Bool
 clash_between pair m n = kind_eq (kind_of m) pair.one && kind_eq (kind_of n) pair.two && keys_clash m.rule.key n.rule.key
 
 -- the same two kinds, the other way round
-abbrev pub turned : Pair → Pair
-turned pair = record { one = pair.two; two = pair.one }
+abbrev pub turned_pair : Pair → Pair
+turned_pair pair = record { one = pair.two; two = pair.one }
 
 -- no rule clashes with one behind it, where they are of these kinds in this order
 abbrev pub AreSwept : Pair → List MarkedRule → Type 0

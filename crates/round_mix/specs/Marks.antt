@@ -21,23 +21,23 @@ abbrev pub change_of : List Change → Rule → Option Change
 change_of changes r = find (λ c. key_eq (rule_of c).key r.key) changes
 
 -- a rule with its mark: it is sure where no change names its key
-abbrev pub marked : List Change → Rule → MarkedRule
-marked changes r = record { rule = r; mark = option_map_or mark_by (change_of changes r) Sure }
+abbrev pub marked_rule : List Change → Rule → MarkedRule
+marked_rule changes r = record { rule = r; mark = option_map_or mark_by (change_of changes r) Sure }
 
 -- the rules that the changes insert
-abbrev pub inserted : List Change → List Rule
-inserted [] = []
-inserted (Insert s r ∷ cs) = r ∷ inserted cs
-inserted (Delete s r ∷ cs) = inserted cs
-inserted (Replace s r ∷ cs) = inserted cs
+abbrev pub inserted_rules : List Change → List Rule
+inserted_rules [] = []
+inserted_rules (Insert s r ∷ cs) = r ∷ inserted_rules cs
+inserted_rules (Delete s r ∷ cs) = inserted_rules cs
+inserted_rules (Replace s r ∷ cs) = inserted_rules cs
 
 -- the table's rules followed by the inserted ones
 abbrev pub all_rules : List Rule → List Change → List Rule
-all_rules table changes = table ++ inserted changes
+all_rules table changes = table ++ inserted_rules changes
 
 -- all of them, marked
 abbrev pub marked_rules : List Rule → List Change → List MarkedRule
-marked_rules table changes = map (marked changes) (all_rules table changes)
+marked_rules table changes = map (marked_rule changes) (all_rules table changes)
 
 -- the rules of marked rules, without their marks
 abbrev pub rules_of : List MarkedRule → List Rule

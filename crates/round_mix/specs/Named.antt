@@ -8,7 +8,7 @@ use Rattle.flow_rules.specs.declared.rules.Rule.{Rule}
 use Rattle.update_model.specs.Changes.{rule_of}
 use Rattle.update_model.specs.declared.Change.{Change}
 use Rattle.update_model.specs.declared.Change.TheVariants.{Insert, Delete, Replace}
-use Rattle.round_mix.specs.Marks.{mark_by, marked}
+use Rattle.round_mix.specs.Marks.{mark_by, marked_rule}
 use Rattle.round_mix.specs.declared.Mark.{Mark}
 use Rattle.round_mix.specs.declared.Mark.TheVariants.{Sure}
 use Rattle.round_mix.specs.declared.MarkedRule.{MarkedRule}
@@ -43,6 +43,6 @@ pub record IsMarkedBy (c : Change) (old new : List MarkedRule) : Type 0 where
 
 -- the rules marked by changes, of which each names one of them and no two have one key
 pub record AreMarked (rules : List Rule) (changes : List Change) (marks : List MarkedRule) : Type 0 where
-  pub marks_are : marks ≡ map (marked changes) rules
+  pub marks_are : marks ≡ map (marked_rule changes) rules
   pub distinct : IsDistinct (map (λ c. (rule_of c).key) changes)
   pub named : AllByRecursion (IsNamed rules) changes

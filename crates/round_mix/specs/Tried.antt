@@ -19,16 +19,16 @@ rule_after Sure r = r
 rule_after Possible r = r
 
 -- the marked rule once the change is made
-abbrev pub settled : MarkedRule → MarkedRule
-settled m = with_mark (rule_after m.mark m.rule) Sure
+abbrev pub settled_mark : MarkedRule → MarkedRule
+settled_mark m = with_mark (rule_after m.mark m.rule) Sure
 
 -- the marked rules with another mark for the rule of a key
 abbrev pub marked_where : Key → Mark → List MarkedRule → List MarkedRule
 marked_where k mark marks = map (λ m. cond (key_eq k m.rule.key) (with_mark m.rule mark) m) marks
 
 -- the marked rules of other keys
-abbrev pub without : Key → List MarkedRule → List MarkedRule
-without k marks = filter (λ m. not (key_eq m.rule.key k)) marks
+abbrev pub marks_without : Key → List MarkedRule → List MarkedRule
+marks_without k marks = filter (λ m. not (key_eq m.rule.key k)) marks
 
 -- the marked rules of a priority
 abbrev pub of_priority : ℕ → List MarkedRule → List MarkedRule
@@ -50,26 +50,26 @@ is_refused (Delete s r) marks = false
 is_refused (Replace s r) marks = false
 
 -- the marked rules while a change is tried
-abbrev pub tried : Change → List MarkedRule → List MarkedRule
-tried (Insert s r) marks = put_in (with_mark r Possible) marks
-tried (Delete s r) marks = marked_where r.key Possible marks
-tried (Replace s r) marks = marked_where r.key (Replaced r.action) marks
+abbrev pub tried_marks : Change → List MarkedRule → List MarkedRule
+tried_marks (Insert s r) marks = put_in (with_mark r Possible) marks
+tried_marks (Delete s r) marks = marked_where r.key Possible marks
+tried_marks (Replace s r) marks = marked_where r.key (Replaced r.action) marks
 
 -- and once it is given up
 abbrev pub given_up : Change → List MarkedRule → List MarkedRule
-given_up (Insert s r) marks = without r.key marks
+given_up (Insert s r) marks = marks_without r.key marks
 given_up (Delete s r) marks = marked_where r.key Sure marks
 given_up (Replace s r) marks = marked_where r.key Sure marks
 
 -- the marked rules with the change made that the mark of the rule of a key tells of
 abbrev pub settled_where : Key → List MarkedRule → List MarkedRule
-settled_where k marks = map (λ m. cond (key_eq k m.rule.key) (settled m) m) marks
+settled_where k marks = map (λ m. cond (key_eq k m.rule.key) (settled_mark m) m) marks
 
 -- or made
-abbrev pub kept : Change → List MarkedRule → List MarkedRule
-kept (Insert s r) marks = settled_where r.key marks
-kept (Delete s r) marks = without r.key marks
-kept (Replace s r) marks = settled_where r.key marks
+abbrev pub kept_marks : Change → List MarkedRule → List MarkedRule
+kept_marks (Insert s r) marks = settled_where r.key marks
+kept_marks (Delete s r) marks = marks_without r.key marks
+kept_marks (Replace s r) marks = settled_where r.key marks
 
 -- one change more is marked: an insert is put where it clashes with none, and of another the rule that it names was sure and has its mark now
 abbrev pub IsTriedNext : Change → List MarkedRule → List MarkedRule → Type 0

@@ -4,7 +4,7 @@ ghost use Rattle.net_base.specs.Members.{IsIn};
 ghost use Rattle.net_base.specs.Blocks.{block_size};
 ghost use Rattle.flow_rules.specs.Order.{port_rank, vlan_rank};
 ghost use Rattle.round_mix.specs.Apart.{AreApart};
-ghost use Rattle.round_mix.specs.Kinds.{has_port, has_vlan, kind_of, tests_port, tests_vlan, kind_eq, turned, AreSwept, AreKindsApart, spot_of, begin_of, end_of, spot_cmp, is_sooner, begins_past, reach_with};
+ghost use Rattle.round_mix.specs.Kinds.{has_port, has_vlan, kind_of, tests_port, tests_vlan, kind_eq, turned_pair, AreSwept, AreKindsApart, spot_of, begin_of, end_of, spot_cmp, is_sooner, begins_past, reach_with};
 ghost use Rattle.round_mix.specs.declared.kinds.Pair.{Pair as PairModel};
 
 use crate::MarkedRule;
@@ -32,7 +32,7 @@ struct Pair {
 
 /// What sweeps tell of rules.
 #[derive(Clone, Copy)]
-enum Told {
+enum SweepFinding {
     /// Of the kinds that were swept no two rules clash.
     Apart,
     /// Two of the rules clash.
@@ -165,7 +165,7 @@ fn size_of(prefix: &Prefix) -> u64
 impl Pair {
     /// The other way round.
     fn turned(self) -> Pair
-        ensures { result ≡ turned self }
+        ensures { result ≡ turned_pair self }
     {
         Pair {
             one: self.two,
@@ -254,24 +254,24 @@ fn reach_with(pair: Pair, reach: &Spot, marked: &MarkedRule) -> Spot
 }
 
 /// What a sweep tells that hasn't left the rule at one position when it meets that at another: whether these two clash.
-fn tell_met(rules: &[MarkedRule], left: usize, met: usize) -> Told
+fn tell_met(rules: &[MarkedRule], left: usize, met: usize) -> SweepFinding
     requires { met < length rules.now }
-    ensures some { result ≢ Told.Apart }
-    ensures clash { result ≡ Told.Clash → ¬ AreApart rules.now }
+    ensures some { result ≢ SweepFinding.Apart }
+    ensures clash { result ≡ SweepFinding.Clash → ¬ AreApart rules.now }
 {
     if left < met && rules[left].rule.clashes(&rules[met].rule) {
-        Told::Clash
+        SweepFinding::Clash
     } else {
-        Told::Nothing
+        SweepFinding::Nothing
     }
 }
 
 /// Whether a rule of the first kind clashes with one of the second behind it: none does where the sweep meets none of the
 /// second kind before it has left all of the first kind that it met. Where it does meet one, that clashes with the rule
 /// which the sweep leaves last, if the rules stand as it goes.
-fn sweep(rules: &[MarkedRule], pair: Pair) -> Told
-    ensures apart { result ≡ Told.Apart → AreSwept pair rules.now }
-    ensures clash { result ≡ Told.Clash → ¬ AreApart rules.now }
+fn sweep(rules: &[MarkedRule], pair: Pair) -> SweepFinding
+    ensures apart { result ≡ SweepFinding.Apart → AreSwept pair rules.now }
+    ensures clash { result ≡ SweepFinding.Clash → ¬ AreApart rules.now }
 {
     let mut reach = START;
     let mut furthest = 0;
@@ -285,18 +285,18 @@ fn sweep(rules: &[MarkedRule], pair: Pair) -> Told
         }
         reach = next;
     }
-    Told::Apart
+    SweepFinding::Apart
 }
 
 /// Whether a rule of the one kind clashes with one of the other, as far as two sweeps tell.
-fn sweep_both(rules: &[MarkedRule], pair: Pair) -> Told
-    ensures apart { result ≡ Told.Apart → AreKindsApart pair rules.now }
-    ensures clash { result ≡ Told.Clash → ¬ AreApart rules.now }
+fn sweep_both(rules: &[MarkedRule], pair: Pair) -> SweepFinding
+    ensures apart { result ≡ SweepFinding.Apart → AreKindsApart pair rules.now }
+    ensures clash { result ≡ SweepFinding.Clash → ¬ AreApart rules.now }
 {
     match sweep(rules, pair) {
-        Told::Apart => sweep(rules, pair.turned()),
-        Told::Clash => Told::Clash,
-        Told::Nothing => Told::Nothing,
+        SweepFinding::Apart => sweep(rules, pair.turned()),
+        SweepFinding::Clash => SweepFinding::Clash,
+        SweepFinding::Nothing => SweepFinding::Nothing,
     }
 }
 
@@ -312,14 +312,14 @@ fn sort_for(marks: &mut Vec<MarkedRule>, pair: Pair)
 
 /// Whether a rule of the one kind clashes with one of the other. The rules are sorted only where they don't stand as the
 /// sweep goes: they do where one of the kinds has none.
-fn tell_pair(marks: &mut Vec<MarkedRule>, pair: &Pair) -> Told
+fn tell_pair(marks: &mut Vec<MarkedRule>, pair: &Pair) -> SweepFinding
     ensures permutation { IsPermutation marks.old.items marks.new.items }
-    ensures apart { result ≡ Told.Apart → AreKindsApart pair.now marks.new.items }
-    ensures clash { result ≡ Told.Clash → ¬ AreApart marks.new.items }
+    ensures apart { result ≡ SweepFinding.Apart → AreKindsApart pair.now marks.new.items }
+    ensures clash { result ≡ SweepFinding.Clash → ¬ AreApart marks.new.items }
     ensures room { vec_capacity marks.new ≡ vec_capacity marks.old }
 {
     let told = sweep_both(marks, *pair);
-    if !matches!(told, Told::Nothing) {
+    if !matches!(told, SweepFinding::Nothing) {
         return told;
     }
     sort_for(marks, *pair);
@@ -327,21 +327,21 @@ fn tell_pair(marks: &mut Vec<MarkedRule>, pair: &Pair) -> Told
 }
 
 /// Whether rules of two of the kinds clash.
-fn tell_pairs(marks: &mut Vec<MarkedRule>, pairs: &[Pair]) -> Told
+fn tell_pairs(marks: &mut Vec<MarkedRule>, pairs: &[Pair]) -> SweepFinding
     ensures permutation { IsPermutation marks.old.items marks.new.items }
-    ensures apart { (pair : PairModel) → result ≡ Told.Apart → IsIn pair pairs.now
+    ensures apart { (pair : PairModel) → result ≡ SweepFinding.Apart → IsIn pair pairs.now
         → AreKindsApart pair marks.new.items }
-    ensures clash { result ≡ Told.Clash → ¬ AreApart marks.new.items }
+    ensures clash { result ≡ SweepFinding.Clash → ¬ AreApart marks.new.items }
     ensures room { vec_capacity marks.new ≡ vec_capacity marks.old }
 {
     for pair in pairs {
         match tell_pair(marks, pair) {
-            Told::Apart => {}
-            Told::Clash => return Told::Clash,
-            Told::Nothing => return Told::Nothing,
+            SweepFinding::Apart => {}
+            SweepFinding::Clash => return SweepFinding::Clash,
+            SweepFinding::Nothing => return SweepFinding::Nothing,
         }
     }
-    Told::Apart
+    SweepFinding::Apart
 }
 
 /// Two kinds.
@@ -352,10 +352,10 @@ fn pair_of(one: Kind, two: Kind) -> Pair
 }
 
 /// Whether two marked rules clash, by kinds.
-fn tell(marks: &mut Vec<MarkedRule>) -> Told
+fn tell(marks: &mut Vec<MarkedRule>) -> SweepFinding
     ensures permutation { IsPermutation marks.old.items marks.new.items }
-    ensures apart { result ≡ Told.Apart → AreApart marks.new.items }
-    ensures clash { result ≡ Told.Clash → ¬ AreApart marks.new.items }
+    ensures apart { result ≡ SweepFinding.Apart → AreApart marks.new.items }
+    ensures clash { result ≡ SweepFinding.Clash → ¬ AreApart marks.new.items }
     ensures room { vec_capacity marks.new ≡ vec_capacity marks.old }
 {
     let pairs = [
@@ -382,8 +382,8 @@ pub fn are_apart_by_kind(marks: &mut Vec<MarkedRule>) -> bool
     ensures room { vec_capacity marks.new ≡ vec_capacity marks.old }
 {
     match tell(marks) {
-        Told::Apart => true,
-        Told::Clash => false,
-        Told::Nothing => least_clash(marks).is_none(),
+        SweepFinding::Apart => true,
+        SweepFinding::Clash => false,
+        SweepFinding::Nothing => least_clash(marks).is_none(),
     }
 }

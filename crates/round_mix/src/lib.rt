@@ -3,16 +3,16 @@
 
 ghost use Rattle.std.specs.Prelude.{ℕ, ◌≡◌, ◌+◌, ◌^◌, ◌≤◌, ◌<◌, ◌∷◌, [], ◌++◌, List, true, false, Some, None, length, map, drop, vec_len, vec_capacity, IfOk, IfErr, IsTrue, OnOk, OnErr, IfSome, IsSome, IsSomeAnd};
 ghost use Rattle.std.specs.Option.{ForSome};
-ghost use Rattle.path_walk.specs.Outcomes.{acted, header_at};
+ghost use Rattle.path_walk.specs.Outcomes.{action_outcome, header_at};
 ghost use Rattle.flow_rules.specs.Tables.{IsTable};
-ghost use Rattle.round_mix.specs.Faults.{AreUnclear, IsAmbiguous, IsFault, IsRefusal};
+ghost use Rattle.round_mix.specs.Faults.{AreUnclear, IsAmbiguous, IsFault, IsMixRefusal};
 ghost use Rattle.update_model.specs.Changes.{AppliesTo, rules_after, rules_after_change};
 ghost use Rattle.update_model.specs.Mixtures.{entries_needed, is_insert, is_delete};
 ghost use Rattle.round_mix.specs.Marks.{all_rules};
 ghost use Rattle.round_mix.specs.Found.{AreAllOutcomes};
 ghost use Rattle.round_mix.specs.Prepared.{AreClear, AreGood, IsPrepared};
 ghost use Rattle.table_index.specs.Candidates.{AreCandidates, IsAscending};
-ghost use Rattle.round_mix.specs.Among.{AreOutcomesAmong, AreWithin, HoldCandidates, blocks_of, picked};
+ghost use Rattle.round_mix.specs.Among.{AreOutcomesAmong, ArePositionsBelow, HoldCandidates, blocks_of, picked_marks};
 ghost use Rattle.round_mix.specs.Nearest.{patterns_back};
 ghost use Rattle.round_mix.specs.Scan.{actions_by, is_kept, scan};
 
@@ -172,7 +172,7 @@ impl Mark {
 fn put_actions(net: &Net, place: Place, marked: &MarkedRule, outcomes: &mut Vec<Outcome>)
     requires { vec_len outcomes.old + 1 < vec_capacity outcomes.old }
     ensures items { outcomes.new.items
-        ≡ outcomes.old.items ++ map (acted net.now place)
+        ≡ outcomes.old.items ++ map (action_outcome net.now place)
         (actions_by marked.now.mark marked.now.rule.action) }
     ensures few { is_kept marked.now.mark ≡ false
         → vec_len outcomes.new ≡ vec_len outcomes.old + 1 }
@@ -188,7 +188,8 @@ fn put_actions(net: &Net, place: Place, marked: &MarkedRule, outcomes: &mut Vec<
 fn put_scan(net: &Net, place: Place, dst: u32, rules: &[MarkedRule], outcomes: &mut Vec<Outcome>)
     requires { vec_len outcomes.old + length rules.now < vec_capacity outcomes.old }
     ensures items { outcomes.new.items
-        ≡ outcomes.old.items ++ map (acted net.now place) (scan (header_at place dst) rules.now) }
+        ≡ outcomes.old.items ++ map (action_outcome net.now place)
+        (scan (header_at place dst) rules.now) }
     ensures room { vec_capacity outcomes.old ≤ vec_capacity outcomes.new }
 {
     for marked in rules {
@@ -215,12 +216,12 @@ fn put_nearest(
     requires within { from ≤ length rules.now }
     requires room { vec_len outcomes.old + length rules.now < vec_capacity outcomes.old + from }
     ensures ends { result ≡ None → outcomes.new.items
-        ≡ outcomes.old.items ++ map (acted net.now packet.place)
+        ≡ outcomes.old.items ++ map (action_outcome net.now packet.place)
         (scan (header_at packet.place packet.dst) (drop from rules.now)) }
     ensures goes_on { (next : ℕ) → result ≡ Some next
-        → outcomes.new.items ++ map (acted net.now packet.place)
+        → outcomes.new.items ++ map (action_outcome net.now packet.place)
         (scan (header_at packet.place packet.dst) (drop next rules.now))
-        ≡ outcomes.old.items ++ map (acted net.now packet.place)
+        ≡ outcomes.old.items ++ map (action_outcome net.now packet.place)
         (scan (header_at packet.place packet.dst) (drop from rules.now)) }
     ensures within { (next : ℕ) → result ≡ Some next → next ≤ length rules.now }
     ensures left { (next : ℕ) → result ≡ Some next
@@ -258,7 +259,7 @@ fn put_found(
     requires fresh { space.now.patterns ≡ patterns_back rules.now }
     requires room { vec_len outcomes.old + length rules.now < vec_capacity outcomes.old }
     ensures items { outcomes.new.items
-        ≡ outcomes.old.items ++ map (acted net.now packet.place)
+        ≡ outcomes.old.items ++ map (action_outcome net.now packet.place)
         (scan (header_at packet.place packet.dst) rules.now) }
     ensures room { vec_capacity outcomes.old ≤ vec_capacity outcomes.new }
 {
@@ -282,10 +283,11 @@ fn put_among(
     outcomes: &mut Vec<Outcome>,
 )
     requires empty { vec_len outcomes.old ≡ 0 }
-    requires within { AreWithin positions.now (length rules.now) }
+    requires within { ArePositionsBelow positions.now (length rules.now) }
     requires room { length positions.now < vec_capacity outcomes.old }
     ensures items { outcomes.new.items
-        ≡ map (acted net.now place) (scan (header_at place dst) (picked rules.now positions.now)) }
+        ≡ map (action_outcome net.now place)
+        (scan (header_at place dst) (picked_marks rules.now positions.now)) }
     ensures room { vec_capacity outcomes.old ≤ vec_capacity outcomes.new }
 {
     for i in 0..positions.len() {
@@ -348,7 +350,7 @@ fn mix_good(table: &Table, changes: &[Change], marks: &mut Vec<MarkedRule>) -> b
 fn mix(table: &Table, changes: &[Change], marks: &mut Vec<MarkedRule>) -> Result<(), MixRefusal>
     requires { length (all_rules table.now.rules changes.now) ≤ vec_capacity marks.old }
     ensures ok { OnOk result (IsPrepared table.now.rules changes.now marks.new.items) }
-    ensures err { IfErr result (λ refusal. IsRefusal table.now.rules changes.now refusal) }
+    ensures err { IfErr result (λ refusal. IsMixRefusal table.now.rules changes.now refusal) }
     ensures room { vec_capacity marks.old ≤ vec_capacity marks.new }
 {
     if changes.len() >= MANY_CHANGES && mix_by_key(table, changes, marks) {
@@ -468,7 +470,7 @@ impl Mixed {
         ensures ok { OnOk result (IsSomeAnd self.new.prepared
             (IsPrepared table.now.rules changes.now)) }
         ensures err { IfErr result
-            (λ refusal. IsRefusal table.now.rules changes.now refusal) }
+            (λ refusal. IsMixRefusal table.now.rules changes.now refusal) }
         ensures nothing { OnErr result (self.new.prepared ≡ None) }
         ensures count { IfSome self.new.prepared
             (λ marks. length marks ≡ entries_needed table.now.rules changes.now) }
@@ -678,7 +680,8 @@ impl Mixed {
             (λ marks. IfSome self.now.aimed
             (λ dst. AreCandidates (blocks_of marks) dst result.now)) }
         ensures ascending { IsAscending result.now }
-        ensures within { ForSome self.now.prepared (λ marks. AreWithin result.now (length marks)) }
+        ensures within { ForSome self.now.prepared
+            (λ marks. ArePositionsBelow result.now (length marks)) }
     {
         self.index.candidates()
     }
@@ -689,7 +692,7 @@ impl Mixed {
         requires prepared { IsSome self.now.prepared }
         requires ascending { IsAscending positions.now }
         requires within { ForSome self.now.prepared
-            (λ marks. AreWithin positions.now (length marks)) }
+            (λ marks. ArePositionsBelow positions.now (length marks)) }
         requires room { ForSome self.now.prepared
             (λ marks. length marks < length out.old.list + out.old.spare) }
         ensures exact { (table : List Rule) (changes : List Change) → IsTable table

@@ -1,7 +1,7 @@
 //! The rules of a switch, marked by the changes of a round.
 ghost use Rattle.std.specs.Prelude.{◌≡◌, ◌+◌, ◌≤◌, ◌++◌, length, map, vec_len, vec_capacity};
 ghost use Rattle.std.specs.Option.{option_map_or};
-ghost use Rattle.round_mix.specs.Marks.{mark_by, change_of, marked, inserted, all_rules};
+ghost use Rattle.round_mix.specs.Marks.{mark_by, change_of, marked_rule, inserted_rules, all_rules};
 
 use crate::{Mark, MarkedRule, put};
 use flow_rules::Rule;
@@ -39,7 +39,7 @@ fn mark_of(changes: &[Change], rule: &Rule) -> Mark
 
 /// A rule with its mark.
 fn mark(changes: &[Change], rule: &Rule) -> MarkedRule
-    ensures { result ≡ marked changes.now rule.now }
+    ensures { result ≡ marked_rule changes.now rule.now }
 {
     MarkedRule {
         rule: *rule,
@@ -50,7 +50,7 @@ fn mark(changes: &[Change], rule: &Rule) -> MarkedRule
 /// Puts the rules of the table, marked.
 fn put_table(changes: &[Change], rules: &[Rule], marks: &mut Vec<MarkedRule>)
     requires { vec_len marks.old + length rules.now ≤ vec_capacity marks.old }
-    ensures items { marks.new.items ≡ marks.old.items ++ map (marked changes.now) rules.now }
+    ensures items { marks.new.items ≡ marks.old.items ++ map (marked_rule changes.now) rules.now }
     ensures room { vec_capacity marks.old ≤ vec_capacity marks.new }
 {
     for rule in rules {
@@ -60,9 +60,9 @@ fn put_table(changes: &[Change], rules: &[Rule], marks: &mut Vec<MarkedRule>)
 
 /// Puts the rules that changes insert, marked by the others.
 fn put_inserted(naming: &[Change], changes: &[Change], marks: &mut Vec<MarkedRule>)
-    requires { vec_len marks.old + length (inserted changes.now) ≤ vec_capacity marks.old }
+    requires { vec_len marks.old + length (inserted_rules changes.now) ≤ vec_capacity marks.old }
     ensures items { marks.new.items
-        ≡ marks.old.items ++ map (marked naming.now) (inserted changes.now) }
+        ≡ marks.old.items ++ map (marked_rule naming.now) (inserted_rules changes.now) }
     ensures room { vec_capacity marks.old ≤ vec_capacity marks.new }
 {
     for change in changes {
@@ -75,7 +75,8 @@ fn put_inserted(naming: &[Change], changes: &[Change], marks: &mut Vec<MarkedRul
 /// Replaces the list by the rules of the table and those that the changes insert, marked by the first changes.
 pub fn fill(naming: &[Change], changes: &[Change], rules: &[Rule], marks: &mut Vec<MarkedRule>)
     requires { length (all_rules rules.now changes.now) ≤ vec_capacity marks.old }
-    ensures items { marks.new.items ≡ map (marked naming.now) (all_rules rules.now changes.now) }
+    ensures items { marks.new.items
+        ≡ map (marked_rule naming.now) (all_rules rules.now changes.now) }
     ensures room { vec_capacity marks.old ≤ vec_capacity marks.new }
 {
     marks.clear();

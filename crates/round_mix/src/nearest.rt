@@ -1,6 +1,6 @@
 //! The marked rules that cover a packet, found in a space of their patterns.
 ghost use Rattle.std.specs.Prelude.{◌≡◌, ◌-◌, ◌<◌, ◌≤◌, ◌++◌, ℕ, IsTrue, Some, true, false, length, slice_index_or};
-ghost use Rattle.flow_rules.specs.Tuples.{around, slot_of, slots_of};
+ghost use Rattle.flow_rules.specs.Tuples.{pattern_around, slot_of, slots_of};
 ghost use Rattle.path_walk.specs.Outcomes.{header_at};
 ghost use Rattle.round_mix.specs.Nearest.{IsMet, IsNear, covers_there, patterns_back};
 
@@ -67,7 +67,7 @@ fn nearest_of_kind(
         → IsNear (header_at packet.place packet.dst) rules.now from result j }
     ensures slot { (k : ℕ) → k < length rules.now
         → slice_index_or (slots_of space.now) k 0
-        ≡ slot_of space.now.count (around kind.now (header_at packet.place packet.dst))
+        ≡ slot_of space.now.count (pattern_around kind.now (header_at packet.place packet.dst))
         → IsNear (header_at packet.place packet.dst) rules.now from result
         (length rules.now - 1 - k) }
 {

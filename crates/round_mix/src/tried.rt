@@ -3,7 +3,7 @@ ghost use Rattle.std.specs.Prelude.{◌≡◌, ◌<◌, ◌≤◌, true, false, 
 ghost use Rattle.flow_rules.specs.Patterns.{key_eq};
 ghost use Rattle.round_mix.specs.Named.{with_mark};
 ghost use Rattle.round_mix.specs.Prepared.{IsFalling};
-ghost use Rattle.round_mix.specs.Tried.{settled, put_in, marked_where, settled_where, without, is_refused, tried, given_up, kept, clashes_with, IsTriedNext};
+ghost use Rattle.round_mix.specs.Tried.{settled_mark, put_in, marked_where, settled_where, marks_without, is_refused, tried_marks, given_up, kept_marks, clashes_with, IsTriedNext};
 
 use crate::named::mark_named;
 use crate::priorities::{end_of, first_of, of_priority};
@@ -24,7 +24,7 @@ impl MarkedRule {
 
     /// Makes the change that the mark tells of.
     fn settle(&mut self)
-        ensures { self.new ≡ settled self.old }
+        ensures { self.new ≡ settled_mark self.old }
     {
         if let Mark::Replaced(action) = self.mark {
             self.rule.action = action;
@@ -34,7 +34,8 @@ impl MarkedRule {
 
     /// Makes the change that the mark tells of, if it has the key.
     fn settle_where(&mut self, key: &Key)
-        ensures { self.new ≡ cond (key_eq key.now self.old.rule.key) (settled self.old) self.old }
+        ensures { self.new ≡ cond (key_eq key.now self.old.rule.key) (settled_mark self.old)
+            self.old }
     {
         if key.is_same(&self.rule.key) {
             self.settle();
@@ -83,7 +84,7 @@ fn settle_key(marks: &mut [MarkedRule], key: &Key)
 /// Takes out the rule of a key, by a look at each of its priority among those in descending priority.
 fn take_out(marks: &mut Vec<MarkedRule>, key: &Key)
     requires { IsFalling marks.old.items }
-    ensures items { marks.new.items ≡ without key.now marks.old.items }
+    ensures items { marks.new.items ≡ marks_without key.now marks.old.items }
     ensures room { vec_capacity marks.new ≡ vec_capacity marks.old }
 {
     let from = first_of(marks, key.priority);
@@ -148,7 +149,7 @@ fn put_free(marks: &mut Vec<MarkedRule>, rule: &Rule) -> bool
 pub fn try_change(marks: &mut Vec<MarkedRule>, change: &Change) -> bool
     requires falling { IsFalling marks.old.items }
     requires room { vec_len marks.old < vec_capacity marks.old }
-    ensures yes { result ≡ true → marks.new.items ≡ tried change.now marks.old.items }
+    ensures yes { result ≡ true → marks.new.items ≡ tried_marks change.now marks.old.items }
     ensures no { result ≡ false → marks.new.items ≡ marks.old.items }
     ensures is { result ≡ not (is_refused change.now marks.old.items) }
     ensures room { vec_capacity marks.old ≤ vec_capacity marks.new }
@@ -197,7 +198,7 @@ pub fn take_back(marks: &mut Vec<MarkedRule>, change: &Change)
 /// Makes a change for which was marked or put what it names.
 pub fn make(marks: &mut Vec<MarkedRule>, change: &Change)
     requires { IsFalling marks.old.items }
-    ensures items { marks.new.items ≡ kept change.now marks.old.items }
+    ensures items { marks.new.items ≡ kept_marks change.now marks.old.items }
     ensures room { vec_capacity marks.new ≡ vec_capacity marks.old }
 {
     match change {

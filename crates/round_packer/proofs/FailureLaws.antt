@@ -11,7 +11,7 @@ use Rattle.net_base.proofs.NameLaws.{same_switch}
 use Rattle.net_base.specs.declared.ids.SwitchId.{SwitchId}
 use Rattle.net_base.specs.declared.ids.Place.{Place}
 use Rattle.flow_rules.specs.Patterns.{Header, covers}
-use Rattle.flow_rules.specs.Tables.{covering, rules_at}
+use Rattle.flow_rules.specs.Tables.{covering_rules, rules_at}
 use Rattle.flow_rules.specs.Same.{rule_eq}
 use Rattle.flow_rules.specs.declared.rules.Rule.{Rule}
 use Rattle.flow_rules.proofs.TableLaws.{rule_eq-true}
@@ -37,7 +37,7 @@ use Rattle.packed_rounds.specs.Packing.{CanStand}
 use Rattle.round_mix.proofs.RoundLaws.{within_good}
 use Rattle.round_trials.proofs.FitLaws.{at_more}
 use Rattle.round_packer.specs.declared.failing.Failure.{Failure}
-use Rattle.round_packer.specs.Kept.{HoldsClass, IsFailing, change_eq, unmet}
+use Rattle.round_packer.specs.Kept.{HoldsClass, IsFailing, change_eq, unmet_failures}
 use Rattle.round_packer.specs.Filling.{HasFailed}
 use Rattle.round_packer.proofs.KeptLaws.{keeps_round, none_covering, uncovered}
 
@@ -99,7 +99,7 @@ module _ (to : Target) (tables : List (List Rule)) (taken : List Change) where
 -- ---- after a round
 
 -- changes that don't cover the header leave the covering rules as they are
-covering_all : (h : Header) (made : List Change) (rules : List Rule) → AllByRecursion (λ c. covers (rule_of c).key.pattern h ≡ false) made → covering h (rules_after made rules) ≡ covering h rules
+covering_all : (h : Header) (made : List Change) (rules : List Rule) → AllByRecursion (λ c. covers (rule_of c).key.pattern h ≡ false) made → covering_rules h (rules_after made rules) ≡ covering_rules h rules
 covering_all h [] rules off = refl
 covering_all h (c ∷ made) rules off = covering_all h made (rules_after_change c rules) off.1 ∙ covering_kept h c off.0 rules
 
@@ -123,7 +123,7 @@ module _ (to : Target) (tables : List (List Rule)) (rules : TablesKeepVlans tabl
         let h = header_at place class.first in
         let s = place.switch in
         record {
-          rules = sym (ap (covering h) (rules_at-after (early ++ late) tables s (within_good tables (early ++ late) good.applies))
+          rules = sym (ap (covering_rules h) (rules_at-after (early ++ late) tables s (within_good tables (early ++ late) good.applies))
               ∙ covering_all h (changes_at s (early ++ late)) (rules_at tables s) (uncovered (early ++ late) class set place (vlan_is place on) (held place on) off));
           changes = ap (covering_changes h) (at_more s early c) ∙ filter-append (λ (d : Change). covers (rule_of d).key.pattern h) (changes_at s early) (changes_at s (c ∷ []))
               ∙ ap (λ (ds : List Change). ds ++ covering_changes h (changes_at s (c ∷ [])))
@@ -168,9 +168,9 @@ failed_after to tables rules round keeps good f off h =
 
 -- so for all of them
 pub unmet_stand : (to : Target) (tables : List (List Rule)) → TablesKeepVlans tables → (round : List Change) → AllByRecursion (λ d. KeepsVlan (rule_of d).action) round → IsGoodRound tables round
-    → (fs : List Failure) → AllByRecursion (HasFailed to tables round) fs → AllByRecursion (HasFailed to (tables_after round tables) []) (unmet round fs)
+    → (fs : List Failure) → AllByRecursion (HasFailed to tables round) fs → AllByRecursion (HasFailed to (tables_after round tables) []) (unmet_failures round fs)
 unmet_stand to tables rules round keeps good [] all = tt
 unmet_stand to tables rules round keeps good (f ∷ fs) all =
     let rest = unmet_stand to tables rules round keeps good fs all.1 in
-    cond_both (not (meets_any round f.class f.visited)) (f ∷ unmet round fs) (unmet round fs) (AllByRecursion (HasFailed to (tables_after round tables) []))
+    cond_both (not (meets_any round f.class f.visited)) (f ∷ unmet_failures round fs) (unmet_failures round fs) (AllByRecursion (HasFailed to (tables_after round tables) []))
     (λ on. (failed_after to tables rules round keeps good f (not-true (meets_any round f.class f.visited) on) all.0, rest)) (λ _. rest)

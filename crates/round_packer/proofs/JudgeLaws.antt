@@ -26,7 +26,7 @@ use Rattle.round_judge.specs.Visits.{marks_at}
 use Rattle.round_judge.proofs.JudgingLaws.{numbered_class}
 use Rattle.round_judge.proofs.MetLaws.{passed_over}
 use Rattle.round_packer.specs.declared.failing.Failure.{Failure}
-use Rattle.round_packer.specs.Kept.{ArePreparedFor, HoldsClass, IsKept, AreKept, AreWatched, IsTold, AreTold, AreJudgedBeside, enters_at}
+use Rattle.round_packer.specs.Kept.{ArePreparedFor, HoldsClass, IsKeptSafe, AreKept, AreWatched, IsTold, AreTold, AreJudgedBeside, enters_at}
 use Rattle.round_packer.proofs.KeptLaws.{held_without, kept_unmet}
 
 -- ---- one class
@@ -77,8 +77,8 @@ module _ (to : Target) (tables : List (List Rule)) (changes : List Change) where
   }
 
   -- a class that is kept goes on to be
-  pub kept_on : (old new : List ℕ) → AreWatched to tables changes old new → (n : ℕ) (class : Class) → IsClass to.classes n class → IsKept to tables changes class (marks_at old n)
-      → IsKept to tables changes class (marks_at new n)
+  pub kept_on : (old new : List ℕ) → AreWatched to tables changes old new → (n : ℕ) (class : Class) → IsClass to.classes n class → IsKeptSafe to tables changes class (marks_at old n)
+      → IsKeptSafe to tables changes class (marks_at new n)
   kept_on old new watched n class is kept = record {
     safe = kept.safe;
     held = elim (watched.each n class is) [

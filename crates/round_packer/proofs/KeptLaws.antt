@@ -31,7 +31,7 @@ use Rattle.class_watch.specs.Alike.{covering_changes, AreAlike}
 use Rattle.class_watch.proofs.StandLaws.{alike_walks, alike_safe, safe_after, held_after}
 use Rattle.table_difference.specs.Targets.{Target}
 use Rattle.round_trials.proofs.FitLaws.{at_more, part_longer}
-use Rattle.round_packer.specs.Kept.{HoldsClass, IsKept}
+use Rattle.round_packer.specs.Kept.{HoldsClass, IsKeptSafe}
 
 -- where no change covers a header, none of them is among those that do
 pub none_covering : (h : Header) (changes : List Change) → AllByRecursion (λ d. covers (rule_of d).key.pattern h ≡ false) changes → covering_changes h changes ≡ []
@@ -105,7 +105,7 @@ module _ (net : Network) (tables : List (List Rule)) (taken : List Change) (c : 
 
 -- a class that the change meets at no switch that its walks come to stays as it is
 pub kept_unmet : (to : Target) (tables : List (List Rule)) (taken : List Change) (c : Change) → TablesKeepVlans tables → AllByRecursion (λ d. KeepsVlan (rule_of d).action) taken
-    → (class : Class) (set : ℕ) → meets c class set ≡ false → IsKept to tables taken class set → IsKept to tables (taken ++ c ∷ []) class set
+    → (class : Class) (set : ℕ) → meets c class set ≡ false → IsKeptSafe to tables taken class set → IsKeptSafe to tables (taken ++ c ∷ []) class set
 kept_unmet to tables taken c rules keeps class set off kept = record {
   safe = safe_unmet to.net tables taken c rules keeps class set kept.held off to refl kept.safe;
   held = held_unmet to.net tables taken c rules keeps class set kept.held off;
@@ -114,8 +114,8 @@ kept_unmet to tables taken c rules keeps class set off kept = record {
 -- ---- after a round
 
 -- a class that is kept in a round is kept after it
-pub kept_after : (to : Target) (tables : List (List Rule)) (round : List Change) → IsGoodRound tables round → (class : Class) (set : ℕ) → IsKept to tables round class set
-    → IsKept to (tables_after round tables) [] class set
+pub kept_after : (to : Target) (tables : List (List Rule)) (round : List Change) → IsGoodRound tables round → (class : Class) (set : ℕ) → IsKeptSafe to tables round class set
+    → IsKeptSafe to (tables_after round tables) [] class set
 kept_after to tables round good class set kept =
     let u = one_round_of to.net tables round in
     let rest = at_rest to.net (tables_after round tables) in

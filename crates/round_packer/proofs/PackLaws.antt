@@ -10,7 +10,7 @@ use Rattle.topology.specs.Networks.{Network, switch_count}
 use Rattle.flow_rules.specs.Tables.{rules_at}
 use Rattle.flow_rules.specs.declared.rules.Rule.{Rule}
 use Rattle.update_model.specs.Changes.{rule_of, tables_after, IsGoodRound}
-use Rattle.update_model.specs.Remaining.{remaining}
+use Rattle.update_model.specs.Remaining.{remaining_changes}
 use Rattle.update_model.specs.declared.Change.{Change}
 use Rattle.update_model.specs.declared.Change.TheVariants.{Insert, Delete, Replace}
 use Rattle.update_model.proofs.DifferenceLaws.{IsDifference, difference_switch, remaining_is}
@@ -28,7 +28,7 @@ use Rattle.round_trials.specs.Filling.{TrialState, IsTrial}
 use Rattle.round_judge.specs.Goals.{HasAtoms}
 use Rattle.round_judge.proofs.KeepLaws.{keeps_all}
 use Rattle.round_packer.specs.declared.failing.Failure.{Failure}
-use Rattle.round_packer.specs.Kept.{HasUnsafe, AreKept, unmet}
+use Rattle.round_packer.specs.Kept.{HasUnsafe, AreKept, unmet_failures}
 use Rattle.round_packer.specs.Filling.{IsPlain, IsFilling, IsFilledBy, IsPackedTo, EndsAt, HasFailed}
 use Rattle.round_packer.proofs.KeptLaws.{kept_after}
 use Rattle.round_packer.proofs.FailureLaws.{unmet_stand}
@@ -45,8 +45,8 @@ module _ (net : Network) (tables new : List (List Rule)) (keeps : TablesKeepVlan
   difference_keeps s (Replace t q) h = keeps_at new keeps_new s q h.1
 
   -- each change that remains is at a switch of the network and keeps the VLAN
-  pub plain_remaining : length tables ≡ switch_count net → AllByRecursion (IsPlain net) (remaining tables new)
-  plain_remaining count = each_from_in (IsPlain net) (remaining tables new) (λ c i.
+  pub plain_remaining : length tables ≡ switch_count net → AllByRecursion (IsPlain net) (remaining_changes tables new)
+  plain_remaining count = each_from_in (IsPlain net) (remaining_changes tables new) (λ c i.
       let (s, less, is) = remaining_is tables new c i in
       let at = difference_switch s (rules_at tables s) (rules_at new s) c is in
       record {
@@ -67,7 +67,7 @@ past_more (first ∷ rounds) round old = past_more rounds round (tables_after fi
 
 module _ (to : Target) (new_unique : AllUnique to.new) (old : List (List Rule)) (rounds : List (List Change)) (p : TrialState) (came : List ℕ) (looked : List Bool)
     (at : IsPackedTo to old rounds p came looked) (q : TrialState) (now : List ℕ) (marks : List Bool)
-    (filled : IsFilledBy to (tables_past rounds old) [] (remaining (tables_past rounds old) to.new) q now marks) where
+    (filled : IsFilledBy to (tables_past rounds old) [] (remaining_changes (tables_past rounds old) to.new) q now marks) where
   abbrev tables : List (List Rule)
   tables = tables_past rounds old
 
@@ -109,26 +109,26 @@ module _ (to : Target) (new_unique : AllUnique to.new) (old : List (List Rule)) 
 
   -- and the failures stand that no change of it meets
   pub failed_next : (made : List Change) → made ≡ q.round → (fs : List Failure) → AllByRecursion (HasFailed to tables q.round) fs → (all : List (List Change)) → all ≡ rounds ++ q.round ∷ []
-      → AllByRecursion (HasFailed to (tables_past all old) []) (unmet made fs)
+      → AllByRecursion (HasFailed to (tables_past all old) []) (unmet_failures made fs)
   failed_next made is fs failed all all_is =
       let same : made ≡ round = is ∙ filled.filling.round_is in
       let past : tables_past all old ≡ tables_after made tables =
       ap (λ (rs : List (List Change)). tables_past rs old) all_is ∙ past_more rounds q.round old ∙ ap (λ (cs : List Change). tables_after cs tables) (sym is) in
-      subst (λ (ts : List (List Rule)). AllByRecursion (HasFailed to ts []) (unmet made fs)) (sym past)
+      subst (λ (ts : List (List Rule)). AllByRecursion (HasFailed to ts []) (unmet_failures made fs)) (sym past)
       (unmet_stand to tables filled.filling.rules made (subst (AllByRecursion (λ (d : Change). KeepsVlan (rule_of d).action)) (sym same) filled.filling.changes) (subst (IsGoodRound tables) (sym same) good) fs
       (subst (λ (cs : List Change). AllByRecursion (HasFailed to tables cs) fs) (sym is) failed))
 
   -- and fewer remain
-  pub fewer_left : q.round ≢ [] → (t : TrialState) → t.tables ≡ tables_after q.round q.tables → length (remaining t.tables to.new) < length (remaining tables to.new)
+  pub fewer_left : q.round ≢ [] → (t : TrialState) → t.tables ≡ tables_after q.round q.tables → length (remaining_changes t.tables to.new) < length (remaining_changes tables to.new)
   fewer_left some t tables_are =
       let made = part_made to.new new_unique tables at.unique round (packed_part to tables round filled.filled) in
       let count = remaining_made to.new new_unique tables at.unique round made.made in
       let one = some_more to.new new_unique round (some_taken some) in
-      let same = ap (λ (ts : List (List Rule)). length (remaining ts to.new)) (made_is t tables_are) in
+      let same = ap (λ (ts : List (List Rule)). length (remaining_changes ts to.new)) (made_is t tables_are) in
       omega arith
 
   -- no change is taken: packing is stuck
-  pub stuck_here : remaining tables to.new ≢ [] → q.round ≡ [] → PacksStuck to old rounds
+  pub stuck_here : remaining_changes tables to.new ≢ [] → q.round ≡ [] → PacksStuck to old rounds
   stuck_here some none = record {
     packed = at.packed;
     some_remain = some;
@@ -137,7 +137,7 @@ module _ (to : Target) (new_unique : AllUnique to.new) (old : List (List Rule)) 
 
 -- nothing remains: packing ends ordered
 pub ordered_here : (to : Target) (old : List (List Rule)) (rounds : List (List Change)) (p : TrialState) (came : List ℕ) (looked : List Bool) → IsPackedTo to old rounds p came looked
-    → (left : List Change) → left ≡ remaining (tables_past rounds old) to.new → left ≡ [] → PacksOrdered to old rounds
+    → (left : List Change) → left ≡ remaining_changes (tables_past rounds old) to.new → left ≡ [] → PacksOrdered to old rounds
 ordered_here to old rounds p came looked at left is none = record { packed = at.packed; none_remains = sym is ∙ none }
 
 -- ---- a class that isn't safe at first
@@ -152,21 +152,21 @@ never_stands to old unsafe changes can =
     let by = can.safe unsafe.number unsafe.class unsafe.is_class in
     unsafe.never (record { numbers = by.numbers; sets = by.sets; safe = safe_fewer to.net old [] changes tt unsafe.class.first unsafe.class.entry _ by.numbers by.sets by.safe })
 
-pub ends_unsafe : (to : Target) (old : List (List Rule)) → HasUnsafe to old [] → (left : List Change) → left ≡ remaining old to.new → (none : Bool) → (none ≡ true → left ≡ []) → (none ≡ false → left ≢ [])
+pub ends_unsafe : (to : Target) (old : List (List Rule)) → HasUnsafe to old [] → (left : List Change) → left ≡ remaining_changes old to.new → (none : Bool) → (none ≡ true → left ≡ []) → (none ≡ false → left ≢ [])
     → EndsAt to old [] none
 ends_unsafe to old unsafe left is true empty some = record { packed = tt; none_remains = sym is ∙ empty refl }
 ends_unsafe to old unsafe left is false empty some = record {
   packed = tt;
   some_remain = λ none. some refl (is ∙ none);
-  none_stands = none_filled (CanStand to old) [] (remaining old to.new) (never_stands to old unsafe);
+  none_stands = none_filled (CanStand to old) [] (remaining_changes old to.new) (never_stands to old unsafe);
 }
 
 -- ---- what remains, as it is listed
 
 module _ (to : Target) (old : List (List Rule)) (rounds : List (List Change)) (p : TrialState) (came : List ℕ) (looked : List Bool) (at : IsPackedTo to old rounds p came looked) (left : List Change)
-    (left_is : left ≡ remaining p.tables to.new) where
-  pub left_remains : left ≡ remaining (tables_past rounds old) to.new
-  left_remains = left_is ∙ ap (λ (ts : List (List Rule)). remaining ts to.new) at.filling.tables_are
+    (left_is : left ≡ remaining_changes p.tables to.new) where
+  pub left_remains : left ≡ remaining_changes (tables_past rounds old) to.new
+  left_remains = left_is ∙ ap (λ (ts : List (List Rule)). remaining_changes ts to.new) at.filling.tables_are
 
   pub plain_left : TablesKeepVlans to.new → AllByRecursion (IsPlain to.net) left
   plain_left keeps_new =
@@ -175,7 +175,7 @@ module _ (to : Target) (old : List (List Rule)) (rounds : List (List Change)) (p
       (subst (λ (ts : List (List Rule)). length ts ≡ switch_count to.net) at.filling.tables_are at.filling.trial_is.space.tables))
 
   pub filled_left : (q : TrialState) (now : List ℕ) (marks : List Bool) → IsFilledBy to (tables_past rounds old) [] left q now marks
-      → IsFilledBy to (tables_past rounds old) [] (remaining (tables_past rounds old) to.new) q now marks
+      → IsFilledBy to (tables_past rounds old) [] (remaining_changes (tables_past rounds old) to.new) q now marks
   filled_left q now marks = subst (λ (cs : List Change). IsFilledBy to (tables_past rounds old) [] cs q now marks) left_remains
 
 -- before the first round

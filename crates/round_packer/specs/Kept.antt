@@ -25,14 +25,14 @@ abbrev pub HoldsClass : Network → List (List Rule) → List Change → Class �
 HoldsClass net tables changes class set = HoldsWalks (one_round_of net tables changes) 0 class set
 
 -- so it is, and some evidence keeps the class safe
-pub record IsKept (to : Target) (tables : List (List Rule)) (changes : List Change) (class : Class) (set : ℕ) : Type 0 where
+pub record IsKeptSafe (to : Target) (tables : List (List Rule)) (changes : List Change) (class : Class) (set : ℕ) : Type 0 where
   pub safe : IsSafeByEvidence to.net to.demands tables changes class
   pub held : HoldsClass to.net tables changes class set
 
 -- so it is with each class
 pub record AreKept (to : Target) (tables : List (List Rule)) (changes : List Change) (came : List ℕ) : Type 0 where
   pub count : length came ≡ class_count to.classes
-  pub each : (n : ℕ) (class : Class) → IsClass to.classes n class → IsKept to tables changes class (marks_at came n)
+  pub each : (n : ℕ) (class : Class) → IsClass to.classes n class → IsKeptSafe to tables changes class (marks_at came n)
 
 -- no evidence keeps one of the classes safe while the changes are made
 pub record HasUnsafe (to : Target) (tables : List (List Rule)) (changes : List Change) : Type 0 where
@@ -60,8 +60,8 @@ abbrev pub IsFailureOf : Target → List (List Rule) → List Change → Change 
 IsFailureOf to tables changes c f = (f.change ≡ c) × IsFailing to tables changes f
 
 -- the failures whose class no change of the round meets
-abbrev pub unmet : List Change → List Failure → List Failure
-unmet round failures = filter (λ f. not (meets_any round f.class f.visited)) failures
+abbrev pub unmet_failures : List Change → List Failure → List Failure
+unmet_failures round failures = filter (λ f. not (meets_any round f.class f.visited)) failures
 
 -- the set of each class is as it was, or has the switches that its mixed walks come to while the changes are made
 pub record AreWatched (to : Target) (tables : List (List Rule)) (changes : List Change) (old new : List ℕ) : Type 0 where
@@ -74,7 +74,7 @@ enters_at c class = class.entry.switch.0 == (switch_of c).0
 
 -- what is told of the class with a number, if it enters at the change's own switch or if it doesn't: it is kept, or the change fails
 abbrev pub IsTold : Target → List (List Rule) → List Change → Change → Bool → ℕ → List ℕ → Option Failure → Type 0
-IsTold to tables changes c own n came None = (class : Class) → IsClass to.classes n class → enters_at c class ≡ own → IsKept to tables changes class (marks_at came n)
+IsTold to tables changes c own n came None = (class : Class) → IsClass to.classes n class → enters_at c class ≡ own → IsKeptSafe to tables changes class (marks_at came n)
 IsTold to tables changes c own n came (Some f) = IsFailureOf to tables changes c f
 
 -- so of all classes

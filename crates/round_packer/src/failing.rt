@@ -1,7 +1,7 @@
 //! Why a change can't stand beside others, and how long that is known.
 ghost use Rattle.std.specs.Prelude.{◌≡◌, ◌<◌, length, IfSome};
 ghost use Rattle.net_base.specs.Members.{IsIn};
-ghost use Rattle.round_packer.specs.Kept.{change_eq, unmet};
+ghost use Rattle.round_packer.specs.Kept.{change_eq, unmet_failures};
 
 use class_watch::meets_any;
 use dest_classes::Class;
@@ -19,7 +19,7 @@ pub(crate) struct Failure {
 
 /// The changes that remain, and those of them whose failure is known, in the same order.
 #[derive(Clone, Copy)]
-pub(crate) struct Left<'a> {
+pub(crate) struct RemainingChanges<'a> {
     pub(crate) changes: &'a [Change],
     pub(crate) failed: &'a [Failure],
 }
@@ -56,7 +56,7 @@ pub(crate) fn known(failed: &[Failure], place: usize, change: &Change) -> Option
 /// Forgets the failures whose class a change of a round covers at a switch that its mixed walks come to. The others stand after
 /// the round: the walks are then the same, and so is what keeps the class safe.
 pub(crate) fn forget_met(failures: &mut Vec<Failure>, round: &[Change])
-    ensures { failures.new.items ≡ unmet round.now failures.old.items }
+    ensures { failures.new.items ≡ unmet_failures round.now failures.old.items }
 {
     failures.retain(|failure| !meets_any(round, failure.class, failure.visited));
 }

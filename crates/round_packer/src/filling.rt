@@ -5,8 +5,8 @@ ghost use Rattle.flow_rules.specs.declared.rules.Rule.{Rule};
 ghost use Rattle.update_model.specs.declared.Change.{Change as ChangeOf};
 ghost use Rattle.round_packer.specs.Filling.{IsFilling, IsFilledBy, IsPlain, IsTried, HasFailed};
 
-use crate::failing::{Failure, Left, known};
-use crate::judging::{Tried, failure_beside};
+use crate::failing::{Failure, RemainingChanges, known};
+use crate::judging::{TriedChange, failure_beside};
 use class_watch::{ClassWatch, LookedAtoms};
 use net_base::Memory;
 use round_judge::Goal;
@@ -39,7 +39,7 @@ fn try_change(
         return Ok(None);
     }
     goal.look_at_touched(looked, change);
-    let tried = Tried {
+    let tried = TriedChange {
         alloc,
         change,
         mixes: trial.mixes(),
@@ -61,7 +61,7 @@ pub(crate) fn fill(
     trial: &mut RoundTrial,
     watch: &mut ClassWatch,
     looked: &mut LookedAtoms,
-    left: &Left,
+    left: &RemainingChanges,
 ) -> Result<Vec<Failure>, Memory>
     requires plain { AllByRecursion (IsPlain goal.now.net) left.now.changes.now }
     requires filling { (tables : List (List Rule)) × (round : List ChangeOf)

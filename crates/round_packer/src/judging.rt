@@ -22,7 +22,7 @@ use update_model::Change;
 
 /// A change that is tried beside those that are taken, and the switches as they are prepared for all of these.
 #[derive(Clone, Copy)]
-pub(crate) struct Tried<'a> {
+pub(crate) struct TriedChange<'a> {
     pub(crate) alloc: Global,
     pub(crate) change: &'a Change,
     pub(crate) mixes: &'a [Mixed],
@@ -73,7 +73,7 @@ fn is_safe(
 fn class_failure(
     goal: &Goal,
     watch: &mut ClassWatch,
-    tried: &Tried,
+    tried: &TriedChange,
     last: &mut LastSets,
     number: u32,
     own: bool,
@@ -117,7 +117,7 @@ fn class_failure(
 fn classes_failure(
     goal: &Goal,
     watch: &mut ClassWatch,
-    tried: &Tried,
+    tried: &TriedChange,
     looked: &LookedAtoms,
     last: &mut LastSets,
     own: bool,
@@ -155,7 +155,7 @@ fn classes_failure(
 pub(crate) fn failure_beside(
     goal: &Goal,
     watch: &mut ClassWatch,
-    tried: &Tried,
+    tried: &TriedChange,
     looked: &LookedAtoms,
 ) -> Result<Option<Failure>, Memory>
     requires prepared { (tables : List (List Rule)) × (changes : List ChangeOf)

@@ -5,7 +5,7 @@ ghost use Rattle.flow_rules.specs.declared.rules.Rule.{Rule};
 ghost use Rattle.path_walk.specs.UserConfigs.{IsUserConfig};
 ghost use Rattle.dest_classes.specs.Classes.{class_count};
 ghost use Rattle.update_model.specs.Changes.{tables_after};
-ghost use Rattle.update_model.specs.Remaining.{remaining};
+ghost use Rattle.update_model.specs.Remaining.{remaining_changes};
 ghost use Rattle.table_difference.specs.Targets.{Target};
 ghost use Rattle.round_trials.specs.Filling.{IsTrial};
 ghost use Rattle.round_judge.specs.Goals.{HasAtoms};
@@ -13,7 +13,7 @@ ghost use Rattle.round_packer.specs.Filling.{EndsAt, IsPackedTo};
 ghost use Rattle.round_packer.specs.Ends.{IsPacking};
 
 use crate::Packing;
-use crate::failing::{Left, forget_met};
+use crate::failing::{RemainingChanges, forget_met};
 use crate::filling::fill;
 use crate::judging::all_safe;
 use class_watch::{ClassWatch, LookedAtoms};
@@ -46,7 +46,7 @@ fn keep_round(
 /// The changes that remain from the tables on.
 fn left_of(alloc: Global, goal: &Goal, trial: &RoundTrial) -> Result<Vec<Change>, Memory>
     requires { IsTrial goal.now.net trial.now }
-    ensures { IfOk result (λ left. left.items ≡ remaining trial.now.tables goal.now.new) }
+    ensures { IfOk result (λ left. left.items ≡ remaining_changes trial.now.tables goal.now.new) }
 {
     goal.net.keeps_rules();
     remaining(alloc, trial.tables(), goal.new)
@@ -71,7 +71,7 @@ fn pack_rounds(
     let mut changes = left_of(alloc, goal, trial)?;
     let mut failed = Vec::new(alloc);
     'packing: while !changes.is_empty() {
-        let left = Left {
+        let left = RemainingChanges {
             changes: &changes,
             failed: &failed,
         };

@@ -5,7 +5,7 @@ use Rattle.flow_rules.specs.declared.rules.Rule.{Rule}
 use Rattle.path_walk.specs.UserConfigs.{IsUserConfig}
 use Rattle.dest_classes.specs.Classes.{class_count}
 use Rattle.demands.specs.Good.{HasGoodPaths}
-use Rattle.update_model.specs.Remaining.{remaining}
+use Rattle.update_model.specs.Remaining.{remaining_changes}
 use Rattle.certificates.specs.Updates.{Task}
 use Rattle.certificates.specs.Certified.{classes_for, IsCertified}
 use Rattle.certificates.specs.Trees.{IsTreeUpdate}
@@ -51,6 +51,6 @@ module _ (to : Target) (old : List (List Rule)) (classes_are : to.classes ≡ cl
       answer_classes true (changes, at, ends) = now_classes to old classes_are net old_user new_user s changes at ends stored no_classes old_good new_good
       answer_classes false (changes, at, ends) = tt
 
-      pub answer_count : (none : Bool) → IsEnded to old s none → OfPlan (λ p. length p.rounds ≡ length (remaining old to.new)) (answer_by s none)
+      pub answer_count : (none : Bool) → IsEnded to old s none → OfPlan (λ p. length p.rounds ≡ length (remaining_changes old to.new)) (answer_by s none)
       answer_count true (changes, at, ends) = now_count to old classes_are net old_user new_user s changes at ends stored no_classes old_good new_good
       answer_count false (changes, at, ends) = tt

@@ -21,7 +21,7 @@ use Rattle.demands.specs.Good.{HasGoodPaths}
 use Rattle.update_model.specs.Changes.{switch_of, rule_of, Applies, tables_after, tables_after_change, round_after, settled_tables, round_blocks, IsGoodRound}
 use Rattle.update_model.specs.Mixtures.{Rollout, tables_before, AreGoodRounds, AreClearRounds, need_of}
 use Rattle.update_model.specs.Ranges.{IsPlanChange}
-use Rattle.update_model.specs.Remaining.{rule_with, difference, changes_between, keys_in_order, remaining}
+use Rattle.update_model.specs.Remaining.{rule_with, difference, changes_between, keys_in_order, remaining_changes}
 use Rattle.update_model.specs.declared.Change.{Change}
 use Rattle.update_model.specs.declared.Change.TheVariants.{Insert, Delete, Replace}
 use Rattle.update_model.proofs.DifferenceLaws.{rule_same, remaining_in}
@@ -79,7 +79,7 @@ split_at (d ∷ changes) (suc k) less =
     record { front = d ∷ s.front; c = s.c; rest = s.rest; are = ap (λ xs. d ∷ xs) s.are; length_is = ap suc s.length_is }
 
 first_there : (to : Target) (tables : List (List Rule)) (front : List Change) (c : Change) (rest : List Change) → AreFirstQualifying to tables (front ++ c ∷ rest)
-    → IsFirstQualifying to (tables_after front tables) (remaining (tables_after front tables) to.new) c
+    → IsFirstQualifying to (tables_after front tables) (remaining_changes (tables_after front tables) to.new) c
 first_there to tables [] c rest found = found.0
 first_there to tables (d ∷ front) c rest found = first_there to (tables_after_change d tables) front c rest found.1
 
@@ -89,8 +89,8 @@ front_found to tables (d ∷ front) rest found = (found.0, front_found to (table
 
 -- ---- where nothing remains
 
-module _ (to : Target) (old : List (List Rule)) (new_user : IsUserConfig to.net to.new) (tables : List (List Rule)) (user : AreUserTables to old tables) (none : remaining tables to.new ≡ []) where
-  no_change : (c : Change) → ¬ IsIn c (remaining tables to.new)
+module _ (to : Target) (old : List (List Rule)) (new_user : IsUserConfig to.net to.new) (tables : List (List Rule)) (user : AreUserTables to old tables) (none : remaining_changes tables to.new ≡ []) where
+  no_change : (c : Change) → ¬ IsIn c (remaining_changes tables to.new)
   no_change c i = subst (IsIn c) none i
 
   module _ (s : SwitchId) (within : s.0 < switch_count to.net) where
@@ -182,7 +182,7 @@ module _ (to : Target) (old : List (List Rule)) (net : IsNetwork to.net) (old_us
       let s = split_at changes k (omega arith) in
       let first = first_there to old s.front s.c s.rest (subst (AreFirstQualifying to old) s.are found) in
       let user = user_along to old new_user old (user_start to old new_user old_user) s.front (front_found to old s.front (s.c ∷ s.rest) (subst (AreFirstQualifying to old) s.are found)) in
-      let i = first_remains to (tables_after s.front old) (remaining (tables_after s.front old) to.new) s.c first in
+      let i = first_remains to (tables_after s.front old) (remaining_changes (tables_after s.front old) to.new) s.c first in
       let same : IsSameRound u k (single to.net (tables_after s.front old) s.c) 0 =
       subst (λ cs. IsSameRound (update_by to old cs) k (single to.net (tables_after s.front old) s.c) 0) (sym s.are)
       (subst (λ j. IsSameRound (update_by to old (s.front ++ s.c ∷ s.rest)) j (single to.net (tables_after s.front old) s.c) 0) s.length_is
@@ -228,10 +228,10 @@ module _ (to : Target) (old : List (List Rule)) (net : IsNetwork to.net) (old_us
   tables_last (c ∷ cs) tables = tables_last cs (tables_after (c ∷ []) tables)
 
   -- what remained at first was made or remains, and is little
-  pub found_count : length changes + length (remaining (tables_after changes old) to.new) ≡ length (remaining old to.new)
+  pub found_count : length changes + length (remaining_changes (tables_after changes old) to.new) ≡ length (remaining_changes old to.new)
   found_count = remaining_count to old new_user old (user_start to old new_user old_user) changes found
 
-  pub found_few : length (remaining old to.new) ≤ 4096
+  pub found_few : length (remaining_changes old to.new) ≤ 4096
   found_few = let few = few_remain old to.new in let first = old_user.few in let second = new_user.few in omega arith
 
   length_singles : length u.rounds ≡ length changes
@@ -292,7 +292,7 @@ module _ (to : Target) (old : List (List Rule)) (net : IsNetwork to.net) (old_us
 
     -- the plan of a search for the classes of the configurations and the demands
     module _ (classes_are : to.classes ≡ classes_before to.net old to.new to.demands) (no_classes : MakeNoClasses to.net old to.new)
-        (old_good : HasGoodPaths to.net old to.demands to.classes) (new_good : HasGoodPaths to.net to.new to.demands to.classes) (none : remaining (tables_after changes old) to.new ≡ []) where
+        (old_good : HasGoodPaths to.net old to.demands to.classes) (new_good : HasGoodPaths to.net to.new to.demands to.classes) (none : remaining_changes (tables_after changes old) to.new ≡ []) where
       abbrev pub task : Task
       task = record { update = record { net = to.net; old = old; new = to.new; demands = to.demands }; rounds = u.rounds }
 
@@ -315,5 +315,5 @@ module _ (to : Target) (old : List (List Rule)) (net : IsNetwork to.net) (old_us
       }
 
       -- one round for each change that remained at first
-      pub plan_count : length (single_rounds changes) ≡ length (remaining old to.new)
-      plan_count = let count = length_singles in let all = found_count in let nothing : length (remaining (tables_after changes old) to.new) ≡ 0 = ap length none in omega arith
+      pub plan_count : length (single_rounds changes) ≡ length (remaining_changes old to.new)
+      plan_count = let count = length_singles in let all = found_count in let nothing : length (remaining_changes (tables_after changes old) to.new) ≡ 0 = ap length none in omega arith

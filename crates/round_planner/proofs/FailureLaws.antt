@@ -8,7 +8,7 @@ use Rattle.net_base.proofs.NameLaws.{same_switch}
 use Rattle.net_base.specs.declared.ids.SwitchId.{SwitchId}
 use Rattle.net_base.specs.declared.ids.Place.{Place}
 use Rattle.topology.specs.Networks.{Network, switch_count, capacity_of}
-use Rattle.flow_rules.specs.Tables.{IsClear, rules_at, rules_of_all, covering}
+use Rattle.flow_rules.specs.Tables.{IsClear, rules_at, rules_of_all, covering_rules}
 use Rattle.flow_rules.specs.declared.rules.Rule.{Rule}
 use Rattle.path_walk.specs.Outcomes.{header_at}
 use Rattle.dest_classes.specs.declared.Class.{Class}
@@ -22,7 +22,7 @@ use Rattle.check_reasons.proofs.TouchLaws.{not_covered}
 use Rattle.mixed_walks.specs.Walks.{TablesKeepVlans}
 use Rattle.mixed_walks.proofs.PlaceLaws.{on_walk_vlan}
 use Rattle.round_tables.specs.PreparedTables.{PreparedState}
-use Rattle.round_tables.specs.Trials.{single, HasRoomAlone, IsSettled}
+use Rattle.round_tables.specs.Trials.{single, HasRoomAlone, IsBetweenTrials}
 use Rattle.round_tables.proofs.TrialLaws.{changes_here, changes_there}
 use Rattle.round_mix.proofs.TriedLaws.{clear_none}
 use Rattle.table_difference.specs.Targets.{Target}
@@ -89,7 +89,7 @@ module _ (net : Network) (tables : List (List Rule)) (c : Change) where
       }
 
 -- where no room was found for a change that is tried there is none in its table
-pub no_room : (net : Network) (t : PreparedState) (tables : List (List Rule)) (c : Change) → IsSettled net t → rules_of_all t.tables ≡ tables → ¬ HasRoomAlone net tables c → ¬ HasRoomThere net tables c
+pub no_room : (net : Network) (t : PreparedState) (tables : List (List Rule)) (c : Change) → IsBetweenTrials net t → rules_of_all t.tables ≡ tables → ¬ HasRoomAlone net tables c → ¬ HasRoomThere net tables c
 no_room net t tables c settled are none there =
     none (room_alone_from net tables c (λ s. subst (λ (ts : List (List Rule)). IsClear (rules_at ts s)) are (settled.fit.clear s))
     (λ s within. subst (λ (ts : List (List Rule)). length (rules_at ts s) ≤ capacity_of net s) are (settled.fit.fits s within)) there)
@@ -110,15 +110,15 @@ module _ (to : Target) (tables : List (List Rule)) (c : Change) (keeps_rules : T
 
     -- the same rules cover a packet of the class where its mixed walks come to
     same_covering : (place : Place) → IsOnMixedWalk u 0 class.first class.entry place
-        → covering (header_at place class.first) (rules_at (tables_after_change d tables) place.switch) ≡ covering (header_at place class.first) (rules_at tables place.switch)
+        → covering_rules (header_at place class.first) (rules_at (tables_after_change d tables) place.switch) ≡ covering_rules (header_at place class.first) (rules_at tables place.switch)
     same_covering place on =
         elim (cases_eq place.switch.0 (switch_of d).0) [
           | inl e ↦
               let off : ¬ IsTrue (may_cover d class) = apart place on (same_switch place.switch (switch_of d) e) in
-              ap (covering (header_at place class.first)) (rules_at-after_change d tables place.switch within
+              ap (covering_rules (header_at place class.first)) (rules_at-after_change d tables place.switch within
               ∙ cond-true ((switch_of d).0 == place.switch.0) (rules_after_change d (rules_at tables place.switch)) (rules_at tables place.switch) (eq-eqb (switch_of d).0 place.switch.0 (sym e)))
               ∙ covering_kept (header_at place class.first) d (not_covered d class place (on_walk_vlan u 0 class.first class.entry keeps_rules (λ j _. keep_rounds j) place on) off) (rules_at tables place.switch)
-          | inr ne ↦ ap (covering (header_at place class.first)) (other_rules d tables place.switch ne)
+          | inr ne ↦ ap (covering_rules (header_at place class.first)) (other_rules d tables place.switch ne)
         ]
 
     -- so both rounds are alike for the class

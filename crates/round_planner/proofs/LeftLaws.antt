@@ -9,14 +9,14 @@ use Rattle.net_base.proofs.MemberLaws.{each_weaker, each_append, each_map, each_
 use Rattle.flow_rules.specs.declared.rules.Rule.{Rule}
 use Rattle.path_walk.specs.UserConfigs.{IsUserConfig}
 use Rattle.update_model.specs.Changes.{switch_of, rule_of, tables_after, tables_after_change}
-use Rattle.update_model.specs.Remaining.{remaining}
+use Rattle.update_model.specs.Remaining.{remaining_changes}
 use Rattle.update_model.specs.declared.Change.{Change}
 use Rattle.certificates.specs.Certified.{KeepsVlan}
 use Rattle.certificates.proofs.TreeTables.{unique_in_table}
 use Rattle.mixed_walks.specs.Walks.{TablesKeepVlans}
 use Rattle.mixed_walks.proofs.PlaceLaws.{tables_keep}
 use Rattle.table_difference.proofs.WithoutLaws.{remaining_without}
-use Rattle.round_planner.specs.declared.left.Left.{Left}
+use Rattle.round_planner.specs.declared.left.RemainingChange.{RemainingChange}
 use Rattle.table_difference.specs.Targets.{Target}
 use Rattle.round_planner.specs.Search.{Qualifies}
 use Rattle.round_planner.specs.Failures.{IsFailure, IsTouched, HasStanding, IsOfUsers, AreOfUsers, AreLeft}
@@ -26,7 +26,7 @@ use Rattle.round_planner.proofs.FailureLaws.{failure_stands, fails_then}
 use Rattle.round_planner.proofs.SearchingLaws.{split_there, take_more, tables_more}
 use Rattle.round_planner.proofs.UserTables.{AreUserTables, IsUserChange, keeps_user, user_start, user_along, changes_along, remaining_user}
 
-abbrev pub change_of : Left → Change
+abbrev pub change_of : RemainingChange → Change
 change_of l = l.change
 
 -- ---- lists with one member set
@@ -88,7 +88,7 @@ module _ {A : Type 0} where
 
 module _ (to : Target) (tables : List (List Rule)) where
   -- one that has failed doesn't qualify
-  pub failed_some : (one : Left) → is_some one.failure ≡ true → HasStanding to tables one → ¬ Qualifies to tables one.change
+  pub failed_some : (one : RemainingChange) → is_some one.failure ≡ true → HasStanding to tables one → ¬ Qualifies to tables one.change
   failed_some one some stands =
       elim one.failure as (λ o. is_some o ≡ true → IfSome o (λ g. IsFailure to tables one.change g) → ¬ Qualifies to tables one.change) [
         | None ↦ λ e _. absurd (false≢true e)
@@ -96,7 +96,7 @@ module _ (to : Target) (tables : List (List Rule)) where
       ] some stands
 
   -- a failure that a change doesn't touch stands after it
-  pub stands_on : (one : Left) (d : Change) → IsOfUsers tables one → (switch_of d).0 < length tables → ¬ IsSomeAnd one.failure (λ f. IsTouched (switch_of one.change) d f)
+  pub stands_on : (one : RemainingChange) (d : Change) → IsOfUsers tables one → (switch_of d).0 < length tables → ¬ IsSomeAnd one.failure (λ f. IsTouched (switch_of one.change) d f)
       → HasStanding to tables one → HasStanding to (tables_after_change d tables) one
   stands_on one d users within untouched stands =
       elim one.failure as (λ o. ¬ IsSomeAnd o (λ f. IsTouched (switch_of one.change) d f) → IfSome o (λ f. IsFailure to tables one.change f)
@@ -111,17 +111,17 @@ module _ (to : Target) (old : List (List Rule)) (changes : List Change) where
   abbrev tables : List (List Rule)
   tables = tables_after changes old
 
-  abbrev Unfit : Left → Type 0
+  abbrev Unfit : RemainingChange → Type 0
   Unfit one = ¬ Qualifies to tables one.change
 
   -- one of them remains
-  pub left_in : (left : List Left) (i : ℕ) (x : Left) → AreLeft to tables left → i < length left → x ≡ get_or left i x → IsIn x.change (remaining tables to.new)
+  pub left_in : (left : List RemainingChange) (i : ℕ) (x : RemainingChange) → AreLeft to tables left → i < length left → x ≡ get_or left i x → IsIn x.change (remaining_changes tables to.new)
   left_in left i x are less is =
       let parts = ap (map change_of) (split_there left i x less is) ∙ map-append change_of (take i left) (x ∷ drop (suc i) left) in
       subst (IsIn x.change) (sym parts ∙ are.changes) (in_append_right x.change (map change_of (take i left)) (x.change ∷ map change_of (drop (suc i) left)) (inl refl))
 
-  module _ (left : List Left) (i : ℕ) (x y : Left) (less : i < length left) (is : x ≡ get_or left i x) (same : y.change ≡ x.change) where
-    abbrev set_left : List Left
+  module _ (left : List RemainingChange) (i : ℕ) (x y : RemainingChange) (less : i < length left) (is : x ≡ get_or left i x) (same : y.change ≡ x.change) where
+    abbrev set_left : List RemainingChange
     set_left = set left i y
 
     within : i < length set_left
@@ -154,13 +154,13 @@ module _ (to : Target) (old : List (List Rule)) (changes : List Change) where
         (each_append Unfit (take i set_left) (y ∷ []) (subst (AllByRecursion Unfit) (sym (take_set left i y)) none) (subst (λ (c : Change). ¬ Qualifies to tables c) (sym same) fails, tt))
 
   -- none of those that remain qualifies
-  pub unfit_all : (left : List Left) → map change_of left ≡ remaining tables to.new → AllByRecursion Unfit left → NoneQualifies to tables
+  pub unfit_all : (left : List RemainingChange) → map change_of left ≡ remaining_changes tables to.new → AllByRecursion Unfit left → NoneQualifies to tables
   unfit_all left are none = subst (AllByRecursion (λ d. ¬ Qualifies to tables d)) are (each_map change_of (λ d. ¬ Qualifies to tables d) left none)
 
 -- ---- after a change of the search
 
 module _ (to : Target) (old : List (List Rule)) (old_user : IsUserConfig to.net old) (new_user : IsUserConfig to.net to.new) (changes : List Change) (s : SearchState) (at : IsAt to old changes s)
-    (left : List Left) (are : AreLeft to (tables_after changes old) left) where
+    (left : List RemainingChange) (are : AreLeft to (tables_after changes old) left) where
   user : AreUserTables to old (tables_after changes old)
   user = user_along to old new_user old (user_start to old new_user old_user) changes at.stands.found
 
@@ -169,14 +169,14 @@ module _ (to : Target) (old : List (List Rule)) (old_user : IsUserConfig to.net 
       (each_weaker (IsUserChange to old) (λ d. KeepsVlan (rule_of d).action) (λ d is. keeps_user to.net (switch_of d) (rule_of d).action is.rule.action) changes
       (changes_along to old new_user old (user_start to old new_user old_user) changes at.stands.found))
 
-  each_left : AllByRecursion (λ (l : Left). IsUserChange to old l.change) left
+  each_left : AllByRecursion (λ (l : RemainingChange). IsUserChange to old l.change) left
   each_left = each_from_map change_of (IsUserChange to old) left
       (subst (AllByRecursion (IsUserChange to old)) (sym are.changes)
-      (each_from_in (IsUserChange to old) (remaining (tables_after changes old) to.new) (remaining_user to old new_user (tables_after changes old) user)))
+      (each_from_in (IsUserChange to old) (remaining_changes (tables_after changes old) to.new) (remaining_user to old new_user (tables_after changes old) user)))
 
   -- neither the tables nor the changes set or strip
   pub of_users : AreOfUsers (tables_after changes old) left
-  of_users = each_weaker (λ (l : Left). IsUserChange to old l.change) (IsOfUsers (tables_after changes old))
+  of_users = each_weaker (λ (l : RemainingChange). IsUserChange to old l.change) (IsOfUsers (tables_after changes old))
       (λ l is. record {
         rules = rules_keep;
         change = keeps_user to.net (switch_of l.change) (rule_of l.change).action is.rule.action;
@@ -184,14 +184,14 @@ module _ (to : Target) (old : List (List Rule)) (old_user : IsUserConfig to.net 
       }) left each_left
 
   -- after one of them the others remain
-  pub moved_on : (new : List Left) (t : SearchState) (place : ℕ) (made : IsMadeAt to old changes t left place)
+  pub moved_on : (new : List RemainingChange) (t : SearchState) (place : ℕ) (made : IsMadeAt to old changes t left place)
       → map change_of new ≡ map change_of (made.front ++ made.back) → AllByRecursion (HasStanding to (tables_after_change made.one.change (tables_after changes old))) new → IsMoved to old changes t new true
   moved_on new t place made others standing =
       let c = made.one.change in
       let tables = tables_after changes old in
-      let all : remaining tables to.new ≡ map change_of made.front ++ c ∷ map change_of made.back =
+      let all : remaining_changes tables to.new ≡ map change_of made.front ++ c ∷ map change_of made.back =
       sym are.changes ∙ ap (map change_of) made.are ∙ map-append change_of made.front (made.one ∷ made.back) in
-      let after : remaining (tables_after_change c tables) to.new ≡ map change_of made.front ++ map change_of made.back =
+      let after : remaining_changes (tables_after_change c tables) to.new ≡ map change_of made.front ++ map change_of made.back =
       remaining_without tables to.new user.unique (λ x. unique_in_table _ (new_user.distinct x)) (map change_of made.front) (map change_of made.back) c all in (
         c,
         made.at,

@@ -5,7 +5,7 @@ use Rattle.net_base.specs.Members.{IsIn}
 use Rattle.net_base.proofs.MemberLaws.{each_at, in_append_right}
 use Rattle.flow_rules.specs.declared.rules.Rule.{Rule}
 use Rattle.update_model.specs.Changes.{tables_after_change, tables_after}
-use Rattle.update_model.specs.Remaining.{remaining}
+use Rattle.update_model.specs.Remaining.{remaining_changes}
 use Rattle.update_model.specs.declared.Change.{Change}
 use Rattle.table_difference.specs.Targets.{Target}
 use Rattle.round_planner.specs.Search.{Qualifies, IsFirstQualifying, AreFirstQualifying, EndsOrdered, EndsStuck}
@@ -29,7 +29,7 @@ module _ (to : Target) where
 
   -- no remaining change qualifies
   abbrev NoneGoesOn : List (List Rule) → Type 0
-  NoneGoesOn tables = (c : Change) → ¬ IsFirstQualifying to tables (remaining tables to.new) c
+  NoneGoesOn tables = (c : Change) → ¬ IsFirstQualifying to tables (remaining_changes tables to.new) c
 
   one_list : (tables : List (List Rule)) (changes others : List Change) → AreFirstQualifying to tables changes → AreFirstQualifying to tables others
       → NoneGoesOn (tables_after changes tables) → NoneGoesOn (tables_after others tables) → changes ≡ others
@@ -37,7 +37,7 @@ module _ (to : Target) where
   one_list tables [] (d ∷ others) found found_other ends ends_other = absurd (ends d found_other.0)
   one_list tables (c ∷ changes) [] found found_other ends ends_other = absurd (ends_other c found.0)
   one_list tables (c ∷ changes) (d ∷ others) found found_other ends ends_other =
-      let same : d ≡ c = one_first tables (remaining tables to.new) d c found_other.0 found.0 in
+      let same : d ≡ c = one_first tables (remaining_changes tables to.new) d c found_other.0 found.0 in
       let rest : changes ≡ others = one_list (tables_after_change c tables) changes others found.1
       (subst (λ x. AreFirstQualifying to (tables_after_change x tables) others) same found_other.1)
       ends (subst (λ x. NoneGoesOn (tables_after others (tables_after_change x tables))) same ends_other) in
@@ -48,13 +48,13 @@ module _ (to : Target) where
 
   ordered_ends : (old : List (List Rule)) (changes : List Change) → EndsOrdered to old changes → NoneGoesOn (tables_after changes old)
   ordered_ends old changes ends = λ c first.
-      let in_none : IsIn c [] = subst (λ cs. IsIn c cs) ends.none_remains (stands (tables_after changes old) (remaining (tables_after changes old) to.new) c first) in
+      let in_none : IsIn c [] = subst (λ cs. IsIn c cs) ends.none_remains (stands (tables_after changes old) (remaining_changes (tables_after changes old) to.new) c first) in
       in_none
 
   stuck_ends : (old : List (List Rule)) (changes : List Change) → EndsStuck to old changes → NoneGoesOn (tables_after changes old)
   stuck_ends old changes ends = λ c first.
-      each_at (λ d. ¬ Qualifies to (tables_after changes old) d) (remaining (tables_after changes old) to.new) c ends.none_qualifies
-      (stands (tables_after changes old) (remaining (tables_after changes old) to.new) c first) first.qualifies
+      each_at (λ d. ¬ Qualifies to (tables_after changes old) d) (remaining_changes (tables_after changes old) to.new) c ends.none_qualifies
+      (stands (tables_after changes old) (remaining_changes (tables_after changes old) to.new) c first) first.qualifies
 
   pub one_ordered : (old : List (List Rule)) (changes others : List Change) → EndsOrdered to old changes → EndsOrdered to old others → changes ≡ others
   one_ordered old changes others ends other = one_list old changes others ends.found other.found (ordered_ends old changes ends) (ordered_ends old others other)
@@ -65,4 +65,4 @@ module _ (to : Target) where
   pub apart : (old : List (List Rule)) (changes others : List Change) → EndsOrdered to old changes → ¬ EndsStuck to old others
   apart old changes others ends = λ other.
       let same : others ≡ changes = sym (one_list old changes others ends.found other.found (ordered_ends old changes ends) (stuck_ends old others other)) in
-      other.some_remain (subst (λ cs. remaining (tables_after cs old) to.new ≡ []) (sym same) ends.none_remains)
+      other.some_remain (subst (λ cs. remaining_changes (tables_after cs old) to.new ≡ []) (sym same) ends.none_remains)

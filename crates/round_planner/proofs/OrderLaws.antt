@@ -5,7 +5,7 @@ use Rattle.flow_rules.specs.declared.rules.Rule.{Rule}
 use Rattle.path_walk.specs.UserConfigs.{IsUserConfig}
 use Rattle.dest_classes.specs.Classes.{ClassList}
 use Rattle.demands.specs.Good.{HasGoodPaths}
-use Rattle.update_model.specs.Remaining.{remaining}
+use Rattle.update_model.specs.Remaining.{remaining_changes}
 use Rattle.update_model.specs.declared.Change.{Change}
 use Rattle.certificates.specs.Updates.{Task}
 use Rattle.certificates.specs.Certified.{classes_for, IsCertified}
@@ -71,7 +71,7 @@ module _ (to : Target) (old : List (List Rule)) (classes_are : to.classes ≡ cl
               subst (λ (p : Plan). HasSameClasses (classes_for (task_by p)) to.classes) (sym same_plan)
               (plan_classes to old net old_user new_user changes at.stands.found s.store.evidence at.stands stored classes_are no_classes old_good new_good ends.none_remains)
 
-          pub now_count : length plan_now.rounds ≡ length (remaining old to.new)
+          pub now_count : length plan_now.rounds ≡ length (remaining_changes old to.new)
           now_count =
               ap length at.rounds
               ∙ plan_count to old net old_user new_user changes at.stands.found s.store.evidence at.stands stored classes_are no_classes old_good new_good ends.none_remains

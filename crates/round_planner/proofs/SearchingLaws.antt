@@ -14,7 +14,7 @@ use Rattle.dest_classes.specs.Classes.{class_count}
 use Rattle.dest_classes.specs.declared.Class.{Class}
 use Rattle.update_model.specs.Changes.{switch_of, rule_of, Applies, IsGoodRound, tables_after, tables_after_change, changes_at, round_after, with_change}
 use Rattle.update_model.specs.Mixtures.{Rollout, tables_before}
-use Rattle.update_model.specs.Remaining.{remaining}
+use Rattle.update_model.specs.Remaining.{remaining_changes}
 use Rattle.update_model.specs.declared.Change.{Change}
 use Rattle.round_mix.specs.Prepared.{MixedState, IsPrepared}
 use Rattle.round_mix.specs.declared.MarkedRule.{MarkedRule}
@@ -27,7 +27,7 @@ use Rattle.mixed_walks.proofs.PlaceLaws.{tables_keep}
 use Rattle.evidence_store.specs.State.{StoreState}
 use Rattle.evidence_store.specs.Stored.{IsStored, no_evidence}
 use Rattle.round_tables.specs.PreparedTables.{PreparedState}
-use Rattle.round_tables.specs.Trials.{single, HasRoomAlone, IsSettled, IsTrying}
+use Rattle.round_tables.specs.Trials.{single, HasRoomAlone, IsBetweenTrials, IsTrying}
 use Rattle.round_judge.specs.declared.judging.Found.{Found}
 use Rattle.table_difference.specs.Targets.{Target}
 use Rattle.round_judge.specs.Goals.{duties_in}
@@ -71,7 +71,7 @@ round_keeps (d ∷ cs) all (suc j) = round_keeps cs all.1 j
 -- ---- the round of a change that is tried
 
 module _ (to : Target) (old : List (List Rule)) (old_user : IsUserConfig to.net old) (new_user : IsUserConfig to.net to.new) (changes : List Change) (c : Change) (e : OrderedEvidence)
-    (stands : Stands to old changes e) (remains : IsIn c (remaining (tables_after changes old) to.new)) where
+    (stands : Stands to old changes e) (remains : IsIn c (remaining_changes (tables_after changes old) to.new)) where
   abbrev pub next : Rollout
   next = update_by to old (changes ++ c ∷ [])
 
@@ -162,7 +162,7 @@ module _ (to : Target) (old : List (List Rule)) (old_user : IsUserConfig to.net 
 
   -- where a search goes on with it
   pub taken : (more : OrderedEvidence) (found : List Found) → IsStored e → AreSafeBelow to next e (length changes) (class_count to.classes) found
-      → AreWithPicks e (suc (length changes)) found more → IsStored more → IsFirstQualifying to (tables_after changes old) (remaining (tables_after changes old) to.new) c → Stands to old (changes ++ c ∷ []) more
+      → AreWithPicks e (suc (length changes)) found more → IsStored more → IsFirstQualifying to (tables_after changes old) (remaining_changes (tables_after changes old) to.new) c → Stands to old (changes ++ c ∷ []) more
   taken more found stored_old safe added stored first = stands_more to old changes c e more found stands first stored_old safe added stored
 
 -- the rounds after one more
@@ -209,15 +209,15 @@ made_few to old old_user new_user changes e stands =
 -- the search has made the change that was tried
 pub made_at : (to : Target) (old : List (List Rule)) → IsUserConfig to.net old → IsUserConfig to.net to.new → (changes : List Change) (c : Change) (s new : SearchState) (found : List Found) (round : ℕ) (between : List (List Change))
     → IsTryingAt to old changes c s → AreSafeBelow to (update_by to old (changes ++ c ∷ [])) s.store.evidence (length changes) (class_count to.classes) found
-    → IsFirstQualifying to (tables_after changes old) (remaining (tables_after changes old) to.new) c
+    → IsFirstQualifying to (tables_after changes old) (remaining_changes (tables_after changes old) to.new) c
     → between ≡ s.rounds ++ [] ∷ [] → new.rounds ≡ with_change c between → round ≡ length new.rounds
-    → rules_of_all new.trial.tables ≡ tables_after_change c (rules_of_all s.trial.tables) → IsSettled to.net new.trial
+    → rules_of_all new.trial.tables ≡ tables_after_change c (rules_of_all s.trial.tables) → IsBetweenTrials to.net new.trial
     → AreWithPicks s.store.evidence round found new.store.evidence → new.store.classes ≡ s.store.classes → IsStored s.store.evidence → IsStored new.store.evidence → new.came ≡ s.came → new.looked ≡ s.looked
     → IsAt to old (changes ++ c ∷ []) new
 made_at to old old_user new_user changes c s new found round between at safe first added_round put counted tables settled added classes stored_old stored came looked =
     let rounds_are : new.rounds ≡ with_change c (s.rounds ++ [] ∷ []) = put ∙ ap (with_change c) added_round in
     let round_is : round ≡ suc (length changes) = counted ∙ ap length rounds_are ∙ round_number s.rounds changes c at.rounds in
-    let remains = first_remains to (tables_after changes old) (remaining (tables_after changes old) to.new) c first in
+    let remains = first_remains to (tables_after changes old) (remaining_changes (tables_after changes old) to.new) c first in
     record {
       rounds = rounds_are ∙ change_put c s.rounds ∙ ap (λ rs. rs ++ (c ∷ []) ∷ []) at.rounds ∙ rounds_more changes c;
       tables = tables ∙ ap (tables_after_change c) at.tables ∙ sym (tables_more changes c old);
@@ -239,7 +239,7 @@ picks_before to old changes c s round between after at added_round put counted =
 -- ---- a change that is tried
 
 module _ (to : Target) (old : List (List Rule)) (old_user : IsUserConfig to.net old) (new_user : IsUserConfig to.net to.new) (changes : List Change) (c : Change) (s : SearchState) (trial : PreparedState)
-    (at : IsAt to old changes s) (remains : IsIn c (remaining (tables_after changes old) to.new)) (rules : rules_of_all trial.tables ≡ rules_of_all s.trial.tables) (trying : IsTrying to.net c trial) where
+    (at : IsAt to old changes s) (remains : IsIn c (remaining_changes (tables_after changes old) to.new)) (rules : rules_of_all trial.tables ≡ rules_of_all s.trial.tables) (trying : IsTrying to.net c trial) where
   -- the switches are prepared for it
   pub tried_round : IsRoundOf to.net trial.mixes (update_by to old (changes ++ c ∷ [])) (length changes)
   tried_round = round_of to old old_user new_user changes c s.store.evidence at.stands remains (rules_of_all trial.tables) (rules ∙ at.tables) trial.mixes trying.loaded
@@ -279,7 +279,7 @@ module _ (to : Target) (old : List (List Rule)) (old_user : IsUserConfig to.net 
 
 -- the tables are those before again
 pub given_up : (to : Target) (old : List (List Rule)) (changes : List Change) (s : SearchState) (trial : PreparedState) (came : List ℕ) (looked : List Bool) → IsAt to old changes s
-    → rules_of_all trial.tables ≡ rules_of_all s.trial.tables → IsSettled to.net trial → HoldTables to (tables_after changes old) came → length looked ≡ length s.looked
+    → rules_of_all trial.tables ≡ rules_of_all s.trial.tables → IsBetweenTrials to.net trial → HoldTables to (tables_after changes old) came → length looked ≡ length s.looked
     → IsAt to old changes (record { trial = trial; rounds = s.rounds; store = s.store; came = came; looked = looked })
 given_up to old changes s trial came looked at rules settled held atoms = record {
   rounds = at.rounds;
@@ -309,7 +309,7 @@ module _ {A : Type 0} where
 
 -- ---- a search that begins
 
-pub begins_at : (to : Target) (old : List (List Rule)) (s : SearchState) → s.rounds ≡ [] → rules_of_all s.trial.tables ≡ old → IsSettled to.net s.trial
+pub begins_at : (to : Target) (old : List (List Rule)) (s : SearchState) → s.rounds ≡ [] → rules_of_all s.trial.tables ≡ old → IsBetweenTrials to.net s.trial
     → (classes : ℕ) → classes ≡ class_count to.classes → s.store ≡ record { evidence = no_evidence; classes = classes } → HoldTables to old s.came → HasAtoms to.classes s.looked → IsAt to old [] s
 begins_at to old s rounds tables settled classes count store came looked = record {
   rounds = rounds;

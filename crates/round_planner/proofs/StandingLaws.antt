@@ -8,7 +8,7 @@ use Rattle.dest_classes.specs.Classes.{class_count}
 use Rattle.demands.specs.Duties.{PacketDuties}
 use Rattle.update_model.specs.Changes.{tables_after, tables_after_change}
 use Rattle.update_model.specs.Mixtures.{Rollout}
-use Rattle.update_model.specs.Remaining.{remaining}
+use Rattle.update_model.specs.Remaining.{remaining_changes}
 use Rattle.update_model.specs.declared.Change.{Change}
 use Rattle.certificates.specs.Ordered.{OrderedCertificate}
 use Rattle.certificates.specs.declared.OrderedPick.{OrderedPick}
@@ -28,7 +28,7 @@ use Rattle.round_planner.proofs.SameRound.{IsSameRound, same_back, safe_same, le
 
 -- one more change that is the first that qualifies
 pub found_more : (to : Target) (tables : List (List Rule)) (changes : List Change) (c : Change) → AreFirstQualifying to tables changes
-    → IsFirstQualifying to (tables_after changes tables) (remaining (tables_after changes tables) to.new) c → AreFirstQualifying to tables (changes ++ c ∷ [])
+    → IsFirstQualifying to (tables_after changes tables) (remaining_changes (tables_after changes tables) to.new) c → AreFirstQualifying to tables (changes ++ c ∷ [])
 found_more to tables [] c found first = (first, tt)
 found_more to tables (d ∷ changes) c found first = (found.0, found_more to (tables_after_change d tables) changes c found.1 first)
 
@@ -97,7 +97,7 @@ evidence_there to old changes c e stands =
 
 -- the search goes on
 pub stands_more : (to : Target) (old : List (List Rule)) (changes : List Change) (c : Change) (e more : OrderedEvidence) (found : List Found)
-    → Stands to old changes e → IsFirstQualifying to (tables_after changes old) (remaining (tables_after changes old) to.new) c
+    → Stands to old changes e → IsFirstQualifying to (tables_after changes old) (remaining_changes (tables_after changes old) to.new) c
     → IsStored e → AreSafeBelow to (update_by to old (changes ++ c ∷ [])) e (length changes) (class_count to.classes) found
     → AreWithPicks e (suc (length changes)) found more → IsStored more → Stands to old (changes ++ c ∷ []) more
 stands_more to old changes c e more found stands first stored_old safe added stored =

@@ -14,7 +14,7 @@ use Rattle.dest_classes.specs.declared.Class.{Class}
 use Rattle.demands.specs.Duties.{duties_of}
 use Rattle.update_model.specs.Changes.{changes_at, rules_after, rules_after_change, tables_after, tables_after_change, IsGoodRound}
 use Rattle.update_model.specs.Mixtures.{IsMixture, AreGoodRounds}
-use Rattle.update_model.specs.Remaining.{remaining, changes_between}
+use Rattle.update_model.specs.Remaining.{remaining_changes, changes_between}
 use Rattle.update_model.specs.declared.Change.{Change}
 use Rattle.update_model.specs.declared.Change.TheVariants.{Replace}
 use Rattle.update_model.proofs.ChangeLaws.{rules_at-after}
@@ -70,7 +70,7 @@ module _ (t : Task) (tree : IsTreeUpdate t) (is_net : IsNetwork t.update.net) (o
 
   module _ (tables : List (List Rule)) (p : Progress tables) where
     -- the changes that remain are the remaining replaces
-    remaining_replace : (d : Change) → IsIn d (remaining tables t.update.new) → IsRemainingReplace t tables d
+    remaining_replace : (d : Change) → IsIn d (remaining_changes tables t.update.new) → IsRemainingReplace t tables d
     remaining_replace d i =
         let (n, j, _, _) = in_from_changes 0 tables t.update.new d i in
         let s = switch_at n in
@@ -89,9 +89,9 @@ module _ (t : Task) (tree : IsTreeUpdate t) (is_net : IsNetwork t.update.net) (o
       in_new : s.0 < length t.update.new
       in_new = within r.next t.update.new s.0 r.wanted
 
-      remains : IsIn c (remaining tables t.update.new)
+      remains : IsIn c (remaining_changes tables t.update.new)
       remains =
-          subst (λ d. IsIn d (remaining tables t.update.new)) (sym r.is)
+          subst (λ d. IsIn d (remaining_changes tables t.update.new)) (sym r.is)
           (in_changes 0 tables t.update.new (Replace s r.next) s.0 in_tables in_new
           (subst (λ m. IsIn (Replace s r.next) (changes_between (switch_at m) (get_or tables s.0 []) (get_or t.update.new s.0 []))) (let e : s.0 ≡ 0 + s.0 = omega arith in e)
           (differing_in s (rules_at tables s) (rules_at t.update.new s) (p.fit s) (new_fit t tree old_user.distinct new_user.distinct s) r.now r.next r.stands r.wanted r.same_key r.differs)))
@@ -150,7 +150,7 @@ module _ (t : Task) (tree : IsTreeUpdate t) (is_net : IsNetwork t.update.net) (o
       }
 
     -- where a change remains, one qualifies
-    some_qualifies : (d : Change) → IsIn d (remaining tables t.update.new) → (c : Change) × IsIn c (remaining tables t.update.new) × Qualifies (target_for t classes) tables c
+    some_qualifies : (d : Change) → IsIn d (remaining_changes tables t.update.new) → (c : Change) × IsIn c (remaining_changes tables t.update.new) × Qualifies (target_for t classes) tables c
     some_qualifies d i =
         let (c, r, safe) = some_replace_is_safe t tree old_user.distinct new_user.distinct is_net tables p.fit p.fine tables (λ x. (x ∷ []) ∷ []) 0 (λ x. refl) (λ x. refl) d (remaining_replace d i) in
         (c, remains c r, qualifies c r safe)
@@ -159,7 +159,7 @@ module _ (t : Task) (tree : IsTreeUpdate t) (is_net : IsNetwork t.update.net) (o
   along : (tables : List (List Rule)) → Progress tables → (changes : List Change) → AreFirstQualifying (target_for t classes) tables changes → Progress (tables_after changes tables)
   along tables p [] found = p
   along tables p (c ∷ changes) found =
-      let r = remaining_replace tables p c (first_remains (target_for t classes) tables (remaining tables t.update.new) c found.0) in
+      let r = remaining_replace tables p c (first_remains (target_for t classes) tables (remaining_changes tables t.update.new) c found.0) in
       along (tables_after_change c tables) (goes_on tables p c r found.0.qualifies) changes found.1
 
   some_in : (changes : List Change) → changes ≢ [] → (d : Change) × IsIn d changes
@@ -171,6 +171,6 @@ module _ (t : Task) (tree : IsTreeUpdate t) (is_net : IsNetwork t.update.net) (o
   not_stuck changes stuck =
       let now = tables_after changes t.update.old in
       let p = along t.update.old start changes stuck.found in
-      let (d, i) = some_in (remaining now t.update.new) stuck.some_remain in
+      let (d, i) = some_in (remaining_changes now t.update.new) stuck.some_remain in
       let (c, j, q) = some_qualifies now p d i in
-      each_at (λ x. ¬ Qualifies (target_for t classes) now x) (remaining now t.update.new) c stuck.none_qualifies j q
+      each_at (λ x. ¬ Qualifies (target_for t classes) now x) (remaining_changes now t.update.new) c stuck.none_qualifies j q

@@ -16,7 +16,7 @@ use Rattle.path_walk.specs.UserConfigs.{IsUserAction, IsUserRule, IsUserConfig}
 use Rattle.update_model.specs.Changes.{switch_of, rule_of, AppliesTo, Applies, rules_after_change, tables_after, tables_after_change}
 use Rattle.update_model.proofs.Matches.{Writes}
 use Rattle.update_model.specs.Ranges.{IsPlanChange}
-use Rattle.update_model.specs.Remaining.{remaining}
+use Rattle.update_model.specs.Remaining.{remaining_changes}
 use Rattle.update_model.specs.declared.Change.{Change}
 use Rattle.update_model.specs.declared.Change.TheVariants.{Insert, Delete, Replace}
 use Rattle.update_model.proofs.ChangeLaws.{stands_from_in, rules_at-after_change, length-tables_after}
@@ -87,7 +87,7 @@ module _ (to : Target) (old : List (List Rule)) where
       rule_from s (Replace t q) h = new_rule s q h.1
 
       -- each change that remains is of a user rule
-      pub remaining_user : (c : Change) → IsIn c (remaining tables to.new) → IsUserChange c
+      pub remaining_user : (c : Change) → IsIn c (remaining_changes tables to.new) → IsUserChange c
       remaining_user c i =
           let (s, less, is) = remaining_is tables to.new c i in
           let at = difference_switch s (rules_at tables s) (rules_at to.new s) c is in
@@ -98,10 +98,10 @@ module _ (to : Target) (old : List (List Rule)) where
             known = known;
           }
 
-      pub remaining_applies : (c : Change) → IsIn c (remaining tables to.new) → Applies tables c
+      pub remaining_applies : (c : Change) → IsIn c (remaining_changes tables to.new) → Applies tables c
       remaining_applies c i = (remaining_shortens tables to.new user.unique new_unique c i).0
 
-      pub remaining_fewer : (c : Change) → IsIn c (remaining tables to.new) → length (remaining tables to.new) ≡ suc (length (remaining (tables_after_change c tables) to.new))
+      pub remaining_fewer : (c : Change) → IsIn c (remaining_changes tables to.new) → length (remaining_changes tables to.new) ≡ suc (length (remaining_changes (tables_after_change c tables) to.new))
       remaining_fewer c i = (remaining_shortens tables to.new user.unique new_unique c i).1
 
       module _ (c : Change) (applies : Applies tables c) (is : IsUserChange c) where
@@ -141,22 +141,22 @@ module _ (to : Target) (old : List (List Rule)) where
     pub user_along : (tables : List (List Rule)) → AreUserTables tables → (changes : List Change) → AreFirstQualifying to tables changes → AreUserTables (tables_after changes tables)
     user_along tables user [] found = user
     user_along tables user (c ∷ changes) found =
-        let i = first_remains to tables (remaining tables to.new) c found.0 in
+        let i = first_remains to tables (remaining_changes tables to.new) c found.0 in
         user_along (tables_after_change c tables) (user_next tables user c (remaining_applies tables user c i) (remaining_user tables user c i)) changes found.1
 
     pub changes_along : (tables : List (List Rule)) → AreUserTables tables → (changes : List Change) → AreFirstQualifying to tables changes → AllByRecursion IsUserChange changes
     changes_along tables user [] found = tt
     changes_along tables user (c ∷ changes) found =
-        let i = first_remains to tables (remaining tables to.new) c found.0 in
+        let i = first_remains to tables (remaining_changes tables to.new) c found.0 in
         let is = remaining_user tables user c i in
         (is, changes_along (tables_after_change c tables) (user_next tables user c (remaining_applies tables user c i) is) changes found.1)
 
     -- what remained at first was made or remains
     pub remaining_count : (tables : List (List Rule)) → AreUserTables tables → (changes : List Change) → AreFirstQualifying to tables changes
-        → length changes + length (remaining (tables_after changes tables) to.new) ≡ length (remaining tables to.new)
+        → length changes + length (remaining_changes (tables_after changes tables) to.new) ≡ length (remaining_changes tables to.new)
     remaining_count tables user [] found = omega arith
     remaining_count tables user (c ∷ changes) found =
-        let i = first_remains to tables (remaining tables to.new) c found.0 in
+        let i = first_remains to tables (remaining_changes tables to.new) c found.0 in
         let next = user_next tables user c (remaining_applies tables user c i) (remaining_user tables user c i) in
         let fewer = remaining_fewer tables user c i in
         let rest = remaining_count (tables_after_change c tables) next changes found.1 in

@@ -10,7 +10,7 @@ use Rattle.dest_classes.specs.Classes.{IsClass}
 use Rattle.dest_classes.specs.declared.Class.{Class}
 use Rattle.update_model.specs.Changes.{switch_of, rule_of}
 use Rattle.update_model.specs.Mixtures.{IsMixture, IsOnMixedWalk, entries_needed}
-use Rattle.update_model.specs.Remaining.{remaining}
+use Rattle.update_model.specs.Remaining.{remaining_changes}
 use Rattle.update_model.specs.declared.Change.{Change}
 use Rattle.certificates.specs.Certified.{KeepsVlan}
 use Rattle.check_reasons.specs.Touched.{may_cover}
@@ -21,7 +21,7 @@ use Rattle.round_planner.specs.declared.failing.Failure.{Failure}
 use Rattle.round_planner.specs.declared.failing.Failure.TheVariants as failure
 use Rattle.table_difference.specs.Targets.{Target}
 use Rattle.round_judge.specs.declared.unsafe_class.UnsafeClass.{UnsafeClass}
-use Rattle.round_planner.specs.declared.left.Left.{Left}
+use Rattle.round_planner.specs.declared.left.RemainingChange.{RemainingChange}
 use Rattle.round_planner.specs.Search.{CanBeSafe}
 
 -- ---- what a failure is
@@ -58,20 +58,20 @@ IsApart to tables c class d =
 -- ---- the changes that remain
 
 -- the failure of a change that remains stands, if there is one
-abbrev pub HasStanding : Target → List (List Rule) → Left → Type 0
+abbrev pub HasStanding : Target → List (List Rule) → RemainingChange → Type 0
 HasStanding to tables left = IfSome left.failure (λ f. IsFailure to tables left.change f)
 
 -- neither the tables nor the change set or strip a tag, and there is the switch of the change
-pub record IsOfUsers (tables : List (List Rule)) (left : Left) : Type 0 where
+pub record IsOfUsers (tables : List (List Rule)) (left : RemainingChange) : Type 0 where
   pub rules : TablesKeepVlans tables
   pub change : KeepsVlan (rule_of left.change).action
   pub within : (switch_of left.change).0 < length tables
 
 -- so for each of the changes that remain
-abbrev pub AreOfUsers : List (List Rule) → List Left → Type 0
+abbrev pub AreOfUsers : List (List Rule) → List RemainingChange → Type 0
 AreOfUsers tables left = AllByRecursion (IsOfUsers tables) left
 
 -- these are the changes that remain, in order, and each failure stands
-pub record AreLeft (to : Target) (tables : List (List Rule)) (left : List Left) : Type 0 where
-  pub changes : map (λ (l : Left). l.change) left ≡ remaining tables to.new
+pub record AreLeft (to : Target) (tables : List (List Rule)) (left : List RemainingChange) : Type 0 where
+  pub changes : map (λ (l : RemainingChange). l.change) left ≡ remaining_changes tables to.new
   pub standing : AllByRecursion (HasStanding to tables) left

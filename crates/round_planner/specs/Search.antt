@@ -6,7 +6,7 @@ use Rattle.dest_classes.specs.Classes.{IsClass}
 use Rattle.dest_classes.specs.declared.Class.{Class}
 use Rattle.update_model.specs.Changes.{tables_after_change, tables_after}
 use Rattle.update_model.specs.Mixtures.{Rollout}
-use Rattle.update_model.specs.Remaining.{remaining}
+use Rattle.update_model.specs.Remaining.{remaining_changes}
 use Rattle.update_model.specs.declared.Change.{Change}
 use Rattle.certificates.specs.Ordered.{IsSafe}
 use Rattle.certificates.specs.declared.OrderedEvidence.{OrderedEvidence}
@@ -37,18 +37,18 @@ pub record IsFirstQualifying (to : Target) (tables : List (List Rule)) (changes 
 -- each change is the first of those that remain that qualifies
 abbrev pub AreFirstQualifying : Target → List (List Rule) → List Change → Type 0
 AreFirstQualifying to tables [] = Unit {0}
-AreFirstQualifying to tables (c ∷ cs) = IsFirstQualifying to tables (remaining tables to.new) c × AreFirstQualifying to (tables_after_change c tables) cs
+AreFirstQualifying to tables (c ∷ cs) = IsFirstQualifying to tables (remaining_changes tables to.new) c × AreFirstQualifying to (tables_after_change c tables) cs
 
 -- the search ends ordered with these changes: none remains after them
 pub record EndsOrdered (to : Target) (old : List (List Rule)) (changes : List Change) : Type 0 where
   pub found : AreFirstQualifying to old changes
-  pub none_remains : remaining (tables_after changes old) to.new ≡ []
+  pub none_remains : remaining_changes (tables_after changes old) to.new ≡ []
 
 -- the search ends stuck after these changes: some remain, and none of them qualifies
 pub record EndsStuck (to : Target) (old : List (List Rule)) (changes : List Change) : Type 0 where
   pub found : AreFirstQualifying to old changes
-  pub some_remain : remaining (tables_after changes old) to.new ≢ []
-  pub none_qualifies : AllByRecursion (λ d. ¬ Qualifies to (tables_after changes old) d) (remaining (tables_after changes old) to.new)
+  pub some_remain : remaining_changes (tables_after changes old) to.new ≢ []
+  pub none_qualifies : AllByRecursion (λ d. ¬ Qualifies to (tables_after changes old) d) (remaining_changes (tables_after changes old) to.new)
 
 -- each change as a round of its own
 abbrev pub single_rounds : List Change → List (List Change)

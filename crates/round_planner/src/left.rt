@@ -6,7 +6,7 @@ ghost use Rattle.flow_rules.specs.declared.rules.Rule.{Rule};
 ghost use Rattle.update_model.specs.Changes.{switch_of, tables_after_change};
 ghost use Rattle.table_difference.specs.Targets.{Target};
 ghost use Rattle.round_planner.specs.Failures.{IsTouched, HasStanding, IsOfUsers, AreOfUsers};
-ghost use Rattle.round_planner.specs.declared.left.Left.{Left as LeftOf};
+ghost use Rattle.round_planner.specs.declared.left.RemainingChange.{RemainingChange as LeftOf};
 
 use crate::failing::Failure;
 use net_base::Memory;
@@ -15,12 +15,12 @@ use update_model::Change;
 
 /// A change that remains, and why it failed when it was last tried, as long as that stands.
 #[derive(Drop)]
-pub(crate) struct Left {
+pub(crate) struct RemainingChange {
     pub(crate) change: Change,
     pub(crate) failure: Option<Failure>,
 }
 
-impl Left {
+impl RemainingChange {
     /// Whether a change that was made touches what the failure rests on.
     fn is_touched(&self, made: &Change) -> bool
         ensures { IsTrue result ↔ IsSomeAnd self.now.failure
@@ -47,7 +47,7 @@ impl Left {
 }
 
 /// The changes, of which none has been tried.
-pub(crate) fn untried(alloc: Global, changes: &[Change]) -> Result<Vec<Left>, Memory>
+pub(crate) fn untried(alloc: Global, changes: &[Change]) -> Result<Vec<RemainingChange>, Memory>
     ensures changes { IfOk result (λ left.
         map (λ (l : LeftOf). l.change) left.items ≡ changes.now) }
     ensures untried { IfOk result (λ left.
@@ -55,7 +55,7 @@ pub(crate) fn untried(alloc: Global, changes: &[Change]) -> Result<Vec<Left>, Me
 {
     let mut left = Vec::new(alloc);
     for change in changes {
-        left.push(Left {
+        left.push(RemainingChange {
             change: *change,
             failure: None,
         })?;
@@ -64,7 +64,7 @@ pub(crate) fn untried(alloc: Global, changes: &[Change]) -> Result<Vec<Left>, Me
 }
 
 /// Forgets each failure that a change touches which was made.
-fn forget_touched(left: &mut [Left], made: &Change)
+fn forget_touched(left: &mut [RemainingChange], made: &Change)
     ensures changes { map (λ (l : LeftOf). l.change) left.new
         ≡ map (λ (l : LeftOf). l.change) left.old }
     ensures stands { (to : Target) (tables : List (List Rule)) → AreOfUsers tables left.old
@@ -78,7 +78,7 @@ fn forget_touched(left: &mut [Left], made: &Change)
 }
 
 /// Takes out the change at a place, which was made, and forgets each failure that it touches.
-pub(crate) fn take_out(left: &mut Vec<Left>, place: usize)
+pub(crate) fn take_out(left: &mut Vec<RemainingChange>, place: usize)
     requires place { place < vec_len left.old }
     ensures changes { (front back : List LeftOf) (one : LeftOf)
         → left.old.items ≡ front ++ one ∷ back → length front ≡ place

@@ -11,7 +11,7 @@ ghost use Rattle.std.specs.Prelude.{◌≡◌, [], length, IfOk};
 ghost use Rattle.flow_rules.specs.Tables.{rules_of_all};
 ghost use Rattle.path_walk.specs.UserConfigs.{IsUserConfig};
 ghost use Rattle.demands.specs.Good.{HasGoodPaths};
-ghost use Rattle.update_model.specs.Remaining.{remaining};
+ghost use Rattle.update_model.specs.Remaining.{remaining_changes};
 ghost use Rattle.certificates.specs.Certified.{IsCertified, classes_for};
 ghost use Rattle.certificates.specs.Laws.{task_of};
 ghost use Rattle.certificates.specs.Trees.{IsTreeUpdate};
@@ -79,7 +79,8 @@ pub fn order(
 
     // One round for each change that remained at first.
     ensures count { IfOk result (OfPlan (λ p.
-        length p.rounds ≡ length (remaining (rules_of_all old.now) (rules_of_all new.now)))) }
+        length p.rounds ≡ length
+        (remaining_changes (rules_of_all old.now) (rules_of_all new.now)))) }
     ensures tried { IfOk result (OfStuck (AreTried net.now)) }
 
     // The search of an update of destination trees isn't stuck.

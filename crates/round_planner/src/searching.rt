@@ -7,27 +7,27 @@ ghost use Rattle.flow_rules.specs.declared.rules.Rule.{Rule};
 ghost use Rattle.path_walk.specs.UserConfigs.{IsUserConfig};
 ghost use Rattle.dest_classes.specs.Classes.{class_count};
 ghost use Rattle.update_model.specs.Changes.{tables_after, tables_after_change, with_change};
-ghost use Rattle.update_model.specs.Remaining.{remaining};
+ghost use Rattle.update_model.specs.Remaining.{remaining_changes};
 ghost use Rattle.update_model.specs.declared.Change.{Change as ChangeOf};
-ghost use Rattle.round_tables.specs.Trials.{IsSettled, IsTrying};
+ghost use Rattle.round_tables.specs.Trials.{IsBetweenTrials, IsTrying};
 ghost use Rattle.evidence_store.specs.Stored.{IsStored, no_evidence};
 ghost use Rattle.round_judge.specs.declared.judging.Found.{Found as FoundOf};
 ghost use Rattle.round_planner.specs.Search.{IsFirstQualifying, update_by};
 ghost use Rattle.round_judge.specs.Judged.{AreSafeBelow};
-ghost use Rattle.round_planner.specs.declared.left.Left.{Left as LeftOf};
+ghost use Rattle.round_planner.specs.declared.left.RemainingChange.{RemainingChange as LeftOf};
 ghost use Rattle.net_base.specs.Switches.{has};
 ghost use Rattle.round_planner.specs.Failures.{HasStanding, AreLeft};
 ghost use Rattle.round_planner.specs.Searching.{IsAt, IsTried, IsLeftTried, IsPlaced, IsMoved, IsTryingAt, IsEnded, IsAnswered, answer_of};
 
 use crate::Ordered;
 use crate::failing::Failure;
-use crate::left::{Left, take_out, untried};
+use crate::left::{RemainingChange, take_out, untried};
 use certificates::{Evidence, OrderedEvidence, Plan};
 use class_watch::{ClassWatch, LookedAtoms};
 use evidence_store::EvidenceStore;
 use flow_rules::Config;
 use net_base::Memory;
-use round_judge::{Found, Goal, Tried, Verdict, judge_all, put_picks, watch_rooms};
+use round_judge::{Found, Goal, RoundVerdict, TriedRound, judge_all, put_picks, watch_rooms};
 use round_tables::PreparedTables;
 use std::alloc::Global;
 use std::marker::Model;
@@ -64,7 +64,7 @@ fn begun(
     requires old { IsUserConfig net.now (rules_of_all old.now) }
     requires few { count ≤ 8192 }
     ensures rules { IfOk result (λ r. rules_of_all r.0.tables ≡ rules_of_all old.now) }
-    ensures settled { IfOk result (λ r. IsSettled net.now r.0) }
+    ensures settled { IfOk result (λ r. IsBetweenTrials net.now r.0) }
     ensures rounds { IfOk result (λ r. r.1 ≡ []) }
     ensures store { IfOk result (λ r. r.2 ≡ record { evidence = no_evidence; classes = count }) }
 {
@@ -84,7 +84,7 @@ fn keep_change(
     requires { IsTrying net.now change.now trial.old }
     ensures tables { OnOk result (rules_of_all trial.new.tables
         ≡ tables_after_change change.now (rules_of_all trial.old.tables)) }
-    ensures settled { OnOk result (IsSettled net.now trial.new) }
+    ensures settled { OnOk result (IsBetweenTrials net.now trial.new) }
     ensures rounds { OnOk result (rounds.new ≡ with_change change.now (rounds.old ++ [] ∷ [])) }
 {
     trial.keep(net, change)?;
@@ -155,7 +155,7 @@ impl Search {
             → AreSafeBelow goal.now (update_by goal.now old (changes ++ change.now ∷ []))
             self.old.store.evidence (length changes) (class_count goal.now.classes) found.items
             → IsFirstQualifying goal.now (tables_after changes old)
-            (remaining (tables_after changes old) goal.now.new) change.now
+            (remaining_changes (tables_after changes old) goal.now.new) change.now
             → IsAt goal.now old (changes ++ change.now ∷ []) self.new) }
     {
         keep_change(&mut self.trial, &mut self.rounds, goal.net, change)?;
@@ -173,10 +173,10 @@ impl Search {
     ) -> Result<Option<Failure>, Memory>
         requires { (old : List (List Rule)) × (changes : List ChangeOf)
             × IsUserConfig goal.now.net old × IsAt goal.now old changes self.old
-            × IsIn change.now (remaining (tables_after changes old) goal.now.new) }
+            × IsIn change.now (remaining_changes (tables_after changes old) goal.now.new) }
         ensures { IfOk result (λ failure. (old : List (List Rule)) (changes : List ChangeOf)
             → IsUserConfig goal.now.net old → IsAt goal.now old changes self.old
-            → IsIn change.now (remaining (tables_after changes old) goal.now.new)
+            → IsIn change.now (remaining_changes (tables_after changes old) goal.now.new)
             → IsTried goal.now old changes change.now self.new failure) }
     {
         goal.net.keeps_rules();
@@ -185,17 +185,17 @@ impl Search {
         }
         self.looked.look_at_touched(&goal.list, change);
         let changes = [*change];
-        let tried = Tried {
+        let tried = TriedRound {
             changes: &changes,
             mixes: self.trial.mixes(),
             store: &self.store,
         };
         match judge_all(alloc, goal, &mut self.watch, &tried, &self.looked)? {
-            Verdict::Safe(found) => {
+            RoundVerdict::Safe(found) => {
                 self.take(alloc, goal, change, found)?;
                 Ok(None)
             }
-            Verdict::Unsafe(failing) => {
+            RoundVerdict::Unsafe(failing) => {
                 self.trial.give_up(goal.net, change);
                 Ok(Some(Failure::Class(failing)))
             }
@@ -204,15 +204,20 @@ impl Search {
 
     /// Tries a change that remains, unless its failure stands. The result says whether it is made; if it isn't, why it
     /// failed is kept.
-    fn try_left(&mut self, alloc: Global, goal: &Goal, left: &mut Left) -> Result<bool, Memory>
+    fn try_left(
+        &mut self,
+        alloc: Global,
+        goal: &Goal,
+        left: &mut RemainingChange,
+    ) -> Result<bool, Memory>
         requires { (old : List (List Rule)) × (changes : List ChangeOf)
             × IsUserConfig goal.now.net old × IsAt goal.now old changes self.old
-            × IsIn left.old.change (remaining (tables_after changes old) goal.now.new)
+            × IsIn left.old.change (remaining_changes (tables_after changes old) goal.now.new)
             × HasStanding goal.now (tables_after changes old) left.old }
         ensures change { OnOk result (left.new.change ≡ left.old.change) }
         ensures tried { IfOk result (λ taken. (old : List (List Rule)) (changes : List ChangeOf)
             → IsUserConfig goal.now.net old → IsAt goal.now old changes self.old
-            → IsIn left.old.change (remaining (tables_after changes old) goal.now.new)
+            → IsIn left.old.change (remaining_changes (tables_after changes old) goal.now.new)
             → HasStanding goal.now (tables_after changes old) left.old
             → IsLeftTried goal.now old changes left.old self.new taken
             × HasStanding goal.now (tables_after changes old) left.new) }
@@ -234,7 +239,7 @@ impl Search {
         &mut self,
         alloc: Global,
         goal: &Goal,
-        left: &mut [Left],
+        left: &mut [RemainingChange],
     ) -> Result<Option<usize>, Memory>
         requires { (old : List (List Rule)) × (changes : List ChangeOf)
             × IsUserConfig goal.now.net old × IsAt goal.now old changes self.old
@@ -256,7 +261,12 @@ impl Search {
     }
 
     /// Makes the first of the changes that remain that qualifies. The result says whether one does.
-    fn go_on(&mut self, alloc: Global, goal: &Goal, left: &mut Vec<Left>) -> Result<bool, Memory>
+    fn go_on(
+        &mut self,
+        alloc: Global,
+        goal: &Goal,
+        left: &mut Vec<RemainingChange>,
+    ) -> Result<bool, Memory>
         requires { (old : List (List Rule)) × (changes : List ChangeOf)
             × IsUserConfig goal.now.net old × IsAt goal.now old changes self.old
             × AreLeft goal.now (tables_after changes old) left.old.items }
@@ -281,7 +291,7 @@ impl Search {
         &mut self,
         alloc: Global,
         goal: &Goal,
-        left: &mut Vec<Left>,
+        left: &mut Vec<RemainingChange>,
     ) -> Result<bool, Memory>
         requires { (old : List (List Rule)) × (changes : List ChangeOf)
             × IsUserConfig goal.now.net old × IsAt goal.now old changes self.old

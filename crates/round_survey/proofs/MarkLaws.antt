@@ -16,7 +16,7 @@ use Rattle.demands.specs.Duties.{DemandView}
 use Rattle.update_model.specs.Mixtures.{Rollout}
 use Rattle.class_watch.specs.Walks.{HoldsWalks}
 use Rattle.class_watch.proofs.ListLaws.{get_set_same, get_set_other, some_at}
-use Rattle.round_survey.specs.Surveys.{IsKnown, AreKnown, AreGood, AreWalkedBelow, HasRoom}
+use Rattle.round_survey.specs.Surveys.{IsKnown, AreKnown, AreGood, AreWalkedBelow, HasSurveyRoom}
 
 module _ (u : Rollout) (demands : List DemandView) (k : ℕ) (classes : List Class) (came : List ℕ) (good : List Bool) (n : ℕ) (class : Class) (at : slice_get classes n ≡ Some class) (came_now : ℕ) (good_now : Bool) where
   -- the class of the number that was put
@@ -52,7 +52,7 @@ walked_known u demands k classes came good n on all below m other them less is c
     ]
 
 -- room for as many
-pub room_put : (map : ClassList) (classes : List Class) (came came_ : List ℕ) (good good_ : List Bool) → HasRoom map classes came good → length came_ ≡ length came → length good_ ≡ length good → HasRoom map classes came_ good_
+pub room_put : (map : ClassList) (classes : List Class) (came came_ : List ℕ) (good good_ : List Bool) → HasSurveyRoom map classes came good → length came_ ≡ length came → length good_ ≡ length good → HasSurveyRoom map classes came_ good_
 room_put map classes came came_ good good_ room came_is good_is = record {
   classes_are = room.classes_are;
   sets = came_is ∙ room.sets;
@@ -61,7 +61,7 @@ room_put map classes came came_ good good_ room came_is good_is = record {
 }
 
 -- each class of the map that is marked keeps its duties
-pub good_known : (u : Rollout) (demands : List DemandView) (k : ℕ) (map : ClassList) (classes : List Class) (came : List ℕ) (good : List Bool) → HasRoom map classes came good → AreKnown u demands k classes came good
+pub good_known : (u : Rollout) (demands : List DemandView) (k : ℕ) (map : ClassList) (classes : List Class) (came : List ℕ) (good : List Bool) → HasSurveyRoom map classes came good → AreKnown u demands k classes came good
     → AreGood u demands k map good
 good_known u demands k map classes came good room all n class is on =
     let within = number_fits map n class is in

@@ -27,7 +27,7 @@ use Rattle.breaking_walks.specs.Surveys.{NeverDrops, NeverRepeats}
 use Rattle.breaking_walks.proofs.SurveyLaws.{never_again}
 use Rattle.round_survey.specs.Gates.{AreGates, IsMetFrom}
 use Rattle.round_survey.specs.Surveys.{KeepsDuties, IsSeen, IsKnown, HoldsWalksBefore}
-use Rattle.round_survey.specs.declared.seen.Seen.{Seen}
+use Rattle.round_survey.specs.declared.seen.SurveyedWalks.{SurveyedWalks}
 use Rattle.round_survey.proofs.GateLaws.{gate_for, met_along_gates}
 
 -- what was walked for a class alone holds its walks
@@ -52,7 +52,7 @@ module _ (u : Rollout) (k : ℕ) (class : Class) (noted : WalkState) (covers : C
       (covers.dropping (end_of class.entry rest).switch (record { place = end_of class.entry rest; on_walk = (rest, walk, refl); drops = drops; at_is = refl }))
 
   -- what is seen where the noted walks hold those of the class
-  pub covered_seen : (seen : Seen) → ((s : SwitchId) → IsTrue (has seen.came s) ↔ IsIn s (switches_of noted.places))
+  pub covered_seen : (seen : SurveyedWalks) → ((s : SwitchId) → IsTrue (has seen.came s) ↔ IsIn s (switches_of noted.places))
       → (seen.pass_once ≡ true → (numbers : List ℕ) × Falls (IsEdge noted.steps) numbers) → (seen.may_drop ≡ false → noted.dropping ≡ []) → (seen.may_leave ≡ false → noted.leaving ≡ [])
       → AreGates seen.gates.numbering seen.gates.set noted → IsSeen u k class seen
   covered_seen seen each have none stay gates = record {
@@ -64,13 +64,13 @@ module _ (u : Rollout) (k : ℕ) (class : Class) (noted : WalkState) (covers : C
   }
 
 -- what is seen where it is shown besides that no switch stands twice
-pub seen_once : (u : Rollout) (k : ℕ) (class : Class) (seen : Seen) → IsSeen u k class seen → (once : Bool) → (once ≡ true → NeverRepeats u k class.first class.entry)
+pub seen_once : (u : Rollout) (k : ℕ) (class : Class) (seen : SurveyedWalks) → IsSeen u k class seen → (once : Bool) → (once ≡ true → NeverRepeats u k class.first class.entry)
     → IsSeen u k class (record { came = seen.came; pass_once = once; may_drop = seen.may_drop; may_leave = seen.may_leave; gates = seen.gates })
 seen_once u k class seen is once never = record { walks = is.walks; repeats = never; drops = is.drops; leaves = is.leaves; gates = is.gates }
 
 -- a class keeps its duties where no switch stands twice on its walks, nothing is discarded that must arrive, and none leaves or
 -- each chain is one of gates
-pub seen_keeps : (u : Rollout) (demands : List DemandView) (k : ℕ) (class : Class) (seen : Seen) → IsSeen u k class seen → seen.pass_once ≡ true
+pub seen_keeps : (u : Rollout) (demands : List DemandView) (k : ℕ) (class : Class) (seen : SurveyedWalks) → IsSeen u k class seen → seen.pass_once ≡ true
     → (seen.may_drop ≡ false) ⊎ ((duties_of demands class.entry class.first).arrive ≡ false)
     → (seen.may_leave ≡ false) ⊎ ((chain : List SwitchId) → IsIn chain (duties_of demands class.entry class.first).chains
     → IsMetFrom seen.gates.numbering seen.gates.set class.entry.switch chain)

@@ -8,14 +8,14 @@ use Rattle.check_reasons.specs.Touched.{touches}
 use Rattle.mixed_walks.specs.Walks.{IsRoundOf}
 use Rattle.class_watch.specs.Walks.{meets_any}
 use Rattle.breaking_walks.specs.declared.round.PreparedRound.{PreparedRound}
-pub use Rattle.breaking_walks.specs.Rounds.{update_of}
+pub use Rattle.breaking_walks.specs.Rounds.{round_rollout}
 
 -- the switches are prepared for the round, in which packets keep their VLANs; the rounds of the update are good and clear
 pub record IsPreparedRound (round : PreparedRound) : Type 0 where
-  pub is : IsRoundOf round.net.now round.mixes.now (update_of round) round.number
+  pub is : IsRoundOf round.net.now round.mixes.now (round_rollout round) round.number
   pub within : round.number < length round.rounds.now
-  pub good : AreGoodRounds (update_of round)
-  pub clear : AreClearRounds (update_of round)
+  pub good : AreGoodRounds (round_rollout round)
+  pub clear : AreClearRounds (round_rollout round)
 
 -- the round isn't the first, and no change of it may be met by packets of the class at a switch of the set
 pub record IsMissed (round : PreparedRound) (class : Class) (set : ℕ) : Type 0 where

@@ -14,7 +14,7 @@ use Rattle.class_watch.specs.Walks.{HoldsWalks}
 use Rattle.breaking_walks.specs.Breaking.{HasBreakingWalk}
 use Rattle.breaking_walks.specs.Surveys.{NeverDrops, NeverRepeats}
 use Rattle.round_survey.specs.Gates.{IsGateFor}
-use Rattle.round_survey.specs.declared.seen.Seen.{Seen}
+use Rattle.round_survey.specs.declared.seen.SurveyedWalks.{SurveyedWalks}
 
 -- no mixed walk of round k breaks the duties of the class
 abbrev pub KeepsDuties : Rollout → List DemandView → ℕ → Class → Type 0
@@ -27,7 +27,7 @@ KeptBefore u demands classes k = (j : ℕ) → j < k → (n : ℕ) (class : Clas
 -- what is seen of a class in round k: the set has each switch that its mixed walks come to; where they pass once, on none of them
 -- a switch stands twice; where they may not drop, on none of them a packet may be discarded, where they may not leave, none may
 -- leave; and the gates are gates on them
-pub record IsSeen (u : Rollout) (k : ℕ) (class : Class) (seen : Seen) : Type 0 where
+pub record IsSeen (u : Rollout) (k : ℕ) (class : Class) (seen : SurveyedWalks) : Type 0 where
   pub walks : HoldsWalks u k class seen.came
   pub repeats : seen.pass_once ≡ true → NeverRepeats u k class.first class.entry
   pub drops : seen.may_drop ≡ false → NeverDrops u k class.first class.entry
@@ -56,7 +56,7 @@ WalksStand u k classes came =
     (n : ℕ) (class : Class) (set : ℕ) → slice_get classes n ≡ Some class → slice_get came n ≡ Some set → HoldsWalksBefore u k class set
 
 -- these are the classes of a map, with a set and a mark for each
-pub record HasRoom (map : ClassList) (classes : List Class) (came : List ℕ) (good : List Bool) : Type 0 where
+pub record HasSurveyRoom (map : ClassList) (classes : List Class) (came : List ℕ) (good : List Bool) : Type 0 where
   pub classes_are : AreClasses map classes
   pub sets : length came ≡ class_count map
   pub marks : length good ≡ class_count map

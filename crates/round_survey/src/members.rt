@@ -9,11 +9,11 @@ ghost use Rattle.dest_classes.specs.declared.Class.{Class as ClassOf};
 ghost use Rattle.dest_classes.specs.declared.NumberedClass.{NumberedClass as NumberedClassOf};
 ghost use Rattle.update_model.specs.Mixtures.{Rollout};
 ghost use Rattle.mixed_walks.specs.Walks.{Covers};
-ghost use Rattle.round_survey.specs.Rounds.{update_of, IsPreparedRound};
+ghost use Rattle.round_survey.specs.Rounds.{round_rollout, IsPreparedRound};
 ghost use Rattle.round_survey.specs.Gates.{AreStepsOf};
 ghost use Rattle.round_survey.specs.Surveys.{IsSeen, AreKnown, IsAlike, AreAlike, AreMembers};
 
-use crate::seen::{Seen, keeps_duties, see};
+use crate::seen::{SurveyedWalks, keeps_duties, see};
 use crate::stepping::never_repeat;
 use breaking_walks::PreparedRound;
 use demands::Duties;
@@ -90,7 +90,8 @@ pub(crate) fn walk_members(walk: &mut WalkRoom, round: PreparedRound<'_>, member
         → IsUsed round.net.now (stop_of m.class.entry) }
     requires alike { AreAlike members.now }
     ensures covers { (m : NumberedClassOf) → IsIn m members.now
-        → Covers (update_of round.entry) round.entry.number m.class.first m.class.entry walk.new }
+        → Covers (round_rollout round.entry) round.entry.number m.class.first m.class.entry
+        walk.new }
     ensures within { AreStepsOf round.entry.net.now walk.new.steps }
 {
     walk.clear();
@@ -119,16 +120,16 @@ pub(crate) fn see_members(
     walk: &WalkRoom,
     members: &[NumberedClass],
     wants_gates: bool,
-) -> Result<Seen, Memory>
+) -> Result<SurveyedWalks, Memory>
     requires round { IsPreparedRound round }
     requires entries { (m : NumberedClassOf) → IsIn m members.now
         → IsUsed round.net.now (stop_of m.class.entry) }
     requires alike { AreAlike members.now }
     requires covers { (m : NumberedClassOf) → IsIn m members.now
-        → Covers (update_of round) round.number m.class.first m.class.entry walk.now }
+        → Covers (round_rollout round) round.number m.class.first m.class.entry walk.now }
     requires within { AreStepsOf round.net.now walk.now.steps }
     ensures { IfOk result (λ seen. (m : NumberedClassOf) → IsIn m members.now
-        → IsSeen (update_of round.entry) round.entry.number m.class seen) }
+        → IsSeen (round_rollout round.entry) round.entry.number m.class seen) }
 {
     let mut seen = see(alloc, round.net, walk, wants_gates)?;
     if !seen.pass_once {
@@ -140,7 +141,7 @@ pub(crate) fn see_members(
 /// Marks a class, with the switches that its walks come to, where what was seen of it keeps its duties.
 fn settle(
     numbered: NumberedClass,
-    seen: &Seen,
+    seen: &SurveyedWalks,
     duties: &Duties,
     came: &mut [SwitchSet],
     good: &mut [bool],
@@ -166,7 +167,7 @@ fn settle(
 /// Marks those of these classes whose duties are kept by what was seen of them all.
 pub(crate) fn settle_members(
     members: &[NumberedClass],
-    seen: &Seen,
+    seen: &SurveyedWalks,
     duties: &Duties,
     came: &mut [SwitchSet],
     good: &mut [bool],

@@ -24,7 +24,7 @@ use topology::Net;
 /// The switches that walks come to; whether it is shown that no switch stands twice on one; whether a packet may be discarded
 /// on them, or leave; and gates that it passes then.
 #[derive(Drop)]
-pub(crate) struct Seen {
+pub(crate) struct SurveyedWalks {
     pub(crate) came: SwitchSet,
     pub(crate) pass_once: bool,
     pub(crate) may_drop: bool,
@@ -50,14 +50,14 @@ pub(crate) fn see(
     net: &Net,
     walk: &WalkRoom,
     wants_gates: bool,
-) -> Result<Seen, Memory>
+) -> Result<SurveyedWalks, Memory>
     requires { AreStepsOf net.now walk.now.steps }
     ensures { IfOk result (λ seen. (u : Rollout) (k : ℕ) (class : ClassOf)
         → Covers u k class.first class.entry walk.now → IsSeen u k class seen) }
 {
     let falls = have_falling(alloc, net.switches(), walk.steps())?;
     let gates = gates_on(alloc, net, walk, falls && wants_gates)?;
-    Ok(Seen {
+    Ok(SurveyedWalks {
         came: switches_on(walk),
         pass_once: falls,
         may_drop: !walk.dropping().is_empty(),
@@ -67,7 +67,7 @@ pub(crate) fn see(
 }
 
 /// Whether a packet of a class of which this was seen may be discarded, though it must arrive.
-fn may_lose(seen: &Seen, duties: &Duties, numbered: NumberedClass) -> bool
+fn may_lose(seen: &SurveyedWalks, duties: &Duties, numbered: NumberedClass) -> bool
     requires number { numbered.number < class_count duties.now.classes }
     requires class { IsNumbered duties.now.classes numbered }
     ensures { result ≡ false → (seen.now.may_drop ≡ false)
@@ -78,7 +78,7 @@ fn may_lose(seen: &Seen, duties: &Duties, numbered: NumberedClass) -> bool
 }
 
 /// Whether the gates show that packets of a class meet each of its chains before they leave.
-fn meets_chains(seen: &Seen, duties: &Duties, numbered: NumberedClass) -> bool
+fn meets_chains(seen: &SurveyedWalks, duties: &Duties, numbered: NumberedClass) -> bool
     requires number { numbered.number < class_count duties.now.classes }
     requires class { IsNumbered duties.now.classes numbered }
     ensures { result ≡ true → (chain : List Switch)
@@ -101,7 +101,7 @@ fn meets_chains(seen: &Seen, duties: &Duties, numbered: NumberedClass) -> bool
 }
 
 /// Whether a class of which this was seen keeps its duties. Not told where a chain isn't made of gates.
-pub(crate) fn keeps_duties(seen: &Seen, duties: &Duties, numbered: NumberedClass) -> bool
+pub(crate) fn keeps_duties(seen: &SurveyedWalks, duties: &Duties, numbered: NumberedClass) -> bool
     requires number { numbered.number < class_count duties.now.classes }
     requires class { IsNumbered duties.now.classes numbered }
     ensures { (u : Rollout) (k : ℕ) → IsSeen u k numbered.class seen.now

@@ -7,7 +7,7 @@ ghost use Rattle.topology.specs.Networks.{IsUsed};
 ghost use Rattle.dest_classes.specs.declared.NumberedClass.{NumberedClass as NumberedClassOf};
 ghost use Rattle.breaking_walks.specs.Surveys.{NeverRepeats};
 ghost use Rattle.breaking_walks.specs.PlaceSteps.{NotesSteps};
-ghost use Rattle.round_survey.specs.Rounds.{update_of, IsPreparedRound};
+ghost use Rattle.round_survey.specs.Rounds.{round_rollout, IsPreparedRound};
 ghost use Rattle.round_survey.specs.Surveys.{IsAlike, AreAlike};
 
 use breaking_walks::{PlaceSteps, PreparedRound};
@@ -42,11 +42,12 @@ fn add_steps(
     requires round { IsPreparedRound round }
     requires room { 8193 ≤ length outcomes.old.list + outcomes.old.spare }
     requires number { number < length noted.old.places }
-    requires so_far { NotesSteps (update_of round) round.number class.first number noted.old }
+    requires so_far { NotesSteps (round_rollout round) round.number class.first number noted.old }
     ensures room { 8193 ≤ length outcomes.new.list + outcomes.new.spare }
     ensures kept { OnOk result ((p : PlaceOf) → IsIn p noted.old.places
         → IsIn p noted.new.places) }
-    ensures so_far { OnOk result (NotesSteps (update_of round.entry) round.entry.number class.first
+    ensures so_far { OnOk result
+        (NotesSteps (round_rollout round.entry) round.entry.number class.first
         (number + 1) noted.new) }
 {
     round.net.keeps_rules();
@@ -65,8 +66,9 @@ fn walk_on(
 ) -> Result<(), Memory>
     requires round { IsPreparedRound round }
     requires room { 8193 ≤ length outcomes.old.list + outcomes.old.spare }
-    requires so_far { NotesSteps (update_of round) round.number class.first 0 noted.old }
-    ensures whole { OnOk result (NotesSteps (update_of round.entry) round.entry.number class.first
+    requires so_far { NotesSteps (round_rollout round) round.number class.first 0 noted.old }
+    ensures whole { OnOk result
+        (NotesSteps (round_rollout round.entry) round.entry.number class.first
         (length noted.new.places) noted.new) }
     ensures kept { OnOk result ((p : PlaceOf) → IsIn p noted.old.places
         → IsIn p noted.new.places) }
@@ -91,7 +93,7 @@ fn come_once(
         → IsUsed round.net.now (stop_of m.class.entry) }
     requires alike { (m : NumberedClassOf) → IsIn m members.now → IsAlike class m.class }
     ensures { IfOk result (λ once. once ≡ true → (m : NumberedClassOf) → IsIn m members.now
-        → NeverRepeats (update_of round.entry) round.entry.number m.class.first m.class.entry) }
+        → NeverRepeats (round_rollout round.entry) round.entry.number m.class.first m.class.entry) }
 {
     round.net.keeps_rules();
     let mut outcomes = Outcomes::with_room(alloc, 8193)?;
@@ -114,7 +116,7 @@ pub(crate) fn never_repeat(
         → IsUsed round.net.now (stop_of m.class.entry) }
     requires alike { AreAlike members.now }
     ensures { IfOk result (λ once. once ≡ true → (m : NumberedClassOf) → IsIn m members.now
-        → NeverRepeats (update_of round.entry) round.entry.number m.class.first m.class.entry) }
+        → NeverRepeats (round_rollout round.entry) round.entry.number m.class.first m.class.entry) }
 {
     match members {
         [] => Ok(false),

@@ -1,8 +1,8 @@
 //! The classes of an update, surveyed round by round.
 ghost use Rattle.std.specs.Prelude.{◌≡◌, ◌+◌, ◌<◌, suc, length, IfOk, OnOk};
 ghost use Rattle.dest_classes.specs.Classes.{class_count};
-ghost use Rattle.round_survey.specs.Rounds.{update_of, IsPreparedRound};
-ghost use Rattle.round_survey.specs.Surveys.{AreGood, AreKnown, AreWalkedBelow, HasRoom, KeptBefore, WalksStand};
+ghost use Rattle.round_survey.specs.Rounds.{round_rollout, IsPreparedRound};
+ghost use Rattle.round_survey.specs.Surveys.{AreGood, AreKnown, AreWalkedBelow, HasSurveyRoom, KeptBefore, WalksStand};
 
 use crate::members::{gather, have_chains, see_members, settle_members, walk_members};
 use crate::missed::{atoms_to_look_at, mark_missed};
@@ -28,7 +28,8 @@ pub struct RoundSurvey {
 
 /// Room for the classes of a map.
 fn make_survey(alloc: Global, classes: &ClassMap, walk: WalkRoom) -> Result<RoundSurvey, Memory>
-    ensures { IfOk result (λ s. HasRoom classes.now s.classes.items s.came.items s.good.items) }
+    ensures { IfOk result
+        (λ s. HasSurveyRoom classes.now s.classes.items s.came.items s.good.items) }
 {
     let count = classes.count() as usize;
     let came = vec![in alloc; SwitchSet::none(); count]?;
@@ -46,7 +47,7 @@ impl RoundSurvey {
     /// Room for the classes of a map: less than 60 bytes for each, and the room for walks. Nothing is known of any.
     pub fn make(alloc: Global, classes: &ClassMap) -> Result<RoundSurvey, Memory>
         ensures { IfOk result
-            (λ s. HasRoom classes.now s.classes.items s.came.items s.good.items) }
+            (λ s. HasSurveyRoom classes.now s.classes.items s.came.items s.good.items) }
     {
         let walk = WalkRoom::make(alloc)?;
         make_survey(alloc, classes, walk)
@@ -75,14 +76,14 @@ impl RoundSurvey {
         requires some { 0 < step }
         requires round { IsPreparedRound round }
         requires hosts { duties.now.classes.hosts ≡ round.net.now.hosts }
-        requires room { HasRoom duties.now.classes self.old.classes.items self.old.came.items
+        requires room { HasSurveyRoom duties.now.classes self.old.classes.items self.old.came.items
             self.old.good.items }
-        requires known { AreKnown (update_of round) duties.now.demands round.number
+        requires known { AreKnown (round_rollout round) duties.now.demands round.number
             self.old.classes.items self.old.came.items self.old.good.items }
         ensures classes { self.new.classes.items ≡ self.old.classes.items }
         ensures came { length self.new.came.items ≡ length self.old.came.items }
         ensures good { length self.new.good.items ≡ length self.old.good.items }
-        ensures known { OnOk result (AreKnown (update_of round.entry) duties.now.demands
+        ensures known { OnOk result (AreKnown (round_rollout round.entry) duties.now.demands
             round.entry.number self.new.classes.items self.new.came.items
             self.new.good.items) }
     {
@@ -108,13 +109,13 @@ impl RoundSurvey {
     ) -> Result<(), Memory>
         requires round { IsPreparedRound round }
         requires hosts { duties.now.classes.hosts ≡ round.net.now.hosts }
-        requires room { HasRoom duties.now.classes self.old.classes.items self.old.came.items
+        requires room { HasSurveyRoom duties.now.classes self.old.classes.items self.old.came.items
             self.old.good.items }
-        requires known { AreKnown (update_of round) duties.now.demands round.number
+        requires known { AreKnown (round_rollout round) duties.now.demands round.number
             self.old.classes.items self.old.came.items self.old.good.items }
-        ensures room { OnOk result (HasRoom duties.now.classes self.new.classes.items
+        ensures room { OnOk result (HasSurveyRoom duties.now.classes self.new.classes.items
             self.new.came.items self.new.good.items) }
-        ensures known { OnOk result (AreKnown (update_of round.entry) duties.now.demands
+        ensures known { OnOk result (AreKnown (round_rollout round.entry) duties.now.demands
             round.entry.number self.new.classes.items self.new.came.items
             self.new.good.items) }
     {
@@ -138,18 +139,18 @@ impl RoundSurvey {
         requires number { number < class_count duties.now.classes }
         requires round { IsPreparedRound round }
         requires hosts { duties.now.classes.hosts ≡ round.net.now.hosts }
-        requires room { HasRoom duties.now.classes self.old.classes.items self.old.came.items
+        requires room { HasSurveyRoom duties.now.classes self.old.classes.items self.old.came.items
             self.old.good.items }
-        requires known { AreKnown (update_of round) duties.now.demands round.number
+        requires known { AreKnown (round_rollout round) duties.now.demands round.number
             self.old.classes.items self.old.came.items self.old.good.items }
-        requires below { AreWalkedBelow number (update_of round) round.number
+        requires below { AreWalkedBelow number (round_rollout round) round.number
             self.old.classes.items self.old.came.items }
-        ensures room { OnOk result (HasRoom duties.now.classes self.new.classes.items
+        ensures room { OnOk result (HasSurveyRoom duties.now.classes self.new.classes.items
             self.new.came.items self.new.good.items) }
-        ensures known { OnOk result (AreKnown (update_of round.entry) duties.now.demands
+        ensures known { OnOk result (AreKnown (round_rollout round.entry) duties.now.demands
             round.entry.number self.new.classes.items self.new.came.items
             self.new.good.items) }
-        ensures below { OnOk result (AreWalkedBelow (number + 1) (update_of round.entry)
+        ensures below { OnOk result (AreWalkedBelow (number + 1) (round_rollout round.entry)
             round.entry.number self.new.classes.items self.new.came.items) }
     {
         round.net.keeps_rules();
@@ -174,18 +175,18 @@ impl RoundSurvey {
         requires number { number < class_count duties.now.classes }
         requires round { IsPreparedRound round }
         requires hosts { duties.now.classes.hosts ≡ round.net.now.hosts }
-        requires room { HasRoom duties.now.classes self.old.classes.items self.old.came.items
+        requires room { HasSurveyRoom duties.now.classes self.old.classes.items self.old.came.items
             self.old.good.items }
-        requires known { AreKnown (update_of round) duties.now.demands round.number
+        requires known { AreKnown (round_rollout round) duties.now.demands round.number
             self.old.classes.items self.old.came.items self.old.good.items }
-        requires below { AreWalkedBelow number (update_of round) round.number
+        requires below { AreWalkedBelow number (round_rollout round) round.number
             self.old.classes.items self.old.came.items }
-        ensures room { OnOk result (HasRoom duties.now.classes self.new.classes.items
+        ensures room { OnOk result (HasSurveyRoom duties.now.classes self.new.classes.items
             self.new.came.items self.new.good.items) }
-        ensures known { OnOk result (AreKnown (update_of round.entry) duties.now.demands
+        ensures known { OnOk result (AreKnown (round_rollout round.entry) duties.now.demands
             round.entry.number self.new.classes.items self.new.came.items
             self.new.good.items) }
-        ensures below { OnOk result (AreWalkedBelow (number + 1) (update_of round.entry)
+        ensures below { OnOk result (AreWalkedBelow (number + 1) (round_rollout round.entry)
             round.entry.number self.new.classes.items self.new.came.items) }
     {
         if self.good[number as usize] {
@@ -203,16 +204,16 @@ impl RoundSurvey {
     ) -> Result<(), Memory>
         requires round { IsPreparedRound round }
         requires hosts { duties.now.classes.hosts ≡ round.net.now.hosts }
-        requires room { HasRoom duties.now.classes self.old.classes.items self.old.came.items
+        requires room { HasSurveyRoom duties.now.classes self.old.classes.items self.old.came.items
             self.old.good.items }
-        requires known { AreKnown (update_of round) duties.now.demands round.number
+        requires known { AreKnown (round_rollout round) duties.now.demands round.number
             self.old.classes.items self.old.came.items self.old.good.items }
-        ensures room { OnOk result (HasRoom duties.now.classes self.new.classes.items
+        ensures room { OnOk result (HasSurveyRoom duties.now.classes self.new.classes.items
             self.new.came.items self.new.good.items) }
-        ensures known { OnOk result (AreKnown (update_of round.entry) duties.now.demands
+        ensures known { OnOk result (AreKnown (round_rollout round.entry) duties.now.demands
             round.entry.number self.new.classes.items self.new.came.items
             self.new.good.items) }
-        ensures walks { OnOk result (WalksStand (update_of round.entry) (suc round.entry.number)
+        ensures walks { OnOk result (WalksStand (round_rollout round.entry) (suc round.entry.number)
             self.new.classes.items self.new.came.items) }
     {
         let count = self.classes.len() as u32;
@@ -242,17 +243,17 @@ impl RoundSurvey {
         requires round { IsPreparedRound round }
         requires map { duties.now.classes ≡ map.now }
         requires hosts { duties.now.classes.hosts ≡ round.net.now.hosts }
-        requires room { HasRoom duties.now.classes self.old.classes.items self.old.came.items
+        requires room { HasSurveyRoom duties.now.classes self.old.classes.items self.old.came.items
             self.old.good.items }
-        requires walks { WalksStand (update_of round) round.number self.old.classes.items
+        requires walks { WalksStand (round_rollout round) round.number self.old.classes.items
             self.old.came.items }
-        requires before { KeptBefore (update_of round) duties.now.demands duties.now.classes
+        requires before { KeptBefore (round_rollout round) duties.now.demands duties.now.classes
             round.number }
-        ensures room { OnOk result (HasRoom duties.now.classes self.new.classes.items
+        ensures room { OnOk result (HasSurveyRoom duties.now.classes self.new.classes.items
             self.new.came.items self.new.good.items) }
-        ensures walks { OnOk result (WalksStand (update_of round.entry) (suc round.entry.number)
+        ensures walks { OnOk result (WalksStand (round_rollout round.entry) (suc round.entry.number)
             self.new.classes.items self.new.came.items) }
-        ensures good { OnOk result (AreGood (update_of round.entry) duties.now.demands
+        ensures good { OnOk result (AreGood (round_rollout round.entry) duties.now.demands
             round.entry.number duties.now.classes self.new.good.items) }
     {
         let looked = atoms_to_look_at(alloc, round, map, &self.classes)?;

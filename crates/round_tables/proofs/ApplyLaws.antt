@@ -18,7 +18,7 @@ use Rattle.update_model.proofs.ChangeLaws.{IsWithin, length-tables_after, rules_
 use Rattle.update_model.proofs.RoundLaws.{settled_next}
 use Rattle.round_mix.specs.Prepared.{MixedState}
 use Rattle.round_tables.specs.PreparedTables.{ChangesState, PreparedState, StandsBefore, IsMixed, is_touched, limit_at, list_at, mix_at, room_of, rules_there, table_at}
-use Rattle.round_tables.specs.Loading.{AreWithin, insert_count}
+use Rattle.round_tables.specs.Loading.{AreSwitchesBelow, insert_count}
 use Rattle.round_tables.proofs.TableLaws.{switch_n, rules_in}
 
 -- a change keeps the room of its table in all
@@ -63,7 +63,7 @@ none_past n (c ∷ cs) s within past =
     let ne : (switch_of c).0 ≢ s.0 = omega (arith, within.0) in
     cond-false ((switch_of c).0 == s.0) (c ∷ changes_at s cs) (changes_at s cs) (ne_eqb _ _ ne) ∙ none_past n cs s within.1 past
 
-module _ (u : Rollout) (k : ℕ) (less : k < length u.rounds) (within : AreWithin (length (tables_before u k)) (round_after k u.rounds)) where
+module _ (u : Rollout) (k : ℕ) (less : k < length u.rounds) (within : AreSwitchesBelow (length (tables_before u k)) (round_after k u.rounds)) where
   -- the rules of a switch after the round
   pub rules_next : (s : SwitchId) → rules_at (tables_before u (suc k)) s ≡ rules_after (changes_at s (round_after k u.rounds)) (rules_at (tables_before u k) s)
   rules_next s =

@@ -23,48 +23,48 @@ use Rattle.update_model.proofs.ChangeLaws.{key_named, applies_kept}
 use Rattle.round_mix.specs.Prepared.{AreGood}
 use Rattle.round_tables.specs.Loading.{insert_count}
 use Rattle.round_tables.proofs.LoadLaws.{filter_few}
-use Rattle.round_tables.specs.ByKind.{deleted, replacing, inserts, without}
+use Rattle.round_tables.specs.ByKind.{deleted_rules, replacing_rules, inserts, rules_without}
 
 abbrev has : Key → List Rule → Bool
 has k gone = list_any (λ r. key_eq r.key k) gone
 
 -- without none all stay
-without_none : (rules : List Rule) → without [] rules ≡ rules
+without_none : (rules : List Rule) → rules_without [] rules ≡ rules
 without_none [] = refl
 without_none (x ∷ rules) = ap (λ (rs : List Rule). x ∷ rs) (without_none rules)
 
 -- one more rule at the end
-without_push : (gone rules : List Rule) (r : Rule) → has r.key gone ≡ false → without gone (rules ++ r ∷ []) ≡ without gone rules ++ r ∷ []
+without_push : (gone rules : List Rule) (r : Rule) → has r.key gone ≡ false → rules_without gone (rules ++ r ∷ []) ≡ rules_without gone rules ++ r ∷ []
 without_push gone [] r stays = ap (λ (b : Bool). cond (not b) (r ∷ []) []) stays
 without_push gone (x ∷ rules) r stays =
     let rest = without_push gone rules r stays in
-    elim (has x.key gone) as (λ b. cond (not b) (x ∷ without gone (rules ++ r ∷ [])) (without gone (rules ++ r ∷ [])) ≡ cond (not b) (x ∷ without gone rules) (without gone rules) ++ r ∷ []) [
+    elim (has x.key gone) as (λ b. cond (not b) (x ∷ rules_without gone (rules ++ r ∷ [])) (rules_without gone (rules ++ r ∷ [])) ≡ cond (not b) (x ∷ rules_without gone rules) (rules_without gone rules) ++ r ∷ []) [
       | true ↦ rest
       | false ↦ ap (λ (rs : List Rule). x ∷ rs) rest
     ]
 
 -- one more key
-without_step : (r : Rule) (gone rules : List Rule) → without gone (filter (λ q. not (key_eq q.key r.key)) rules) ≡ without (r ∷ gone) rules
+without_step : (r : Rule) (gone rules : List Rule) → rules_without gone (filter (λ q. not (key_eq q.key r.key)) rules) ≡ rules_without (r ∷ gone) rules
 without_step r gone [] = refl
 without_step r gone (x ∷ rules) =
     let rest = without_step r gone rules in
     let inner = filter (λ q. not (key_eq q.key r.key)) rules in
-    let outer = without (r ∷ gone) rules in
-    elim (key_eq x.key r.key) as (λ b. without gone (cond (not b) (x ∷ inner) inner) ≡ cond (not (b || has x.key gone)) (x ∷ outer) outer) [
+    let outer = rules_without (r ∷ gone) rules in
+    elim (key_eq x.key r.key) as (λ b. rules_without gone (cond (not b) (x ∷ inner) inner) ≡ cond (not (b || has x.key gone)) (x ∷ outer) outer) [
       | true ↦ rest
       | false ↦ ap (λ (rs : List Rule). cond (not (has x.key gone)) (x ∷ rs) rs) rest
     ]
     ∙ ap (λ (b : Bool). cond (not (b || has x.key gone)) (x ∷ outer) outer) (flips x.key r.key)
 
 -- a replaced rule keeps its key
-without_map : (r : Rule) (gone rules : List Rule) → without gone (map (λ q. cond (key_eq q.key r.key) r q) rules) ≡ map (λ q. cond (key_eq q.key r.key) r q) (without gone rules)
+without_map : (r : Rule) (gone rules : List Rule) → rules_without gone (map (λ q. cond (key_eq q.key r.key) r q) rules) ≡ map (λ q. cond (key_eq q.key r.key) r q) (rules_without gone rules)
 without_map r gone [] = refl
 without_map r gone (x ∷ rules) =
     let rest = without_map r gone rules in
     let new : Rule = cond (key_eq x.key r.key) r x in
-    let after = without gone (map (λ q. cond (key_eq q.key r.key) r q) rules) in
+    let after = rules_without gone (map (λ q. cond (key_eq q.key r.key) r q) rules) in
     ap (λ (k : Key). cond (not (has k gone)) (new ∷ after) after) (same_key (key_eq x.key r.key) refl)
-    ∙ elim (has x.key gone) as (λ b. cond (not b) (new ∷ after) after ≡ map (λ q. cond (key_eq q.key r.key) r q) (cond (not b) (x ∷ without gone rules) (without gone rules))) [
+    ∙ elim (has x.key gone) as (λ b. cond (not b) (new ∷ after) after ≡ map (λ q. cond (key_eq q.key r.key) r q) (cond (not b) (x ∷ rules_without gone rules) (rules_without gone rules))) [
       | true ↦ rest
       | false ↦ ap (λ (rs : List Rule). new ∷ rs) rest
     ]
@@ -92,17 +92,17 @@ unnamed p k cs out = false_from_ne_true (has k (map rule_of (filter p cs))) (λ 
 
 -- the rules after changes that name different keys are those after the inserts, once the deleted ones are out and the others
 -- are replaced
-pub same_after : (cs : List Change) (rules : List Rule) → IsDistinct (map key_named cs) → rules_after (inserts cs) (replaced_in_turn (replacing cs) (without (deleted cs) rules)) ≡ rules_after cs rules
+pub same_after : (cs : List Change) (rules : List Rule) → IsDistinct (map key_named cs) → rules_after (inserts cs) (replaced_in_turn (replacing_rules cs) (rules_without (deleted_rules cs) rules)) ≡ rules_after cs rules
 same_after [] rules distinct = without_none rules
 same_after (Insert s r ∷ cs) rules distinct =
-    ap (rules_after (inserts cs)) (sym (ap (replaced_in_turn (replacing cs)) (without_push (deleted cs) rules r (unnamed is_delete r.key cs distinct.0))
-    ∙ in_turn_push (replacing cs) (without (deleted cs) rules) r (unnamed is_replace r.key cs distinct.0)))
+    ap (rules_after (inserts cs)) (sym (ap (replaced_in_turn (replacing_rules cs)) (without_push (deleted_rules cs) rules r (unnamed is_delete r.key cs distinct.0))
+    ∙ in_turn_push (replacing_rules cs) (rules_without (deleted_rules cs) rules) r (unnamed is_replace r.key cs distinct.0)))
     ∙ same_after cs (rules ++ r ∷ []) distinct.1
 same_after (Delete s r ∷ cs) rules distinct =
-    ap (λ (rs : List Rule). rules_after (inserts cs) (replaced_in_turn (replacing cs) rs)) (sym (without_step r (deleted cs) rules))
+    ap (λ (rs : List Rule). rules_after (inserts cs) (replaced_in_turn (replacing_rules cs) rs)) (sym (without_step r (deleted_rules cs) rules))
     ∙ same_after cs (filter (λ q. not (key_eq q.key r.key)) rules) distinct.1
 same_after (Replace s r ∷ cs) rules distinct =
-    ap (λ (rs : List Rule). rules_after (inserts cs) (replaced_in_turn (replacing cs) rs)) (sym (without_map r (deleted cs) rules))
+    ap (λ (rs : List Rule). rules_after (inserts cs) (replaced_in_turn (replacing_rules cs) rs)) (sym (without_map r (deleted_rules cs) rules))
     ∙ same_after cs (map (λ q. cond (key_eq q.key r.key) r q) rules) distinct.1
 
 distinct_filter : (p : Change → Bool) (cs : List Change) → IsDistinct (map key_named cs) → IsDistinct (map key_named (filter p cs))
@@ -125,30 +125,30 @@ table_of p cs distinct = subst IsDistinct (both (filter p cs)) (distinct_filter 
     both (d ∷ ds) = ap (λ (ks : List Key). key_named d ∷ ks) (both ds)
 
 -- the key of an insert stays absent while rules are taken out and replaced
-absent_still : (rs gone rules : List Rule) (c : Change) → is_insert c ≡ true → AppliesTo rules c → AppliesTo (replaced_in_turn rs (without gone rules)) c
+absent_still : (rs gone rules : List Rule) (c : Change) → is_insert c ≡ true → AppliesTo rules c → AppliesTo (replaced_in_turn rs (rules_without gone rules)) c
 absent_still rs gone rules (Insert s r) inserted applies = λ i.
-    let (x, j, e) = in_from_map (λ (y : Rule). y.key) r.key (without gone rules) (subst (λ (ks : List Key). IsIn r.key ks) (keys_in_turn rs (without gone rules)) i) in
+    let (x, j, e) = in_from_map (λ (y : Rule). y.key) r.key (rules_without gone rules) (subst (λ (ks : List Key). IsIn r.key ks) (keys_in_turn rs (rules_without gone rules)) i) in
     applies (subst (λ (k : Key). IsIn k (keys_of rules)) (sym e) (in_map (λ (y : Rule). y.key) x rules (in_from_filter (λ q. not (has q.key gone)) x rules j).0))
 absent_still rs gone rules (Delete s r) inserted applies = absurd (both_ways false refl inserted)
 absent_still rs gone rules (Replace s r) inserted applies = absurd (both_ways false refl inserted)
 
 -- and the inserts are good then
-pub good_inserts : (rules : List Rule) (cs : List Change) → AreGood rules cs → AreGood (replaced_in_turn (replacing cs) (without (deleted cs) rules)) (inserts cs)
+pub good_inserts : (rules : List Rule) (cs : List Change) → AreGood rules cs → AreGood (replaced_in_turn (replacing_rules cs) (rules_without (deleted_rules cs) rules)) (inserts cs)
 good_inserts rules cs good = record {
-  applies = each_from_in (AppliesTo (replaced_in_turn (replacing cs) (without (deleted cs) rules))) (inserts cs) (λ c i.
+  applies = each_from_in (AppliesTo (replaced_in_turn (replacing_rules cs) (rules_without (deleted_rules cs) rules))) (inserts cs) (λ c i.
       let (at, passes) = in_from_filter is_insert c cs i in
-      absent_still (replacing cs) (deleted cs) rules c passes (each_at (AppliesTo rules) cs c good.applies at));
+      absent_still (replacing_rules cs) (deleted_rules cs) rules c passes (each_at (AppliesTo rules) cs c good.applies at));
   distinct = distinct_filter is_insert cs good.distinct;
 }
 
 -- the rules after both passes
-pub passes_made : (cs : List Change) (old gone left rs new : List Rule) → gone ≡ deleted cs → left ≡ without gone old → rs ≡ replacing cs → new ≡ replaced_in_turn rs left
-    → new ≡ replaced_in_turn (replacing cs) (without (deleted cs) old)
+pub passes_made : (cs : List Change) (old gone left rs new : List Rule) → gone ≡ deleted_rules cs → left ≡ rules_without gone old → rs ≡ replacing_rules cs → new ≡ replaced_in_turn rs left
+    → new ≡ replaced_in_turn (replacing_rules cs) (rules_without (deleted_rules cs) old)
 passes_made cs old gone left rs new is_gone is_left is_rs is_new =
-    is_new ∙ ap (λ (xs : List Rule). replaced_in_turn xs left) is_rs ∙ ap (replaced_in_turn (replacing cs)) (is_left ∙ ap (λ (xs : List Rule). without xs old) is_gone)
+    is_new ∙ ap (λ (xs : List Rule). replaced_in_turn xs left) is_rs ∙ ap (replaced_in_turn (replacing_rules cs)) (is_left ∙ ap (λ (xs : List Rule). rules_without xs old) is_gone)
 
 -- no more rules stay
-pub without_few : (gone rules : List Rule) → length (without gone rules) ≤ length rules
+pub without_few : (gone rules : List Rule) → length (rules_without gone rules) ≤ length rules
 without_few gone rules = filter_few (λ q. not (has q.key gone)) rules
 
 -- and as many are there when some are replaced

@@ -18,7 +18,7 @@ use Rattle.update_model.specs.declared.Change.{Change}
 use Rattle.update_model.proofs.ChangeLaws.{key_named}
 use Rattle.update_model.proofs.MadeLaws.{same_entry}
 use Rattle.round_mix.specs.Faults.{AreUnclear, IsFirstBad, IsGoodAfter}
-use Rattle.round_mix.specs.Marks.{all_rules, marked}
+use Rattle.round_mix.specs.Marks.{all_rules, marked_rule}
 use Rattle.round_mix.specs.Prepared.{MixedState, AreGood, AreClear}
 use Rattle.round_mix.specs.declared.MarkedRule.{MarkedRule}
 use Rattle.round_mix.proofs.ClearLaws.{clear_from_free}
@@ -26,7 +26,7 @@ use Rattle.round_mix.proofs.GoodLaws.{names_key_is}
 use Rattle.round_mix.proofs.MarkLaws.{all_mixed}
 use Rattle.check_reasons.specs.Reasons.{IsBadChange, IsUnclear}
 use Rattle.round_tables.specs.PreparedTables.{ChangesState, list_at, rules_there}
-use Rattle.round_tables.specs.Loading.{AreWithin, IsBadAt, IsFirstBadChange, IsFirstOutside, IsFirstRoundFault, IsFirstUnclear, IsLoadedTo, IsRestFault, IsUnclearAt}
+use Rattle.round_tables.specs.Loading.{AreSwitchesBelow, IsBadAt, IsFirstBadChange, IsFirstOutside, IsFirstRoundFault, IsFirstUnclear, IsLoadedTo, IsRestFault, IsUnclearAt}
 use Rattle.round_tables.specs.declared.loading.RoundFault.{RoundFault}
 use Rattle.round_tables.specs.declared.loading.RoundFault.TheVariants.{BadChange, Unclear}
 
@@ -105,7 +105,7 @@ bad_from_first tables round s nth i change bad before at_is =
     ]
 
 -- a bad change of a round is at a switch of the tables
-bad_within : (u : Rollout) (k i : ℕ) (s : SwitchId) (n : ℕ) → AreWithin n (round_after k u.rounds) → IsBadChange u k i s → s.0 < n
+bad_within : (u : Rollout) (k i : ℕ) (s : SwitchId) (n : ℕ) → AreSwitchesBelow n (round_after k u.rounds) → IsBadChange u k i s → s.0 < n
 bad_within u k i s n within bad =
     subst (λ (x : SwitchId). x.0 < n) bad.at_is (each_at (λ c. (switch_of c).0 < n) (round_after k u.rounds) bad.change within (in_from_get (round_after k u.rounds) i bad.change bad.is))
 
@@ -115,13 +115,13 @@ good_no_bad_at : (u : Rollout) (k : ℕ) (o : SwitchId) (i : ℕ) → o.0 < leng
 good_no_bad_at u k o i less good bad = no_bad_in (tables_before u k) (round_after k u.rounds) o good less i bad.change bad.is bad.at_is bad.bad
 
 -- where all changes are at switches of the tables, and those at a switch are good, none is bad there
-pub good_no_bad : (u : Rollout) (k : ℕ) → AreWithin (length (tables_before u k)) (round_after k u.rounds) → (o : SwitchId) (i : ℕ)
+pub good_no_bad : (u : Rollout) (k : ℕ) → AreSwitchesBelow (length (tables_before u k)) (round_after k u.rounds) → (o : SwitchId) (i : ℕ)
     → AreGood (rules_at (tables_before u k) o) (changes_at o (round_after k u.rounds)) → ¬ IsBadChange u k i o
 good_no_bad u k within o i good bad = good_no_bad_at u k o i (bad_within u k i o (length (tables_before u k)) within bad) good bad
 
 module _ (u : Rollout) (k : ℕ) where
   -- where each switch of the tables has good changes, and there are no others, none of the round is bad
-  pub all_good : AreWithin (length (tables_before u k)) (round_after k u.rounds)
+  pub all_good : AreSwitchesBelow (length (tables_before u k)) (round_after k u.rounds)
       → ((o : SwitchId) → o.0 < length (tables_before u k) → AreGood (rules_at (tables_before u k) o) (changes_at o (round_after k u.rounds)))
       → (o : SwitchId) (i : ℕ) → ¬ IsBadChange u k i o
   all_good within good o i bad =
@@ -197,13 +197,13 @@ unclear_there u k s table here =
       mixed = all_rules rules changes;
       held = all_mixed rules changes;
       unclear = λ clear. here.unclear (clear_from_free rules changes table here.good (λ m n in_m in_n clash.
-          let (q, at_q, is_q) = in_from_map (marked changes) m (all_rules rules changes) in_m in
-          let (r, at_r, is_r) = in_from_map (marked changes) n (all_rules rules changes) in_n in
+          let (q, at_q, is_q) = in_from_map (marked_rule changes) m (all_rules rules changes) in_m in
+          let (r, at_r, is_r) = in_from_map (marked_rule changes) n (all_rules rules changes) in_n in
           let one : m.rule ≡ q = ap (λ (x : MarkedRule). x.rule) is_q in
           let other : n.rule ≡ r = ap (λ (x : MarkedRule). x.rule) is_r in
           let same : m.rule ≡ n.rule = clear clash.header m.rule n.rule (subst (λ (x : Rule). IsIn x (all_rules rules changes)) (sym one) at_q)
           (subst (λ (x : Rule). IsIn x (all_rules rules changes)) (sym other) at_r) clash.first clash.second clash.priority in
-          is_q ∙ ap (marked changes) (sym one ∙ same ∙ other) ∙ sym is_r));
+          is_q ∙ ap (marked_rule changes) (sym one ∙ same ∙ other) ∙ sym is_r));
     }
 
 module _ (u : Rollout) (k : ℕ) (tables : List TableState) (lists : List ChangesState) (same : rules_of_all tables ≡ tables_before u k) (count : length (tables_before u k) ≡ length u.old)
@@ -238,9 +238,9 @@ module _ (u : Rollout) (k : ℕ) (tables : List TableState) (lists : List Change
         }) at_is
 
     -- and the first unclear switch is that of the round, where all changes are good
-    pub unclear_found : (s : SwitchId) → s.0 < length u.old → AreWithin (length u.old) (round_after k u.rounds) → IsUnclearAt tables lists s → IsFirstUnclear u k s
+    pub unclear_found : (s : SwitchId) → s.0 < length u.old → AreSwitchesBelow (length u.old) (round_after k u.rounds) → IsUnclearAt tables lists s → IsFirstUnclear u k s
     unclear_found s less within unclear = record {
-      good = all_good u k (subst (λ (n : ℕ). AreWithin n (round_after k u.rounds)) (sym count) within) good_here;
+      good = all_good u k (subst (λ (n : ℕ). AreSwitchesBelow n (round_after k u.rounds)) (sym count) within) good_here;
       unclear = unclear_there u k s (at_round (λ rs _. IsTable rs) s less unclear.table) (at_round AreUnclear s less unclear.here);
       first = λ o below bad. bad.unclear (at_round AreClear o (omega arith) (unclear.below o below) bad.mixed bad.held);
     }

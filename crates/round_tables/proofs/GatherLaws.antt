@@ -10,7 +10,7 @@ use Rattle.update_model.specs.declared.Change.{Change}
 use Rattle.round_mix.specs.Prepared.{MixedState, IsPrepared}
 use Rattle.round_mix.specs.declared.MarkedRule.{MarkedRule}
 use Rattle.round_mix.proofs.ClearLaws.{prepared_needed}
-use Rattle.round_tables.specs.Loading.{AreWithin}
+use Rattle.round_tables.specs.Loading.{AreSwitchesBelow}
 use Rattle.round_tables.specs.PreparedTables.{IsMixed}
 use Rattle.round_tables.proofs.TrialLaws.{changes_here, changes_there}
 
@@ -54,7 +54,7 @@ module _ (round : List Change) (i : ℕ) (d : Change) (more : take (i + 1) round
       omega arith
 
 -- each change names one of the switches
-pub within_at : (n : ℕ) (round : List Change) (i : ℕ) (d : Change) → AreWithin n round → i < length round → d ≡ get_or round i d → (switch_of d).0 < n
+pub within_at : (n : ℕ) (round : List Change) (i : ℕ) (d : Change) → AreSwitchesBelow n round → i < length round → d ≡ get_or round i d → (switch_of d).0 < n
 within_at n [] i d within less is = absurd (omega arith)
 within_at n (x ∷ round) zero d within less is = subst (λ (c : Change). (switch_of c).0 < n) (sym is) within.0
 within_at n (x ∷ round) (suc i) d within less is = within_at n round i d within.1 (omega arith) is

@@ -5,14 +5,14 @@ use Rattle.std.proofs.lemmas.Bool.{cases_lt}
 use Rattle.std.proofs.lemmas.Option.{slice_get_within, same_Some}
 use Rattle.update_model.specs.Changes.{switch_of}
 use Rattle.update_model.specs.declared.Change.{Change}
-use Rattle.round_tables.specs.Loading.{AreWithin, IsFirstOutside, IsLeastOutside, IsOutsideBelow, IsOutsideTo}
+use Rattle.round_tables.specs.Loading.{AreSwitchesBelow, IsFirstOutside, IsLeastOutside, IsOutsideBelow, IsOutsideTo}
 
-all_from_get : (n : ℕ) (round : List Change) → ((j : ℕ) (c : Change) → slice_get round j ≡ Some c → (switch_of c).0 < n) → AreWithin n round
+all_from_get : (n : ℕ) (round : List Change) → ((j : ℕ) (c : Change) → slice_get round j ≡ Some c → (switch_of c).0 < n) → AreSwitchesBelow n round
 all_from_get n [] each = tt
 all_from_get n (c ∷ round) each = (each 0 c refl, all_from_get n round (λ j d. each (suc j) d))
 
 -- at last all are looked at
-pub none_outside : (n : ℕ) (round : List Change) (i : ℕ) → length round ≤ i → (found : Option ℕ) → IsOutsideTo n round i found → IfNone found (AreWithin n round)
+pub none_outside : (n : ℕ) (round : List Change) (i : ℕ) → length round ≤ i → (found : Option ℕ) → IsOutsideTo n round i found → IfNone found (AreSwitchesBelow n round)
 none_outside n round i all None each = all_from_get n round (λ j c at. let less = slice_get_within round j c at in each j c (omega arith) at)
 none_outside n round i all (Some m) least = tt
 

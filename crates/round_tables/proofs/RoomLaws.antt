@@ -14,7 +14,7 @@ use Rattle.update_model.specs.declared.Change.{Change}
 use Rattle.update_model.proofs.ChangeLaws.{rules_at-after_change}
 use Rattle.round_mix.specs.Prepared.{IsPrepared}
 use Rattle.round_mix.specs.declared.MarkedRule.{MarkedRule}
-use Rattle.round_tables.specs.PreparedTables.{PreparedState, HoldsRounds, HasRoom, HasRoomForAll, limit_at}
+use Rattle.round_tables.specs.PreparedTables.{PreparedState, HoldsRounds, HasTableRoom, HasRoomForAll, limit_at}
 use Rattle.round_tables.specs.Loading.{insert_count, inserts_over}
 use Rattle.round_tables.proofs.ApplyLaws.{after_few}
 
@@ -78,7 +78,7 @@ has_room_for_all u p holds limits = record {
 
 -- and up to the capacities where no limit exceeds these
 pub has_room : (u : Rollout) (p : PreparedState) → HoldsRounds (length u.old) u.rounds p
-    → ((s : SwitchId) → s.0 < length u.old → limit_at p.limits s ≡ min (most_rules u s) (capacity_of u.net s)) → HasRoom u p
+    → ((s : SwitchId) → s.0 < length u.old → limit_at p.limits s ≡ min (most_rules u s) (capacity_of u.net s)) → HasTableRoom u p
 has_room u p holds limits = record {
   holds = holds;
   for_old = λ s less. let is = limits s less in omega arith;

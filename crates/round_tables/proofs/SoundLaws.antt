@@ -22,7 +22,7 @@ use Rattle.check_reasons.specs.Reasons.{IsBadChange, IsUnclear}
 use Rattle.check_reasons.specs.declared.reason.Reason.{Reason}
 use Rattle.check_reasons.specs.declared.reason.Reason.TheVariants.{BadChange, Ambiguous}
 use Rattle.round_tables.specs.PreparedTables.{PreparedState, IsMixed, mix_at}
-use Rattle.round_tables.specs.Loading.{ArePrepared, AreWithin, IsFirstBadChange, IsFirstUnclear}
+use Rattle.round_tables.specs.Loading.{ArePrepared, AreSwitchesBelow, IsFirstBadChange, IsFirstUnclear}
 use Rattle.round_tables.specs.Sound.{IsRoundReason, IsFirstRoundReason, bad_change, ambiguous, IsFault, IsFaultIn}
 use Rattle.round_tables.specs.declared.sound.SoundFault.{SoundFault}
 use Rattle.round_tables.specs.declared.sound.SoundFault.TheVariants as fault
@@ -47,8 +47,8 @@ module _ (u : Rollout) (k : ℕ) (p : PreparedState) (prepared : ArePrepared u k
   len : length (tables_before u k) ≡ length u.old
   len = length-settled u.rounds k u.old
 
-  pub prepared_within : AreWithin (length (tables_before u k)) (round_after k u.rounds)
-  prepared_within = subst (λ (n : ℕ). AreWithin n (round_after k u.rounds)) (sym len) prepared.within
+  pub prepared_within : AreSwitchesBelow (length (tables_before u k)) (round_after k u.rounds)
+  prepared_within = subst (λ (n : ℕ). AreSwitchesBelow n (round_after k u.rounds)) (sym len) prepared.within
 
   -- beyond the switches there are no rules and no changes
   pub rules_beyond : (s : SwitchId) → length u.old ≤ s.0 → rules_at (tables_before u k) s ≡ []

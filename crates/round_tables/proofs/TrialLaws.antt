@@ -20,7 +20,7 @@ use Rattle.round_mix.specs.declared.MarkedRule.{MarkedRule}
 use Rattle.round_mix.proofs.ClearLaws.{prepared_needed}
 use Rattle.round_mix.proofs.TriedLaws.{clear_none}
 use Rattle.check_reasons.specs.Loaded.{IsLoaded}
-use Rattle.round_tables.specs.Trials.{HaveRoom, IsSettled, IsTrying, HasRoomAlone, single}
+use Rattle.round_tables.specs.Trials.{HaveRoom, IsBetweenTrials, IsTrying, HasRoomAlone, single}
 use Rattle.round_tables.specs.PreparedTables.{PreparedState, mix_at, IsMixed, rules_there}
 use Rattle.round_tables.specs.Steps.{IsSettledBeside}
 use Rattle.round_tables.proofs.GrowLaws.{have_kept}
@@ -125,7 +125,7 @@ beside_lent net s p q old new beside rules limits lent same count others room =
 
 module _ (net : Network) (p : PreparedState) where
   -- where the last one is too, all are
-  pub settled_last : (s : SwitchId) → IsSettledBeside net s p → IsMixed (rules_there p.tables s) [] (mix_at p.mixes s) → IsSettled net p
+  pub settled_last : (s : SwitchId) → IsSettledBeside net s p → IsMixed (rules_there p.tables s) [] (mix_at p.mixes s) → IsBetweenTrials net p
   settled_last s beside here = record {
     fit = beside.fit;
     alone = λ o less. elim (cases_eq o.0 s.0) [
@@ -135,8 +135,8 @@ module _ (net : Network) (p : PreparedState) where
   }
 
   -- one of the switches has room made for it and stays prepared for its table alone
-  pub settled_wider : (s : SwitchId) (q : PreparedState) → IsSettled net p → q.tables ≡ p.tables → length q.mixes ≡ length p.mixes → length q.limits ≡ length p.limits → HaveRoom q.limits q.mixes
-      → ((o : SwitchId) → o.0 ≢ s.0 → mix_at q.mixes o ≡ mix_at p.mixes o) → IsMixed (rules_there p.tables s) [] (mix_at q.mixes s) → IsSettled net q
+  pub settled_wider : (s : SwitchId) (q : PreparedState) → IsBetweenTrials net p → q.tables ≡ p.tables → length q.mixes ≡ length p.mixes → length q.limits ≡ length p.limits → HaveRoom q.limits q.mixes
+      → ((o : SwitchId) → o.0 ≢ s.0 → mix_at q.mixes o ≡ mix_at p.mixes o) → IsMixed (rules_there p.tables s) [] (mix_at q.mixes s) → IsBetweenTrials net q
   settled_wider s q settled tables mixes limits room others here = record {
     fit = record {
       tables = ap length tables ∙ settled.fit.tables;
@@ -273,7 +273,7 @@ pub rules_kept : (c : Change) (tables : List (List Rule)) → (switch_of c).0 < 
 rules_kept c tables within = get_or-set_same tables (switch_of c).0 (rules_after_change c (rules_at tables (switch_of c))) [] within
 
 -- a change of settled tables
-module _ (net : Network) (c : Change) (p : PreparedState) (settled : IsSettled net p) (applies : Applies (rules_of_all p.tables) c) where
+module _ (net : Network) (c : Change) (p : PreparedState) (settled : IsBetweenTrials net p) (applies : Applies (rules_of_all p.tables) c) where
   inside : (switch_of c).0 < switch_count net
   inside = let first = applies.0 in let count = count_rules p.tables in omega (arith, settled.fit.tables)
 

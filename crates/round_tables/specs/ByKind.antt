@@ -8,17 +8,17 @@ use Rattle.update_model.specs.Mixtures.{is_insert, is_delete, is_replace}
 use Rattle.update_model.specs.declared.Change.{Change}
 
 -- the rules that the changes delete
-abbrev pub deleted : List Change → List Rule
-deleted changes = map rule_of (filter is_delete changes)
+abbrev pub deleted_rules : List Change → List Rule
+deleted_rules changes = map rule_of (filter is_delete changes)
 
 -- the rules that the changes put in the place of others
-abbrev pub replacing : List Change → List Rule
-replacing changes = map rule_of (filter is_replace changes)
+abbrev pub replacing_rules : List Change → List Rule
+replacing_rules changes = map rule_of (filter is_replace changes)
 
 -- the changes that insert
 abbrev pub inserts : List Change → List Change
 inserts changes = filter is_insert changes
 
 -- the rules with other keys than these
-abbrev pub without : List Rule → List Rule → List Rule
-without gone rules = filter (λ q. not (list_any (λ r. key_eq r.key q.key) gone)) rules
+abbrev pub rules_without : List Rule → List Rule → List Rule
+rules_without gone rules = filter (λ q. not (list_any (λ r. key_eq r.key q.key) gone)) rules

@@ -44,8 +44,8 @@ AreCounted counts n rounds =
     (s : SwitchId) (k : ℕ) → s.0 < length counts → k < n → length (changes_at s (round_after k rounds)) ≤ slice_index_or counts s.0 0
 
 -- each change names one of the first n switches
-abbrev pub AreWithin : ℕ → List Change → Type 0
-AreWithin n round = AllByRecursion (λ c. (switch_of c).0 < n) round
+abbrev pub AreSwitchesBelow : ℕ → List Change → Type 0
+AreSwitchesBelow n round = AllByRecursion (λ c. (switch_of c).0 < n) round
 
 -- of the first i changes of a round that are beyond the first n switches this is the first at the least switch
 pub record IsLeastOutside (n : ℕ) (round : List Change) (i place : ℕ) : Type 0 where
@@ -73,13 +73,13 @@ IsOutsideTo n round i found =
 -- a fault of a round whose changes at the first n switches are good: its first change beyond these, or if there is none the unclear switch
 abbrev pub IsRestFault : ℕ → List Change → Option SwitchId → RoundFault → Type 0
 IsRestFault n round unclear (BadChange s i) = (found : IsFirstOutside n round i) × (switch_of found.change ≡ s)
-IsRestFault n round unclear (Unclear s) = AreWithin n round × (unclear ≡ Some s)
+IsRestFault n round unclear (Unclear s) = AreSwitchesBelow n round × (unclear ≡ Some s)
 
 -- the changes of round k are at switches that there are, and each switch is prepared for them
 pub record ArePrepared (u : Rollout) (k : ℕ) (p : PreparedState) : Type 0 where
   pub tables : rules_of_all p.tables ≡ tables_before u k
   pub count : length p.mixes ≡ length u.old
-  pub within : AreWithin (length u.old) (round_after k u.rounds)
+  pub within : AreSwitchesBelow (length u.old) (round_after k u.rounds)
   pub lists : (s : SwitchId) → s.0 < length u.old → (list_at p.changes s).changes ≡ changes_at s (round_after k u.rounds)
   pub each : (s : SwitchId) → s.0 < length u.old → IsMixed (rules_at (tables_before u k) s) (changes_at s (round_after k u.rounds)) (mix_at p.mixes s)
 

@@ -67,7 +67,7 @@ pub record HoldsRounds (n : ℕ) (rounds : List (List Change)) (p : PreparedStat
   pub for_sorting : (k : ℕ) → length (round_after k rounds) ≤ p.room
 
 -- of each switch there is room for its rules before the update and for what it needs in each round, both up to its capacity
-pub record HasRoom (u : Rollout) (p : PreparedState) : Type 0 where
+pub record HasTableRoom (u : Rollout) (p : PreparedState) : Type 0 where
   pub holds : HoldsRounds (length u.old) u.rounds p
   pub for_old : (s : SwitchId) → s.0 < length u.old → min (length (rules_at u.old s)) (capacity_of u.net s) ≤ limit_at p.limits s
   pub for_rounds : (s : SwitchId) (k : ℕ) → s.0 < length u.old → min (need_of u k s) (capacity_of u.net s) ≤ limit_at p.limits s

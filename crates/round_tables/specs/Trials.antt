@@ -34,7 +34,7 @@ pub record Fit (net : Network) (t : PreparedState) : Type 0 where
   pub clear : (s : SwitchId) → IsClear (rules_there t.tables s)
 
 -- no change is tried: each switch is prepared for its table alone
-pub record IsSettled (net : Network) (t : PreparedState) : Type 0 where
+pub record IsBetweenTrials (net : Network) (t : PreparedState) : Type 0 where
   pub fit : Fit net t
   pub alone : (s : SwitchId) → s.0 < switch_count net → IsMixed (rules_there t.tables s) [] (mix_at t.mixes s)
 

@@ -6,7 +6,7 @@ ghost use Rattle.update_model.specs.Mixtures.{is_insert, need_of, is_delete, is_
 ghost use Rattle.round_mix.specs.Prepared.{AreGood};
 ghost use Rattle.round_tables.specs.PreparedTables.{HoldsRounds, StandsBefore, IsMixed, is_touched, limit_at, list_at, mix_at, room_of, rules_there, table_at};
 ghost use Rattle.round_tables.specs.Loading.{ArePrepared, insert_count};
-ghost use Rattle.round_tables.specs.ByKind.{deleted, replacing, inserts};
+ghost use Rattle.round_tables.specs.ByKind.{deleted_rules, replacing_rules, inserts};
 
 use crate::changed::keep_all_at;
 use crate::gathering::SwitchChanges;
@@ -21,7 +21,7 @@ use update_model::Change;
 /// Replaces the list by the rules that changes delete.
 fn collect_deleted(changes: &[Change], rules: &mut Vec<Rule>)
     requires { length changes.now ≤ vec_capacity rules.old }
-    ensures items { rules.new.items ≡ deleted changes.now }
+    ensures items { rules.new.items ≡ deleted_rules changes.now }
     ensures room { vec_capacity rules.old ≤ vec_capacity rules.new }
 {
     rules.clear();
@@ -35,7 +35,7 @@ fn collect_deleted(changes: &[Change], rules: &mut Vec<Rule>)
 /// Replaces the list by the rules that changes put in the place of others.
 fn collect_replacing(changes: &[Change], rules: &mut Vec<Rule>)
     requires { length changes.now ≤ vec_capacity rules.old }
-    ensures items { rules.new.items ≡ replacing changes.now }
+    ensures items { rules.new.items ≡ replacing_rules changes.now }
     ensures room { vec_capacity rules.old ≤ vec_capacity rules.new }
 {
     rules.clear();

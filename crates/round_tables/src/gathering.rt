@@ -3,7 +3,7 @@ ghost use Rattle.std.specs.Prelude.{◌≡◌, ◌≢◌, ◌<◌, ◌≤◌, �
 ghost use Rattle.net_base.specs.declared.ids.SwitchId.{SwitchId as Switch};
 ghost use Rattle.update_model.specs.Changes.{changes_at, switch_of};
 ghost use Rattle.round_tables.specs.PreparedTables.{list_at};
-ghost use Rattle.round_tables.specs.Loading.{AreWithin};
+ghost use Rattle.round_tables.specs.Loading.{AreSwitchesBelow};
 
 use net_base::Memory;
 use std::alloc::Global;
@@ -97,7 +97,7 @@ pub(crate) fn gather(lists: &mut [SwitchChanges], round: &[Change]) -> bool
         → length (changes_at s round.now) ≤ (list_at lists.old s).room }
     ensures gathered { (s : Switch) → s.0 < length lists.old
         → (list_at lists.new s).changes ≡ changes_at s round.now }
-    ensures within { result ≡ true → AreWithin (length lists.old) round.now }
+    ensures within { result ≡ true → AreSwitchesBelow (length lists.old) round.now }
     ensures room { (s : Switch) → (list_at lists.new s).room ≡ (list_at lists.old s).room }
 {
     clear_all(lists);

@@ -4,9 +4,9 @@ ghost use Rattle.net_base.specs.declared.ids.SwitchId.{SwitchId as Switch};
 ghost use Rattle.flow_rules.specs.Tables.{IsTable};
 ghost use Rattle.update_model.specs.Changes.{changes_at};
 ghost use Rattle.update_model.specs.declared.Change.{Change as ChangeOf};
-ghost use Rattle.round_mix.specs.Faults.{IsRefusal};
+ghost use Rattle.round_mix.specs.Faults.{IsMixRefusal};
 ghost use Rattle.round_tables.specs.PreparedTables.{HoldsRounds, StandsBefore, IsMixed, is_touched, list_at, mix_at, rules_there};
-ghost use Rattle.round_tables.specs.Loading.{AreAlone, ArePrepared, AreWithin, IsBadAt, IsFirstOutside, IsFirstRoundFault, IsLoadedTo, IsOutsideBelow, IsOutsideTo, IsRestFault};
+ghost use Rattle.round_tables.specs.Loading.{AreAlone, ArePrepared, AreSwitchesBelow, IsBadAt, IsFirstOutside, IsFirstRoundFault, IsLoadedTo, IsOutsideBelow, IsOutsideTo, IsRestFault};
 
 use crate::changed::begin_all_at;
 use crate::gathering::{SwitchChanges, gather};
@@ -75,7 +75,7 @@ fn next_outside(round: &[Change], count: usize, found: Option<usize>, i: usize) 
 
 /// Of the changes of a round beyond the first switches, so many, the first at the least switch.
 fn first_outside(round: &[Change], count: usize) -> Option<usize>
-    ensures none { IfNone result (AreWithin count round.now) }
+    ensures none { IfNone result (AreSwitchesBelow count round.now) }
     ensures some { IfSome result (IsFirstOutside count round.now) }
 {
     let mut found = None;
@@ -88,8 +88,8 @@ fn first_outside(round: &[Change], count: usize) -> Option<usize>
 /// Of the changes of a round beyond the first switches, so many, the first at the least switch; it may be known that there
 /// are none.
 fn outside_of(round: &[Change], count: usize, are_within: bool) -> Option<usize>
-    requires { are_within ≡ true → AreWithin count round.now }
-    ensures none { IfNone result (AreWithin count round.now) }
+    requires { are_within ≡ true → AreSwitchesBelow count round.now }
+    ensures none { IfNone result (AreSwitchesBelow count round.now) }
     ensures some { IfSome result (IsFirstOutside count round.now) }
 {
     if are_within {
@@ -106,8 +106,8 @@ fn rest_fault(
     are_within: bool,
     unclear: Option<SwitchId>,
 ) -> Result<(), RoundFault>
-    requires { are_within ≡ true → AreWithin count round.now }
-    ensures within { OnOk result (AreWithin count round.now) }
+    requires { are_within ≡ true → AreSwitchesBelow count round.now }
+    ensures within { OnOk result (AreSwitchesBelow count round.now) }
     ensures clear { OnOk result (unclear ≡ None) }
     ensures err { IfErr result (IsRestFault count round.now unclear) }
 {
@@ -138,7 +138,7 @@ fn load_into(
     requires within { switch.0 < length mixes.old }
     requires room { length table.now.rules + length changes.now ≤ (mix_at mixes.old switch).room }
     ensures ok { OnOk result (IsMixed table.now.rules changes.now (mix_at mixes.new switch)) }
-    ensures err { IfErr result (λ refusal. IsRefusal table.now.rules changes.now refusal) }
+    ensures err { IfErr result (λ refusal. IsMixRefusal table.now.rules changes.now refusal) }
     ensures others { (t : Switch) → t.0 ≢ switch.0 → mix_at mixes.new t ≡ mix_at mixes.old t }
     ensures room { (mix_at mixes.old switch).room ≤ (mix_at mixes.new switch).room }
 {
@@ -183,7 +183,7 @@ fn load_at(
     requires room { length table.now.rules + length changes.now ≤ (mix_at mixes.old switch).room }
     ensures ok { OnOk result (IsMixed table.now.rules changes.now (mix_at mixes.new switch)) }
     ensures table { IsTable table.now.rules }
-    ensures err { IfErr result (λ refusal. IsRefusal table.now.rules changes.now refusal) }
+    ensures err { IfErr result (λ refusal. IsMixRefusal table.now.rules changes.now refusal) }
     ensures others { (t : Switch) → t.0 ≢ switch.0 → mix_at mixes.new t ≡ mix_at mixes.old t }
     ensures flags { (t : Switch) → t.0 ≢ switch.0 → is_touched touched.new t
         ≡ is_touched touched.old t }

@@ -4,7 +4,7 @@ ghost use Rattle.net_base.specs.declared.ids.SwitchId.{SwitchId as Switch};
 ghost use Rattle.topology.specs.Networks.{switch_count};
 ghost use Rattle.flow_rules.specs.Tables.{rules_at, rules_of_all};
 ghost use Rattle.path_walk.specs.UserConfigs.{IsUserConfig};
-ghost use Rattle.round_tables.specs.PreparedTables.{HasRoom, HasRoomForAll, HoldsRounds, StandsBefore, limit_at, room_of, table_at};
+ghost use Rattle.round_tables.specs.PreparedTables.{HasTableRoom, HasRoomForAll, HoldsRounds, StandsBefore, limit_at, room_of, table_at};
 
 use crate::gathering::SwitchChanges;
 use crate::rollout::Rollout;
@@ -84,7 +84,7 @@ impl PreparedTables {
     /// takes memory by the rules of the tables and the changes of the rounds, and no more than by the capacities.
     pub fn make(alloc: Global, update: &Rollout<'_>) -> Result<PreparedTables, Memory>
         requires { length update.now.old ≡ switch_count update.now.net }
-        ensures { IfOk result (HasRoom update.now) }
+        ensures { IfOk result (HasTableRoom update.now) }
     {
         update.net.keeps_rules();
         let mut limits = most_needed(alloc, update.old, update.rounds)?;

@@ -8,7 +8,7 @@ ghost use Rattle.update_model.specs.Changes.{Applies, switch_of, tables_after_ch
 ghost use Rattle.update_model.specs.Mixtures.{entries_needed};
 ghost use Rattle.update_model.specs.declared.Change.{Change as ChangeOf};
 ghost use Rattle.round_mix.specs.Prepared.{AreClear};
-ghost use Rattle.round_tables.specs.Trials.{IsSettled, IsTrying, HasRoomAlone};
+ghost use Rattle.round_tables.specs.Trials.{IsBetweenTrials, IsTrying, HasRoomAlone};
 ghost use Rattle.round_tables.specs.PreparedTables.{mix_at, IsMixed, rules_there};
 ghost use Rattle.round_tables.specs.Steps.{IsSettledBeside};
 
@@ -28,7 +28,7 @@ impl PreparedTables {
     pub fn for_trials(alloc: Global, net: &Net, config: &Config) -> Result<PreparedTables, Memory>
         requires { IsUserConfig net.now (rules_of_all config.now) }
         ensures rules { IfOk result (λ t. rules_of_all t.tables ≡ rules_of_all config.now) }
-        ensures settled { IfOk result (IsSettled net.now) }
+        ensures settled { IfOk result (IsBetweenTrials net.now) }
     {
         let tables = config.copy()?;
         let (mixes, limits) = all_alone(alloc, net, &tables)?;
@@ -44,10 +44,10 @@ impl PreparedTables {
 
     /// Has room for one entry more at a switch than its table has.
     fn widen(&mut self, alloc: Global, net: &Net, switch: SwitchId) -> Result<(), Memory>
-        requires settled { IsSettled net.now self.old }
+        requires settled { IsBetweenTrials net.now self.old }
         requires within { switch.0 < switch_count net.now }
         ensures rules { rules_of_all self.new.tables ≡ rules_of_all self.old.tables }
-        ensures settled { IsSettled net.now self.new }
+        ensures settled { IsBetweenTrials net.now self.new }
         ensures room { OnOk result (length (rules_there self.new.tables switch)
             < (mix_at self.new.mixes switch).room) }
     {
@@ -65,7 +65,7 @@ impl PreparedTables {
 
     /// Prepares the switch of a change for it, if each mixture is clear.
     fn load(&mut self, net: &Net, change: &Change) -> bool
-        requires settled { IsSettled net.now self.old }
+        requires settled { IsBetweenTrials net.now self.old }
         requires applies { Applies (rules_of_all self.old.tables) change.now }
         requires room { length (rules_there self.old.tables (switch_of change.now))
             < (mix_at self.old.mixes (switch_of change.now)).room }
@@ -76,7 +76,7 @@ impl PreparedTables {
             (mix_at self.new.mixes (switch_of change.now)) }
         ensures no { result ≡ false
             → ¬ AreClear (rules_there self.new.tables (switch_of change.now)) (change.now ∷ []) }
-        ensures alone { result ≡ false → IsSettled net.now self.new }
+        ensures alone { result ≡ false → IsBetweenTrials net.now self.new }
     {
         let switch = change.switch();
         keeps_keys(self.tables.table(switch));
@@ -89,7 +89,7 @@ impl PreparedTables {
         requires loaded { IsMixed (rules_there self.old.tables (switch_of change.now))
             (change.now ∷ []) (mix_at self.old.mixes (switch_of change.now)) }
         ensures rules { rules_of_all self.new.tables ≡ rules_of_all self.old.tables }
-        ensures settled { IsSettled net.now self.new }
+        ensures settled { IsBetweenTrials net.now self.new }
     {
         let switch = change.switch();
         keeps_keys(self.tables.table(switch));
@@ -109,13 +109,13 @@ impl PreparedTables {
 
     /// Prepares the switch of a change, which has room for it, as `begin` does.
     fn begin_with_room(&mut self, net: &Net, change: &Change) -> bool
-        requires settled { IsSettled net.now self.old }
+        requires settled { IsBetweenTrials net.now self.old }
         requires applies { Applies (rules_of_all self.old.tables) change.now }
         requires room { length (rules_there self.old.tables (switch_of change.now))
             < (mix_at self.old.mixes (switch_of change.now)).room }
         ensures rules { rules_of_all self.new.tables ≡ rules_of_all self.old.tables }
         ensures yes { result ≡ true → IsTrying net.now change.now self.new }
-        ensures no { result ≡ false → IsSettled net.now self.new }
+        ensures no { result ≡ false → IsBetweenTrials net.now self.new }
         ensures never { result ≡ false
             → ¬ HasRoomAlone net.now (rules_of_all self.old.tables) change.now }
     {
@@ -135,15 +135,15 @@ impl PreparedTables {
     /// Where the table has come to fill its room, the switch is prepared anew for it before, with twice the room: so seldom that
     /// the time is that of the table's rules in all. After a refusal nothing is tried, and the tables are as before.
     pub fn begin(&mut self, alloc: Global, net: &Net, change: &Change) -> Result<bool, Memory>
-        requires settled { IsSettled net.now self.old }
+        requires settled { IsBetweenTrials net.now self.old }
         requires applies { Applies (rules_of_all self.old.tables) change.now }
         ensures rules { rules_of_all self.new.tables ≡ rules_of_all self.old.tables }
         ensures yes { IfOk result (λ is_begun. is_begun ≡ true
             → IsTrying net.now change.now self.new) }
-        ensures no { IfOk result (λ is_begun. is_begun ≡ false → IsSettled net.now self.new) }
+        ensures no { IfOk result (λ is_begun. is_begun ≡ false → IsBetweenTrials net.now self.new) }
         ensures never { IfOk result (λ is_begun. is_begun ≡ false
             → ¬ HasRoomAlone net.now (rules_of_all self.old.tables) change.now) }
-        ensures settled { OnErr result (IsSettled net.now self.new) }
+        ensures settled { OnErr result (IsBetweenTrials net.now self.new) }
     {
         self.widen(alloc, net, change.switch())?;
         Ok(self.begin_with_room(net, change))
@@ -153,7 +153,7 @@ impl PreparedTables {
     pub fn give_up(&mut self, net: &Net, change: &Change)
         requires { IsTrying net.now change.now self.old }
         ensures rules { rules_of_all self.new.tables ≡ rules_of_all self.old.tables }
-        ensures settled { IsSettled net.now self.new }
+        ensures settled { IsBetweenTrials net.now self.new }
     {
         self.settle(net, change);
     }
@@ -165,7 +165,7 @@ impl PreparedTables {
         ensures rules { OnOk result
             (rules_of_all self.new.tables
             ≡ tables_after_change change.now (rules_of_all self.old.tables)) }
-        ensures settled { OnOk result (IsSettled net.now self.new) }
+        ensures settled { OnOk result (IsBetweenTrials net.now self.new) }
         ensures same { OnErr result (rules_of_all self.new.tables ≡ rules_of_all self.old.tables) }
         ensures trying { OnErr result (IsTrying net.now change.now self.new) }
     {

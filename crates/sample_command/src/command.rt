@@ -3,7 +3,7 @@ ghost use Rattle.std.specs.Prelude.{◌≡◌, IfOk, IfErr, ◌*◌, ◌-◌, le
 ghost use Rattle.flow_rules.specs.Tables.{rules_of_all};
 ghost use Rattle.path_walk.specs.UserConfigs.{IsUserConfig};
 ghost use Rattle.dest_classes.specs.Classes.{class_count};
-ghost use Rattle.update_model.specs.Remaining.{remaining};
+ghost use Rattle.update_model.specs.Remaining.{remaining_changes};
 ghost use Rattle.certificates.specs.Certified.{IsCertified, classes_for};
 ghost use Rattle.certificates.specs.Trees.{IsTreeUpdate};
 ghost use Rattle.certificates.specs.Updates.{task_for};
@@ -78,7 +78,8 @@ fn planned_reply(alloc: Global, size: RingSize, files: &UpdateFiles) -> Result<R
     requires meaning { meaning_of files.now ≡ the_ring size.switches }
     requires tree { IsTreeUpdate (bare_task (meaning_of files.now)) }
     requires classes { update_count (meaning_of files.now) ≡ 6 * size.switches }
-    requires differ { length (remaining (rules_of_all files.now.old) (rules_of_all files.now.new))
+    requires differ { length
+        (remaining_changes (rules_of_all files.now.old) (rules_of_all files.now.new))
         ≡ 4 * (size.switches - 1) }
     requires old { IsUserConfig files.now.net (rules_of_all files.now.old) }
     requires new { IsUserConfig files.now.net (rules_of_all files.now.new) }

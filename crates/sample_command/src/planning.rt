@@ -3,7 +3,7 @@ ghost use Rattle.std.specs.Prelude.{◌≡◌, ◌≤◌, IfOk, length};
 ghost use Rattle.flow_rules.specs.Tables.{rules_of_all};
 ghost use Rattle.path_walk.specs.UserConfigs.{IsUserConfig};
 ghost use Rattle.dest_classes.specs.Classes.{class_count};
-ghost use Rattle.update_model.specs.Remaining.{remaining};
+ghost use Rattle.update_model.specs.Remaining.{remaining_changes};
 ghost use Rattle.certificates.specs.Certified.{IsCertified, classes_for};
 ghost use Rattle.certificates.specs.Trees.{IsTreeUpdate};
 ghost use Rattle.certificates.specs.Valid.{IsValidPlan};
@@ -58,7 +58,7 @@ fn searched_plan(
     ensures classes { IfOk result (λ p. HasSameClasses
         (classes_for (task_for (meaning_of files.now) p)) (update_classes (meaning_of files.now))) }
     ensures count { IfOk result (λ p. length p.rounds
-        ≡ length (remaining (rules_of_all files.now.old) (rules_of_all files.now.new))) }
+        ≡ length (remaining_changes (rules_of_all files.now.old) (rules_of_all files.now.new))) }
 {
     match order(alloc, &files.net, &files.old, &files.new, duties, classes)? {
         Ordered::Rounds(plan) => Ok(plan),
@@ -80,7 +80,7 @@ pub fn tree_plan(alloc: Global, files: &UpdateFiles) -> Result<Plan, Memory>
     ensures classes { IfOk result (λ p. HasSameClasses
         (classes_for (task_for (meaning_of files.now) p)) (update_classes (meaning_of files.now))) }
     ensures count { IfOk result (λ p. length p.rounds
-        ≡ length (remaining (rules_of_all files.now.old) (rules_of_all files.now.new))) }
+        ≡ length (remaining_changes (rules_of_all files.now.old) (rules_of_all files.now.new))) }
 {
     let classes = few_classes(alloc, files)?;
     let duties = Duties::make(alloc, &files.net, &files.demands, &classes)?;

@@ -11,12 +11,12 @@ use Rattle.update_model.proofs.CountLaws.{goes_from}
 use Rattle.path_walk.specs.declared.Ended.{Ended}
 use Rattle.path_walk.specs.declared.Ended.TheVariants.{UnderWay, Left, Dropped, Lost}
 use Rattle.path_walk.specs.Paths.{outcome_in}
-use Rattle.update_model.specs.States.{IsUnderWay, IsHopping, settled_count, entered, hopped, lost, with_packet}
+use Rattle.update_model.specs.States.{IsUnderWay, IsHopping, settled_count, entered_packet, hopped_packet, lost_packet, with_packet}
 use Rattle.update_model.specs.Worlds.{WorldState, world_after}
 use Rattle.update_model.specs.declared.Event.TheVariants as event
 use Rattle.update_model.specs.declared.Packet.{Packet}
 use Rattle.update_model.specs.Worlds.{goes_on}
-use Rattle.schedule_pilot.specs.Agendas.{numbers_on, numbers_under_way, IsAgenda, without}
+use Rattle.schedule_pilot.specs.Agendas.{numbers_on, numbers_under_way, IsAgenda, numbers_without}
 
 -- one more flag
 numbers_push : (n : ℕ) (flags : List Bool) (b : Bool) → numbers_on n (flags ++ b ∷ []) ≡ numbers_on n flags ++ cond b ((n + length flags) ∷ []) []
@@ -44,13 +44,13 @@ numbers_next flags i d old now less is next =
     ∙ ap (λ k. numbers_on 0 (take i flags) ++ cond (get_or flags i d) (k ∷ []) []) count)
 
 -- a smaller number isn't among the numbers
-kept_above : (k m : ℕ) (flags : List Bool) → k < m → without k (numbers_on m flags) ≡ numbers_on m flags
+kept_above : (k m : ℕ) (flags : List Bool) → k < m → numbers_without k (numbers_on m flags) ≡ numbers_on m flags
 kept_above k m [] less = refl
 kept_above k m (true ∷ flags) less = rw (ne_eqb m k (λ e. absurd (omega arith))) (ap (λ l. m ∷ l) (kept_above k (suc m) flags (omega arith)))
 kept_above k m (false ∷ flags) less = kept_above k (suc m) flags (omega arith)
 
 -- a flag that is turned off takes its number out
-numbers_off : (n i k : ℕ) (flags : List Bool) → k ≡ n + i → numbers_on n (set flags i false) ≡ without k (numbers_on n flags)
+numbers_off : (n i k : ℕ) (flags : List Bool) → k ≡ n + i → numbers_on n (set flags i false) ≡ numbers_without k (numbers_on n flags)
 numbers_off n i k [] is = refl
 numbers_off n zero k (true ∷ flags) is =
     let e : n ≡ k = omega arith in
@@ -60,8 +60,8 @@ numbers_off n (suc i) k (true ∷ flags) is =
     rw (ne_eqb n k (λ e. absurd (omega arith))) (ap (λ l. n ∷ l) (numbers_off (suc n) i k flags (omega arith)))
 numbers_off n (suc i) k (false ∷ flags) is = numbers_off (suc n) i k flags (omega arith)
 
-pub change_off : (i : ℕ) (flags : List Bool) (old now : List ℕ) → old ≡ numbers_on 0 flags → now ≡ without i old → now ≡ numbers_on 0 (set flags i false)
-change_off i flags old now is next = next ∙ ap (without i) is ∙ sym (numbers_off 0 i i flags (omega arith))
+pub change_off : (i : ℕ) (flags : List Bool) (old now : List ℕ) → old ≡ numbers_on 0 flags → now ≡ numbers_without i old → now ≡ numbers_on 0 (set flags i false)
+change_off i flags old now is next = next ∙ ap (numbers_without i) is ∙ sym (numbers_off 0 i i flags (omega arith))
 
 pub goes_from_under : (p : Packet) → IsUnderWay p → goes_on p.ended ≡ true
 goes_from_under p under = ap goes_on under
@@ -103,7 +103,7 @@ flag_at (x ∷ packets) (suc i) p at = flag_at packets i p at
 
 -- a packet that hops or is lost
 pub hop_on : (packets more : List Packet) (i : ℕ) (p q : Packet) (old now : List ℕ) → slice_get packets i ≡ Some p → IsUnderWay p → more ≡ set packets i q → old ≡ numbers_under_way packets
-    → (IsHopping more i × (now ≡ old)) ⊎ ((¬ IsHopping more i) × (now ≡ without i old)) → now ≡ numbers_under_way more
+    → (IsHopping more i × (now ≡ old)) ⊎ ((¬ IsHopping more i) × (now ≡ numbers_without i old)) → now ≡ numbers_under_way more
 hop_on packets more i p q old now at under more_is is next =
     let f : Packet → Bool = λ x. goes_on x.ended in
     let flags : List Bool = map f packets in
@@ -114,15 +114,15 @@ hop_on packets more i p q old now at under more_is is next =
     elim (goes_on q.ended) as (λ b. goes_on q.ended ≡ b → now ≡ numbers_on 0 (map f more)) [
       | true ↦ λ e. stays (IsHopping more i) old now (q, there, goes_from q.ended e) next ∙ is
           ∙ sym (all ∙ ap (λ b. numbers_on 0 (set flags i b)) e ∙ ap (numbers_on 0) (set-same flags i true on))
-      | false ↦ λ e. goes_out (IsHopping more i) old now (λ h. not_under h e there) next ∙ ap (without i) is
+      | false ↦ λ e. goes_out (IsHopping more i) old now (λ h. not_under h e there) next ∙ ap (numbers_without i) is
           ∙ sym (all ∙ ap (λ b. numbers_on 0 (set flags i b)) e ∙ numbers_off 0 i i flags (omega arith))
     ] refl
   where
-    stays : (H : Type 0) (a b : List ℕ) → H → (H × (b ≡ a)) ⊎ ((¬ H) × (b ≡ without i a)) → b ≡ a
+    stays : (H : Type 0) (a b : List ℕ) → H → (H × (b ≡ a)) ⊎ ((¬ H) × (b ≡ numbers_without i a)) → b ≡ a
     stays H a b h (inl x) = x.1
     stays H a b h (inr x) = absurd (x.0 h)
 
-    goes_out : (H : Type 0) (a b : List ℕ) → ¬ H → (H × (b ≡ a)) ⊎ ((¬ H) × (b ≡ without i a)) → b ≡ without i a
+    goes_out : (H : Type 0) (a b : List ℕ) → ¬ H → (H × (b ≡ a)) ⊎ ((¬ H) × (b ≡ numbers_without i a)) → b ≡ numbers_without i a
     goes_out H a b h (inl x) = absurd (h x.0)
     goes_out H a b h (inr x) = x.1
 
@@ -133,7 +133,7 @@ hop_on packets more i p q old now at under more_is is next =
         true≢false (sym (ap goes_on (sym (ap (λ (y : Packet). y.ended) g) ∙ h.2)) ∙ e)
 
 module _ (w next : WorldState) (pending under_way : List ℕ) (kept : IsAgenda w.state pending under_way) where
-  pub change_kept : (i : ℕ) (now : List ℕ) → next ≡ world_after w (event.Change i) → now ≡ without i pending → IsAgenda next.state now under_way
+  pub change_kept : (i : ℕ) (now : List ℕ) → next ≡ world_after w (event.Change i) → now ≡ numbers_without i pending → IsAgenda next.state now under_way
   change_kept i now is changed =
       subst (λ (x : WorldState). IsAgenda x.state now under_way) (sym is)
       (record { pending_are = change_off i w.state.pending pending now kept.pending_are changed; under_way_are = kept.under_way_are })
@@ -141,31 +141,31 @@ module _ (w next : WorldState) (pending under_way : List ℕ) (kept : IsAgenda w
   pub enter_kept : (place : Place) (dst : ℕ) (packets : List Packet) (now : List ℕ) → next ≡ world_after w (event.Enter place dst) → packets ≡ next.state.packets → now ≡ under_way ++ (length packets - 1) ∷ []
       → IsAgenda next.state pending now
   enter_kept place dst packets now is same changed =
-      let packets_are : next.state.packets ≡ w.state.packets ++ entered place dst (settled_count w.state.phase) ∷ [] = ap (λ (x : WorldState). x.state.packets) is in record {
+      let packets_are : next.state.packets ≡ w.state.packets ++ entered_packet place dst (settled_count w.state.phase) ∷ [] = ap (λ (x : WorldState). x.state.packets) is in record {
         pending_are = kept.pending_are ∙ sym (ap (λ (x : WorldState). numbers_on 0 x.state.pending) is);
-        under_way_are = enter_on w.state.packets next.state.packets (entered place dst (settled_count w.state.phase)) under_way now refl kept.under_way_are packets_are (changed ∙ ap (λ (ps : List Packet). under_way ++ (length ps - 1) ∷ []) same);
+        under_way_are = enter_on w.state.packets next.state.packets (entered_packet place dst (settled_count w.state.phase)) under_way now refl kept.under_way_are packets_are (changed ∙ ap (λ (ps : List Packet). under_way ++ (length ps - 1) ∷ []) same);
       }
 
   -- the packets after packet i is changed
   with_this : (f : Packet → Packet) (i : ℕ) (p : Packet) → slice_get w.state.packets i ≡ Some p → with_packet f i w.state.packets ≡ set w.state.packets i (f p)
   with_this f i p at = ap (λ o. option_map_or (λ q. set w.state.packets i (f q)) o w.state.packets) at
 
-  there : (i : ℕ) (packets : List Packet) (now : List ℕ) → packets ≡ next.state.packets → (IsHopping packets i × (now ≡ under_way)) ⊎ ((¬ IsHopping packets i) × (now ≡ without i under_way))
-      → (IsHopping next.state.packets i × (now ≡ under_way)) ⊎ ((¬ IsHopping next.state.packets i) × (now ≡ without i under_way))
-  there i packets now same = subst (λ (ps : List Packet). (IsHopping ps i × (now ≡ under_way)) ⊎ ((¬ IsHopping ps i) × (now ≡ without i under_way))) same
+  there : (i : ℕ) (packets : List Packet) (now : List ℕ) → packets ≡ next.state.packets → (IsHopping packets i × (now ≡ under_way)) ⊎ ((¬ IsHopping packets i) × (now ≡ numbers_without i under_way))
+      → (IsHopping next.state.packets i × (now ≡ under_way)) ⊎ ((¬ IsHopping next.state.packets i) × (now ≡ numbers_without i under_way))
+  there i packets now same = subst (λ (ps : List Packet). (IsHopping ps i × (now ≡ under_way)) ⊎ ((¬ IsHopping ps i) × (now ≡ numbers_without i under_way))) same
 
   pub hop_kept : (i : ℕ) (packets : List Packet) (now : List ℕ) → IsHopping w.state.packets i → next ≡ world_after w (event.Hop i) → packets ≡ next.state.packets
-      → (IsHopping packets i × (now ≡ under_way)) ⊎ ((¬ IsHopping packets i) × (now ≡ without i under_way)) → IsAgenda next.state pending now
+      → (IsHopping packets i × (now ≡ under_way)) ⊎ ((¬ IsHopping packets i) × (now ≡ numbers_without i under_way)) → IsAgenda next.state pending now
   hop_kept i packets now may is same changed = record {
     pending_are = kept.pending_are ∙ sym (ap (λ (x : WorldState). numbers_on 0 x.state.pending) is);
-    under_way_are = hop_on w.state.packets next.state.packets i may.0 (hopped may.0 (outcome_in w.net w.state.tables may.0.at may.0.dst)) under_way now may.1 may.2
-        (ap (λ (x : WorldState). x.state.packets) is ∙ with_this (λ p. hopped p (outcome_in w.net w.state.tables p.at p.dst)) i may.0 may.1) kept.under_way_are (there i packets now same changed);
+    under_way_are = hop_on w.state.packets next.state.packets i may.0 (hopped_packet may.0 (outcome_in w.net w.state.tables may.0.at may.0.dst)) under_way now may.1 may.2
+        (ap (λ (x : WorldState). x.state.packets) is ∙ with_this (λ p. hopped_packet p (outcome_in w.net w.state.tables p.at p.dst)) i may.0 may.1) kept.under_way_are (there i packets now same changed);
   }
 
   pub lose_kept : (i : ℕ) (packets : List Packet) (now : List ℕ) → IsHopping w.state.packets i → next ≡ world_after w (event.Lose i) → packets ≡ next.state.packets
-      → (IsHopping packets i × (now ≡ under_way)) ⊎ ((¬ IsHopping packets i) × (now ≡ without i under_way)) → IsAgenda next.state pending now
+      → (IsHopping packets i × (now ≡ under_way)) ⊎ ((¬ IsHopping packets i) × (now ≡ numbers_without i under_way)) → IsAgenda next.state pending now
   lose_kept i packets now may is same changed = record {
     pending_are = kept.pending_are ∙ sym (ap (λ (x : WorldState). numbers_on 0 x.state.pending) is);
-    under_way_are = hop_on w.state.packets next.state.packets i may.0 (lost may.0) under_way now may.1 may.2
-        (ap (λ (x : WorldState). x.state.packets) is ∙ with_this lost i may.0 may.1) kept.under_way_are (there i packets now same changed);
+    under_way_are = hop_on w.state.packets next.state.packets i may.0 (lost_packet may.0) under_way now may.1 may.2
+        (ap (λ (x : WorldState). x.state.packets) is ∙ with_this lost_packet i may.0 may.1) kept.under_way_are (there i packets now same changed);
   }

@@ -13,7 +13,7 @@ use Rattle.update_model.specs.declared.Event.{Event}
 use Rattle.update_model.specs.declared.Event.TheVariants as event
 use Rattle.schedule_pilot.specs.Offered.{candidates, AreOffered, entries_after, IsDriven, IsOver, full_budget}
 use Rattle.schedule_pilot.specs.Ends.{AreEntries, entries_left}
-use Rattle.schedule_pilot.specs.Driving.{update_of, world_after_all, IsOverAfter, NoneIsOffered, IsRunFrom, HasEnding, BeginsSafely, ending_at}
+use Rattle.schedule_pilot.specs.Driving.{world_rollout, world_after_all, IsOverAfter, NoneIsOffered, IsRunFrom, HasEnding, BeginsSafely, ending_at}
 use Rattle.schedule_pilot.specs.declared.Entry.{Entry}
 use Rattle.schedule_pilot.specs.declared.Ending.{Ending}
 use Rattle.schedule_pilot.specs.declared.Ending.TheVariants.{Finished, OutOfBudget, Blocked}
@@ -51,19 +51,19 @@ module _ (u : Rollout) (chooses : ℕ → ℕ → ℕ → Type 0) where
 
 -- what holds after each event
 pub record SoFar (w : WorldState) (chooses : ℕ → ℕ → ℕ → Type 0) (entries : List Entry) (events : List Event) (after : WorldState) (rest : List Entry) (made : ℕ) : Type 0 where
-  pub driven : IsDriven (update_of w) chooses 0 w.state entries events
+  pub driven : IsDriven (world_rollout w) chooses 0 w.state entries events
   pub world : after ≡ world_after_all w events
   pub rest_is : rest ≡ entries_left events entries
   pub count : made ≡ length events
 
 module _ (w : WorldState) (chooses : ℕ → ℕ → ℕ → Type 0) (entries : List Entry) where
   pub so_far_next : (events : List Event) (after : WorldState) (rest : List Entry) (made : ℕ) (e : Event) (next : WorldState) (left : List Entry)
-      → SoFar w chooses entries events after rest made → IsNamed (update_of w) chooses made after.state rest e → next ≡ world_after after e → left ≡ entries_after e rest
+      → SoFar w chooses entries events after rest made → IsNamed (world_rollout w) chooses made after.state rest e → next ≡ world_after after e → left ≡ entries_after e rest
       → SoFar w chooses entries (events ++ e ∷ []) next left (made + 1)
   so_far_next events after rest made e next left so named is left_is = record {
-    driven = driven_push (update_of w) chooses 0 made w.state entries events e (let n = so.count in omega arith) so.driven
-        (subst (λ r. IsNamed (update_of w) chooses made (state_after w.net w.rounds w.state events) r e) so.rest_is
-        (subst (λ (x : WorldState). IsNamed (update_of w) chooses made x.state rest e) so.world named));
+    driven = driven_push (world_rollout w) chooses 0 made w.state entries events e (let n = so.count in omega arith) so.driven
+        (subst (λ r. IsNamed (world_rollout w) chooses made (state_after w.net w.rounds w.state events) r e) so.rest_is
+        (subst (λ (x : WorldState). IsNamed (world_rollout w) chooses made x.state rest e) so.world named));
     world = is ∙ ap (λ (x : WorldState). world_after x e) so.world
         ∙ ap (λ (s : State). let x : WorldState = record { net = w.net; rounds = w.rounds; state = s } in x) (sym (state_push w.net w.rounds w.state events e));
     rest_is = left_is ∙ ap (entries_after e) so.rest_is ∙ sym (left_push events entries e);
@@ -77,31 +77,31 @@ module _ (w : WorldState) (chooses : ℕ → ℕ → ℕ → Type 0) (entries : 
   pub run_from : (events : List Event) (after : WorldState) (rest : List Entry) (made : ℕ) → SoFar w chooses entries events after rest made → IsRunFrom w chooses entries events after
   run_from events after rest made so = record {
     driven = so.driven;
-    enabled = driven_enabled (update_of w) chooses 0 w.state entries events so.driven;
+    enabled = driven_enabled (world_rollout w) chooses 0 w.state entries events so.driven;
     world = so.world;
   }
 
-  module _ (net : IsNetwork w.net) (sure : BeginsSafely w) (are : AreEntries w.net entries) (events : List Event) (driven : IsDriven (update_of w) chooses 0 w.state entries events) where
-    from_first : IsDriven (update_of w) chooses 0 (first_state w.state.tables) entries events
-    from_first = subst (λ s. IsDriven (update_of w) chooses 0 s entries events) sure.begun driven
+  module _ (net : IsNetwork w.net) (sure : BeginsSafely w) (are : AreEntries w.net entries) (events : List Event) (driven : IsDriven (world_rollout w) chooses 0 w.state entries events) where
+    from_first : IsDriven (world_rollout w) chooses 0 (first_state w.state.tables) entries events
+    from_first = subst (λ s. IsDriven (world_rollout w) chooses 0 s entries events) sure.begun driven
 
     pub blocked_never : NoneIsOffered w entries events → IsOverAfter w entries events
     blocked_never none =
-        subst (λ s. IsOver (update_of w) (state_after w.net w.rounds s events) (entries_left events entries)) (sym sure.begun)
-        (never_blocked (update_of w) net sure.good sure.once chooses entries are events from_first
-        (subst (λ s. AreOffered (update_of w) (state_after w.net w.rounds s events) (entries_left events entries) []) sure.begun none))
+        subst (λ s. IsOver (world_rollout w) (state_after w.net w.rounds s events) (entries_left events entries)) (sym sure.begun)
+        (never_blocked (world_rollout w) net sure.good sure.once chooses entries are events from_first
+        (subst (λ s. AreOffered (world_rollout w) (state_after w.net w.rounds s events) (entries_left events entries) []) sure.begun none))
 
-    pub finished_in_time : full_budget (update_of w) entries ≤ length events → IsOverAfter w entries events
+    pub finished_in_time : full_budget (world_rollout w) entries ≤ length events → IsOverAfter w entries events
     finished_in_time spent =
-        subst (λ s. IsOver (update_of w) (state_after w.net w.rounds s events) (entries_left events entries)) (sym sure.begun)
-        (over_in_time (update_of w) net sure.good sure.once chooses entries are events from_first spent)
+        subst (λ s. IsOver (world_rollout w) (state_after w.net w.rounds s events) (entries_left events entries)) (sym sure.begun)
+        (over_in_time (world_rollout w) net sure.good sure.once chooses entries are events from_first spent)
 
     -- the ending is never Blocked
     pub ends_unblocked : (budget : ℕ) (ending : Ending) → HasEnding w entries budget events ending → ¬ (ending ≡ Blocked)
     ends_unblocked budget ending ends is = let (over, none) = ends.blocked.0 is in over (blocked_never none)
 
     -- and it is Finished where the budget is full
-    pub ends_finished : (budget : ℕ) (ending : Ending) → HasEnding w entries budget events ending → full_budget (update_of w) entries ≤ budget → ending ≡ Finished
+    pub ends_finished : (budget : ℕ) (ending : Ending) → HasEnding w entries budget events ending → full_budget (world_rollout w) entries ≤ budget → ending ≡ Finished
     ends_finished budget Finished ends full = refl
     ends_finished budget OutOfBudget ends full = let (spent, over, none) = ends.spent refl in absurd (over (finished_in_time (omega arith)))
     ends_finished budget Blocked ends full = absurd (ends_unblocked budget Blocked ends refl)
@@ -121,25 +121,25 @@ over_same u v st es e over = record { settled = over.settled ∙ ap (λ r. Settl
 
 module _ (w : WorldState) (chooses : ℕ → ℕ → ℕ → Type 0) (entries : List Entry) (events : List Event) (after : WorldState) (rest : List Entry) (made : ℕ)
     (so : SoFar w chooses entries events after rest made) where
-  over_here : IsOver (update_of after) after.state rest ↔ IsOverAfter w entries events
+  over_here : IsOver (world_rollout after) after.state rest ↔ IsOverAfter w entries events
   over_here = (
     λ over.
-        over_same (update_of (world_after_all w events)) (update_of w) (state_after w.net w.rounds w.state events) (entries_left events entries) refl
-        (subst (λ r. IsOver (update_of (world_after_all w events)) (state_after w.net w.rounds w.state events) r) so.rest_is
-        (subst (λ (x : WorldState). IsOver (update_of x) x.state rest) so.world over)),
+        over_same (world_rollout (world_after_all w events)) (world_rollout w) (state_after w.net w.rounds w.state events) (entries_left events entries) refl
+        (subst (λ r. IsOver (world_rollout (world_after_all w events)) (state_after w.net w.rounds w.state events) r) so.rest_is
+        (subst (λ (x : WorldState). IsOver (world_rollout x) x.state rest) so.world over)),
     λ over.
-        subst (λ (x : WorldState). IsOver (update_of x) x.state rest) (sym so.world)
-        (subst (λ r. IsOver (update_of (world_after_all w events)) (state_after w.net w.rounds w.state events) r) (sym so.rest_is)
-        (over_same (update_of w) (update_of (world_after_all w events)) (state_after w.net w.rounds w.state events) (entries_left events entries) refl over)),
+        subst (λ (x : WorldState). IsOver (world_rollout x) x.state rest) (sym so.world)
+        (subst (λ r. IsOver (world_rollout (world_after_all w events)) (state_after w.net w.rounds w.state events) r) (sym so.rest_is)
+        (over_same (world_rollout w) (world_rollout (world_after_all w events)) (state_after w.net w.rounds w.state events) (entries_left events entries) refl over)),
   )
 
-  offered_here : (offered : List Event) → AreOffered (update_of after) after.state rest offered
-      → AreOffered (update_of w) (state_after w.net w.rounds w.state events) (entries_left events entries) offered
+  offered_here : (offered : List Event) → AreOffered (world_rollout after) after.state rest offered
+      → AreOffered (world_rollout w) (state_after w.net w.rounds w.state events) (entries_left events entries) offered
   offered_here offered are =
-      subst (λ r. AreOffered (update_of w) (state_after w.net w.rounds w.state events) r offered) so.rest_is
-      (subst (λ (x : WorldState). AreOffered (update_of x) x.state rest offered) so.world are)
+      subst (λ r. AreOffered (world_rollout w) (state_after w.net w.rounds w.state events) r offered) so.rest_is
+      (subst (λ (x : WorldState). AreOffered (world_rollout x) x.state rest offered) so.world are)
 
-  some_offered : (x : Event) (xs : List Event) → AreOffered (update_of w) (state_after w.net w.rounds w.state events) (entries_left events entries) (x ∷ xs) → ¬ NoneIsOffered w entries events
+  some_offered : (x : Event) (xs : List Event) → AreOffered (world_rollout w) (state_after w.net w.rounds w.state events) (entries_left events entries) (x ∷ xs) → ¬ NoneIsOffered w entries events
   some_offered x xs are none =
       let st = state_after w.net w.rounds w.state events in
       let left = entries_left events entries in
@@ -147,8 +147,8 @@ module _ (w : WorldState) (chooses : ℕ → ℕ → ℕ → Type 0) (entries : 
       none_of (IsEnabled w.net w.rounds st) (candidates st left) none x i may
 
   -- the ending that is found is the right one
-  pub ends_as : (budget : ℕ) (offered : List Event) (over : Bool) (ending : Ending) → IsTrue over ↔ IsOver (update_of after) after.state rest
-      → AreOffered (update_of after) after.state rest offered → made ≤ budget → ending_at over (length offered) made budget ≡ Some ending → HasEnding w entries budget events ending
+  pub ends_as : (budget : ℕ) (offered : List Event) (over : Bool) (ending : Ending) → IsTrue over ↔ IsOver (world_rollout after) after.state rest
+      → AreOffered (world_rollout after) after.state rest offered → made ≤ budget → ending_at over (length offered) made budget ≡ Some ending → HasEnding w entries budget events ending
   ends_as budget offered true ending is are within e =
       let f : Some Finished ≡ Some ending = e in
       let g : Finished ≡ ending = cc in
@@ -208,14 +208,14 @@ named_enabled u st rest offered i n e are count less is =
 -- and it goes on by the named event
 pub so_far_named : (w : WorldState) (chooses : ℕ → ℕ → ℕ → Type 0) (entries : List Entry) (events : List Event) (after : WorldState) (rest : List Entry) (made : ℕ)
     (so : SoFar w chooses entries events after rest made) (e : Event) (next : WorldState) (left : List Entry) (more : List Event) (offered : List Event) (i n : ℕ)
-    → AreOffered (update_of after) after.state rest offered → n ≡ length offered → chooses made n i → i < n → e ≡ get_or offered i e
+    → AreOffered (world_rollout after) after.state rest offered → n ≡ length offered → chooses made n i → i < n → e ≡ get_or offered i e
     → next ≡ world_after after e → left ≡ entries_after e rest → more ≡ events ++ e ∷ [] → SoFar w chooses entries more next left (made + 1)
 so_far_named w chooses entries events after rest made so e next left more offered i n are count chosen less is next_is left_is more_is =
     let within : i < length offered = omega arith in
-    let here : AreOffered (update_of w) after.state rest offered =
-    subst (λ (x : WorldState). AreOffered (update_of w) x.state rest offered) (sym so.world)
-    (subst (λ (x : WorldState). AreOffered (update_of x) x.state rest offered) so.world are) in
-    let named : IsNamed (update_of w) chooses made after.state rest e =
+    let here : AreOffered (world_rollout w) after.state rest offered =
+    subst (λ (x : WorldState). AreOffered (world_rollout w) x.state rest offered) (sym so.world)
+    (subst (λ (x : WorldState). AreOffered (world_rollout x) x.state rest offered) so.world are) in
+    let named : IsNamed (world_rollout w) chooses made after.state rest e =
     (offered, i, here, subst (λ m. chooses made m i) count chosen, named_is offered i e within is) in
     subst (λ l. SoFar w chooses entries l next left (made + 1)) (sym more_is)
     (so_far_next w chooses entries events after rest made e next left so named next_is left_is)

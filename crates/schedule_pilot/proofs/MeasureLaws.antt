@@ -12,7 +12,7 @@ use Rattle.path_walk.specs.declared.Outcome.TheVariants.{Discard, Leave, Go}
 use Rattle.path_walk.specs.declared.Ended.{Ended}
 use Rattle.path_walk.specs.declared.Ended.TheVariants.{UnderWay, Left, Dropped, Lost}
 use Rattle.update_model.specs.Changes.{round_after}
-use Rattle.update_model.specs.States.{State, IsUnderWay, settled_count, entered, hopped, with_packet, settled}
+use Rattle.update_model.specs.States.{State, IsUnderWay, settled_count, entered_packet, hopped_packet, with_packet, phase_after_settle}
 use Rattle.update_model.specs.declared.Change.{Change}
 use Rattle.update_model.specs.declared.Packet.{Packet}
 use Rattle.update_model.specs.declared.Phase.{Phase}
@@ -97,7 +97,7 @@ change_lowers (Running zero) flags rounds k i is flag = absurd (let e : Running 
 change_lowers (Running (suc j)) flags rounds k i is flag = let count = count_less flags i flag in omega arith
 
 pub settle_lowers : (phase : Phase) (flags : List Bool) (rounds : List (List Change)) (k : ℕ) → phase ≡ Running (suc k) → AllByRecursion (λ b. b ≡ false) flags
-    → rounds_left (settled phase) flags rounds < rounds_left phase flags rounds
+    → rounds_left (phase_after_settle phase) flags rounds < rounds_left phase flags rounds
 settle_lowers (Settled j) flags rounds k is off = absurd (let e : Settled j ≡ Running (suc k) = is in cc)
 settle_lowers (Running zero) flags rounds k is off = absurd (let e : Running zero ≡ Running (suc k) = is in let f : zero ≡ suc k = cc in omega arith)
 settle_lowers (Running (suc j)) flags rounds k is off = omega arith
@@ -106,10 +106,10 @@ pub hops_append : (n : ℕ) (packets more : List Packet) → all_hops n (packets
 hops_append n [] more = omega arith
 hops_append n (p ∷ packets) more = let rest = hops_append n packets more in omega arith
 
-pub hops_entered : (n : ℕ) (place : Place) (dst k : ℕ) → all_hops n (entered place dst k ∷ []) ≡ n
+pub hops_entered : (n : ℕ) (place : Place) (dst k : ℕ) → all_hops n (entered_packet place dst k ∷ []) ≡ n
 hops_entered n place dst k = omega arith
 
-hops_less : (n : ℕ) (p : Packet) (o : Outcome) → IsUnderWay p → length p.visits ≤ n → hops_left n (hopped p o).ended (hopped p o).visits < hops_left n p.ended p.visits
+hops_less : (n : ℕ) (p : Packet) (o : Outcome) → IsUnderWay p → length p.visits ≤ n → hops_left n (hopped_packet p o).ended (hopped_packet p o).visits < hops_left n p.ended p.visits
 hops_less n p (Go next) under few =
     rw (under) (let more = length-append p.visits (stop_of next ∷ []) in omega arith)
 hops_less n p Discard under few = rw under (omega arith)
@@ -126,10 +126,10 @@ hops_set n (x ∷ packets) zero p q e less =
 hops_set n (x ∷ packets) (suc i) p q e less = let rest = hops_set n packets i p q e less in omega arith
 
 pub hop_lowers : (n : ℕ) (packets : List Packet) (i : ℕ) (p : Packet) (found : Packet → Outcome) → slice_get packets i ≡ Some p → IsUnderWay p → length p.visits ≤ n
-    → all_hops n (with_packet (λ q. hopped q (found q)) i packets) < all_hops n packets
+    → all_hops n (with_packet (λ q. hopped_packet q (found q)) i packets) < all_hops n packets
 hop_lowers n packets i p found at under few =
-    subst (λ o. all_hops n (option_map_or (λ q. set packets i (hopped q (found q))) o packets) < all_hops n packets) (sym at)
-    (hops_set n packets i p (hopped p (found p)) at (hops_less n p (found p) under few))
+    subst (λ o. all_hops n (option_map_or (λ q. set packets i (hopped_packet q (found q))) o packets) < all_hops n packets) (sym at)
+    (hops_set n packets i p (hopped_packet p (found p)) at (hops_less n p (found p) under few))
 
 -- what is left at the beginning is the full budget
 sum_two : (rounds : List (List Change)) → round_cost rounds ≡ sum_by length rounds + 2 * length rounds

@@ -8,7 +8,7 @@ use Rattle.net_base.specs.declared.ids.Place.{Place}
 use Rattle.topology.specs.Networks.{IsNetwork, switch_count}
 use Rattle.flow_rules.specs.Tables.{lookup}
 use Rattle.flow_rules.specs.declared.rules.Rule.{Rule}
-use Rattle.path_walk.specs.Outcomes.{header_at, acted}
+use Rattle.path_walk.specs.Outcomes.{header_at, action_outcome}
 use Rattle.path_walk.proofs.StayLaws.{go_within}
 use Rattle.update_model.specs.Mixtures.{Rollout, MayGo}
 
@@ -27,5 +27,5 @@ pub walk_within : (u : Rollout) → IsNetwork u.net → (k dst : ℕ) (start : P
 walk_within u valid k dst start [] within walk = (within, tt)
 walk_within u valid k dst start (next ∷ rest) within walk =
     let goes = walk.0 in
-    let mixed = ap (λ table. acted u.net start (lookup (header_at start dst) table)) (last_equal start.switch.0 goes.mixed) in
+    let mixed = ap (λ table. action_outcome u.net start (lookup (header_at start dst) table)) (last_equal start.switch.0 goes.mixed) in
     (within, walk_within u valid k dst next rest (go_within u.net valid (equal_tables start.switch.0 goes.mixed) dst start next (mixed ∙ sym goes.is)) walk.1)

@@ -22,8 +22,8 @@ pub record IsAgenda (state : State) (pending under_way : List ℕ) : Type 0 wher
   pub under_way_are : under_way ≡ numbers_under_way state.packets
 
 -- the numbers but one
-abbrev pub without : ℕ → List ℕ → List ℕ
-without i numbers = filter (λ k. not (k == i)) numbers
+abbrev pub numbers_without : ℕ → List ℕ → List ℕ
+numbers_without i numbers = filter (λ k. not (k == i)) numbers
 
 -- those of the candidates that the fact holds of are added to the events, in order
 abbrev pub AddsThose : (Event → Type 0) → List Event → List Event → List Event → Type 0

@@ -16,8 +16,8 @@ abbrev pub IsPilot : (ℕ → ℕ → Type 0) → (ℕ → ℕ → ℕ → Type 
 IsPilot pre post = (n count : ℕ) → n < 2 ^ 64 → 1 ≤ count → count < 2 ^ 64 → pre n count × ((i : ℕ) → post n count i → i < count)
 
 -- the rounds of a world as an update of its present tables
-abbrev pub update_of : WorldState → Rollout
-update_of w = record { net = w.net; old = w.state.tables; rounds = w.rounds }
+abbrev pub world_rollout : WorldState → Rollout
+world_rollout w = record { net = w.net; old = w.state.tables; rounds = w.rounds }
 
 -- the world after events
 abbrev pub world_after_all : WorldState → List Event → WorldState
@@ -25,15 +25,15 @@ world_after_all w events = record w { state = state_after w.net w.rounds w.state
 
 -- the run is over after the events
 abbrev pub IsOverAfter : WorldState → List Entry → List Event → Type 0
-IsOverAfter w entries events = IsOver (update_of w) (state_after w.net w.rounds w.state events) (entries_left events entries)
+IsOverAfter w entries events = IsOver (world_rollout w) (state_after w.net w.rounds w.state events) (entries_left events entries)
 
 -- nothing is offered after the events
 abbrev pub NoneIsOffered : WorldState → List Entry → List Event → Type 0
-NoneIsOffered w entries events = AreOffered (update_of w) (state_after w.net w.rounds w.state events) (entries_left events entries) []
+NoneIsOffered w entries events = AreOffered (world_rollout w) (state_after w.net w.rounds w.state events) (entries_left events entries) []
 
 -- a run from a world: each event is the offered one that was named, and the world is the one after them
 pub record IsRunFrom (w : WorldState) (chooses : ℕ → ℕ → ℕ → Type 0) (entries : List Entry) (events : List Event) (after : WorldState) : Type 0 where
-  pub driven : IsDriven (update_of w) chooses 0 w.state entries events
+  pub driven : IsDriven (world_rollout w) chooses 0 w.state entries events
   pub enabled : AreEnabled w.net w.rounds w.state events
   pub world : after ≡ world_after_all w events
 
@@ -47,8 +47,8 @@ pub record HasEnding (w : WorldState) (entries : List Entry) (budget : ℕ) (eve
 -- a world just begun, all of whose rounds are good, and in whose runs no packet visits a switch twice
 pub record BeginsSafely (w : WorldState) : Type 0 where
   pub begun : w.state ≡ first_state w.state.tables
-  pub good : AreGoodRounds (update_of w)
-  pub once : AllVisitOnce (update_of w)
+  pub good : AreGoodRounds (world_rollout w)
+  pub once : AllVisitOnce (world_rollout w)
 
 -- how a run ends that is over or not, with so many events offered and so many made
 abbrev pub ending_at : Bool → ℕ → ℕ → ℕ → Option Ending

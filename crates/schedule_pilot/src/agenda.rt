@@ -3,7 +3,7 @@ ghost use Rattle.std.specs.Prelude.{◌≡◌, ◌≤◌, ◌-◌, ◌⊎◌, �
 ghost use Rattle.update_model.specs.States.{IsEnabled, IsHopping};
 ghost use Rattle.update_model.specs.Worlds.{world_after};
 ghost use Rattle.update_model.specs.Worlds.{goes_on};
-ghost use Rattle.schedule_pilot.specs.Agendas.{numbers_on, numbers_under_way, IsAgenda, without};
+ghost use Rattle.schedule_pilot.specs.Agendas.{numbers_on, numbers_under_way, IsAgenda, numbers_without};
 
 use net_base::Memory;
 use path_walk::Ended;
@@ -68,7 +68,7 @@ fn is_hopping(packets: &[Packet], i: usize) -> bool
 
 /// Takes a number out.
 fn take_out(numbers: &mut Vec<usize>, i: usize)
-    ensures { numbers.new.items ≡ without i numbers.old.items }
+    ensures { numbers.new.items ≡ numbers_without i numbers.old.items }
 {
     numbers.retain(|number| *number != i);
 }
@@ -76,7 +76,8 @@ fn take_out(numbers: &mut Vec<usize>, i: usize)
 /// Takes packet i out, if it has ended.
 fn take_ended(numbers: &mut Vec<usize>, packets: &[Packet], i: usize)
     ensures { (IsHopping packets.now i × (numbers.new.items ≡ numbers.old.items))
-        ⊎ ((¬ IsHopping packets.now i) × (numbers.new.items ≡ without i numbers.old.items)) }
+        ⊎ ((¬ IsHopping packets.now i)
+        × (numbers.new.items ≡ numbers_without i numbers.old.items)) }
 {
     if !is_hopping(packets, i) {
         take_out(numbers, i);

@@ -5,7 +5,7 @@ ghost use Rattle.update_model.specs.Worlds.{world_after};
 ghost use Rattle.schedule_pilot.specs.Offered.{full_budget};
 ghost use Rattle.schedule_pilot.specs.Agendas.{IsAgenda};
 ghost use Rattle.schedule_pilot.specs.Ends.{AreEntries};
-ghost use Rattle.schedule_pilot.specs.Driving.{IsPilot, update_of, IsRunFrom, HasEnding, BeginsSafely, ending_at};
+ghost use Rattle.schedule_pilot.specs.Driving.{IsPilot, world_rollout, IsRunFrom, HasEnding, BeginsSafely, ending_at};
 
 use crate::agenda::Agenda;
 use crate::offers::{entries_past, is_over, offered_of};
@@ -98,7 +98,7 @@ pub fn drive<'a, F: Fn(u64, u64) -> u64>(
     ensures unblocked { BeginsSafely world.entry
         → IfOk result (λ d. ¬ (d.ending ≡ Ending.Blocked)) }
     ensures finished { BeginsSafely world.entry
-        → full_budget (update_of world.entry) entries.now ≤ budget
+        → full_budget (world_rollout world.entry) entries.now ≤ budget
         → IfOk result (λ d. d.ending ≡ Ending.Finished) }
 {
     // A network keeps its links at its switches, so a packet visits no more switches than there are.

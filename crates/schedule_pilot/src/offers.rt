@@ -5,7 +5,7 @@ ghost use Rattle.update_model.specs.States.{IsEnabled, IsUnderWay};
 ghost use Rattle.schedule_pilot.specs.Offered.{next_entry, AreOffered, entries_after, IsOver};
 ghost use Rattle.schedule_pilot.specs.Agendas.{numbers_on, numbers_under_way, IsAgenda, AddsThose};
 ghost use Rattle.schedule_pilot.specs.Ends.{AreEntries};
-ghost use Rattle.schedule_pilot.specs.Driving.{update_of};
+ghost use Rattle.schedule_pilot.specs.Driving.{world_rollout};
 
 use crate::Entry;
 use crate::agenda::Agenda;
@@ -132,7 +132,7 @@ pub(crate) fn offered_of(
     requires kept { IsAgenda world.now.state agenda.now.pending.items agenda.now.under_way.items }
     requires entries { AreEntries world.now.net entries.now }
     ensures { IfOk result
-        (λ v. AreOffered (update_of world.now) world.now.state entries.now v.items) }
+        (λ v. AreOffered (world_rollout world.now) world.now.state entries.now v.items) }
 {
     let mut offered = Vec::new(alloc);
     add_if(
@@ -171,7 +171,7 @@ fn are_none(entries: &[Entry], under_way: &[usize]) -> bool
 /// Whether the run is over.
 pub(crate) fn is_over(world: &World, agenda: &Agenda, entries: &[Entry]) -> bool
     requires { IsAgenda world.now.state agenda.now.pending.items agenda.now.under_way.items }
-    ensures { IsTrue result ↔ IsOver (update_of world.now) world.now.state entries.now }
+    ensures { IsTrue result ↔ IsOver (world_rollout world.now) world.now.state entries.now }
 {
     is_settled(world.phase(), world.rounds().count()) && are_none(entries, &agenda.under_way)
 }

@@ -27,7 +27,7 @@ use Rattle.net_base.specs.Lines.{lines_of, text_of, is_comment}
 use Rattle.text_lines.specs.Words.{id_in, vlan_in}
 use Rattle.schedule_replay.specs.EventLines.{stop_in, entry_in, number_in, worded_event, spelled_event, event_in}
 use Rattle.schedule_replay.specs.EventTexts.{switch_text, stop_text, place_text, entry_text, event_text, schedule_text, HasLine}
-use Rattle.schedule_replay.specs.Schedules.{event_at, line_at, schedule_in, numbered}
+use Rattle.schedule_replay.specs.Schedules.{event_at, line_at, schedule_in, numbered_lines}
 use Rattle.schedule_replay.proofs.Printed.{are_from, from-append, are_lower, Lacks-from, is_utf8-from, decimal_from, address_from, vlan_from, name_from}
 use Rattle.schedule_replay.proofs.LinesAgain.{lines_again}
 use Rattle.net_base.proofs.ItemLaws.{in_at}
@@ -147,7 +147,7 @@ module _ (net : Network) (keeps : IsNetwork net) where
   comments_again n before (l ∷ lines) h = rw h.0 (comments_again (suc n) before lines h.1)
 
   events_again : (n : ℕ) (before : List ScheduleLine) (es : List Event) (comments : List (List ℕ)) → AllByRecursion (HasLine net) es → AllByRecursion (λ l. is_comment l ≡ true) comments
-      → n + length es ≤ 4294967296 → length before + length es ≤ 4000000 → in_turn (line_at net) n before (map (event_text net) es ++ comments) ≡ Ok (before ++ numbered n es)
+      → n + length es ≤ 4294967296 → length before + length es ≤ 4000000 → in_turn (line_at net) n before (map (event_text net) es ++ comments) ≡ Ok (before ++ numbered_lines n es)
   unfolding in_turn
   events_again n before [] comments h c small few = comments_again n before comments c ∙ ap (λ (ls : List ScheduleLine). Ok ls) (sym (append-nil before))
   events_again n before (e ∷ es) comments h c small few =
@@ -155,7 +155,7 @@ module _ (net : Network) (keeps : IsNetwork net) where
       let line : ScheduleLine = record { line = n; event = e } in
       let longer : length (before ++ line ∷ []) ≡ length before + 1 = length_push before line in
       rw (at, line_again n before e h.0 (omega arith))
-      (events_again (suc n) (before ++ line ∷ []) es comments h.1 c (omega arith) (omega (arith, longer)) ∙ ap (λ (ls : List ScheduleLine). Ok ls) (append_assoc before (line ∷ []) (numbered (suc n) es)))
+      (events_again (suc n) (before ++ line ∷ []) es comments h.1 c (omega arith) (omega (arith, longer)) ∙ ap (λ (ls : List ScheduleLine). Ok ls) (append_assoc before (line ∷ []) (numbered_lines (suc n) es)))
 
   events_lack : (es : List Event) → AllByRecursion (Lacks 10) (map (event_text net) es)
   events_lack [] = tt
@@ -172,7 +172,7 @@ module _ (net : Network) (keeps : IsNetwork net) where
   pub lines_between : (front : List (List ℕ)) (es : List Event) (behind : List (List ℕ)) → AllByRecursion (λ l. is_comment l ≡ true) front → AllByRecursion (Lacks 10) front
       → AllByRecursion (HasLine net) es → length es ≤ 4000000 → length front ≤ 1000000
       → AllByRecursion (λ l. is_comment l ≡ true) behind → AllByRecursion (Lacks 10) behind
-      → schedule_in net (text_of (front ++ (map (event_text net) es ++ behind))) ≡ Ok (numbered (1 + length front) es)
+      → schedule_in net (text_of (front ++ (map (event_text net) es ++ behind))) ≡ Ok (numbered_lines (1 + length front) es)
   lines_between front es behind cf lf h few short cb lb =
       let events : List (List ℕ) = map (event_text net) es in
       let lines : List (List ℕ) = front ++ (events ++ behind) in
@@ -185,10 +185,10 @@ module _ (net : Network) (keeps : IsNetwork net) where
 
   -- the same with comments after them alone
   pub lines_read : (es : List Event) (comments : List (List ℕ)) → AllByRecursion (HasLine net) es → length es ≤ 4000000 → AllByRecursion (λ l. is_comment l ≡ true) comments → AllByRecursion (Lacks 10) comments
-      → schedule_in net (text_of (map (event_text net) es ++ comments)) ≡ Ok (numbered 1 es)
+      → schedule_in net (text_of (map (event_text net) es ++ comments)) ≡ Ok (numbered_lines 1 es)
   lines_read es comments h few c lacks = lines_between [] es comments tt tt h few (omega arith) c lacks
 
-  pub schedule_again : (es : List Event) → AllByRecursion (HasLine net) es → length es ≤ 4000000 → schedule_in net (schedule_text net es) ≡ Ok (numbered 1 es)
+  pub schedule_again : (es : List Event) → AllByRecursion (HasLine net) es → length es ≤ 4000000 → schedule_in net (schedule_text net es) ≡ Ok (numbered_lines 1 es)
   schedule_again es h few =
       let same : map (event_text net) es ++ [] ≡ map (event_text net) es = append-nil (map (event_text net) es) in
       ap (λ (ls : List (List ℕ)). schedule_in net (text_of ls)) (sym same) ∙ lines_read es [] h few tt tt

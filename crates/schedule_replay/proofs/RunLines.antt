@@ -11,7 +11,7 @@ use Rattle.topology.specs.Networks.{Network, IsNetwork, IsVlan, IsPortNumber, Is
 use Rattle.path_walk.specs.Paths.{outcome_in}
 use Rattle.update_model.specs.Changes.{round_after}
 use Rattle.update_model.specs.Runs.{AreEnabled}
-use Rattle.update_model.specs.States.{State, IsEnabled, state_after_event, with_packet, hopped, lost, entered, settled_count}
+use Rattle.update_model.specs.States.{State, IsEnabled, state_after_event, with_packet, hopped_packet, lost_packet, entered_packet, settled_count}
 use Rattle.update_model.specs.declared.Change.{Change}
 use Rattle.update_model.specs.declared.Packet.{Packet}
 use Rattle.update_model.specs.declared.Event.{Event}
@@ -57,9 +57,9 @@ module _ (net : Network) (keeps : IsNetwork net) (rounds : List (List Change)) (
   one_more s event.Start = omega arith
   one_more s event.Settle = omega arith
   one_more s (event.Change i) = omega arith
-  one_more s (event.Enter place dst) = let n = length_push s.packets (entered place dst (settled_count s.phase)) in omega arith
-  one_more s (event.Hop i) = let n = same_packets (λ p. hopped p (outcome_in net s.tables p.at p.dst)) i s.packets in omega arith
-  one_more s (event.Lose i) = let n = same_packets lost i s.packets in omega arith
+  one_more s (event.Enter place dst) = let n = length_push s.packets (entered_packet place dst (settled_count s.phase)) in omega arith
+  one_more s (event.Hop i) = let n = same_packets (λ p. hopped_packet p (outcome_in net s.tables p.at p.dst)) i s.packets in omega arith
+  one_more s (event.Lose i) = let n = same_packets lost_packet i s.packets in omega arith
 
   pub lines_of_run : (s : State) (es : List Event) → length s.packets + length es ≤ 2 ^ 32 → AreEnabled net rounds s es → AllByRecursion (HasLine net) es
   lines_of_run s [] few run = tt

@@ -15,8 +15,8 @@ use Rattle.update_model.specs.declared.Phase.{Phase}
 use Rattle.update_model.specs.declared.Phase.TheVariants.{Settled, Running}
 use Rattle.net_base.specs.Lines.{is_comment}
 use Rattle.schedule_replay.specs.EventTexts.{switch_text, stop_text, place_text, entry_text, HasLine}
-use Rattle.schedule_replay.specs.Schedules.{schedule_in, numbered}
-use Rattle.schedule_replay.specs.Traces.{packet_text, stops_text, end_text, packet_line, packet_lines, phase_line, trace_lines, marked, record_text}
+use Rattle.schedule_replay.specs.Schedules.{schedule_in, numbered_lines}
+use Rattle.schedule_replay.specs.Traces.{packet_text, stops_text, end_text, packet_line, packet_lines, phase_line, trace_lines, marked_lines, record_text}
 use Rattle.schedule_replay.proofs.Printed.{are_from, from-append, are_lower, Lacks-from, decimal_from, name_from}
 use Rattle.schedule_replay.proofs.EventsAgain.{stop_from, place_from, entry_from, lines_read}
 
@@ -76,19 +76,19 @@ module _ (net : Network) (keeps : IsNetwork net) where
       each_append IsPlain (packet_lines net 0 w.state.packets) (phase_line w.state.phase (length w.rounds) ∷ []) (packets_from 0 w.state.packets)
       (phase_from w.state.phase (length w.rounds), tt)
 
-  pub are_comments : (lines : List (List ℕ)) → AllByRecursion (λ l. is_comment l ≡ true) (marked (codes "# ") lines)
+  pub are_comments : (lines : List (List ℕ)) → AllByRecursion (λ l. is_comment l ≡ true) (marked_lines (codes "# ") lines)
   are_comments [] = tt
   are_comments (line ∷ lines) = (refl, are_comments lines)
 
-  pub comments_lack : (lines : List (List ℕ)) → AllByRecursion IsPlain lines → AllByRecursion (Lacks 10) (marked (codes "# ") lines)
+  pub comments_lack : (lines : List (List ℕ)) → AllByRecursion IsPlain lines → AllByRecursion (Lacks 10) (marked_lines (codes "# ") lines)
   comments_lack [] h = tt
   comments_lack (line ∷ lines) h = (Lacks-from 32 10 (codes "# " ++ line) (omega arith) (from-append 32 (codes "# ") line refl h.0), comments_lack lines h.1)
 
-  pub record_again : (es : List Event) (w : WorldState) → AllByRecursion (HasLine net) es → length es ≤ 4000000 → schedule_in net (record_text net es w) ≡ Ok (numbered 1 es)
+  pub record_again : (es : List Event) (w : WorldState) → AllByRecursion (HasLine net) es → length es ≤ 4000000 → schedule_in net (record_text net es w) ≡ Ok (numbered_lines 1 es)
   record_again es w h few =
-      lines_read net keeps es (marked (codes "# ") (trace_lines net w)) h few (are_comments (trace_lines net w)) (comments_lack (trace_lines net w) (traces_from w))
+      lines_read net keeps es (marked_lines (codes "# ") (trace_lines net w)) h few (are_comments (trace_lines net w)) (comments_lack (trace_lines net w) (traces_from w))
 
 -- nothing before a line changes nothing
-pub marked_by_nothing : (lines : List (List ℕ)) → marked [] lines ≡ lines
+pub marked_by_nothing : (lines : List (List ℕ)) → marked_lines [] lines ≡ lines
 marked_by_nothing [] = refl
 marked_by_nothing (line ∷ lines) = ap (λ (ls : List (List ℕ)). line ∷ ls) (marked_by_nothing lines)

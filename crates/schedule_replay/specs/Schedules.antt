@@ -29,6 +29,6 @@ abbrev pub events_of : List ScheduleLine → List Event
 events_of schedule = map (λ l. l.event) schedule
 
 -- the events in lines in a row, from this one on
-abbrev pub numbered : ℕ → List Event → List ScheduleLine
-numbered n [] = []
-numbered n (e ∷ es) = record { line = n; event = e } ∷ numbered (suc n) es
+abbrev pub numbered_lines : ℕ → List Event → List ScheduleLine
+numbered_lines n [] = []
+numbered_lines n (e ∷ es) = record { line = n; event = e } ∷ numbered_lines (suc n) es

@@ -50,9 +50,9 @@ abbrev pub traces_text : Network → WorldState → List ℕ
 traces_text net w = text_of (trace_lines net w)
 
 -- lines, each with a mark before it
-abbrev pub marked : List ℕ → List (List ℕ) → List (List ℕ)
-marked mark lines = map (λ line. mark ++ line) lines
+abbrev pub marked_lines : List ℕ → List (List ℕ) → List (List ℕ)
+marked_lines mark lines = map (λ line. mark ++ line) lines
 
 -- the record of a run: its events, and after them the traces as comments
 abbrev pub record_text : Network → List Event → WorldState → List ℕ
-record_text net events w = text_of (map (event_text net) events ++ marked (codes "# ") (trace_lines net w))
+record_text net events w = text_of (map (event_text net) events ++ marked_lines (codes "# ") (trace_lines net w))

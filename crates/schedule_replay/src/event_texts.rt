@@ -5,7 +5,7 @@ ghost use Rattle.flow_rules.specs.Tables.{rules_of_all};
 ghost use Rattle.update_model.specs.Runs.{IsRun};
 ghost use Rattle.schedule_replay.specs.EventTexts as texts;
 ghost use Rattle.schedule_replay.specs.EventTexts.{HasLine};
-ghost use Rattle.schedule_replay.specs.Schedules.{schedule_in, numbered};
+ghost use Rattle.schedule_replay.specs.Schedules.{schedule_in, numbered_lines};
 
 use flow_rules::Config;
 use net_base::{Memory, Place, Stop, SwitchId, addr_text, vlan_text};
@@ -126,7 +126,8 @@ pub fn schedule_text(alloc: Global, net: &Net, events: &Events) -> Result<Vec<u8
     requires lines { AllByRecursion (HasLine net.now) events.now }
     ensures text { IfOk result (λ t. t.items ≡ texts.schedule_text net.now events.now) }
     // What was written is read as these events, in the lines from 1 on.
-    ensures again { IfOk result (λ t. schedule_in net.now t.items ≡ Ok (numbered 1 events.now)) }
+    ensures again { IfOk result
+        (λ t. schedule_in net.now t.items ≡ Ok (numbered_lines 1 events.now)) }
 {
     net.keeps_rules();
     events_text(alloc, net, events.list())

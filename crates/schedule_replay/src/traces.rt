@@ -3,8 +3,8 @@ ghost use Rattle.std.specs.Prelude.{◌≡◌, ◌≤◌, ◌++◌, ◌∷◌, [
 ghost use Rattle.std.specs.List.{AllByRecursion};
 ghost use Rattle.schedule_replay.specs.EventTexts.{HasLine, stop_text};
 ghost use Rattle.net_base.specs.Lines.{text_of};
-ghost use Rattle.schedule_replay.specs.Schedules.{schedule_in, numbered};
-ghost use Rattle.schedule_replay.specs.Traces.{marked};
+ghost use Rattle.schedule_replay.specs.Schedules.{schedule_in, numbered_lines};
+ghost use Rattle.schedule_replay.specs.Traces.{marked_lines};
 ghost use Rattle.schedule_replay.specs.Traces as texts;
 
 use crate::event_texts::{
@@ -148,7 +148,7 @@ fn add_packets(
 ) -> Result<(), Memory>
     ensures { OnOk result
         (text.new.items ≡ text.old.items
-        ++ text_of (marked mark.now (texts.packet_lines net.now 0 packets.now))) }
+        ++ text_of (marked_lines mark.now (texts.packet_lines net.now 0 packets.now))) }
 {
     for (i, packet) in packets.iter().enumerate() {
         add_trace_line(text, mark, alloc, net, i, packet)?;
@@ -166,7 +166,7 @@ fn add_traces(
 ) -> Result<(), Memory>
     ensures { OnOk result
         (text.new.items ≡ text.old.items
-        ++ text_of (marked mark.now (texts.trace_lines net.now world.now))) }
+        ++ text_of (marked_lines mark.now (texts.trace_lines net.now world.now))) }
 {
     add_packets(text, mark, alloc, net, world.packets())?;
     let phase = phase_line(alloc, world.phase(), world.rounds().count())?;
@@ -198,7 +198,8 @@ pub fn record_text(
     requires lines { AllByRecursion (HasLine net.now) events.now }
     ensures text { IfOk result (λ t. t.items ≡ texts.record_text net.now events.now world.now) }
     // What was written is read as these events, in the lines from 1 on.
-    ensures again { IfOk result (λ t. schedule_in net.now t.items ≡ Ok (numbered 1 events.now)) }
+    ensures again { IfOk result
+        (λ t. schedule_in net.now t.items ≡ Ok (numbered_lines 1 events.now)) }
 {
     net.keeps_rules();
     record_of(alloc, net, events.list(), world)

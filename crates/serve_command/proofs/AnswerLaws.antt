@@ -1,7 +1,7 @@
 -- What a refused call leaves.
 use Rattle.std.proofs.Common.{◌≡◌, ◌≢◌, Ok, Err, refl}
 use Rattle.std.specs.Prelude.{Option, Some, Result, IfOk, OnOk}
-use Rattle.two_way_driver.specs.Calls.{DriverView, IsRefusal, KeepsUnlessMemory}
+use Rattle.two_way_driver.specs.Calls.{DriverView, IsCallRefusal, KeepsUnlessMemory}
 use Rattle.two_way_driver.specs.declared.faults.CallFault.{CallFault}
 use Rattle.two_way_driver.specs.declared.faults.CallFault.TheVariants as fault
 
@@ -12,7 +12,7 @@ stays old new fault.NotBegun other keeps = keeps
 stays old new (fault.NotOpen s) other keeps = keeps
 stays old new fault.Memory other keeps = absurd (other refl)
 
-pub refuses : (of : Option CallFault) (f : CallFault) → f ≢ fault.Memory → IsRefusal of f → of ≡ Some f
+pub refuses : (of : Option CallFault) (f : CallFault) → f ≢ fault.Memory → IsCallRefusal of f → of ≡ Some f
 refuses of fault.Running other is = is
 refuses of fault.Finished other is = is
 refuses of fault.NotBegun other is = is

@@ -6,13 +6,13 @@ use Rattle.std.proofs.KnownBytes.{Appends-trans, Appends-kept, Appends-nil, Cons
 use Rattle.std.proofs.Math.Seq.{take-append_seam, take-append-add}
 use Rattle.std.proofs.lemmas.List.{take-append-le, take_min, length-take}
 use Rattle.std.proofs.lemmas.Bool.{cases_lt}
-use Rattle.file_access.specs.Causes.{raised}
+use Rattle.file_access.specs.Causes.{raised_count}
 use Rattle.file_access.specs.Outside.{Files, Opens, AppendsFront}
 use Rattle.command_base.specs.declared.status.Status.{Status}
 use Rattle.command_base.specs.declared.status.Status.TheVariants as status
 use Rattle.topology.specs.Networks.{Network}
 use Rattle.two_way_driver.specs.Calls.{DriverView}
-use Rattle.serve_lines.specs.Lines.{kept, line_in, ended_lines, open_line, last_line, lines_in}
+use Rattle.serve_lines.specs.Lines.{kept_bytes, line_in, ended_lines, open_line, last_line, lines_in}
 use Rattle.serve_lines.proofs.KeptLaws.{line_kept, kept_next}
 use Rattle.serve_lines.proofs.LineLaws.{end_ends, end_begins, byte_ends, byte_opens}
 use Rattle.serve_command.specs.Served.{after_line, line_block, after_lines, blocks, after_read, outcome_read}
@@ -38,11 +38,11 @@ blocks-push v lines line = blocks-append v lines (line ∷ []) ∙ ap (λ (t : L
 -- ---- of a line it is enough to know what is kept
 
 module _ (d : DriverView) (line : List ℕ) where
-  pub block_kept : line_block d (kept line) ≡ line_block d line
+  pub block_kept : line_block d (kept_bytes line) ≡ line_block d line
   unfolding line_block
   block_kept = rw (line_kept d.net line) refl
 
-  pub after_kept : after_line d (kept line) ≡ after_line d line
+  pub after_kept : after_line d (kept_bytes line) ≡ after_line d line
   unfolding after_line
   after_kept = rw (line_kept d.net line) refl
 
@@ -101,7 +101,7 @@ pub served_ended : (v : DriverView) (old now new : Option (List ℕ)) (bytes : L
     → HasServed v old now bytes d line → Appends now new (line_block d line) → e ≡ after_line d line → empty ≡ [] → HasServed v old new (bytes ++ 10 ∷ []) e empty
 served_ended v old now new bytes d e line empty h written behind cleared = record {
   driver_is = line_behind v old now now bytes d line h e behind ∙ sym (ap (after_lines v) (end_ends bytes));
-  line_is = cleared ∙ sym (ap kept (end_begins bytes));
+  line_is = cleared ∙ sym (ap kept_bytes (end_begins bytes));
   written = subst (λ (t : List (List ℕ)). Appends old new (blocks v t)) (sym (end_ends bytes)) (line_written v old now new bytes d line h written);
 }
 
@@ -111,10 +111,10 @@ stops_ended v old now new bytes d line s h stops = subst (λ (t : List (List ℕ
 
 -- any other byte came
 pub served_kept : (v : DriverView) (old now : Option (List ℕ)) (bytes : List ℕ) (b : ℕ) (d e : DriverView) (line more : List ℕ)
-    → b ≢ 10 → HasServed v old now bytes d line → e ≡ d → more ≡ kept (line ++ b ∷ []) → HasServed v old now (bytes ++ b ∷ []) e more
+    → b ≢ 10 → HasServed v old now bytes d line → e ≡ d → more ≡ kept_bytes (line ++ b ∷ []) → HasServed v old now (bytes ++ b ∷ []) e more
 served_kept v old now bytes b d e line more differs h same longer = record {
   driver_is = same ∙ h.driver_is ∙ sym (ap (after_lines v) (byte_ends bytes b differs));
-  line_is = longer ∙ ap (λ (t : List ℕ). kept (t ++ b ∷ [])) h.line_is ∙ kept_next 262145 (open_line bytes) b ∙ sym (ap kept (byte_opens bytes b differs));
+  line_is = longer ∙ ap (λ (t : List ℕ). kept_bytes (t ++ b ∷ [])) h.line_is ∙ kept_next 262145 (open_line bytes) b ∙ sym (ap kept_bytes (byte_opens bytes b differs));
   written = subst (λ (t : List (List ℕ)). Appends old now (blocks v t)) (sym (byte_ends bytes b differs)) h.written;
 }
 
@@ -172,7 +172,7 @@ served_none v old now bytes d line h empty =
     subst (λ (t : List (List ℕ)). Appends old now (blocks v t)) (sym (ap (λ (t : List ℕ). ended_lines bytes ++ last_line t) (none_taken 262145 (open_line bytes) (lit< tt) (sym h.line_is ∙ empty)) ∙ append-nil (ended_lines bytes))) h.written
 
 -- something stands there
-some_last : (bytes line : List ℕ) → 0 < length line → line ≡ kept (open_line bytes) → lines_in bytes ≡ ended_lines bytes ++ open_line bytes ∷ []
+some_last : (bytes line : List ℕ) → 0 < length line → line ≡ kept_bytes (open_line bytes) → lines_in bytes ≡ ended_lines bytes ++ open_line bytes ∷ []
 some_last bytes line some is = ap (λ (t : List (List ℕ)). ended_lines bytes ++ t) (last_some (open_line bytes) (omega (arith, ap length is, length-take 262145 (open_line bytes))))
 
 pub served_last : (v : DriverView) (old now new : Option (List ℕ)) (bytes : List ℕ) (d : DriverView) (line : List ℕ)
@@ -205,7 +205,7 @@ all_front (Some all) taken p = ([], p ∙ sym (append-nil taken))
 pub record Taking (v : DriverView) (input left old new : Option (List ℕ)) (counted : ℕ) (d : DriverView) (line : List ℕ) : Type 0 where
   pub taken : List ℕ
   pub consumed : Consumes input left taken
-  pub count : counted ≡ raised 0 (length taken)
+  pub count : counted ≡ raised_count 0 (length taken)
   pub served : HasServed v old new taken d line
 
 pub taking_none : (v : DriverView) (input old : Option (List ℕ)) (counted : ℕ) (line : List ℕ) → counted ≡ 0 → line ≡ [] → Taking v input input old old counted v line
@@ -220,11 +220,11 @@ counted_more : (n m top : ℕ) → min (min (0 + n) top + m) top ≡ min (0 + (n
 counted_more n m top = omega arith
 
 pub taking_more : (v : DriverView) (input left behind old now new : Option (List ℕ)) (counted next : ℕ) (d e : DriverView) (line more piece : List ℕ)
-    → (t : Taking v input left old now counted d line) → Consumes left behind piece → next ≡ raised counted (length piece) → HasServed v old new (t.taken ++ piece) e more → Taking v input behind old new next e more
+    → (t : Taking v input left old now counted d line) → Consumes left behind piece → next ≡ raised_count counted (length piece) → HasServed v old new (t.taken ++ piece) e more → Taking v input behind old new next e more
 taking_more v input left behind old now new counted next d e line more piece t consumes count served = record {
   taken = t.taken ++ piece;
   consumed = Consumes-trans input left behind t.taken piece t.consumed consumes;
-  count = count ∙ ap (λ (k : ℕ). raised k (length piece)) t.count ∙ counted_more (length t.taken) (length piece) (2 ^ 64 - 1) ∙ sym (ap (raised 0) (length-append t.taken piece));
+  count = count ∙ ap (λ (k : ℕ). raised_count k (length piece)) t.count ∙ counted_more (length t.taken) (length piece) (2 ^ 64 - 1) ∙ sym (ap (raised_count 0) (length-append t.taken piece));
   served = served;
 }
 
@@ -298,9 +298,9 @@ ends_greeting first v input old new counted stop.Memory p = inl p
 
 -- a line of a piece that was taken stopped it
 pub ends_piece : (v : DriverView) (input left behind old now new : Option (List ℕ)) (counted next : ℕ) (d : DriverView) (line piece : List ℕ) (s : Stop) (t : Taking v input left old now counted d line)
-    → Consumes left behind piece → next ≡ raised counted (length piece) → StopsAt (blocks v) old new (ended_lines (t.taken ++ piece)) s → EndsInput (blocks v) input old new next (status_of s)
+    → Consumes left behind piece → next ≡ raised_count counted (length piece) → StopsAt (blocks v) old new (ended_lines (t.taken ++ piece)) s → EndsInput (blocks v) input old new next (status_of s)
 ends_piece v input left behind old now new counted next d line piece s t consumes count stops = record {
   taken = t.taken ++ piece;
-  count = count ∙ ap (λ (k : ℕ). raised k (length piece)) t.count ∙ counted_more (length t.taken) (length piece) (2 ^ 64 - 1) ∙ sym (ap (raised 0) (length-append t.taken piece));
+  count = count ∙ ap (λ (k : ℕ). raised_count k (length piece)) t.count ∙ counted_more (length t.taken) (length piece) (2 ^ 64 - 1) ∙ sym (ap (raised_count 0) (length-append t.taken piece));
   ends = ends_stopped v input old new (t.taken ++ piece) s (front_of input behind (t.taken ++ piece) (Consumes-trans input left behind t.taken piece t.consumed consumes)) stops;
 }

@@ -2,7 +2,7 @@
 use Rattle.std.specs.Prelude.{ℕ, List, [], ◌∷◌, ◌++◌, length, Option, None, Some, Result, Ok, Err}
 use Rattle.topology.specs.Networks.{Network}
 use Rattle.update_model.specs.declared.Change.{Change}
-use Rattle.two_way_driver.specs.Calls.{DriverView, start_fault, back_fault, silent}
+use Rattle.two_way_driver.specs.Calls.{DriverView, start_fault, back_fault, silent_view}
 use Rattle.two_way_driver.specs.Laws.{after_call, driver_after}
 use Rattle.two_way_driver.specs.Laws as call
 use Rattle.two_way_driver.specs.declared.faults.CallFault.{CallFault}
@@ -32,17 +32,17 @@ refusal_of (fault.NotOpen s) = outcome.NotOpen s
 refusal_of fault.Memory = outcome.BadLine
 
 -- how a call ended, which has a fault or leads to this driver
-abbrev pub ended : Option CallFault → DriverView → Outcome
-ended None v = outcome.Went v.state.stage
-ended (Some fault) v = refusal_of fault
+abbrev pub call_outcome : Option CallFault → DriverView → Outcome
+call_outcome None v = outcome.Went v.state.stage
+call_outcome (Some fault) v = refusal_of fault
 
 -- how the line that asks for this ended
 abbrev pub outcome_asked : DriverView → ServeLine → Outcome
-outcome_asked v Comment = ended None v
-outcome_asked v Start = ended (start_fault v) (after_asked v Start)
-outcome_asked v Back = ended (back_fault v) (after_asked v Back)
-outcome_asked v (Reopen s) = ended None (after_asked v (Reopen s))
-outcome_asked v (Feed s bytes) = ended None (after_asked v (Feed s bytes))
+outcome_asked v Comment = call_outcome None v
+outcome_asked v Start = call_outcome (start_fault v) (after_asked v Start)
+outcome_asked v Back = call_outcome (back_fault v) (after_asked v Back)
+outcome_asked v (Reopen s) = call_outcome None (after_asked v (Reopen s))
+outcome_asked v (Feed s bytes) = call_outcome None (after_asked v (Feed s bytes))
 
 -- a bad line leaves the driver as it is
 abbrev pub after_read : DriverView → Result ServeLine LineFault → DriverView
@@ -55,7 +55,7 @@ outcome_read v (Err bad) = outcome.BadLine
 
 -- a driver behind a line, whose block is written: what was said is forgotten
 unfoldable pub after_line : DriverView → List ℕ → DriverView
-after_line v line = silent (after_read v (line_in v.net line))
+after_line v line = silent_view (after_read v (line_in v.net line))
 
 -- the block of a line
 unfoldable pub line_block : DriverView → List ℕ → List ℕ
@@ -73,9 +73,9 @@ blocks v (line ∷ lines) = line_block v line ++ blocks (after_line v line) line
 
 -- the block of line 0: what a driver says that was just made
 abbrev pub first_block : DriverView → List ℕ
-first_block v = block_text v.net (length v.rounds) v.state.said (ended None v)
+first_block v = block_text v.net (length v.rounds) v.state.said (call_outcome None v)
 
 -- the text that answers lines: the driver that was made says its first block, and then one for each line
 unfoldable pub served_text : Network → List (List Change) → List (List Change) → List (List ℕ) → List ℕ
 served_text net rounds inverses lines =
-    first_block (driver_after net rounds inverses []) ++ blocks (silent (driver_after net rounds inverses [])) lines
+    first_block (driver_after net rounds inverses []) ++ blocks (silent_view (driver_after net rounds inverses [])) lines

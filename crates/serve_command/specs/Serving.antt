@@ -5,7 +5,7 @@ use Rattle.file_access.specs.Outside.{Files, AppendsFront}
 use Rattle.update_model.specs.declared.Change.{Change}
 use Rattle.certificates.specs.Certified.{IsCertified}
 use Rattle.round_inverses.specs.Rounds.{inverse_rounds}
-use Rattle.plan_verdict.specs.Verdicts.{IsRefusal}
+use Rattle.plan_verdict.specs.Verdicts.{IsPlanRefusal}
 use Rattle.command_base.specs.declared.kinds.FileKind.TheVariants as kind
 use Rattle.command_base.specs.declared.status.Status.{Status}
 use Rattle.command_base.specs.declared.status.Status.TheVariants as status
@@ -29,7 +29,7 @@ text_on m lines = served_text m.update.net m.plan.rounds (inverse_rounds m.updat
 
 -- the answer says that there are too many classes, or why the plan isn't certified
 abbrev pub SaysRefusal : CheckMeaning → Answer → Type 0
-SaysRefusal m answer = IsRefusal (task_in m) m.plan.evidence answer
+SaysRefusal m answer = IsPlanRefusal (task_in m) m.plan.evidence answer
 
 -- a refusal was written whole; for want of memory nothing was written, and a front where writing failed
 abbrev pub EndsRefused : CheckMeaning → Option (List ℕ) → Option (List ℕ) → Status → Type 0

@@ -1,12 +1,12 @@
 -- What was written where serving ends.
 use Rattle.std.specs.Prelude.{◌≡◌, ◌⊎◌, ℕ, List, [], ◌++◌, length, take, Option, None, Some, codes}
 use Rattle.std.specs.Io.KnownBytes.{Appends, Keeps}
-use Rattle.file_access.specs.Causes.{raised}
+use Rattle.file_access.specs.Causes.{raised_count}
 use Rattle.file_access.specs.Outside.{Files, AppendsFront}
 use Rattle.command_base.specs.declared.status.Status.{Status}
 use Rattle.command_base.specs.declared.status.Status.TheVariants as status
 use Rattle.two_way_driver.specs.Calls.{DriverView, IsServing}
-use Rattle.serve_lines.specs.Lines.{ended_lines, open_line, lines_in, kept}
+use Rattle.serve_lines.specs.Lines.{ended_lines, open_line, lines_in, kept_bytes}
 use Rattle.serve_command.specs.Served.{after_lines, blocks}
 use Rattle.serve_command.specs.declared.stop.Stop.{Stop}
 use Rattle.serve_command.specs.declared.stop.Stop.TheVariants as stop
@@ -42,7 +42,7 @@ StopsAt text old new lines stop.Memory = (n : ℕ) × Appends old new (text (tak
 -- is kept
 pub record HasServed (v : DriverView) (old new : Option (List ℕ)) (bytes : List ℕ) (driver : DriverView) (line : List ℕ) : Type 0 where
   pub driver_is : driver ≡ after_lines v (ended_lines bytes)
-  pub line_is : line ≡ kept (open_line bytes)
+  pub line_is : line ≡ kept_bytes (open_line bytes)
   pub written : Appends old new (blocks v (ended_lines bytes))
 
 -- these bytes are a front of those, where they are known
@@ -67,7 +67,7 @@ EndsAfter text input old new taken other = ⊥
 -- some bytes of the input were taken, as many as were counted, and serving ends so
 pub record EndsInput (text : List (List ℕ) → List ℕ) (input old new : Option (List ℕ)) (counted : ℕ) (result : Status) : Type 0 where
   pub taken : List ℕ
-  pub count : counted ≡ raised 0 (length taken)
+  pub count : counted ≡ raised_count 0 (length taken)
   pub ends : EndsAfter text input old new taken result
 
 -- it ends before the input is looked at: for want of memory nothing was written, and a front of the text of no lines where writing failed

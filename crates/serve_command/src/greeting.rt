@@ -3,7 +3,7 @@ ghost use Rattle.std.specs.Prelude.{◌≡◌, ◌⊎◌, ◌≤◌, ◌++◌, [
 ghost use Rattle.std.specs.Io.KnownBytes.{Appends};
 ghost use Rattle.file_access.specs.Causes.{Rose};
 ghost use Rattle.file_access.specs.Outside.{IsMissing};
-ghost use Rattle.two_way_driver.specs.Calls.{silent};
+ghost use Rattle.two_way_driver.specs.Calls.{silent_view};
 ghost use Rattle.serve_command.specs.Served.{blocks, first_block};
 ghost use Rattle.serve_command.specs.Stops.{Suits, StopsLine, EndsInput, EndsServing, input_of, input_name};
 
@@ -24,7 +24,7 @@ const INPUT: &str = "/dev/stdin";
 fn first_block(place: &Place<'_>, driver: &mut Driver<'_>) -> Result<Vec<u8>, Memory>
     requires { Suits place.now driver.old }
     ensures block { IfOk result (λ t. t.items ≡ first_block driver.old) }
-    ensures behind { OnOk result (driver.new ≡ silent driver.old) }
+    ensures behind { OnOk result (driver.new ≡ silent_view driver.old) }
     ensures suits { OnOk result (Suits place.now driver.new) }
 {
     let outcome = Outcome::Went(driver.stage());
@@ -38,7 +38,7 @@ fn greet<K: Sink>(place: &Place<'_>, driver: &mut Driver<'_>, sink: &mut K) -> R
     requires { Suits place.now driver.old }
     ensures all { OnOk result
         (Appends (K.written sink.old) (K.written sink.new) (first_block driver.old)) }
-    ensures behind { OnOk result (driver.new ≡ silent driver.old) }
+    ensures behind { OnOk result (driver.new ≡ silent_view driver.old) }
     ensures suits { OnOk result (Suits place.now driver.new) }
     ensures front { IfErr result
         (StopsLine (K.written sink.old) (K.written sink.new) (first_block driver.old)) }
@@ -87,7 +87,7 @@ pub fn serve_desk<S: Source, K: Sink>(
     requires suits { Suits place.now desk.old.driver }
     requires fresh { desk.old.line ≡ [] }
     ensures ends { EndsServing
-        (λ lines. first_block desk.old.driver ++ blocks (silent desk.old.driver) lines)
+        (λ lines. first_block desk.old.driver ++ blocks (silent_view desk.old.driver) lines)
         (input_of (S.held source.old)) (K.written sink.old) (K.written sink.new)
         (S.taken source.new) result }
     ensures held { S.held source.new ≡ S.held source.old }

@@ -5,7 +5,7 @@ use Rattle.std.proofs.lemmas.List.{length-take-le, take-append-le}
 use Rattle.std.specs.Prelude.{Ok, Err, if◌then◌else◌}
 use Rattle.net_base.specs.Lines.{is_comment}
 use Rattle.topology.specs.Networks.{Network}
-use Rattle.serve_lines.specs.Lines.{kept, line_in, spelled_in}
+use Rattle.serve_lines.specs.Lines.{kept_bytes, line_in, spelled_in}
 use Rattle.serve_lines.specs.declared.fault.LineFault.TheVariants.{Bad}
 use Rattle.serve_lines.specs.declared.line.ServeLine.TheVariants.{Comment}
 
@@ -41,5 +41,5 @@ module _ {D : Type 0} (n m : ℕ) (one_more : m ≡ n + 1) (bad : D) (f : List �
   pub kept_told : cond (ltb n (length (take m line))) bad (f (take m line)) ≡ cond (ltb n (length line)) bad (f line)
   kept_told = elim (cases_lt n (length line)) [ inl lt ↦ long_told lt | inr le ↦ short_told le ]
 
-pub line_kept : (net : Network) (line : List ℕ) → line_in net (kept line) ≡ line_in net line
+pub line_kept : (net : Network) (line : List ℕ) → line_in net (kept_bytes line) ≡ line_in net line
 line_kept net line = kept_told 262144 262145 refl (Err Bad) (λ (bytes : List ℕ). if is_comment bytes then Ok Comment else spelled_in net bytes) line

@@ -56,8 +56,8 @@ IsLineOf net (Feed s bytes) = s.0 < switch_count net
 -- ---- lines that come in pieces
 
 -- what is kept of a line: as many bytes as a line may have, and one more
-abbrev pub kept : List ℕ → List ℕ
-kept line = take 262145 line
+abbrev pub kept_bytes : List ℕ → List ℕ
+kept_bytes line = take 262145 line
 
 -- the lines that have their line end
 abbrev pub ended_lines : List ℕ → List (List ℕ)

@@ -1,7 +1,7 @@
 //! What holds of lines that come byte by byte. Each law is a function that does nothing: its contract is the law.
 ghost use Rattle.std.specs.Prelude.{◌≡◌, ◌≢◌, ◌++◌, ◌∷◌, [], ℕ, List};
 ghost use Rattle.topology.specs.Networks.{Network};
-ghost use Rattle.serve_lines.specs.Lines.{kept, line_in, ended_lines, open_line};
+ghost use Rattle.serve_lines.specs.Lines.{kept_bytes, line_in, ended_lines, open_line};
 
 /// A line end ends the open line, and the next one begins.
 pub fn line_ends_end_lines()
@@ -20,7 +20,8 @@ pub fn bytes_lengthen_lines()
 
 /// What is kept of a line tells what the line asks for, and needs no more than itself and the next byte.
 pub fn what_is_kept_tells()
-    ensures told { (net : Network) (line : List ℕ) → line_in net (kept line) ≡ line_in net line }
-    ensures next { (line : List ℕ) (b : ℕ) → kept (kept line ++ b ∷ [])
-        ≡ kept (line ++ b ∷ []) }
+    ensures told { (net : Network) (line : List ℕ) → line_in net (kept_bytes line)
+        ≡ line_in net line }
+    ensures next { (line : List ℕ) (b : ℕ) → kept_bytes (kept_bytes line ++ b ∷ [])
+        ≡ kept_bytes (line ++ b ∷ []) }
 {}

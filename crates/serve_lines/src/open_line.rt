@@ -1,6 +1,6 @@
 //! The line that isn't ended yet.
 ghost use Rattle.std.specs.Prelude.{◌≡◌, ◌++◌, ◌∷◌, [], OnOk, OnErr};
-ghost use Rattle.serve_lines.specs.Lines.{kept};
+ghost use Rattle.serve_lines.specs.Lines.{kept_bytes};
 
 use net_base::Memory;
 use std::alloc::Global;
@@ -39,7 +39,7 @@ impl OpenLine {
 
     /// One more byte of the line. After a refusal it is as before.
     pub fn push(&mut self, byte: u8) -> Result<(), Memory>
-        ensures ok { OnOk result (self.new ≡ kept (self.old ++ byte ∷ [])) }
+        ensures ok { OnOk result (self.new ≡ kept_bytes (self.old ++ byte ∷ [])) }
         ensures err { OnErr result (self.new ≡ self.old) }
     {
         if self.bytes.len() <= MOST_BYTES {

@@ -11,10 +11,10 @@ use Rattle.net_base.specs.Text.{cut_first}
 use Rattle.topology.specs.Networks.{Network, switch_named}
 use Rattle.update_model.specs.declared.Change.{Change}
 use Rattle.driver_input.specs.Lines.{bytes_in}
-use Rattle.two_way_driver.specs.Calls.{DriverView, silent, start_fault, back_fault, started, turned}
+use Rattle.two_way_driver.specs.Calls.{DriverView, silent_view, start_fault, back_fault, started_view, turned_view}
 use Rattle.two_way_driver.specs.Laws.{Call, IsCall, after_call, after_calls}
 use Rattle.two_way_driver.specs.Laws as call
-use Rattle.two_way_driver.specs.Words.{after_call_anew, after_calls_anew, said_by_each, joined}
+use Rattle.two_way_driver.specs.Words.{after_call_anew, after_calls_anew, said_by_each, joined_words}
 use Rattle.two_way_driver.specs.declared.Said.{Said}
 use Rattle.two_way_driver.proofs.WordLaws.{calls_said, calls_kept}
 use Rattle.serve_lines.specs.Lines.{reopened_in, fed_in, worded_in, text_in, spelled_in, line_in, IsLineOf}
@@ -25,7 +25,7 @@ use Rattle.serve_lines.specs.declared.line.ServeLine.TheVariants.{Comment, Start
 use Rattle.serve_command.specs.Served.{after_read, after_line, line_block, after_lines, blocks, first_block, served_text}
 use Rattle.serve_command.specs.Serving.{text_on}
 use Rattle.check_base.specs.Checks.{CheckMeaning}
-use Rattle.serve_promise.specs.Told.{Told, block_of, told_first, told_line, told_lines, said_in, driver_of, driver_behind, told_on, call_read, call_in, calls_in}
+use Rattle.serve_promise.specs.Told.{BlockContent, block_of, told_first, told_line, told_lines, said_in, driver_of, driver_behind, told_on, call_read, call_in, calls_in}
 
 -- ---- a line keeps the network and the rounds
 
@@ -35,8 +35,8 @@ pub record KeepsPlan (v w : DriverView) : Type 0 where
 
 keeps_read : (v : DriverView) (r : Result ServeLine LineFault) → KeepsPlan v (after_read v r)
 keeps_read v (Ok Comment) = record { net = refl; rounds = refl }
-keeps_read v (Ok Start) = cond_both (is_none (start_fault v)) (started v) v (λ (w : DriverView). KeepsPlan v w) (λ b. record { net = refl; rounds = refl }) (λ b. record { net = refl; rounds = refl })
-keeps_read v (Ok Back) = cond_both (is_none (back_fault v)) (turned v) v (λ (w : DriverView). KeepsPlan v w) (λ b. record { net = refl; rounds = refl }) (λ b. record { net = refl; rounds = refl })
+keeps_read v (Ok Start) = cond_both (is_none (start_fault v)) (started_view v) v (λ (w : DriverView). KeepsPlan v w) (λ b. record { net = refl; rounds = refl }) (λ b. record { net = refl; rounds = refl })
+keeps_read v (Ok Back) = cond_both (is_none (back_fault v)) (turned_view v) v (λ (w : DriverView). KeepsPlan v w) (λ b. record { net = refl; rounds = refl }) (λ b. record { net = refl; rounds = refl })
 keeps_read v (Ok (Reopen s)) = record { net = refl; rounds = refl }
 keeps_read v (Ok (Feed s bytes)) = record { net = refl; rounds = refl }
 keeps_read v (Err bad) = record { net = refl; rounds = refl }
@@ -69,23 +69,23 @@ blocks_are net rounds v (line ∷ lines) net_is rounds_is =
 
 pub text_is : (m : CheckMeaning) (lines : List (List ℕ)) → text_on m lines ≡ flat_map (block_of m.update.net (length m.plan.rounds)) (told_on m lines)
 unfolding served_text
-text_is m lines = ap (λ (t : List ℕ). first_block (driver_of m []) ++ t) (blocks_are m.update.net m.plan.rounds (silent (driver_of m [])) lines refl refl)
+text_is m lines = ap (λ (t : List ℕ). first_block (driver_of m []) ++ t) (blocks_are m.update.net m.plan.rounds (silent_view (driver_of m [])) lines refl refl)
 
 -- ---- lines behind others
 
 told-append : (v : DriverView) (lines more : List (List ℕ)) → told_lines v (lines ++ more) ≡ told_lines v lines ++ told_lines (after_lines v lines) more
 told-append v [] more = refl
-told-append v (line ∷ lines) more = ap (λ (ts : List Told). told_line v line ∷ ts) (told-append (after_line v line) lines more)
+told-append v (line ∷ lines) more = ap (λ (ts : List BlockContent). told_line v line ∷ ts) (told-append (after_line v line) lines more)
 
 pub told_behind : (m : CheckMeaning) (lines more : List (List ℕ)) → told_on m (lines ++ more) ≡ told_on m lines ++ told_lines (driver_behind m lines) more
-told_behind m lines more = ap (λ (ts : List Told). told_first (driver_of m []) ∷ ts) (told-append (silent (driver_of m [])) lines more)
+told_behind m lines more = ap (λ (ts : List BlockContent). told_first (driver_of m []) ∷ ts) (told-append (silent_view (driver_of m [])) lines more)
 
 after_lines-append : (v : DriverView) (lines more : List (List ℕ)) → after_lines v (lines ++ more) ≡ after_lines (after_lines v lines) more
 after_lines-append v [] more = refl
 after_lines-append v (line ∷ lines) more = after_lines-append (after_line v line) lines more
 
 pub behind-append : (m : CheckMeaning) (lines more : List (List ℕ)) → driver_behind m (lines ++ more) ≡ after_lines (driver_behind m lines) more
-behind-append m lines more = after_lines-append (silent (driver_of m [])) lines more
+behind-append m lines more = after_lines-append (silent_view (driver_of m [])) lines more
 
 -- ---- what is said, call by call
 
@@ -98,7 +98,7 @@ abbrev pub given : DriverView → Option Call → DriverView
 given w None = w
 given w (Some c) = after_call_anew w c
 
-pub read_said : (w : DriverView) (r : Result ServeLine LineFault) → (after_read (silent w) r).state.said ≡ said_given w (call_read r)
+pub read_said : (w : DriverView) (r : Result ServeLine LineFault) → (after_read (silent_view w) r).state.said ≡ said_given w (call_read r)
 read_said w (Ok Comment) = refl
 read_said w (Ok Start) = refl
 read_said w (Ok Back) = refl
@@ -106,7 +106,7 @@ read_said w (Ok (Reopen s)) = refl
 read_said w (Ok (Feed s bytes)) = refl
 read_said w (Err bad) = refl
 
-read_behind : (w : DriverView) (r : Result ServeLine LineFault) → silent (after_read (silent w) r) ≡ silent (given w (call_read r))
+read_behind : (w : DriverView) (r : Result ServeLine LineFault) → silent_view (after_read (silent_view w) r) ≡ silent_view (given w (call_read r))
 read_behind w (Ok Comment) = refl
 read_behind w (Ok Start) = refl
 read_behind w (Ok Back) = refl
@@ -114,18 +114,18 @@ read_behind w (Ok (Reopen s)) = refl
 read_behind w (Ok (Feed s bytes)) = refl
 read_behind w (Err bad) = refl
 
-pub line_behind : (w : DriverView) (line : List ℕ) → after_line (silent w) line ≡ silent (given w (call_in w.net line))
+pub line_behind : (w : DriverView) (line : List ℕ) → after_line (silent_view w) line ≡ silent_view (given w (call_in w.net line))
 unfolding after_line
 line_behind w line = read_behind w (line_in w.net line)
 
 pub given_net : (w : DriverView) (o : Option Call) → (given w o).net ≡ w.net
 given_net w None = refl
-given_net w (Some call.Start) = cond_both (is_none (start_fault (silent w))) (started (silent w)) (silent w) (λ (x : DriverView). x.net ≡ w.net) (λ b. refl) (λ b. refl)
-given_net w (Some call.Back) = cond_both (is_none (back_fault (silent w))) (turned (silent w)) (silent w) (λ (x : DriverView). x.net ≡ w.net) (λ b. refl) (λ b. refl)
+given_net w (Some call.Start) = cond_both (is_none (start_fault (silent_view w))) (started_view (silent_view w)) (silent_view w) (λ (x : DriverView). x.net ≡ w.net) (λ b. refl) (λ b. refl)
+given_net w (Some call.Back) = cond_both (is_none (back_fault (silent_view w))) (turned_view (silent_view w)) (silent_view w) (λ (x : DriverView). x.net ≡ w.net) (λ b. refl) (λ b. refl)
 given_net w (Some (call.Reopen s)) = refl
 given_net w (Some (call.Feed s bytes)) = refl
 
-more_said : (w : DriverView) (o : Option Call) (calls : List Call) → said_given w o ++ joined (said_by_each (given w o) calls) ≡ joined (said_by_each w (cons_option o calls))
+more_said : (w : DriverView) (o : Option Call) (calls : List Call) → said_given w o ++ joined_words (said_by_each (given w o) calls) ≡ joined_words (said_by_each w (cons_option o calls))
 more_said w None calls = refl
 more_said w (Some c) calls = refl
 
@@ -133,23 +133,23 @@ more_behind : (w : DriverView) (o : Option Call) (calls : List Call) → after_c
 more_behind w None calls = refl
 more_behind w (Some c) calls = refl
 
-lines_said : (net : Network) (w : DriverView) (lines : List (List ℕ)) → w.net ≡ net → said_in (told_lines (silent w) lines) ≡ joined (said_by_each w (calls_in net lines))
+lines_said : (net : Network) (w : DriverView) (lines : List (List ℕ)) → w.net ≡ net → said_in (told_lines (silent_view w) lines) ≡ joined_words (said_by_each w (calls_in net lines))
 lines_said net w [] same = refl
 lines_said net w (line ∷ lines) same =
     let o = call_in w.net line in
     let calls = calls_in net lines in
     let rest = lines_said net (given w o) lines (given_net w o ∙ same) in
-    ap (λ (v : DriverView). (told_line (silent w) line).said ++ said_in (told_lines v lines)) (line_behind w line)
-    ∙ ap (λ (t : List Said). t ++ said_in (told_lines (silent (given w o)) lines)) (read_said w (line_in w.net line))
-    ∙ ap (λ (t : List Said). said_given w o ++ t) rest ∙ more_said w o calls ∙ ap (λ (n : Network). joined (said_by_each w (cons_option (call_in n line) calls))) same
+    ap (λ (v : DriverView). (told_line (silent_view w) line).said ++ said_in (told_lines v lines)) (line_behind w line)
+    ∙ ap (λ (t : List Said). t ++ said_in (told_lines (silent_view (given w o)) lines)) (read_said w (line_in w.net line))
+    ∙ ap (λ (t : List Said). said_given w o ++ t) rest ∙ more_said w o calls ∙ ap (λ (n : Network). joined_words (said_by_each w (cons_option (call_in n line) calls))) same
 
-lines_behind : (net : Network) (w : DriverView) (lines : List (List ℕ)) → w.net ≡ net → after_lines (silent w) lines ≡ silent (after_calls_anew w (calls_in net lines))
+lines_behind : (net : Network) (w : DriverView) (lines : List (List ℕ)) → w.net ≡ net → after_lines (silent_view w) lines ≡ silent_view (after_calls_anew w (calls_in net lines))
 lines_behind net w [] same = refl
 lines_behind net w (line ∷ lines) same =
     let o = call_in w.net line in
     let calls = calls_in net lines in
     ap (λ (v : DriverView). after_lines v lines) (line_behind w line) ∙ lines_behind net (given w o) lines (given_net w o ∙ same)
-    ∙ ap silent (more_behind w o calls) ∙ ap (λ (n : Network). silent (after_calls_anew w (cons_option (call_in n line) calls))) same
+    ∙ ap silent_view (more_behind w o calls) ∙ ap (λ (n : Network). silent_view (after_calls_anew w (cons_option (call_in n line) calls))) same
 
 -- all that the blocks tell is what the driver says to the calls for which the lines ask
 pub words_are : (m : CheckMeaning) (lines : List (List ℕ)) → said_in (told_on m lines) ≡ (driver_of m (calls_in m.update.net lines)).state.said
@@ -158,7 +158,7 @@ words_are m lines =
     ap (λ (t : List Said). v.state.said ++ t) (lines_said m.update.net v lines refl) ∙ sym (calls_said v (calls_in m.update.net lines))
 
 -- and the driver is the one behind these calls, but that it forgot what it said
-pub driver_is : (m : CheckMeaning) (lines : List (List ℕ)) → driver_behind m lines ≡ silent (driver_of m (calls_in m.update.net lines))
+pub driver_is : (m : CheckMeaning) (lines : List (List ℕ)) → driver_behind m lines ≡ silent_view (driver_of m (calls_in m.update.net lines))
 driver_is m lines =
     let v = driver_of m [] in
     lines_behind m.update.net v lines refl ∙ sym (calls_kept v (calls_in m.update.net lines))

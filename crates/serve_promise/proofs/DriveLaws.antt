@@ -13,7 +13,7 @@ use Rattle.driver_input.specs.declared.inputs.InputLine.{InputLine}
 use Rattle.update_driver.specs.Calls as onward
 use Rattle.update_driver.specs.Drivers as one
 use Rattle.update_driver.specs.Drivers.{DriverState as OnwardState}
-use Rattle.two_way_driver.specs.Calls.{DriverView, silent, start_fault}
+use Rattle.two_way_driver.specs.Calls.{DriverView, silent_view, start_fault}
 use Rattle.two_way_driver.specs.Laws.{Call, after_call, after_calls}
 use Rattle.two_way_driver.specs.Laws as call
 use Rattle.two_way_driver.specs.Words.{after_call_anew, after_calls_anew}
@@ -31,7 +31,7 @@ use Rattle.serve_lines.specs.declared.fault.LineFault.{LineFault}
 use Rattle.serve_lines.specs.declared.line.ServeLine.{ServeLine}
 use Rattle.serve_lines.specs.declared.line.ServeLine.TheVariants.{Comment, Start, Back, Reopen, Feed}
 use Rattle.serve_lines.specs.declared.blocks.Outcome.TheVariants.{Went}
-use Rattle.serve_command.specs.Served.{ended, refusal_of}
+use Rattle.serve_command.specs.Served.{call_outcome, refusal_of}
 use Rattle.serve_promise.specs.Told.{told_read, told_lines, call_read, call_in, calls_in}
 use Rattle.serve_promise.specs.Running.{EndsOk}
 use Rattle.serve_promise.proofs.BlockLaws.{given, given_net, line_behind}
@@ -57,19 +57,19 @@ refused_goes (fault.NotOpen s) stage e = absurd (cc)
 refused_goes fault.Memory stage e = absurd (cc)
 
 -- a call that has a fault doesn't end with `ok`
-went_free : (o : Option CallFault) (v : DriverView) (stage : Stage) → ended o v ≡ Went stage → is_none o ≡ true
+went_free : (o : Option CallFault) (v : DriverView) (stage : Stage) → call_outcome o v ≡ Went stage → is_none o ≡ true
 went_free None v stage e = refl
 went_free (Some f) v stage e = absurd (refused_goes f stage e)
 
-may_read : (w : DriverView) (r : Result ServeLine LineFault) (calls : List Call) → EndsOk (told_read (silent w) r) → MayCallAll (given w (call_read r)) calls → MayCallAll w (cons_option (call_read r) calls)
+may_read : (w : DriverView) (r : Result ServeLine LineFault) (calls : List Call) → EndsOk (told_read (silent_view w) r) → MayCallAll (given w (call_read r)) calls → MayCallAll w (cons_option (call_read r) calls)
 may_read w (Ok Comment) calls ok rest = rest
-may_read w (Ok Start) calls ok rest = (went_free (start_fault (silent w)) (after_call (silent w) call.Start) ok.0 ok.1, rest)
+may_read w (Ok Start) calls ok rest = (went_free (start_fault (silent_view w)) (after_call (silent_view w) call.Start) ok.0 ok.1, rest)
 may_read w (Ok Back) calls ok rest = (tt, rest)
 may_read w (Ok (Reopen s)) calls ok rest = (tt, rest)
 may_read w (Ok (Feed s bytes)) calls ok rest = (tt, rest)
 may_read w (Err bad) calls ok rest = rest
 
-may_lines : (net : Network) (w : DriverView) (lines : List (List ℕ)) → w.net ≡ net → AllByRecursion EndsOk (told_lines (silent w) lines) → MayCallAll w (calls_in net lines)
+may_lines : (net : Network) (w : DriverView) (lines : List (List ℕ)) → w.net ≡ net → AllByRecursion EndsOk (told_lines (silent_view w) lines) → MayCallAll w (calls_in net lines)
 may_lines net w [] same all = tt
 may_lines net w (line ∷ lines) same all =
     let o = call_in w.net line in
@@ -105,7 +105,7 @@ module _ (net : Network) (rounds : List (List Change)) where
   -- the inputs of `drive` for which lines ask that are taken, where both drivers agree behind whatever calls
   pub takes_inputs : (v : DriverView) (lines : List (List ℕ)) (inputs : List InputLine) → v.net ≡ net
       → ((calls : List onward.Call) → AllByRecursion (onward.IsCall net) calls → Agree net rounds (onward.driver_after net rounds calls) (after_calls v (map two_way_call calls)))
-      → AreInputs net inputs → calls_in net lines ≡ map two_way_call (calls_of inputs) → AllByRecursion EndsOk (told_lines (silent v) lines)
+      → AreInputs net inputs → calls_in net lines ≡ map two_way_call (calls_of inputs) → AllByRecursion EndsOk (told_lines (silent_view v) lines)
       → driven_by net rounds inputs ≡ Ok (onward.driver_after net rounds (calls_of inputs))
   takes_inputs v lines inputs same agree are asked taken =
       let alike : RefuseAlike (one.first_driver net) v = λ calls ok.

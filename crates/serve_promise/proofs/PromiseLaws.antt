@@ -9,7 +9,7 @@ use Rattle.command_base.specs.Answers.{Answer}
 use Rattle.command_base.specs.Dialogues.{Dialogue, Bad, Ends, Reads}
 use Rattle.command_base.specs.Judgements.{most_classes}
 use Rattle.command_base.specs.Meanings.{IsAnswerOver}
-use Rattle.command_base.specs.Runs.{IsSettled, EndsAs, Answered, AnswersFront}
+use Rattle.command_base.specs.Runs.{IsComplete, EndsAs, Answered, AnswersFront}
 use Rattle.command_base.proofs.JudgementLaws.{IsAnswerOn, SaysOfGood, JudgesFiles, done, refusals, judges_by}
 use Rattle.command_base.proofs.MeaningLaws.{said_over}
 use Rattle.command_base.proofs.RunLaws.{told_all, told_front, settled_done}
@@ -33,7 +33,7 @@ none_front (Some all) = (all, refl)
 
 -- a settled run that ends where its dialogue leads has the answer over the files
 settled_answered : {E : Type 0} (says : E → Answer → Type 0) (files : Files) (d : Dialogue E) (old new : Option (List ℕ)) (selected : List ℕ) (taken : ℕ) (result : Status)
-    → IsSettled result → EndsAs says (Some files) d old new selected taken result → Answered says files d old new result
+    → IsComplete result → EndsAs says (Some files) d old new selected taken result → Answered says files d old new result
 settled_answered says files d old new selected taken status.ReadFault settled e = absurd (settled.read refl)
 settled_answered says files d old new selected taken status.Memory settled e = absurd (settled.memory refl)
 settled_answered says files d old new selected taken status.WriteFault settled e = absurd (settled.written refl)
@@ -52,7 +52,7 @@ record EndsDone (text : List (List ℕ) → List ℕ) (input old new : Option (L
   pub all : AreAll input taken
   pub written : Appends old new (text (lines_in taken))
 
-settled_served : (text : List (List ℕ) → List ℕ) (input old new : Option (List ℕ)) (counted : ℕ) (result : Status) → IsSettled result → EndsServing text input old new counted result → EndsDone text input old new result
+settled_served : (text : List (List ℕ) → List ℕ) (input old new : Option (List ℕ)) (counted : ℕ) (result : Status) → IsComplete result → EndsServing text input old new counted result → EndsDone text input old new result
 settled_served text input old new counted status.ReadFault settled ends = absurd (settled.read refl)
 settled_served text input old new counted status.Memory settled ends = absurd (settled.memory refl)
 settled_served text input old new counted status.WriteFault settled ends = absurd (settled.written refl)
@@ -138,7 +138,7 @@ module _ (files : Files) (names : CheckNames) (old new : Option (List ℕ)) (sel
 
   -- ---- a settled run
 
-  answered_says : IsSettled result → Answered Says files dialogue old new result
+  answered_says : IsComplete result → Answered Says files dialogue old new result
   answered_says settled = elim ends [
     | inl check ↦ (
         let a = settled_answered SaysRefusal files dialogue old new selected taken result settled check in
@@ -163,7 +163,7 @@ module _ (files : Files) (names : CheckNames) (old new : Option (List ℕ)) (sel
   checked : (answer : Answer) → IsAnswerOver SaysRefusal files dialogue answer → AsCheckOver answer
   checked answer over = checks_over SaysRefusal IsCheckAnswer files dialogue answer (λ m says. refusal_checks m answer says) over
 
-  as_check : ¬ FilesAreCertified files names → IsSettled result → Answered IsCheckAnswer files dialogue old new result
+  as_check : ¬ FilesAreCertified files names → IsComplete result → Answered IsCheckAnswer files dialogue old new result
   as_check fails settled = elim ends [
     | inl check ↦ (
         let a = settled_answered SaysRefusal files dialogue old new selected taken result settled check in

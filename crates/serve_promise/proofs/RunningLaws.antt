@@ -18,7 +18,7 @@ use Rattle.driver_input.specs.Inputs.{AreInputs}
 use Rattle.driver_input.specs.declared.inputs.InputLine.{InputLine}
 use Rattle.update_driver.specs.Calls as onward
 use Rattle.update_driver.specs.Drivers.{DriverState as OnwardState}
-use Rattle.two_way_driver.specs.Calls.{DriverView, silent, start_fault, back_fault, fed_view}
+use Rattle.two_way_driver.specs.Calls.{DriverView, silent_view, start_fault, back_fault, fed_view}
 use Rattle.two_way_driver.specs.Laws.{Call, events_in, phase_of, SaysRun, BeginsAnswered, after_call}
 use Rattle.two_way_driver.specs.Laws as call
 use Rattle.two_way_driver.specs.Words.{with_words, after_call_anew}
@@ -40,7 +40,7 @@ use Rattle.serve_lines.specs.declared.fault.LineFault.{LineFault}
 use Rattle.serve_lines.specs.declared.line.ServeLine.{ServeLine}
 use Rattle.serve_lines.specs.declared.line.ServeLine.TheVariants.{Comment, Start, Back, Reopen, Feed}
 use Rattle.serve_lines.specs.declared.blocks.Outcome.TheVariants.{Went}
-use Rattle.serve_command.specs.Served.{ended, after_read, outcome_read, after_line}
+use Rattle.serve_command.specs.Served.{call_outcome, after_read, outcome_read, after_line}
 use Rattle.check_base.specs.Checks.{CheckMeaning, task_in, FilesMeanPlan}
 use Rattle.check_base.specs.Names.{CheckNames}
 use Rattle.serve_promise.specs.Told.{told_first, told_line, driver_of, driver_behind, call_read, call_in, calls_in}
@@ -51,7 +51,7 @@ use Rattle.serve_promise.proofs.FileLaws.{net_keeps, old_user, new_user, good_ro
 
 -- ---- how a line ended
 
-went_ended : (o : Option CallFault) (v : DriverView) (stage : Stage) → ended o v ≡ Went stage → v.state.stage ≡ stage
+went_ended : (o : Option CallFault) (v : DriverView) (stage : Stage) → call_outcome o v ≡ Went stage → v.state.stage ≡ stage
 went_ended None v stage e = let f : Went v.state.stage ≡ Went stage = e in cc
 went_ended (Some f) v stage e = absurd (refused_goes f stage e)
 
@@ -72,7 +72,7 @@ went_line v line stage e = went_read v (line_in v.net line) stage e
 
 -- what each call sends, a line sends
 sends_read : (w : DriverView) (s : SwitchId) (r : Result ServeLine LineFault) → ((c : Call) → Sends w (after_call_anew w c) s c (texts_to s (after_call_anew w c).state.said))
-    → SendsBy (silent w) s (call_read r) (texts_to s (after_read (silent w) r).state.said)
+    → SendsBy (silent_view w) s (call_read r) (texts_to s (after_read (silent_view w) r).state.said)
 sends_read w s (Ok Comment) each = refl
 sends_read w s (Ok Start) each = each call.Start
 sends_read w s (Ok Back) each = each call.Back
@@ -80,9 +80,9 @@ sends_read w s (Ok (Reopen t)) each = each (call.Reopen t)
 sends_read w s (Ok (Feed t bytes)) each = let sent = each (call.Feed t bytes) in record { here = sent.here; others = sent.others }
 sends_read w s (Err bad) each = refl
 
-goes_on_read : (w : DriverView) (o : Option Call) → GoesOnBy (silent w) (silent (given w o)) o
+goes_on_read : (w : DriverView) (o : Option Call) → GoesOnBy (silent_view w) (silent_view (given w o)) o
 goes_on_read w None = refl
-goes_on_read w (Some c) = let on = goes_on (silent w) c in record { first = on.first; next = on.next }
+goes_on_read w (Some c) = let on = goes_on (silent_view w) c in record { first = on.first; next = on.next }
 
 -- ---- bytes that are cut
 
@@ -90,20 +90,20 @@ module _ (v : DriverView) (line : List ℕ) (s : SwitchId) (bytes : List ℕ) (f
   fed_said : (told_line v line).said ≡ (fed_view s bytes v).state.said
   fed_said = ap (λ (r : Result ServeLine LineFault). (after_read v r).state.said) feeds
 
-  fed_behind : after_line v line ≡ silent (fed_view s bytes v)
+  fed_behind : after_line v line ≡ silent_view (fed_view s bytes v)
   unfolding after_line
-  fed_behind = ap (λ (r : Result ServeLine LineFault). silent (after_read v r)) feeds
+  fed_behind = ap (λ (r : Result ServeLine LineFault). silent_view (after_read v r)) feeds
 
 -- behind bytes a driver says what it says behind these when it forgot what it said, and is the same else
 module _ (v : DriverView) (s : SwitchId) (a b : List ℕ) where
-  fed_twice : fed_view s (a ++ b) v ≡ with_words (fed_view s a v).state.said (fed_view s b (silent (fed_view s a v)))
+  fed_twice : fed_view s (a ++ b) v ≡ with_words (fed_view s a v).state.said (fed_view s b (silent_view (fed_view s a v)))
   fed_twice = fed-append s a b v ∙ call_is (fed_view s a v) (call.Feed s b)
 
-  said_twice : (fed_view s (a ++ b) v).state.said ≡ (fed_view s a v).state.said ++ (fed_view s b (silent (fed_view s a v))).state.said
+  said_twice : (fed_view s (a ++ b) v).state.said ≡ (fed_view s a v).state.said ++ (fed_view s b (silent_view (fed_view s a v))).state.said
   said_twice = ap (λ (x : DriverView). x.state.said) fed_twice
 
-  behind_twice : silent (fed_view s (a ++ b) v) ≡ silent (fed_view s b (silent (fed_view s a v)))
-  behind_twice = ap silent fed_twice
+  behind_twice : silent_view (fed_view s (a ++ b) v) ≡ silent_view (fed_view s b (silent_view (fed_view s a v)))
+  behind_twice = ap silent_view fed_twice
 
 -- ---- of a certified plan that files mean
 
@@ -124,7 +124,7 @@ module _ (files : Files) (names : CheckNames) (m : CheckMeaning) (mean : FilesMe
     waits : (lines : List (List ℕ)) → BeginsAnswered (driver_of m (calls_in net lines))
     waits lines = begins_answered net m.plan.rounds inverses m.update.old (good_rounds files names m mean certified) (turnable files names m mean) (calls_in net lines) (calls_within net lines)
 
-    waits_silent : (v : DriverView) → BeginsAnswered v → BeginsAnswered (silent v)
+    waits_silent : (v : DriverView) → BeginsAnswered v → BeginsAnswered (silent_view v)
     waits_silent v h = record { start = h.start; back = h.back }
 
     phase_is : (lines : List (List ℕ)) → (state_on m lines).phase ≡ phase_of (driver_behind m lines).state.stage
@@ -178,24 +178,24 @@ module _ (files : Files) (names : CheckNames) (m : CheckMeaning) (mean : FilesMe
   greets s less = all_calls s net m.plan.rounds inverses [] less
 
   behind_net : (lines : List (List ℕ)) → (driver_behind m lines).net ≡ net
-  behind_net lines = (keeps_lines (silent (driver_of m [])) lines).net
+  behind_net lines = (keeps_lines (silent_view (driver_of m [])) lines).net
 
   pub sends_as_asked : (lines : List (List ℕ)) (line : List ℕ) → SendsAsAsked m lines line
   sends_as_asked lines line =
       let w = driver_of m (calls_in net lines) in
       let w_net : w.net ≡ net = ap (λ (v : DriverView). v.net) (sym (driver_is m lines)) ∙ behind_net lines in
       let By : DriverView → Network → SwitchId → Type 0 = λ v n s. SendsBy v s (call_in n line) (texts_to s (told_line v line).said) in
-      let after : after_line (silent w) line ≡ silent (given w (call_in w.net line)) = line_behind w line in
+      let after : after_line (silent_view w) line ≡ silent_view (given w (call_in w.net line)) = line_behind w line in
       record {
         sends = λ s less.
             subst (λ (v : DriverView). By v net s) (sym (driver_is m lines))
-            (subst (λ (n : Network). By (silent w) n s) w_net
+            (subst (λ (n : Network). By (silent_view w) n s) w_net
             (sends_read w s (line_in w.net line) (λ c. each_call net m.plan.rounds inverses (calls_in net lines) c s (calls_within net lines) less)));
         xids =
             subst (λ (v : DriverView). GoesOnBy v (driver_behind m (lines ++ line ∷ [])) (call_in net line)) (sym (driver_is m lines))
-            (subst (λ (v : DriverView). GoesOnBy (silent w) v (call_in net line))
+            (subst (λ (v : DriverView). GoesOnBy (silent_view w) v (call_in net line))
             (sym (behind-append m lines (line ∷ []) ∙ ap (λ (v : DriverView). after_line v line) (driver_is m lines) ∙ after))
-            (subst (λ (n : Network). GoesOnBy (silent w) (silent (given w (call_in w.net line))) (call_in n line)) w_net (goes_on_read w (call_in w.net line))));
+            (subst (λ (n : Network). GoesOnBy (silent_view w) (silent_view (given w (call_in w.net line))) (call_in n line)) w_net (goes_on_read w (call_in w.net line))));
       }
 
   -- ---- bytes that are cut
@@ -209,7 +209,7 @@ module _ (files : Files) (names : CheckNames) (m : CheckMeaning) (mean : FilesMe
       let is_net : v.net ≡ net = behind_net lines in
       let front_feeds : line_in v.net front ≡ Ok (Feed s a) = ap (λ (n : Network). line_in n front) is_net ∙ cut.front_feeds in
       let whole_feeds : line_in v.net whole ≡ Ok (Feed s (a ++ b)) = ap (λ (n : Network). line_in n whole) is_net ∙ cut.whole_feeds in
-      let w = silent (fed_view s a v) in
+      let w = silent_view (fed_view s a v) in
       let rest_feeds : line_in w.net rest ≡ Ok (Feed s b) = ap (λ (n : Network). line_in n rest) is_net ∙ cut.rest_feeds in
       let w_is : driver_behind m (lines ++ front ∷ []) ≡ w = behind-append m lines (front ∷ []) ∙ fed_behind v front s a front_feeds in
       let one : (told_line w rest).said ≡ (fed_view s b w).state.said = fed_said w rest s b rest_feeds in

@@ -1,7 +1,7 @@
 -- What a run of `serve` promises over the files of a source that tells.
 use Rattle.std.specs.Prelude.{◌≡◌, ◌⊎◌, ◌↔◌, ◌<◌, ℕ, List, [], ◌∷◌, ◌++◌, length, map, flat_map, take, Option, Some, Ok}
 use Rattle.std.specs.Io.KnownBytes.{Appends, Keeps}
-use Rattle.file_access.specs.Causes.{raised}
+use Rattle.file_access.specs.Causes.{raised_count}
 use Rattle.file_access.specs.Outside.{Files, AppendsFront}
 use Rattle.net_base.specs.declared.ids.SwitchId.{SwitchId}
 use Rattle.topology.specs.Networks.{switch_count}
@@ -16,7 +16,7 @@ use Rattle.driver_agreement.specs.Agreement.{two_way_call}
 use Rattle.serve_lines.specs.Lines.{ended_lines, lines_in}
 use Rattle.command_base.specs.declared.status.Status.{Status}
 use Rattle.command_base.specs.declared.status.Status.TheVariants as status
-use Rattle.command_base.specs.Runs.{IsSettled, Answered, AnswersFront}
+use Rattle.command_base.specs.Runs.{IsComplete, Answered, AnswersFront}
 use Rattle.check_base.specs.Names.{CheckNames}
 use Rattle.check_base.specs.Checks.{CheckMeaning, check_dialogue, FilesAreCertified, RefusesUncertified}
 use Rattle.check_command.specs.Checks.{IsCheckAnswer}
@@ -30,14 +30,14 @@ use Rattle.serve_promise.specs.Running.{TellsRun, TellsPhase, SendsAsAsked, AreC
 pub record StopsUnread (m : CheckMeaning) (input : Option (List ℕ)) (counted : ℕ) (old new : Option (List ℕ)) : Type 0 where
   pub taken : List ℕ
   pub front : IsFrontOf input taken
-  pub count : counted ≡ raised 0 (length taken)
+  pub count : counted ≡ raised_count 0 (length taken)
   pub written : Appends old new (text_on m (ended_lines taken))
 
 -- memory was wanting, when so many bytes of the standard input were taken: the first of their lines are answered
 pub record StopsWanting (m : CheckMeaning) (input : Option (List ℕ)) (counted : ℕ) (old new : Option (List ℕ)) : Type 0 where
   pub taken : List ℕ
   pub front : IsFrontOf input taken
-  pub count : counted ≡ raised 0 (length taken)
+  pub count : counted ≡ raised_count 0 (length taken)
   pub lines : ℕ
   pub written : Appends old new (text_on m (take lines (lines_in taken)))
 
@@ -50,11 +50,11 @@ pub record StopsUnwritten (m : CheckMeaning) (input old new : Option (List ℕ))
 -- the files and their names, what was written before and after the run, how many bytes of the last file were taken, and how it ended
 pub record ServePromise (files : Files) (names : CheckNames) (old new : Option (List ℕ)) (taken : ℕ) (result : Status) : Type 0 where
   -- Done comes exactly where the five files mean an update and a plan of it that is certified, with at most 8192 classes.
-  pub done : IsSettled result → ((result ≡ status.Done) ↔ FilesAreCertified files names)
+  pub done : IsComplete result → ((result ≡ status.Done) ↔ FilesAreCertified files names)
   -- Refused comes exactly where the plan isn't certified, and the line names the first reason; too many classes are a bad file.
   pub refusals : RefusesUncertified files names old new result
   -- Where the files mean no certified plan, the answer is that of `check`; at most a front of it is written where writing fails, and else nothing.
-  pub as_check : ¬ FilesAreCertified files names → IsSettled result → Answered IsCheckAnswer files (check_dialogue names) old new result
+  pub as_check : ¬ FilesAreCertified files names → IsComplete result → Answered IsCheckAnswer files (check_dialogue names) old new result
   pub as_check_front : ¬ FilesAreCertified files names → result ≡ status.WriteFault → AnswersFront IsCheckAnswer (Some files) (check_dialogue names) old new
   pub as_check_nothing : ¬ FilesAreCertified files names → (result ≡ status.ReadFault) ⊎ (result ≡ status.Memory) → Keeps old new
   -- At the end of the standard input the blocks of line 0 and of all its lines are written, and nothing else.

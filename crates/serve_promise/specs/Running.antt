@@ -17,7 +17,7 @@ use Rattle.serve_lines.specs.Lines.{line_in}
 use Rattle.serve_lines.specs.declared.line.ServeLine.TheVariants.{Feed}
 use Rattle.serve_lines.specs.declared.blocks.Outcome.TheVariants.{Went}
 use Rattle.check_base.specs.Checks.{CheckMeaning, task_in}
-use Rattle.serve_promise.specs.Told.{Told, told_line, told_lines, told_on, said_in, driver_behind, call_in}
+use Rattle.serve_promise.specs.Told.{BlockContent, told_line, told_lines, told_on, said_in, driver_behind, call_in}
 
 -- ---- events
 
@@ -78,7 +78,7 @@ pub record SaysTheSame (m : CheckMeaning) (lines : List (List ℕ)) (front rest 
   pub driver : driver_behind m (lines ++ whole ∷ []) ≡ driver_behind m (lines ++ front ∷ rest ∷ [])
 
 -- a block ends with `ok`, so that its line wasn't refused and isn't bad
-abbrev pub EndsOk : Told → Type 0
+abbrev pub EndsOk : BlockContent → Type 0
 EndsOk told = (stage : Stage) × (told.outcome ≡ Went stage)
 
 -- each block that answers one of these lines ends with `ok`

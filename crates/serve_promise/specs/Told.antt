@@ -2,7 +2,7 @@
 use Rattle.std.specs.Prelude.{ℕ, List, [], ◌∷◌, flat_map, filter_map, Option, None, Some, Result, Ok, Err}
 use Rattle.topology.specs.Networks.{Network}
 use Rattle.round_inverses.specs.Rounds.{inverse_rounds}
-use Rattle.two_way_driver.specs.Calls.{DriverView, silent}
+use Rattle.two_way_driver.specs.Calls.{DriverView, silent_view}
 use Rattle.two_way_driver.specs.Laws.{Call, driver_after}
 use Rattle.two_way_driver.specs.Laws as call
 use Rattle.two_way_driver.specs.declared.Said.{Said}
@@ -12,38 +12,38 @@ use Rattle.serve_lines.specs.declared.fault.LineFault.{LineFault}
 use Rattle.serve_lines.specs.declared.line.ServeLine.{ServeLine}
 use Rattle.serve_lines.specs.declared.line.ServeLine.TheVariants.{Comment, Start, Back, Reopen, Feed}
 use Rattle.serve_lines.specs.declared.blocks.Outcome.{Outcome}
-use Rattle.serve_command.specs.Served.{ended, after_read, outcome_read, after_line, after_lines}
+use Rattle.serve_command.specs.Served.{call_outcome, after_read, outcome_read, after_line, after_lines}
 use Rattle.check_base.specs.Checks.{CheckMeaning}
 
 -- ---- blocks
 
 -- what a block tells: what the driver says, in order, and how the line ended
-pub record Told : Type 0 where
+pub record BlockContent : Type 0 where
   pub said : List Said
   pub outcome : Outcome
 
 -- the block that tells it, in an update of so many rounds
-abbrev pub block_of : Network → ℕ → Told → List ℕ
+abbrev pub block_of : Network → ℕ → BlockContent → List ℕ
 block_of net rounds told = block_text net rounds told.said told.outcome
 
 -- what the block of line 0 tells of a driver that was just made
-abbrev pub told_first : DriverView → Told
-told_first v = record { said = v.state.said; outcome = ended None v }
+abbrev pub told_first : DriverView → BlockContent
+told_first v = record { said = v.state.said; outcome = call_outcome None v }
 
 -- what the block of a line tells, by what the line asks for
-abbrev pub told_read : DriverView → Result ServeLine LineFault → Told
+abbrev pub told_read : DriverView → Result ServeLine LineFault → BlockContent
 told_read v read = record { said = (after_read v read).state.said; outcome = outcome_read v read }
 
-abbrev pub told_line : DriverView → List ℕ → Told
+abbrev pub told_line : DriverView → List ℕ → BlockContent
 told_line v line = told_read v (line_in v.net line)
 
 -- what the blocks of lines tell, one after the other
-abbrev pub told_lines : DriverView → List (List ℕ) → List Told
+abbrev pub told_lines : DriverView → List (List ℕ) → List BlockContent
 told_lines v [] = []
 told_lines v (line ∷ lines) = told_line v line ∷ told_lines (after_line v line) lines
 
 -- all that blocks tell of what the driver says, in order
-abbrev pub said_in : List Told → List Said
+abbrev pub said_in : List BlockContent → List Said
 said_in tolds = flat_map (λ t. t.said) tolds
 
 -- ---- the driver of a plan
@@ -54,11 +54,11 @@ driver_of m calls = driver_after m.update.net m.plan.rounds (inverse_rounds m.up
 
 -- the driver that answers the line behind these
 abbrev pub driver_behind : CheckMeaning → List (List ℕ) → DriverView
-driver_behind m lines = after_lines (silent (driver_of m [])) lines
+driver_behind m lines = after_lines (silent_view (driver_of m [])) lines
 
 -- what the blocks tell that answer lines, that of line 0 first
-abbrev pub told_on : CheckMeaning → List (List ℕ) → List Told
-told_on m lines = told_first (driver_of m []) ∷ told_lines (silent (driver_of m [])) lines
+abbrev pub told_on : CheckMeaning → List (List ℕ) → List BlockContent
+told_on m lines = told_first (driver_of m []) ∷ told_lines (silent_view (driver_of m [])) lines
 
 -- ---- calls
 

@@ -15,14 +15,14 @@ use Rattle.path_walk.specs.Paths.{outcome_in}
 use Rattle.update_model.specs.Changes.{round_after}
 use Rattle.update_model.specs.Mixtures.{Rollout}
 use Rattle.update_model.specs.Runs.{AreEnabled}
-use Rattle.update_model.specs.States.{State, first_state, IsEnabled, settled_count, entered, hopped, lost, with_packet, state_after_event}
+use Rattle.update_model.specs.States.{State, first_state, IsEnabled, settled_count, entered_packet, hopped_packet, lost_packet, with_packet, state_after_event}
 use Rattle.update_model.specs.Worlds.{WorldState}
 use Rattle.update_model.specs.declared.Change.{Change}
 use Rattle.update_model.specs.declared.Packet.{Packet}
 use Rattle.update_model.specs.declared.Event.{Event}
 use Rattle.update_model.specs.declared.Event.TheVariants as event
-use Rattle.schedule_pilot.specs.Driving.{IsRunFrom, update_of}
-use Rattle.schedule_pilot.specs.Offered.{counted, next_entry, candidates, AreThose, entries_after, IsDriven}
+use Rattle.schedule_pilot.specs.Driving.{IsRunFrom, world_rollout}
+use Rattle.schedule_pilot.specs.Offered.{numbers_from_one, next_entry, candidates, AreThose, entries_after, IsDriven}
 use Rattle.schedule_pilot.specs.declared.Entry.{Entry}
 use Rattle.schedule_replay.specs.EventTexts.{HasLine}
 
@@ -63,7 +63,7 @@ those_few P (x ∷ xs) [] those = omega arith
 those_few P (x ∷ xs) (y ∷ ys) (inl h) = let rest : length ys ≤ length xs = those_few P xs ys h.2 in omega arith
 those_few P (x ∷ xs) (y ∷ ys) (inr h) = let rest : length (y ∷ ys) ≤ length xs = those_few P xs (y ∷ ys) h.1 in omega arith
 
-counted_length : (f : ℕ → Event) (n count : ℕ) → length (map f (counted n count)) ≡ count
+counted_length : (f : ℕ → Event) (n count : ℕ) → length (map f (numbers_from_one n count)) ≡ count
 counted_length f n zero = refl
 counted_length f n (suc count) = ap suc (counted_length f (suc n) count)
 
@@ -79,7 +79,7 @@ parts_length a b c =
 
 candidates_few : (st : State) (entries : List Entry) → length (candidates st entries) ≤ length st.pending + length st.packets + 3
 candidates_few st entries =
-    let all = parts_length (map event.Change (counted 0 (length st.pending))) (next_entry entries) (map event.Hop (counted 0 (length st.packets))) in
+    let all = parts_length (map event.Change (numbers_from_one 0 (length st.pending))) (next_entry entries) (map event.Hop (numbers_from_one 0 (length st.packets))) in
     let changes = counted_length event.Change 0 (length st.pending) in
     let hops = counted_length event.Hop 0 (length st.packets) in
     let next = next_few entries in
@@ -107,15 +107,15 @@ module _ (u : Rollout) (few : sum_by length u.rounds ≤ 2200000) where
     flags = subst (λ k. k ≤ 2200000) (sym (length-set st.pending i false)) short.flags;
   }
   short_next n st (event.Enter place dst) short = record {
-    packets = let more = length-append st.packets (entered place dst (settled_count st.phase) ∷ []) in omega arith;
+    packets = let more = length-append st.packets (entered_packet place dst (settled_count st.phase) ∷ []) in omega arith;
     flags = short.flags;
   }
   short_next n st (event.Hop i) short = record {
-    packets = let same = with_length (λ p. hopped p (outcome_in u.net st.tables p.at p.dst)) i st.packets in omega arith;
+    packets = let same = with_length (λ p. hopped_packet p (outcome_in u.net st.tables p.at p.dst)) i st.packets in omega arith;
     flags = short.flags;
   }
   short_next n st (event.Lose i) short = record {
-    packets = let same = with_length lost i st.packets in omega arith;
+    packets = let same = with_length lost_packet i st.packets in omega arith;
     flags = short.flags;
   }
 
@@ -152,11 +152,11 @@ module _ (u : Rollout) (few : sum_by length u.rounds ≤ 2200000) where
 module _ (w : WorldState) (begun : w.state ≡ first_state w.state.tables) (few : sum_by length w.rounds ≤ 2200000) (c : ℕ → ℕ → ℕ → Type 0) (entries : List Entry) (events : List Event) (after : WorldState)
     (run : IsRunFrom w c entries events after) (short : length events ≤ 4000000) where
   pub run_lines : IsNetwork w.net → AllByRecursion (HasLine w.net) events
-  run_lines net = lines (update_of w) few 0 w.state events net (short_first 2200000 w.state begun) (omega arith) run.enabled
+  run_lines net = lines (world_rollout w) few 0 w.state events net (short_first 2200000 w.state begun) (omega arith) run.enabled
 
   pub run_as : (d : ℕ → ℕ → ℕ → Type 0) → ((m k i : ℕ) → m < 2 ^ 64 → 1 ≤ k → k < 2 ^ 64 → c m k i → d m k i) → IsRunFrom w d entries events after
   run_as d agree = record {
-    driven = driven_as (update_of w) few c d agree 0 w.state entries events (short_first 2200000 w.state begun) (omega arith) run.driven;
+    driven = driven_as (world_rollout w) few c d agree 0 w.state entries events (short_first 2200000 w.state begun) (omega arith) run.driven;
     enabled = run.enabled;
     world = run.world;
   }

@@ -4,7 +4,7 @@ use Rattle.std.specs.declared.option.Option.{Option}
 use Rattle.file_access.specs.Outside.{Files}
 use Rattle.command_base.specs.declared.status.Status.{Status}
 use Rattle.command_base.specs.declared.status.Status.TheVariants as status
-use Rattle.command_base.specs.Runs.{IsSettled, Answered}
+use Rattle.command_base.specs.Runs.{IsComplete, Answered}
 use Rattle.command_base.proofs.JudgementLaws.{judges, judged_done, judged_then, refusals}
 use Rattle.command_base.proofs.RunLaws.{settled_done}
 use Rattle.check_base.specs.Checks.{CheckMeaning, check_dialogue, FilesMeanPlan}
@@ -23,7 +23,7 @@ writes files names old new result a is m mean = record {
 }
 
 pub promised : (files : Files) (names : SimulateNames) (old new : Option (List ℕ)) (result : Status)
-    → (IsSettled result → Answered (IsSimulateAnswer names.start names.count) files (check_dialogue names.check) old new result) → SimulatePromise files names old new result
+    → (IsComplete result → Answered (IsSimulateAnswer names.start names.count) files (check_dialogue names.check) old new result) → SimulatePromise files names old new result
 promised files names old new result answered = record {
   done = λ settled. judged_done (judges (check_meant files names.check) (answered settled));
   run = λ m mean is. writes files names old new result (answered (settled_done _ is)) is m mean;

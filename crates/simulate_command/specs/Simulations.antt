@@ -11,7 +11,7 @@ use Rattle.schedule_pilot.specs.Driving.{IsRunFrom, IsOverAfter}
 use Rattle.schedule_pilot.specs.Laws.{world_begun}
 use Rattle.schedule_pilot.specs.Offered.{full_budget}
 use Rattle.schedule_pilot.specs.declared.Entry.{Entry}
-use Rattle.schedule_replay.specs.Schedules.{schedule_in, numbered}
+use Rattle.schedule_replay.specs.Schedules.{schedule_in, numbered_lines}
 use Rattle.schedule_replay.specs.Traces.{record_text}
 
 -- which of so many offered events is made at a step: START and 7 times the step, in arithmetic of 64 bits that wraps, modulo their count
@@ -53,4 +53,4 @@ pub record IsRecord (start count : ℕ) (t : Task) (text : List ℕ) : Type 0 wh
   pub after : WorldState
   pub simulation : IsSimulation start count t events after
   pub text_is : text ≡ record_text t.update.net events after
-  pub means : schedule_in t.update.net text ≡ Ok (numbered 1 events)
+  pub means : schedule_in t.update.net text ≡ Ok (numbered_lines 1 events)

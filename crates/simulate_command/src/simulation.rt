@@ -9,7 +9,7 @@ ghost use Rattle.std.specs.List.{AllByRecursion};
 ghost use Rattle.certificates.specs.Updates.{task_for};
 ghost use Rattle.command_base.specs.Updates.{meaning_of};
 ghost use Rattle.schedule_replay.specs.EventTexts.{HasLine};
-ghost use Rattle.schedule_pilot.specs.Driving.{IsRunFrom, IsOverAfter, BeginsSafely, update_of};
+ghost use Rattle.schedule_pilot.specs.Driving.{IsRunFrom, IsOverAfter, BeginsSafely, world_rollout};
 ghost use Rattle.schedule_pilot.specs.Ends.{AreEntries};
 ghost use Rattle.schedule_pilot.specs.Offered.{full_budget};
 ghost use Rattle.simulate_command.specs.Simulations.{IsRecord, Names, place_named};
@@ -75,7 +75,7 @@ fn driven_by<'a>(
     ensures run { IfOk result
         (λ d. IsRunFrom world.entry (Names start) entries.now d.events d.world) }
     ensures within { IfOk result
-        (λ d. length d.events ≤ full_budget (update_of world.entry) entries.now) }
+        (λ d. length d.events ≤ full_budget (world_rollout world.entry) entries.now) }
     ensures short { IfOk result (λ d. length d.events ≤ 4000000) }
     ensures lines { IfOk result (λ d. AllByRecursion (HasLine world.entry.net) d.events) }
     ensures over { IfOk result (λ d. IsOverAfter world.entry entries.now d.events) }

@@ -10,7 +10,7 @@ use Rattle.std.proofs.lemmas.Grind.{flat_map-append}
 use Rattle.net_base.proofs.MemberLaws.{each_append}
 use Rattle.openflow10.specs.Layout.{number_at}
 use Rattle.switch_session.specs.Fronts.{front_of, version_in, type_in, length_in, xid_in}
-use Rattle.switch_session.specs.Channels.{ChannelState, is_failed, failed, echo_reply, is_outstanding, answered, taken_open, taken_by, taken, acted, after_byte, after_bytes}
+use Rattle.switch_session.specs.Channels.{ChannelState, is_failed, after_failure, echo_reply, is_outstanding, after_reply, taken_open, taken_by, after_message, after_front, after_byte, after_bytes}
 use Rattle.switch_session.specs.Laws.{IsReading, TakesFront, IsWhole, IsEchoRequest, is_echo, AreCut, KeepsBarrier, OnlyReplies}
 use Rattle.switch_session.specs.declared.Cause.{Cause}
 use Rattle.switch_session.specs.declared.Cause.TheVariants as cause
@@ -27,7 +27,7 @@ after_bytes-append (x ∷ a) b ch = after_bytes-append a b (after_byte x ch)
 -- a failed session reads nothing
 failed_byte : (b : ℕ) (ch : ChannelState) → is_failed ch.session ≡ true → after_byte b ch ≡ ch
 unfolding after_byte
-failed_byte b ch e = cond-true (is_failed ch.session) ch (acted (front_of (ch.unread ++ b ∷ [])) (record ch { unread = ch.unread ++ b ∷ [] })) e
+failed_byte b ch e = cond-true (is_failed ch.session) ch (after_front (front_of (ch.unread ++ b ∷ [])) (record ch { unread = ch.unread ++ b ∷ [] })) e
 
 pub failed_stays : (bytes : List ℕ) (ch : ChannelState) → is_failed ch.session ≡ true → after_bytes bytes ch ≡ ch
 failed_stays [] ch e = refl
@@ -37,9 +37,9 @@ failed_stays (b ∷ bytes) ch e = ap (after_bytes bytes) (failed_byte b ch e) �
 abbrev pub with_unread : ChannelState → List ℕ → ChannelState
 with_unread ch unread = record ch { unread = unread }
 
-pub reading_byte : (b : ℕ) (ch : ChannelState) → is_failed ch.session ≡ false → after_byte b ch ≡ acted (front_of (ch.unread ++ b ∷ [])) (record ch { unread = ch.unread ++ b ∷ [] })
+pub reading_byte : (b : ℕ) (ch : ChannelState) → is_failed ch.session ≡ false → after_byte b ch ≡ after_front (front_of (ch.unread ++ b ∷ [])) (record ch { unread = ch.unread ++ b ∷ [] })
 unfolding after_byte
-reading_byte b ch e = cond-false (is_failed ch.session) ch (acted (front_of (ch.unread ++ b ∷ [])) (record ch { unread = ch.unread ++ b ∷ [] })) e
+reading_byte b ch e = cond-false (is_failed ch.session) ch (after_front (front_of (ch.unread ++ b ∷ [])) (record ch { unread = ch.unread ++ b ∷ [] })) e
 
 -- ---- bytes in a row are taken message by message
 
@@ -50,18 +50,18 @@ module _ (b : ℕ) (p : List ℕ) (ch : ChannelState) (h : IsReading ch) where
   in_row : grown ++ p ≡ ch.unread ++ b ∷ p
   in_row = append_assoc ch.unread (b ∷ []) p
 
-  first_byte : (f : Front) → front_of grown ≡ f → after_byte b ch ≡ acted f (with_unread ch grown)
-  first_byte f e = reading_byte b ch h.going ∙ ap (λ x. acted x (with_unread ch grown)) e
+  first_byte : (f : Front) → front_of grown ≡ f → after_byte b ch ≡ after_front f (with_unread ch grown)
+  first_byte f e = reading_byte b ch h.going ∙ ap (λ x. after_front x (with_unread ch grown)) e
 
   -- the byte is kept
   kept : (f : Front) → after_byte b ch ≡ with_unread ch grown → TakesFront p (with_unread ch grown) f → TakesFront (b ∷ p) ch f
   kept Short first rest = ap (after_bytes p) first ∙ rest ∙ ap (with_unread ch) in_row
   kept (Fault c) first rest = ap (after_bytes p) first ∙ rest
-  kept (Message n) first rest = ap (after_bytes p) first ∙ rest ∙ ap (λ l. after_bytes (drop n l) (taken (take n l) (with_unread ch []))) in_row
+  kept (Message n) first rest = ap (after_bytes p) first ∙ rest ∙ ap (λ l. after_bytes (drop n l) (after_message (take n l) (with_unread ch []))) in_row
 
   -- the byte ends the session
   ends : (c : Cause) → front_of grown ≡ Fault c → TakesFront (b ∷ p) ch (Fault c)
-  ends c e = ap (after_bytes p) (first_byte (Fault c) e) ∙ failed_stays p (failed c (with_unread ch grown)) refl
+  ends c e = ap (after_bytes p) (first_byte (Fault c) e) ∙ failed_stays p (after_failure c (with_unread ch grown)) refl
 
   -- the byte makes a message whole
   whole : (n : ℕ) → front_of grown ≡ Message n → TakesFront (b ∷ p) ch (Message n)
@@ -71,9 +71,9 @@ module _ (b : ℕ) (p : List ℕ) (ch : ChannelState) (h : IsReading ch) where
       let rest : drop n (ch.unread ++ b ∷ p) ≡ p = ap (drop n) (sym in_row) ∙ drop_at grown p n count in
       let all : take n grown ≡ grown = ap (take n) (sym (append-nil grown)) ∙ take_at grown [] n count in
       let none : drop n grown ≡ [] = ap (drop n) (sym (append-nil grown)) ∙ drop_at grown [] n count in
-      let first : after_byte b ch ≡ taken grown (with_unread ch []) =
-      first_byte (Message n) e ∙ ap (λ l. taken l (with_unread ch (drop n grown))) all ∙ ap (λ l. taken grown (with_unread ch l)) none in
-      ap (after_bytes p) first ∙ ap (λ l. after_bytes p (taken l (with_unread ch []))) (sym message) ∙ ap (λ l. after_bytes l (taken (take n (ch.unread ++ b ∷ p)) (with_unread ch []))) (sym rest)
+      let first : after_byte b ch ≡ after_message grown (with_unread ch []) =
+      first_byte (Message n) e ∙ ap (λ l. after_message l (with_unread ch (drop n grown))) all ∙ ap (λ l. after_message grown (with_unread ch l)) none in
+      ap (after_bytes p) first ∙ ap (λ l. after_bytes p (after_message l (with_unread ch []))) (sym message) ∙ ap (λ l. after_bytes l (after_message (take n (ch.unread ++ b ∷ p)) (with_unread ch []))) (sym rest)
 
 pub takes_front : (bytes : List ℕ) (ch : ChannelState) → IsReading ch → TakesFront bytes ch (front_of (ch.unread ++ bytes))
 takes_front [] ch h =
@@ -239,16 +239,16 @@ module _ (ch : ChannelState) (b n : ℕ) (going : is_failed ch.session ≡ false
   parted : came ≡ m ++ rest
   parted = sym (take-append-drop n came)
 
-  does_fail : (c : Cause) → Does (failed c base)
-  does_fail c = took_none (b ∷ []) ch (failed c base) refl (λ e. absurd (let f : true ≡ false = e in cc)) (inl refl)
+  does_fail : (c : Cause) → Does (after_failure c base)
+  does_fail c = took_none (b ∷ []) ch (after_failure c base) refl (λ e. absurd (let f : true ≡ false = e in cc)) (inl refl)
 
   does_other : (k : ℕ) → type_in m ≡ k → (k ≡ 2 → ⊥) → (after : ChannelState) → after.sent ≡ ch.sent → after.unread ≡ rest → KeepsBarrier ch after → Does after
   does_other k is other after sent unread barrier =
       took_other (b ∷ []) ch after m rest parted (message_whole came n at) (λ e. sym unread) barrier (ne_eqb (type_in m) 2 (λ e. other (sym is ∙ e))) sent
 
-  does_answer : (xid : ℕ) → type_in m ≡ 19 → Does (answered xid base)
+  does_answer : (xid : ℕ) → type_in m ≡ 19 → Does (after_reply xid base)
   does_answer xid is =
-      cond_both (is_outstanding xid ch.outstanding) (record base { outstanding = None }) (failed (cause.Xid xid) base) Does
+      cond_both (is_outstanding xid ch.outstanding) (record base { outstanding = None }) (after_failure (cause.Xid xid) base) Does
       (λ e. does_other 19 is (λ f. omega arith) (record base { outstanding = None }) refl refl (inr refl)) (λ e. does_fail (cause.Xid xid))
 
   does_echo : type_in m ≡ 2 → Does (record base { sent = ch.sent ++ echo_reply m })
@@ -259,27 +259,27 @@ module _ (ch : ChannelState) (b n : ℕ) (going : is_failed ch.session ≡ false
 
   does_open : Does (taken_open m base)
   does_open =
-      cond_both (eqb (type_in m) 1) (failed (cause.Error (number_at 8 2 m) (number_at 10 2 m)) base)
-      (cond (eqb (type_in m) 2) (record base { sent = ch.sent ++ echo_reply m }) (cond (eqb (type_in m) 19) (answered (xid_in m) base) base)) Does
+      cond_both (eqb (type_in m) 1) (after_failure (cause.Error (number_at 8 2 m) (number_at 10 2 m)) base)
+      (cond (eqb (type_in m) 2) (record base { sent = ch.sent ++ echo_reply m }) (cond (eqb (type_in m) 19) (after_reply (xid_in m) base) base)) Does
       (λ e. does_fail (cause.Error (number_at 8 2 m) (number_at 10 2 m)))
-      (λ e. cond_both (eqb (type_in m) 2) (record base { sent = ch.sent ++ echo_reply m }) (cond (eqb (type_in m) 19) (answered (xid_in m) base) base) Does
+      (λ e. cond_both (eqb (type_in m) 2) (record base { sent = ch.sent ++ echo_reply m }) (cond (eqb (type_in m) 19) (after_reply (xid_in m) base) base) Does
       (λ e. does_echo (eqb-true (type_in m) 2 e))
-      (λ f. cond_both (eqb (type_in m) 19) (answered (xid_in m) base) base Does (λ e. does_answer (xid_in m) (eqb-true (type_in m) 19 e)) (λ e. does_nothing (eqb-false (type_in m) 2 f))))
+      (λ f. cond_both (eqb (type_in m) 19) (after_reply (xid_in m) base) base Does (λ e. does_answer (xid_in m) (eqb-true (type_in m) 19 e)) (λ e. does_nothing (eqb-false (type_in m) 2 f))))
 
   does_by : (s : Session) → ch.session ≡ s → Does (taken_by s m base)
   does_by Waiting is =
-      cond_both (eqb (type_in m) 0) (record base { session = Open }) (failed cause.NoHello base) Does
+      cond_both (eqb (type_in m) 0) (record base { session = Open }) (after_failure cause.NoHello base) Does
       (λ e. does_other 0 (eqb-true (type_in m) 0 e) (λ f. omega arith) (record base { session = Open }) refl refl (inl refl)) (λ e. does_fail cause.NoHello)
   does_by Open is = does_open
   does_by (Failed c) is = absurd (let f : true ≡ false = ap is_failed (sym is) ∙ going in cc)
 
-  does_take : Does (taken m base)
-  unfolding taken
+  does_take : Does (after_message m base)
+  unfolding after_message
   does_take = does_by ch.session refl
 
-took_acted : (ch : ChannelState) (b : ℕ) → is_failed ch.session ≡ false → (f : Front) → front_of (ch.unread ++ b ∷ []) ≡ f → Took (b ∷ []) ch (acted f (with_unread ch (ch.unread ++ b ∷ [])))
+took_acted : (ch : ChannelState) (b : ℕ) → is_failed ch.session ≡ false → (f : Front) → front_of (ch.unread ++ b ∷ []) ≡ f → Took (b ∷ []) ch (after_front f (with_unread ch (ch.unread ++ b ∷ [])))
 took_acted ch b going Short at = took_none (b ∷ []) ch (with_unread ch (ch.unread ++ b ∷ [])) refl (λ e. refl) (inl refl)
-took_acted ch b going (Fault c) at = took_none (b ∷ []) ch (failed c (with_unread ch (ch.unread ++ b ∷ []))) refl (λ e. absurd (let f : true ≡ false = e in cc)) (inl refl)
+took_acted ch b going (Fault c) at = took_none (b ∷ []) ch (after_failure c (with_unread ch (ch.unread ++ b ∷ []))) refl (λ e. absurd (let f : true ≡ false = e in cc)) (inl refl)
 took_acted ch b going (Message n) at = does_take ch b n going at
 
 took_byte : (b : ℕ) (ch : ChannelState) → is_failed ch.session ≡ false → Took (b ∷ []) ch (after_byte b ch)
@@ -287,7 +287,7 @@ took_byte b ch going = subst (Took (b ∷ []) ch) (sym (reading_byte b ch going)
 
 -- nothing came of bytes to a failed session
 took_nothing : (bytes : List ℕ) (ch : ChannelState) → is_failed ch.session ≡ true → Took bytes ch ch
-took_nothing bytes ch failed = took_none bytes ch ch refl (λ going. absurd (let f : true ≡ false = sym failed ∙ going in cc)) (inl refl)
+took_nothing bytes ch failed = took_none bytes ch ch refl (λ going. absurd (let f : true ≡ false = sym after_failure ∙ going in cc)) (inl refl)
 
 took_bytes : (bytes : List ℕ) (ch : ChannelState) → Took bytes ch (after_bytes bytes ch)
 took_bytes [] ch = took_none [] ch ch refl (λ e. append-nil ch.unread) (inl refl)

@@ -9,7 +9,7 @@ use Rattle.std.proofs.lemmas.List.Folds.{concat-append}
 use Rattle.net_base.proofs.MemberLaws.{each_append}
 use Rattle.openflow10.specs.Layout.{number_at}
 use Rattle.switch_session.specs.Fronts.{front_of, type_in, xid_in}
-use Rattle.switch_session.specs.Channels.{ChannelState, is_failed, failed, echo_reply, is_outstanding, answered, taken_open, taken_by, taken, acted, after_byte, after_bytes}
+use Rattle.switch_session.specs.Channels.{ChannelState, is_failed, after_failure, echo_reply, is_outstanding, after_reply, taken_open, taken_by, after_message, after_front, after_byte, after_bytes}
 use Rattle.switch_session.specs.Laws.{IsWhole, IsEchoRequest, is_echo, AreRequests, ReadsAll}
 use Rattle.switch_session.specs.declared.Cause.{Cause}
 use Rattle.switch_session.specs.declared.Cause.TheVariants as cause
@@ -104,31 +104,31 @@ module _ (message : List ℕ) (ch : ChannelState) where
   abbrev Keeps : ChannelState → Type 0
   Keeps after = is_failed after.session ≡ false → after.unread ≡ ch.unread
 
-  keeps_failed : (c : Cause) → Keeps (failed c ch)
+  keeps_failed : (c : Cause) → Keeps (after_failure c ch)
   keeps_failed c = λ e. absurd (let f : true ≡ false = e in cc)
 
-  keeps_answered : (xid : ℕ) → Keeps (answered xid ch)
-  keeps_answered xid = cond_both (is_outstanding xid ch.outstanding) (record ch { outstanding = None }) (failed (cause.Xid xid) ch) Keeps (λ e going. refl) (λ e. keeps_failed (cause.Xid xid))
+  keeps_answered : (xid : ℕ) → Keeps (after_reply xid ch)
+  keeps_answered xid = cond_both (is_outstanding xid ch.outstanding) (record ch { outstanding = None }) (after_failure (cause.Xid xid) ch) Keeps (λ e going. refl) (λ e. keeps_failed (cause.Xid xid))
 
   keeps_open : Keeps (taken_open message ch)
   keeps_open =
-      cond_both (eqb (type_in message) 1) (failed (cause.Error (number_at 8 2 message) (number_at 10 2 message)) ch)
-      (cond (eqb (type_in message) 2) (record ch { sent = ch.sent ++ echo_reply message }) (cond (eqb (type_in message) 19) (answered (xid_in message) ch) ch)) Keeps
+      cond_both (eqb (type_in message) 1) (after_failure (cause.Error (number_at 8 2 message) (number_at 10 2 message)) ch)
+      (cond (eqb (type_in message) 2) (record ch { sent = ch.sent ++ echo_reply message }) (cond (eqb (type_in message) 19) (after_reply (xid_in message) ch) ch)) Keeps
       (λ e. keeps_failed (cause.Error (number_at 8 2 message) (number_at 10 2 message)))
-      (λ e. cond_both (eqb (type_in message) 2) (record ch { sent = ch.sent ++ echo_reply message }) (cond (eqb (type_in message) 19) (answered (xid_in message) ch) ch) Keeps
+      (λ e. cond_both (eqb (type_in message) 2) (record ch { sent = ch.sent ++ echo_reply message }) (cond (eqb (type_in message) 19) (after_reply (xid_in message) ch) ch) Keeps
       (λ f going. refl)
-      (λ f. cond_both (eqb (type_in message) 19) (answered (xid_in message) ch) ch Keeps (λ g. keeps_answered (xid_in message)) (λ g going. refl)))
+      (λ f. cond_both (eqb (type_in message) 19) (after_reply (xid_in message) ch) ch Keeps (λ g. keeps_answered (xid_in message)) (λ g going. refl)))
 
   keeps_by : (s : Session) → Keeps (taken_by s message ch)
-  keeps_by Waiting = cond_both (eqb (type_in message) 0) (record ch { session = Open }) (failed cause.NoHello ch) Keeps (λ e going. refl) (λ e. keeps_failed cause.NoHello)
+  keeps_by Waiting = cond_both (eqb (type_in message) 0) (record ch { session = Open }) (after_failure cause.NoHello ch) Keeps (λ e going. refl) (λ e. keeps_failed cause.NoHello)
   keeps_by Open = keeps_open
   keeps_by (Failed c) = λ going. refl
 
-  keeps_taken : Keeps (taken message ch)
-  unfolding taken
+  keeps_taken : Keeps (after_message message ch)
+  unfolding after_message
   keeps_taken = keeps_by ch.session
 
-reads_acted : (ch : ChannelState) (b : ℕ) → front_of ch.unread ≡ Short → (f : Front) → front_of (ch.unread ++ b ∷ []) ≡ f → ReadsAll (acted f (record ch { unread = ch.unread ++ b ∷ [] }))
+reads_acted : (ch : ChannelState) (b : ℕ) → front_of ch.unread ≡ Short → (f : Front) → front_of (ch.unread ++ b ∷ []) ≡ f → ReadsAll (after_front f (record ch { unread = ch.unread ++ b ∷ [] }))
 reads_acted ch b short Short at = λ going. at
 reads_acted ch b short (Fault c) at = λ going. absurd (let f : true ≡ false = going in cc)
 reads_acted ch b short (Message n) at = λ going.

@@ -4,7 +4,7 @@ use Rattle.std.proofs.lemmas.List.{drop_all, length-take-le}
 use Rattle.byteorder.specs.Numbers.{big_from-take}
 use Rattle.openflow10.specs.Layout.{number_at}
 use Rattle.switch_session.specs.Fronts.{type_in, length_in, front_of}
-use Rattle.switch_session.specs.Channels.{is_failed, failed, taken, after_bytes}
+use Rattle.switch_session.specs.Channels.{is_failed, after_failure, after_message, after_bytes}
 use Rattle.switch_session.specs.Laws.{IsReading, TakesFront}
 use Rattle.switch_session.specs.Seen.{ChannelView, channel_of, UsesRoom, IsLeft, IsTaken}
 use Rattle.switch_session.specs.declared.Cause.{Cause}
@@ -39,7 +39,7 @@ taken_failed t bytes e some = record {
   room = omega arith;
 }
 
-pub taken_fault : (old new : Talk) (bytes : List ℕ) (c : Cause) → is_failed old.session ≡ false → front_of bytes ≡ Fault c → channel_of new [] ≡ failed c (channel_of old []) → new.sent ≡ old.sent
+pub taken_fault : (old new : Talk) (bytes : List ℕ) (c : Cause) → is_failed old.session ≡ false → front_of bytes ≡ Fault c → channel_of new [] ≡ after_failure c (channel_of old []) → new.sent ≡ old.sent
     → IsTaken (length bytes) old new bytes
 taken_fault old new bytes c going e is same =
     let header = has_header bytes (λ s. let f : Short ≡ Fault c = sym s ∙ e in cc) in
@@ -72,7 +72,7 @@ message_error bytes n e is =
     let long = at_least_error (type_in bytes) (length_in bytes) h.right type in
     omega arith
 
-pub taken_message : (old new : Talk) (bytes : List ℕ) (n : ℕ) → is_failed old.session ≡ false → front_of bytes ≡ Message n → channel_of new [] ≡ taken (take n bytes) (channel_of old [])
+pub taken_message : (old new : Talk) (bytes : List ℕ) (n : ℕ) → is_failed old.session ≡ false → front_of bytes ≡ Message n → channel_of new [] ≡ after_message (take n bytes) (channel_of old [])
     → UsesRoom (length (take n bytes)) old new → IsTaken n old new bytes
 taken_message old new bytes n going e is room =
     let (count, header, whole) = message_within bytes n e in

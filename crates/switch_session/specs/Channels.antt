@@ -36,8 +36,8 @@ is_open Open = true
 is_open (Failed c) = false
 
 -- a channel whose session failed: it drops its unread bytes
-abbrev pub failed : Cause → ChannelState → ChannelState
-failed c channel = record channel { session = Failed c; unread = [] }
+abbrev pub after_failure : Cause → ChannelState → ChannelState
+after_failure c channel = record channel { session = Failed c; unread = [] }
 
 -- the reply to an echo request: the same bytes with type OFPT_ECHO_REPLY (3)
 abbrev pub echo_reply : List ℕ → List ℕ
@@ -49,38 +49,38 @@ is_outstanding xid None = false
 is_outstanding xid (Some n) = n == xid
 
 -- a barrier reply comes
-abbrev pub answered : ℕ → ChannelState → ChannelState
-answered xid channel = if is_outstanding xid channel.outstanding then record channel { outstanding = None } else failed (cause.Xid xid) channel
+abbrev pub after_reply : ℕ → ChannelState → ChannelState
+after_reply xid channel = if is_outstanding xid channel.outstanding then record channel { outstanding = None } else after_failure (cause.Xid xid) channel
 
 -- a message comes to an open session: OFPT_ERROR (1), OFPT_ECHO_REQUEST (2), OFPT_BARRIER_REPLY (19), or one that changes nothing
 abbrev pub taken_open : List ℕ → ChannelState → ChannelState
 taken_open message channel =
-    if type_in message == 1 then failed (cause.Error (number_at 8 2 message) (number_at 10 2 message)) channel
+    if type_in message == 1 then after_failure (cause.Error (number_at 8 2 message) (number_at 10 2 message)) channel
     else if type_in message == 2 then record channel { sent = channel.sent ++ echo_reply message }
-    else if type_in message == 19 then answered (xid_in message) channel
+    else if type_in message == 19 then after_reply (xid_in message) channel
     else channel
 
 -- a message comes to a session: the first has to be OFPT_HELLO (0)
 abbrev pub taken_by : Session → List ℕ → ChannelState → ChannelState
-taken_by Waiting message channel = if type_in message == 0 then record channel { session = Open } else failed cause.NoHello channel
+taken_by Waiting message channel = if type_in message == 0 then record channel { session = Open } else after_failure cause.NoHello channel
 taken_by Open message channel = taken_open message channel
 taken_by (Failed c) message channel = channel
 
 -- a channel after a message came
-unfoldable pub taken : List ℕ → ChannelState → ChannelState
-taken message channel = taken_by channel.session message channel
+unfoldable pub after_message : List ℕ → ChannelState → ChannelState
+after_message message channel = taken_by channel.session message channel
 
 -- a channel after what stands at the front of its unread bytes was taken from there
-abbrev pub acted : Front → ChannelState → ChannelState
-acted Short channel = channel
-acted (Fault c) channel = failed c channel
-acted (Message n) channel = taken (take n channel.unread) (record channel { unread = drop n channel.unread })
+abbrev pub after_front : Front → ChannelState → ChannelState
+after_front Short channel = channel
+after_front (Fault c) channel = after_failure c channel
+after_front (Message n) channel = after_message (take n channel.unread) (record channel { unread = drop n channel.unread })
 
 -- a channel after a byte came; a failed session reads nothing
 unfoldable pub after_byte : ℕ → ChannelState → ChannelState
 after_byte b channel =
     if is_failed channel.session then channel
-    else acted (front_of (channel.unread ++ b ∷ [])) (record channel { unread = channel.unread ++ b ∷ [] })
+    else after_front (front_of (channel.unread ++ b ∷ [])) (record channel { unread = channel.unread ++ b ∷ [] })
 
 -- a channel after bytes came, one after the other: so it makes no difference in which pieces they come
 abbrev pub after_bytes : List ℕ → ChannelState → ChannelState
@@ -88,5 +88,5 @@ after_bytes [] channel = channel
 after_bytes (b ∷ bytes) channel = after_bytes bytes (after_byte b channel)
 
 -- a channel after a text was sent that ends with the barrier request of an xid
-abbrev pub asked : List ℕ → ℕ → ChannelState → ChannelState
-asked text xid channel = record channel { sent = channel.sent ++ text; outstanding = Some xid }
+abbrev pub after_request : List ℕ → ℕ → ChannelState → ChannelState
+after_request text xid channel = record channel { sent = channel.sent ++ text; outstanding = Some xid }

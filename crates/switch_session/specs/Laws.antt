@@ -2,7 +2,7 @@
 use Rattle.std.specs.Prelude.{◌≡◌, ◌≤◌, ◌⊎◌, ℕ, ◌==◌, Bool, false, List, [], ◌++◌, length, take, drop, filter, flat_map, None}
 use Rattle.std.specs.List.{AllByRecursion, concat}
 use Rattle.switch_session.specs.Fronts.{front_of, version_in, type_in, length_in}
-use Rattle.switch_session.specs.Channels.{ChannelState, is_failed, failed, echo_reply, taken, after_bytes}
+use Rattle.switch_session.specs.Channels.{ChannelState, is_failed, after_failure, echo_reply, after_message, after_bytes}
 use Rattle.switch_session.specs.declared.fronts.Front.{Front}
 use Rattle.switch_session.specs.declared.fronts.Front.TheVariants.{Short, Fault, Message}
 
@@ -15,9 +15,9 @@ pub record IsReading (channel : ChannelState) : Type 0 where
 -- fails; or the message is taken, and then the rest
 abbrev pub TakesFront : List ℕ → ChannelState → Front → Type 0
 TakesFront bytes channel Short = after_bytes bytes channel ≡ record channel { unread = channel.unread ++ bytes }
-TakesFront bytes channel (Fault c) = after_bytes bytes channel ≡ failed c channel
+TakesFront bytes channel (Fault c) = after_bytes bytes channel ≡ after_failure c channel
 TakesFront bytes channel (Message n) =
-    after_bytes bytes channel ≡ after_bytes (drop n (channel.unread ++ bytes)) (taken (take n (channel.unread ++ bytes)) (record channel { unread = [] }))
+    after_bytes bytes channel ≡ after_bytes (drop n (channel.unread ++ bytes)) (after_message (take n (channel.unread ++ bytes)) (record channel { unread = [] }))
 
 -- a whole message: at least a header, and as long as its length field says
 pub record IsWhole (message : List ℕ) : Type 0 where

@@ -2,7 +2,7 @@
 ghost use Rattle.std.specs.Prelude.{◌≡◌, ◌+◌, ◌-◌, ◌≤◌, ◌++◌, [], length, drop, IfOk, IfNone, IfSome, OnErr, OnOk, vec_len, vec_capacity};
 ghost use Rattle.openflow10.specs.Layout.{number_at};
 ghost use Rattle.switch_session.specs.Fronts.{front_of};
-ghost use Rattle.switch_session.specs.Channels.{first_channel, is_failed, is_open, is_outstanding, failed, echo_reply, answered, taken_open, taken_by, taken, after_bytes, asked};
+ghost use Rattle.switch_session.specs.Channels.{first_channel, is_failed, is_open, is_outstanding, after_failure, echo_reply, after_reply, taken_open, taken_by, after_message, after_bytes, after_request};
 ghost use Rattle.switch_session.specs.Seen.{channel_of, UsesRoom, IsLeft, IsTaken};
 ghost use Rattle.switch_session.specs.declared.fronts.Front.TheVariants.{Short};
 
@@ -82,7 +82,7 @@ fn is_failed(session: Session) -> bool
 impl Talk {
     /// The session fails.
     fn fail(&mut self, cause: Cause)
-        ensures state { channel_of self.new [] ≡ failed cause (channel_of self.old []) }
+        ensures state { channel_of self.new [] ≡ after_failure cause (channel_of self.old []) }
         ensures sent { self.new.sent ≡ self.old.sent }
     {
         self.session = Session::Failed(cause);
@@ -90,7 +90,7 @@ impl Talk {
 
     /// A barrier reply comes.
     fn answer(&mut self, xid: u32)
-        ensures state { channel_of self.new [] ≡ answered xid (channel_of self.old []) }
+        ensures state { channel_of self.new [] ≡ after_reply xid (channel_of self.old []) }
         ensures sent { self.new.sent ≡ self.old.sent }
     {
         if is_outstanding(xid, self.outstanding) {
@@ -131,12 +131,13 @@ impl Talk {
     }
 
     /// A message comes.
-    #[tactic(auto, unfolding(crate::specs::Channels::taken))]
+    #[tactic(auto, unfolding(crate::specs::Channels::after_message))]
     fn take(&mut self, message: &[u8])
         requires header { 8 ≤ length message.now }
         requires error { number_at 1 1 message.now ≡ 1 → 12 ≤ length message.now }
         requires room { vec_len self.old.sent + length message.now ≤ vec_capacity self.old.sent }
-        ensures state { channel_of self.new [] ≡ taken message.now (channel_of self.old []) }
+        ensures state { channel_of self.new []
+            ≡ after_message message.now (channel_of self.old []) }
         ensures room { UsesRoom (length message.now) self.old self.new }
     {
         match self.session {
@@ -289,7 +290,7 @@ impl Channel {
     /// Sends a text that ends with the barrier request of this xid. There is room for it.
     pub fn ask(&mut self, text: &[u8], xid: u32)
         requires { length text.now ≤ self.old.room }
-        ensures { self.new.state ≡ asked text.now xid self.old.state }
+        ensures { self.new.state ≡ after_request text.now xid self.old.state }
     {
         extend_reserved(&mut self.talk.sent, text);
         self.talk.outstanding = Some(xid);

@@ -11,7 +11,7 @@ use Rattle.flow_rules.specs.declared.rules.Rule.{Rule}
 use Rattle.flow_rules.specs.Order.{key_cmp}
 use Rattle.flow_rules.specs.Patterns.{key_eq}
 use Rattle.flow_rules.specs.Tables.{keys_of}
-use Rattle.update_model.specs.Remaining.{rule_with, difference, changes_between, changes_from, with_key, keys_in_order, remaining}
+use Rattle.update_model.specs.Remaining.{rule_with, difference, changes_between, changes_from, with_key, keys_in_order, remaining_changes}
 
 length_with_key : (k : Key) (ks : List Key) → length (with_key k ks) ≤ suc (length ks)
 length_with_key k [] = omega arith
@@ -56,5 +56,5 @@ length_from n (now ∷ nows) (new ∷ news) =
     omega arith
 
 -- no more changes remain than both configurations have rules
-pub few_remain : (old new : List (List Rule)) → length (remaining old new) ≤ sum_by length old + sum_by length new
+pub few_remain : (old new : List (List Rule)) → length (remaining_changes old new) ≤ sum_by length old + sum_by length new
 few_remain old new = length_from 0 old new

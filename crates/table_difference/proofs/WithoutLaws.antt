@@ -15,7 +15,7 @@ use Rattle.flow_rules.specs.Same.{action_eq}
 use Rattle.flow_rules.proofs.KeyLaws.{cases_key}
 use Rattle.flow_rules.proofs.TableLaws.{action_eq-refl}
 use Rattle.update_model.specs.Changes.{switch_of, AppliesTo, entry_named, rules_after_change, tables_after_change}
-use Rattle.update_model.specs.Remaining.{rule_with, difference, changes_between, changes_from, with_key, keys_in_order, remaining}
+use Rattle.update_model.specs.Remaining.{rule_with, difference, changes_between, changes_from, with_key, keys_in_order, remaining_changes}
 use Rattle.update_model.specs.declared.Change.{Change}
 use Rattle.update_model.specs.declared.Change.TheVariants.{Insert, Delete, Replace}
 use Rattle.update_model.proofs.ChangeLaws.{key_named, writes_key, stands_from_in, in_from_stands}
@@ -224,7 +224,7 @@ cut_from n (now ∷ nows) (new ∷ news) (suc i) after c less more cut =
     (subst (λ m. IsCut (changes_between (switch_at m) (get_or nows i []) (get_or news i [])) c (changes_between (switch_at m) after (get_or news i []))) same cut))
 
 module _ (now new : List (List Rule)) (now_unique : AllUnique now) (new_unique : AllUnique new) where
-  cut_remaining : (c : Change) → IsIn c (remaining now new) → IsCut (remaining now new) c (remaining (tables_after_change c now) new)
+  cut_remaining : (c : Change) → IsIn c (remaining_changes now new) → IsCut (remaining_changes now new) c (remaining_changes (tables_after_change c now) new)
   cut_remaining c i =
       let (n, j, less, more) = in_from_changes 0 now new c i in
       let zero_n : 0 + n ≡ n = omega arith in
@@ -232,16 +232,16 @@ module _ (now new : List (List Rule)) (now_unique : AllUnique now) (new_unique :
       let here : IsIn c (changes_between s (rules_at now s) (rules_at new s)) = subst (λ m. IsIn c (changes_between (switch_at m) (get_or now n []) (get_or new n []))) zero_n j in
       let at : switch_of c ≡ s = difference_switch s (rules_at now s) (rules_at new s) c (between_is s (rules_at now s) (rules_at new s) c here) in
       let cut = cut_at s (rules_at now s) (rules_at new s) (now_unique s) (new_unique s) c here in
-      let all : IsCut (remaining now new) c (remaining (set now n (rules_after_change c (rules_at now s))) new) =
+      let all : IsCut (remaining_changes now new) c (remaining_changes (set now n (rules_after_change c (rules_at now s))) new) =
       cut_from 0 now new n (rules_after_change c (rules_at now s)) c less more
       (subst (λ m. IsCut (changes_between (switch_at m) (get_or now n []) (get_or new n [])) c (changes_between (switch_at m) (rules_after_change c (rules_at now s)) (get_or new n []))) (sym zero_n) cut) in
-      subst (λ (x : SwitchId). IsCut (remaining now new) c (remaining (set now x.0 (rules_after_change c (rules_at now x))) new)) (sym at) all
+      subst (λ (x : SwitchId). IsCut (remaining_changes now new) c (remaining_changes (set now x.0 (rules_after_change c (rules_at now x))) new)) (sym at) all
 
   -- after one of the changes that remain the others do, in the same order
-  pub remaining_without : (front back : List Change) (c : Change) → remaining now new ≡ front ++ c ∷ back → remaining (tables_after_change c now) new ≡ front ++ back
+  pub remaining_without : (front back : List Change) (c : Change) → remaining_changes now new ≡ front ++ c ∷ back → remaining_changes (tables_after_change c now) new ≡ front ++ back
   remaining_without front back c are =
       let cut = cut_remaining c (subst (IsIn c) (sym are) (in_append_right c front (c ∷ back) (inl refl))) in
-      let once : IsDistinct (remaining now new) = distinct_members entry_named (remaining now new) (remaining_distinct now new) in
+      let once : IsDistinct (remaining_changes now new) = distinct_members entry_named (remaining_changes now new) (remaining_distinct now new) in
       let (fronts, backs) = one_place c cut.front cut.back front back (not_twice cut.front cut.back c (subst IsDistinct cut.are once)) (not_twice front back c (subst IsDistinct are once)) (sym cut.are ∙ are) in
       cut.left ∙ ap (λ xs. xs ++ cut.back) fronts ∙ ap (λ xs. front ++ xs) backs
 

@@ -3,7 +3,7 @@
 
 ghost use Rattle.std.specs.Prelude.{◌≡◌, ◌<◌, ◌^◌, length, IfOk};
 ghost use Rattle.flow_rules.specs.Tables.{rules_of_all};
-ghost use Rattle.update_model.specs.Remaining.{remaining};
+ghost use Rattle.update_model.specs.Remaining.{remaining_changes};
 
 pub mod classes;
 pub mod laws;
@@ -23,7 +23,8 @@ use update_model::Change;
 pub fn remaining(alloc: Global, now: &Config, new: &Config) -> Result<Vec<Change>, Memory>
     requires { length now.now < 2 ^ 32 }
     ensures { IfOk result
-        (λ changes. changes.items ≡ remaining (rules_of_all now.now) (rules_of_all new.now)) }
+        (λ changes. changes.items
+        ≡ remaining_changes (rules_of_all now.now) (rules_of_all new.now)) }
 {
     let mut changes = Vec::new(alloc);
     for number in 0..now.count().min(new.count()) {

@@ -2,7 +2,7 @@
 ghost use Rattle.std.specs.Prelude.{◌≡◌, ◌++◌, map, slice_get, Some, true, IsTrue, ◌↔◌, length, IfOk, OnOk};
 ghost use Rattle.topology.specs.Networks.{switch_count};
 ghost use Rattle.update_model.specs.Worlds.{running_round};
-ghost use Rattle.tables_command.specs.Listed.{placed, placed_rules, flagged, pending_changes};
+ghost use Rattle.tables_command.specs.Listed.{placed_rule, placed_rules, flagged_changes, pending_changes};
 
 use flow_rules::Rule;
 use net_base::{Memory, SwitchId};
@@ -12,7 +12,8 @@ use update_model::{Change, Phase, World};
 
 /// The rules of one more switch.
 fn add_rules(listed: &mut Vec<PlanRule>, switch: SwitchId, rules: &[Rule]) -> Result<(), Memory>
-    ensures { OnOk result (listed.new.items ≡ listed.old.items ++ map (placed switch) rules.now) }
+    ensures { OnOk result
+        (listed.new.items ≡ listed.old.items ++ map (placed_rule switch) rules.now) }
 {
     for rule in rules {
         listed.push(PlanRule {
@@ -48,7 +49,7 @@ fn is_on(flags: &[bool], i: usize) -> bool
 
 /// The changes whose flags are on.
 fn flagged(alloc: Global, changes: &[Change], flags: &[bool]) -> Result<Vec<Change>, Memory>
-    ensures { IfOk result (λ v. v.items ≡ flagged changes.now flags.now) }
+    ensures { IfOk result (λ v. v.items ≡ flagged_changes changes.now flags.now) }
 {
     let mut pending = Vec::new(alloc);
     for (i, change) in changes.iter().enumerate() {

@@ -11,7 +11,7 @@ use Rattle.net_base.proofs.ItemLaws.{distinct_filter}
 use Rattle.net_base.specs.declared.ids.Vlan.{Vlan}
 use Rattle.net_base.specs.declared.ids.Vlan.TheVariants as vlan
 use Rattle.topology.specs.Networks.{Network, IsNetwork, TagRange, IsVlanId, IsAvailableTag, vlan_eq}
-use Rattle.tag_allocator.specs.Tags.{numbers_from, ids_of, has_id, available_tags, Tagged, paired, tags_of}
+use Rattle.tag_allocator.specs.Tags.{numbers_from, ids_of, has_id, available_tags, Tagged, tags_paired, tags_of}
 
 pub numbers_above : (n count x : ℕ) → IsIn x (numbers_from n count) → n ≤ x
 numbers_above n zero x i = absurd i
@@ -91,7 +91,7 @@ pub first_distinct : (net : Network) (n : ℕ) → IsDistinct (take n (available
 first_distinct net n = distinct_take n (available_tags net) (tags_distinct net)
 
 -- the tags that are paired with VLANs are the first ones
-pub paired_firsts : (vs : List Vlan) (ts : List ℕ) → take (length vs) ts ≡ map (λ (t : Tagged). t.tag) (paired vs ts)
+pub paired_firsts : (vs : List Vlan) (ts : List ℕ) → take (length vs) ts ≡ map (λ (t : Tagged). t.tag) (tags_paired vs ts)
 paired_firsts [] ts = refl
 paired_firsts (v ∷ vs) [] = refl
 paired_firsts (v ∷ vs) (t ∷ ts) = ap (λ ys. t ∷ ys) (paired_firsts vs ts)

@@ -30,11 +30,11 @@ pub record Tagged : Type 0 where
   pub tag : ℕ
 
 -- the i-th declared VLAN gets the i-th available tag
-abbrev pub paired : List Vlan → List ℕ → List Tagged
-paired [] tags = []
-paired (v ∷ vs) [] = []
-paired (v ∷ vs) (t ∷ ts) = record { user = v; tag = t } ∷ paired vs ts
+abbrev pub tags_paired : List Vlan → List ℕ → List Tagged
+tags_paired [] tags = []
+tags_paired (v ∷ vs) [] = []
+tags_paired (v ∷ vs) (t ∷ ts) = record { user = v; tag = t } ∷ tags_paired vs ts
 
 -- the declared VLANs with their tags
 abbrev pub tags_of : Network → List Tagged
-tags_of net = paired net.vlans (available_tags net)
+tags_of net = tags_paired net.vlans (available_tags net)

@@ -14,7 +14,7 @@ use Rattle.std.specs.declared.hash.FoldHasher.{FoldHasher}
 use Rattle.std.specs.declared.hash.BuildHasherDefault.{BuildHasherDefault}
 use Rattle.net_base.specs.Members.{IsIn, IsDistinct}
 use Rattle.net_base.proofs.ItemLaws.{in_at}
-use Rattle.topology.specs.Named.{Named, named}
+use Rattle.topology.specs.Named.{Named, named_entries}
 use Rattle.topology.specs.Networks.{switch_named}
 
 position_or_len-map : {X Y : Type 0} (p : Y → Bool) (f : X → Y) (xs : List X) → position_or_len p (map f xs) ≡ position_or_len (λ x. p (f x)) xs
@@ -34,7 +34,7 @@ abbrev is_named : List ℕ → String Global → Bool
 is_named name k = bytes_eq name (string_bytes k)
 
 -- what a look-up of the index gives
-pub found_named : (m : Switches) (name : List ℕ) → position (is_named name) (keys m) ≡ switch_named (named m).names name
+pub found_named : (m : Switches) (name : List ℕ) → position (is_named name) (keys m) ≡ switch_named (named_entries m).names name
 found_named m name = position-map (is_named name) (λ (e : Entry). e.0) m.entries ∙ sym (position-map (λ n. bytes_eq name n) (λ (e : Entry). string_bytes e.0) m.entries)
 
 none_from : {A : Type 0} (o : Option A) → is_some o ≡ false → o ≡ None
@@ -46,17 +46,17 @@ abbrev grown : Named → List ℕ → ℕ → Named
 grown n name capacity = record { names = n.names ++ name ∷ []; capacities = n.capacities ++ capacity ∷ [] }
 
 -- a new name goes last
-pub added_named : (m n : Switches) (k : String Global) (v : ℕ) (name : List ℕ) → string_bytes k ≡ name → switch_named (named m).names name ≡ None
-    → n.entries ≡ insert_entry string_eq m.entries k v → named n ≡ grown (named m) name v
+pub added_named : (m n : Switches) (k : String Global) (v : ℕ) (name : List ℕ) → string_bytes k ≡ name → switch_named (named_entries m).names name ≡ None
+    → n.entries ≡ insert_entry string_eq m.entries k v → named_entries n ≡ grown (named_entries m) name v
 added_named m n k v name same new e =
     let nowhere : position (is_named name) (keys m) ≡ None = found_named m name ∙ new in
     let absent : lookup (is_named name) m.entries ≡ None = none_from (lookup (is_named name) m.entries) (sym (some_index (is_named name) m.entries) ∙ ap is_some nowhere) in
     let absent_key : get string_eq m k ≡ None = rw (← same) at absent in
     let entries : n.entries ≡ m.entries ++ (k, v) ∷ [] = e ∙ insert_entry-new string_eq m k v absent_key in
-    let names : (named n).names ≡ (named m).names ++ string_bytes k ∷ [] = ap (map (λ (e : Entry). string_bytes e.0)) entries ∙ map_push _ m.entries (k, v) in
-    let capacities : (named n).capacities ≡ (named m).capacities ++ v ∷ [] = ap (map (λ (e : Entry). e.1)) entries ∙ map_push _ m.entries (k, v) in
-    ap (λ (xs : List (List ℕ)). let r : Named = record { names = xs; capacities = (named n).capacities } in r) (names ∙ ap (λ (b : List ℕ). (named m).names ++ b ∷ []) same)
-    ∙ ap (λ (xs : List ℕ). let r : Named = record { names = (named m).names ++ name ∷ []; capacities = xs } in r) capacities
+    let names : (named_entries n).names ≡ (named_entries m).names ++ string_bytes k ∷ [] = ap (map (λ (e : Entry). string_bytes e.0)) entries ∙ map_push _ m.entries (k, v) in
+    let capacities : (named_entries n).capacities ≡ (named_entries m).capacities ++ v ∷ [] = ap (map (λ (e : Entry). e.1)) entries ∙ map_push _ m.entries (k, v) in
+    ap (λ (xs : List (List ℕ)). let r : Named = record { names = xs; capacities = (named_entries n).capacities } in r) (names ∙ ap (λ (b : List ℕ). (named_entries m).names ++ b ∷ []) same)
+    ∙ ap (λ (xs : List ℕ). let r : Named = record { names = (named_entries m).names ++ name ∷ []; capacities = xs } in r) capacities
 
 -- ---- a switch is found by its name
 

@@ -11,5 +11,5 @@ pub record Named : Type 0 where
   pub capacities : List ℕ
 
 -- the entries in their order
-abbrev pub named : IndexMap (String Global) ℕ (BuildHasherDefault FoldHasher) → Named
-named m = record { names = map (λ e. string_bytes e.0) m.entries; capacities = map (λ e. e.1) m.entries }
+abbrev pub named_entries : IndexMap (String Global) ℕ (BuildHasherDefault FoldHasher) → Named
+named_entries m = record { names = map (λ e. string_bytes e.0) m.entries; capacities = map (λ e. e.1) m.entries }

@@ -16,6 +16,6 @@ network_of n = record {
 }
 
 -- the rules of networks, and each port found by its number
-pub record IsKept (n : Inside) : Type 0 where
+pub record IsNetKept (n : Inside) : Type 0 where
   pub network : IsNetwork (network_of n)
   pub ends : n.ends ≡ port_ends n.links.items n.hosts.items

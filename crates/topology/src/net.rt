@@ -48,11 +48,11 @@ impl Model for Net {
 
     ghost Value = { Network };
 
-    ghost use Rattle.topology.specs.Seen.{network_of, IsKept};
+    ghost use Rattle.topology.specs.Seen.{network_of, IsNetKept};
 
     ghost view = { network_of };
 
-    ghost invariant = { IsKept };
+    ghost invariant = { IsNetKept };
 }
 
 /// Whether two VLANs are the same.

@@ -15,13 +15,13 @@ pub struct Switches {
 
 impl Model for Switches {
     ghost use Rattle.std.specs.Prelude.{◌≤◌, length};
-    ghost use Rattle.topology.specs.Named.{Named, named};
+    ghost use Rattle.topology.specs.Named.{Named, named_entries};
 
     ghost Value = { Named };
 
-    ghost view = { λ s. named s.capacities };
+    ghost view = { λ s. named_entries s.capacities };
 
-    ghost invariant = { λ s. length (named s.capacities).names ≤ 128 };
+    ghost invariant = { λ s. length (named_entries s.capacities).names ≤ 128 };
 }
 
 impl Switches {

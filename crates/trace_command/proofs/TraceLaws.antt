@@ -12,7 +12,7 @@ use Rattle.command_base.specs.declared.kinds.FileKind.TheVariants as kind
 use Rattle.command_base.specs.Lines.{net_words, config_words}
 use Rattle.command_base.specs.Answers.{Answer}
 use Rattle.command_base.specs.Meanings.{Means}
-use Rattle.command_base.specs.Runs.{IsSettled, Answered}
+use Rattle.command_base.specs.Runs.{IsComplete, Answered}
 use Rattle.command_base.proofs.MeaningLaws.{MeansOnly, means_then, means_parts, means_read, read_means}
 use Rattle.command_base.proofs.AnswerLaws.{SaysOfFiles, says_of_files, meant, wrote, status_of, text_of}
 use Rattle.command_base.proofs.RunLaws.{settled_done, settled_refused}
@@ -90,9 +90,9 @@ module _ (files : Files) (names : TraceNames) (old new : Option (List ℕ)) (res
   no_entry : result ≡ status.Refused → (m : TraceMeaning) → FilesMeanTrace files names m → Appends old new (no_entry_line m.entry)
   no_entry is m mean = wrote r (no_entry_line m.entry) (text_of r.answer _ _ (refused_says m r.answer (r.said m mean) (r.status_is ∙ is)).answer_is)
 
-pub promised : (files : Files) (names : TraceNames) (old new : Option (List ℕ)) (result : Status) → (IsSettled result → Answered IsTraceAnswer files (trace_dialogue names) old new result) → TracePromise files names old new result
+pub promised : (files : Files) (names : TraceNames) (old new : Option (List ℕ)) (result : Status) → (IsComplete result → Answered IsTraceAnswer files (trace_dialogue names) old new result) → TracePromise files names old new result
 promised files names old new result answered =
-    let says : IsSettled result → SaysOfFiles (FilesMeanTrace files names) IsTraceAnswer old new result = λ settled. says_of_files (trace_meant files names) (answered settled) in
+    let says : IsComplete result → SaysOfFiles (FilesMeanTrace files names) IsTraceAnswer old new result = λ settled. says_of_files (trace_meant files names) (answered settled) in
     record {
       done = λ settled. done files names old new result (says settled);
       trace = λ m mean is. trace files names old new result (says (settled_done _ is)) is m mean;

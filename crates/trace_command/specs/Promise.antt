@@ -4,16 +4,16 @@ use Rattle.std.specs.Io.KnownBytes.{Appends}
 use Rattle.file_access.specs.Outside.{Files}
 use Rattle.command_base.specs.declared.status.Status.{Status}
 use Rattle.command_base.specs.declared.status.Status.TheVariants as status
-use Rattle.command_base.specs.Runs.{IsSettled}
+use Rattle.command_base.specs.Runs.{IsComplete}
 use Rattle.trace_command.specs.Names.{TraceNames}
 use Rattle.trace_command.specs.Traced.{TraceMeaning, FilesMeanTrace, FilesHaveEntry, FilesLackEntry, WritesTrace, no_entry_line}
 
 -- the files and their names, what was written before and after the run, and how it ended
 pub record TracePromise (files : Files) (names : TraceNames) (old new : Option (List ℕ)) (result : Status) : Type 0 where
   -- Done comes exactly where both files are read and an entry of the network is named.
-  pub done : IsSettled result → ((result ≡ status.Done) ↔ FilesHaveEntry files names)
+  pub done : IsComplete result → ((result ≡ status.Done) ↔ FilesHaveEntry files names)
   -- Then the path of the packet was written, with the rule that the lookup picks at each stop.
   pub trace : (m : TraceMeaning) → FilesMeanTrace files names m → result ≡ status.Done → WritesTrace m old new
   -- Refused comes exactly where both files are read and no entry of the network is named; the line says which was named.
-  pub refused : IsSettled result → ((result ≡ status.Refused) ↔ FilesLackEntry files names)
+  pub refused : IsComplete result → ((result ≡ status.Refused) ↔ FilesLackEntry files names)
   pub no_entry : (m : TraceMeaning) → FilesMeanTrace files names m → result ≡ status.Refused → Appends old new (no_entry_line m.entry)

@@ -9,7 +9,7 @@ use Rattle.net_base.specs.declared.ids.Port.{Port}
 use Rattle.net_base.specs.declared.ids.Place.{Place}
 use Rattle.topology.specs.Networks.{Network, IsEntry, switch_named}
 use Rattle.topology_files.specs.Topology.{network_in}
-use Rattle.flow_rules.specs.Tables.{matched, rules_at, rules_of_all}
+use Rattle.flow_rules.specs.Tables.{matched_rule, rules_at, rules_of_all}
 use Rattle.flow_rules.specs.declared.rules.Rule.{Rule}
 use Rattle.flow_rules.specs.declared.rules.VlanTest.{VlanTest}
 use Rattle.flow_rules.specs.declared.rules.VlanTest.TheVariants as test
@@ -107,7 +107,7 @@ picked_text (Some r) = rule_text r
 -- a stop: the place, and the rule that the lookup there picks for a packet to the address
 abbrev pub stop_line : Network → List (List Rule) → ℕ → Place → List ℕ
 stop_line net tables dst place =
-    place_text net place ++ codes ": " ++ picked_text (matched (header_at place dst) (rules_at tables place.switch))
+    place_text net place ++ codes ": " ++ picked_text (matched_rule (header_at place dst) (rules_at tables place.switch))
 
 -- how the path ends
 abbrev pub end_line : Network → PlacesEnd → List ℕ

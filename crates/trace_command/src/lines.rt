@@ -1,7 +1,7 @@
 //! The lines on a packet's path.
 ghost use Rattle.std.specs.Prelude.{◌≡◌, ◌++◌, ◌∷◌, [], map, IfOk, OnOk};
 ghost use Rattle.net_base.specs.Lines.{text_of};
-ghost use Rattle.flow_rules.specs.Tables.{matched, rules_at, rules_of_all};
+ghost use Rattle.flow_rules.specs.Tables.{matched_rule, rules_at, rules_of_all};
 ghost use Rattle.flow_rules.specs.Scan.{better_of};
 ghost use Rattle.path_walk.specs.Outcomes.{header_at};
 ghost use Rattle.command_base.specs.Lines.{switch_name};
@@ -123,7 +123,7 @@ fn better(best: Option<Rule>, rule: Rule) -> Option<Rule>
 
 /// The rule that a lookup at a place picks for an address.
 fn picked_at(rules: &[Rule], place: Place, dst: u32) -> Option<Rule>
-    ensures { result ≡ matched (header_at place dst) rules.now }
+    ensures { result ≡ matched_rule (header_at place dst) rules.now }
 {
     let mut best = None;
     for rule in rules {

@@ -10,7 +10,7 @@ use Rattle.topology.specs.Networks.{Network, switch_count}
 use Rattle.update_model.specs.Ranges.{IsPlanChange}
 use Rattle.update_model.specs.declared.Change.{Change}
 use Rattle.round_messages.specs.Requests.{is_changed, switch_numbered, switches_changed}
-use Rattle.turned_rounds.specs.Batches.{next_xid, xid_behind, change_message, barrier_message, change_messages, barrier_messages, batch_of, AreWithin}
+use Rattle.turned_rounds.specs.Batches.{next_xid, xid_behind, change_message, barrier_message, change_messages, barrier_messages, batch_of, AreToSwitches}
 use Rattle.turned_rounds.specs.declared.outgoing.Outgoing.{Outgoing}
 
 -- ---- xids
@@ -89,11 +89,11 @@ module _ (round : List Change) (i n : ℕ) (less : i < n) where
 
 -- ---- to whom they are
 
-changes_within : (net : Network) (x : ℕ) (changes : List Change) → AllByRecursion (IsPlanChange net) changes → AreWithin net (change_messages x changes)
+changes_within : (net : Network) (x : ℕ) (changes : List Change) → AllByRecursion (IsPlanChange net) changes → AreToSwitches net (change_messages x changes)
 changes_within net x [] plan = tt
 changes_within net x (c ∷ changes) plan = (plan.0.switch, changes_within net (next_xid x) changes plan.1)
 
-barriers_within : (net : Network) (x : ℕ) (switches : List SwitchId) → AllByRecursion (λ (s : SwitchId). s.0 < switch_count net) switches → AreWithin net (barrier_messages x switches)
+barriers_within : (net : Network) (x : ℕ) (switches : List SwitchId) → AllByRecursion (λ (s : SwitchId). s.0 < switch_count net) switches → AreToSwitches net (barrier_messages x switches)
 barriers_within net x [] all = tt
 barriers_within net x (s ∷ switches) all = (all.0, barriers_within net (next_xid x) switches all.1)
 
@@ -104,7 +104,7 @@ switches_within p most a (suc m) le =
     let others = switches_within p most (a + 1) m (omega arith) in
     cond_both (p (switch_numbered a)) (switch_numbered a ∷ tail) tail (AllByRecursion (λ (s : SwitchId). s.0 < most)) (λ e. (omega arith, others)) (λ e. others)
 
-pub batch_within : (net : Network) (x : ℕ) (round : List Change) → AllByRecursion (IsPlanChange net) round → AreWithin net (batch_of net x round)
+pub batch_within : (net : Network) (x : ℕ) (round : List Change) → AllByRecursion (IsPlanChange net) round → AreToSwitches net (batch_of net x round)
 batch_within net x round plan =
     let y = xid_behind x (length round) in
     each_append (λ (m : Outgoing). m.switch.0 < switch_count net) (change_messages x round) (barrier_messages y (switches_changed net round)) (changes_within net x round plan)

@@ -46,5 +46,5 @@ abbrev pub outgoing_of : Sent → Outgoing
 outgoing_of m = record { switch = m.switch; text = wire_text m.message }
 
 -- each message is to a switch of the network
-abbrev pub AreWithin : Network → List Outgoing → Type 0
-AreWithin net messages = AllByRecursion (λ (m : Outgoing). m.switch.0 < switch_count net) messages
+abbrev pub AreToSwitches : Network → List Outgoing → Type 0
+AreToSwitches net messages = AllByRecursion (λ (m : Outgoing). m.switch.0 < switch_count net) messages

@@ -4,7 +4,7 @@ ghost use Rattle.std.specs.List.{AllByRecursion};
 ghost use Rattle.topology.specs.Networks.{switch_count};
 ghost use Rattle.update_model.specs.Ranges.{IsPlanChange};
 ghost use Rattle.round_messages.specs.Requests.{is_changed, switch_numbered, switches_changed};
-ghost use Rattle.turned_rounds.specs.Batches.{next_xid, xid_behind, change_message, barrier_message, change_messages, barrier_messages, batch_of, AreWithin};
+ghost use Rattle.turned_rounds.specs.Batches.{next_xid, xid_behind, change_message, barrier_message, change_messages, barrier_messages, batch_of, AreToSwitches};
 
 use crate::outgoing::{Outgoing, Text};
 use net_base::{Memory, SwitchId};
@@ -127,7 +127,7 @@ impl Batch {
 pub fn round_batch(alloc: Global, net: &Net, round: &[Change], xid: u32) -> Result<Batch, Memory>
     requires { AllByRecursion (IsPlanChange net.now) round.now }
     ensures list { IfOk result (λ b. b.list.items ≡ batch_of net.now xid round.now) }
-    ensures within { IfOk result (λ b. AreWithin net.now b.list.items) }
+    ensures within { IfOk result (λ b. AreToSwitches net.now b.list.items) }
     ensures xid { IfOk result
         (λ b. b.xid ≡ xid_behind xid (length (batch_of net.now xid round.now))) }
 {

@@ -15,14 +15,14 @@ use Rattle.flow_rules.specs.Tables.{lookup, rules_at}
 use Rattle.flow_rules.specs.declared.rules.VlanTest.TheVariants as test
 use Rattle.flow_rules.specs.declared.rules.Action.TheVariants as action
 use Rattle.flow_rules.specs.declared.rules.Rule.{Rule}
-use Rattle.path_walk.specs.Outcomes.{acted, header_at}
+use Rattle.path_walk.specs.Outcomes.{action_outcome, header_at}
 use Rattle.path_walk.specs.Paths.{outcome_in, Forwards}
 use Rattle.path_walk.specs.UserConfigs.{IsUserConfig}
 use Rattle.path_walk.specs.declared.Outcome.{Outcome}
 use Rattle.path_walk.specs.declared.Outcome.TheVariants.{Discard, Leave, Go}
 use Rattle.path_walk.proofs.PathLaws.{HasVlan, outcome_keeps, walk_keeps}
 use Rattle.update_model.specs.Mixtures.{Rollout, MayHold, IsPossible}
-use Rattle.certificates.specs.TwoPhase.{carrying, outcome_carrying, IsLabelled, tables_of, KeepsPath, IsLabelPickInForce, TwoPhaseCertificate}
+use Rattle.certificates.specs.TwoPhase.{place_carrying, outcome_carrying, IsLabelled, tables_of, KeepsPath, IsLabelPickInForce, TwoPhaseCertificate}
 use Rattle.certificates.specs.declared.Label.{Label}
 use Rattle.certificates.specs.declared.TwoPhaseEvidence.{TwoPhaseEvidence}
 use Rattle.tag_allocator.specs.Tags.{Tagged, tags_of}
@@ -74,7 +74,7 @@ module _ (u : Rollout) (new : List (List Rule)) (k : ℕ) (net_is : IsNetwork u.
         → found ≡ outcome_carrying (vlan.Id v.tag) (outcome_in u.net new (place_at s port v.user) dst)
     tagged_kept all s port inner found possible =
         possible.is
-        ∙ ap (acted u.net (place_at s port (vlan.Id v.tag)))
+        ∙ ap (action_outcome u.net (place_at s port (vlan.Id v.tag)))
         (tagged_lookup u.net tags s (rules_at new s) (new_user.clear s) (new_user.rules s) port dst possible.mixed (stage.banded s inner.within possible.mixed possible.held) v is_tag small inner.not_host
         (all s inner.within possible.mixed possible.held))
         ∙ tagged_outcome u.net s port v.user v.tag (lookup (header port v.user dst) (rules_at new s)) (user_lookup u.net s (header port v.user dst) (rules_at new s) (new_user.rules s))
@@ -84,7 +84,7 @@ module _ (u : Rollout) (new : List (List Rule)) (k : ℕ) (net_is : IsNetwork u.
         → found ≡ outcome_carrying v.user (outcome_in u.net (tables_of u new version) (place_at s port v.user) dst)
     raw_kept raws s port within found possible none =
         possible.is
-        ∙ ap (acted u.net (place_at s port v.user))
+        ∙ ap (action_outcome u.net (place_at s port v.user))
         (raw_lookup u.net tags s (rules_at new s) (new_user.clear s) (new_user.rules s) port dst possible.mixed (stage.banded s within possible.mixed possible.held) v.user (tags.declared v is_tag) none
         (rules_at (tables_of u new version) s) ((user_of version).clear s) (raws s within possible.mixed possible.held))
         ∙ carries_own v.user (outcome_in u.net (tables_of u new version) (place_at s port v.user) dst) (outcome_keeps u.net (tables_of u new version) (user_of version) dst (place_at s port v.user))
@@ -104,7 +104,7 @@ module _ (u : Rollout) (new : List (List Rule)) (k : ℕ) (net_is : IsNetwork u.
               let (e, some) = hit in
               inr (
                 elim stage.tagged [ inl all ↦ all | inr none ↦ absurd (none s within possible.mixed possible.held some.0 some.1 some.2) ],
-                possible.is ∙ ap (acted u.net (place_at s port v.user)) e
+                possible.is ∙ ap (action_outcome u.net (place_at s port v.user)) e
                     ∙ entering_outcome u.net s port v.user v.tag (lookup (header port v.user dst) (rules_at new s)) (user_lookup u.net s (header port v.user dst) (rules_at new s) (new_user.rules s)),
               ))
           | inr none ↦ elim stage.raws [
@@ -145,7 +145,7 @@ module _ (u : Rollout) (new : List (List Rule)) (k : ℕ) (net_is : IsNetwork u.
     goes_vlan : (tag : Vlan) (o : Outcome) (next : Place) → Go next ≡ outcome_carrying tag o → next.vlan ≡ tag
     goes_vlan tag Discard next e = absurd (let f : Go next ≡ Discard = e in cc)
     goes_vlan tag (Leave port w) next e = absurd (let f : Go next ≡ Leave port w = e in cc)
-    goes_vlan tag (Go q) next e = let f : next ≡ carrying tag q = cc in ap (λ p. p.vlan) f
+    goes_vlan tag (Go q) next e = let f : next ≡ place_carrying tag q = cc in ap (λ p. p.vlan) f
 
     labelled : (labels : List Label) (b : Bool) (tag : Vlan) (o : Outcome) → IsIn (label tag b v.user) labels → IsLabelled labels b v.user (outcome_carrying tag o)
     labelled labels b tag Discard i = tt

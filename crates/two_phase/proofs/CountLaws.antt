@@ -9,7 +9,7 @@ use Rattle.flow_rules.specs.Patterns.{admits_port, admits_vlan}
 use Rattle.flow_rules.specs.declared.rules.Rule.{Rule}
 use Rattle.flow_rules.specs.declared.rules.Action.TheVariants.{Discard}
 use Rattle.flow_rules.specs.declared.rules.VlanTest.TheVariants as test
-use Rattle.tag_allocator.specs.Tags.{Tagged, paired, tags_of, available_tags}
+use Rattle.tag_allocator.specs.Tags.{Tagged, tags_paired, tags_of, available_tags}
 use Rattle.table_difference.specs.SameClasses.{every_address}
 use Rattle.two_phase.specs.TwoPhasePlan.{is_host_bound, tagged_copy, ingress_copy, hosts_of, rule, tagged_rules, tagged_rules_by, ingress_rules, ingress_rules_by, counted_tags}
 
@@ -20,7 +20,7 @@ IsByUser f = (x y : Tagged) → x.user ≡ y.user → length (f x) ≡ length (f
 abbrev counted : List Vlan → List Tagged
 counted vs = map (λ (v : Vlan). let t : Tagged = record { user = v; tag = 0 } in t) vs
 
-counted_more : (f : Tagged → List Rule) → IsByUser f → (vs : List Vlan) (ts : List ℕ) → length (flat_map f (paired vs ts)) ≤ length (flat_map f (counted vs))
+counted_more : (f : Tagged → List Rule) → IsByUser f → (vs : List Vlan) (ts : List ℕ) → length (flat_map f (tags_paired vs ts)) ≤ length (flat_map f (counted vs))
 counted_more f same [] ts = omega arith
 counted_more f same (v ∷ vs) [] = omega arith
 counted_more f same (v ∷ vs) (t ∷ ts) =
@@ -28,11 +28,11 @@ counted_more f same (v ∷ vs) (t ∷ ts) =
     let there : Tagged = record { user = v; tag = 0 } in
     let e = same here there refl in
     let rest = counted_more f same vs ts in
-    let a = length-append (f here) (flat_map f (paired vs ts)) in
+    let a = length-append (f here) (flat_map f (tags_paired vs ts)) in
     let b = length-append (f there) (flat_map f (counted vs)) in
     omega arith
 
-counted_images : (f : Tagged → Rule) (vs : List Vlan) (ts : List ℕ) → length (map f (paired vs ts)) ≤ length (map f (counted vs))
+counted_images : (f : Tagged → Rule) (vs : List Vlan) (ts : List ℕ) → length (map f (tags_paired vs ts)) ≤ length (map f (counted vs))
 counted_images f [] ts = omega arith
 counted_images f (v ∷ vs) [] = omega arith
 counted_images f (v ∷ vs) (t ∷ ts) = let rest = counted_images f vs ts in omega arith

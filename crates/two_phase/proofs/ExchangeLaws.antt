@@ -16,7 +16,7 @@ use Rattle.path_walk.specs.UserConfigs.{IsUserConfig, IsUserRule}
 use Rattle.update_model.specs.Changes.{switch_of, entry_named, Applies, changes_at, rules_after, tables_after, IsGoodRound}
 use Rattle.update_model.specs.Mixtures.{IsMixture}
 use Rattle.update_model.proofs.Matches.{Writes}
-use Rattle.update_model.specs.Remaining.{remaining, changes_between}
+use Rattle.update_model.specs.Remaining.{remaining_changes, changes_between}
 use Rattle.flow_rules.specs.Same.{action_eq}
 use Rattle.update_model.specs.declared.Change.{Change}
 use Rattle.update_model.specs.declared.Change.TheVariants.{Insert, Delete, Replace}
@@ -71,10 +71,10 @@ module _ (net : Network) (net_is : IsNetwork net) (tags : IsTagging net) (old ne
   fresh s = filter (λ r. not (was s r)) (rules_at new s)
 
   abbrev pub first_round : List Change
-  first_round = filter (λ c. not (is_insert c)) (remaining old new)
+  first_round = filter (λ c. not (is_insert c)) (remaining_changes old new)
 
   abbrev pub second_round : List Change
-  second_round = filter is_insert (remaining old new)
+  second_round = filter is_insert (remaining_changes old new)
 
   old_low : (s : SwitchId) (r : Rule) → IsIn r (rules_at old s) → r.key.priority ≤ 16383
   old_low s r i = (each_at (IsUserRule net s) (rules_at old s) r (old_user.rules s) i).below
@@ -101,8 +101,8 @@ module _ (net : Network) (net_is : IsNetwork net) (tags : IsTagging net) (old ne
           let (r, i, same, _) = d.2 in
           subst (λ x. Applies tables (Replace x q)) (sym d.0) (subst (λ n. s.0 < n) (sym holds.count) inside, subst (λ x. IsIn x (keys_of (rules_at tables s))) same (in_map (λ x. x.key) r (rules_at tables s) (holds.to s inside r (inl i))))
 
-      in_first : (c : Change) → IsIn c first_round → IsIn c (remaining old new) × (is_insert c ≡ false)
-      in_first c i = let (j, e) = in_from_filter (λ x. not (is_insert x)) c (remaining old new) i in (j, not-true (is_insert c) e)
+      in_first : (c : Change) → IsIn c first_round → IsIn c (remaining_changes old new) × (is_insert c ≡ false)
+      in_first c i = let (j, e) = in_from_filter (λ x. not (is_insert x)) c (remaining_changes old new) i in (j, not-true (is_insert c) e)
 
       good_first : IsGoodRound tables first_round
       good_first = record {
@@ -110,7 +110,7 @@ module _ (net : Network) (net_is : IsNetwork net) (tags : IsTagging net) (old ne
             let (j, e) = in_first c i in
             let (s, less, d) = remaining_is old new c j in
             applies_first s (subst (λ n. s.0 < n) old_user.count less) c d e);
-        distinct = distinct_some entry_named first_round (remaining old new) (some_filter (λ c. not (is_insert c)) (remaining old new)) (remaining_distinct old new);
+        distinct = distinct_some entry_named first_round (remaining_changes old new) (some_filter (λ c. not (is_insert c)) (remaining_changes old new)) (remaining_distinct old new);
       }
 
       module _ (s : SwitchId) (inside : s.0 < switch_count net) where
@@ -227,7 +227,7 @@ module _ (net : Network) (net_is : IsNetwork net) (tags : IsTagging net) (old ne
             in_round : (c : Change) → IsIn c (changes_between s (rules_at old s) (rules_at new s)) → is_insert c ≡ false → switch_of c ≡ s → IsIn c (changes_at s first_round)
             in_round c i e same =
                 in_filter (λ x. (switch_of x).0 == s.0) c first_round
-                (in_filter (λ x. not (is_insert x)) c (remaining old new) (remaining_in old new s c (subst (λ n. s.0 < n) (sym old_user.count) inside) (subst (λ n. s.0 < n) (sym new_user.count) inside) i) (not_from_false (is_insert c) e))
+                (in_filter (λ x. not (is_insert x)) c (remaining_changes old new) (remaining_in old new s c (subst (λ n. s.0 < n) (sym old_user.count) inside) (subst (λ n. s.0 < n) (sym new_user.count) inside) i) (not_from_false (is_insert c) e))
                 (eq-eqb (switch_of c).0 s.0 (ap (λ x. x.0) same))
 
             -- an old rule that no change names is a new rule
@@ -274,7 +274,7 @@ module _ (net : Network) (net_is : IsNetwork net) (tags : IsTagging net) (old ne
                   let c = Replace s r in
                   let j = replaces_it s (rules_at old s) (rules_at new s) (old_user.distinct s) (new_user.distinct s) x r o n same differ in
                   let here : IsIn c (changes_at s first_round) = in_filter (λ z. (switch_of z).0 == s.0) c first_round
-                  (in_filter (λ z. not (is_insert z)) c (remaining old new) (remaining_in old new s c (subst (λ m. s.0 < m) (sym old_user.count) inside) (subst (λ m. s.0 < m) (sym new_user.count) inside) j) refl) (eq-eqb s.0 s.0 refl) in
+                  (in_filter (λ z. not (is_insert z)) c (remaining_changes old new) (remaining_in old new s c (subst (λ m. s.0 < m) (sym old_user.count) inside) (subst (λ m. s.0 < m) (sym new_user.count) inside) j) refl) (eq-eqb s.0 s.0 refl) in
                   after_to tables first_round good_first s r (inr (c, here, refl)))
             ]
           where
@@ -333,15 +333,15 @@ module _ (net : Network) (net_is : IsNetwork net) (tags : IsTagging net) (old ne
       sweep : IsSweep (switch_count net) Insert fresh second_round
       sweep = record {
         each = λ c i.
-            let (j, e) = in_from_filter is_insert c (remaining old new) i in
+            let (j, e) = in_from_filter is_insert c (remaining_changes old new) i in
             let (s, less, d) = remaining_is old new c j in
             second_is c e s (subst (λ n. s.0 < n) old_user.count less) d;
         every = λ s r inside i.
             let (n, out) = fresh_is s r i in
-            in_filter is_insert (Insert s r) (remaining old new)
+            in_filter is_insert (Insert s r) (remaining_changes old new)
             (remaining_in old new s (Insert s r) (subst (λ m. s.0 < m) (sym old_user.count) inside) (subst (λ m. s.0 < m) (sym new_user.count) inside)
             (inserts_it s (rules_at old s) (rules_at new s) (old_user.distinct s) (new_user.distinct s) r n out)) refl;
-        distinct = distinct_some entry_named second_round (remaining old new) (some_filter is_insert (remaining old new)) (remaining_distinct old new);
+        distinct = distinct_some entry_named second_round (remaining_changes old new) (some_filter is_insert (remaining_changes old new)) (remaining_distinct old new);
       }
 
       absent : (s : SwitchId) (r : Rule) → s.0 < switch_count net → IsIn r (fresh s) → ¬ IsIn r.key (keys_of (rules_at tables s))

@@ -17,7 +17,7 @@ use Rattle.net_base.specs.declared.ids.Vlan.{Vlan}
 use Rattle.net_base.specs.declared.ids.Vlan.TheVariants as vlan
 use Rattle.topology.specs.Networks.{Network}
 use Rattle.certificates.specs.declared.Label.{Label}
-use Rattle.tag_allocator.specs.Tags.{Tagged, paired, tags_of, available_tags}
+use Rattle.tag_allocator.specs.Tags.{Tagged, tags_paired, tags_of, available_tags}
 use Rattle.two_phase.specs.TwoPhasePlan.{vlan_number, with_label, labels_in_order, label_table}
 use Rattle.two_phase.proofs.TagLaws.{IsTagging}
 use Rattle.two_phase.proofs.LabelLaws.{in_labels, from_labels, from_with_label, both_of}
@@ -172,8 +172,8 @@ module _ (net : Network) (version : Bool) (tags : IsTagging net) where
 
 -- ---- the labels in the order of the file
 
-paired_at : (vs : List Vlan) (ts : List ℕ) (i t : ℕ) (d : Vlan) (e : Tagged) → length vs ≤ length ts → i < length vs → slice_get (map (λ (x : Tagged). x.tag) (paired vs ts)) i ≡ Some t
-    → get_or (paired vs ts) i e ≡ record { user = get_or vs i d; tag = t }
+paired_at : (vs : List Vlan) (ts : List ℕ) (i t : ℕ) (d : Vlan) (e : Tagged) → length vs ≤ length ts → i < length vs → slice_get (map (λ (x : Tagged). x.tag) (tags_paired vs ts)) i ≡ Some t
+    → get_or (tags_paired vs ts) i e ≡ record { user = get_or vs i d; tag = t }
 paired_at [] ts i t d e enough within at = absurd (omega arith)
 paired_at (v ∷ vs) [] i t d e enough within at = absurd (omega arith)
 paired_at (v ∷ vs) (u ∷ ts) zero t d e enough within at = ap (λ (n : ℕ). let x : Tagged = record { user = v; tag = n } in x) (same_Some u t at)

@@ -10,7 +10,7 @@ use Rattle.flow_rules.specs.declared.rules.Rule.{Rule}
 use Rattle.flow_rules.specs.Tables.{TableState, IsTable, rules_at, rules_of_all}
 use Rattle.path_walk.specs.UserConfigs.{IsUserConfig}
 use Rattle.path_walk.proofs.WalkedLaws.{rules_held}
-use Rattle.tag_allocator.specs.Tags.{Tagged, paired, tags_of, available_tags}
+use Rattle.tag_allocator.specs.Tags.{Tagged, tags_paired, tags_of, available_tags}
 use Rattle.two_phase.specs.SwitchRules.{band_rules_by, band_rules}
 use Rattle.two_phase.specs.declared.bands.Band.{Band}
 use Rattle.two_phase.specs.declared.bands.Band.TheVariants as band
@@ -28,14 +28,14 @@ pub band_made : (b : Band) (net : Network) (tags : List Tagged) → tags ≡ tag
 band_made b net tags same new s table held rules made =
     made ∙ ap (λ ts. band_rules_by b ts net s table.rules) same ∙ ap (band_rules b net s) (sym (rules_held new s table held))
 
-pub paired_length : (vs : List Vlan) (ts : List ℕ) → length vs ≤ length ts → length (paired vs ts) ≡ length vs
+pub paired_length : (vs : List Vlan) (ts : List ℕ) → length vs ≤ length ts → length (tags_paired vs ts) ≡ length vs
 paired_length [] ts enough = refl
 paired_length (v ∷ vs) [] enough = absurd (omega arith)
 paired_length (v ∷ vs) (t ∷ ts) enough = ap suc (paired_length vs ts (omega arith))
 
 -- a VLAN with its tag, by their place
-pub paired_at : (vs : List Vlan) (ts : List ℕ) (k : ℕ) (v : Vlan) (t : ℕ) → slice_get vs k ≡ Some v → slice_get (map (λ (x : Tagged). x.tag) (paired vs ts)) k ≡ Some t
-    → slice_get (paired vs ts) k ≡ Some (record { user = v; tag = t })
+pub paired_at : (vs : List Vlan) (ts : List ℕ) (k : ℕ) (v : Vlan) (t : ℕ) → slice_get vs k ≡ Some v → slice_get (map (λ (x : Tagged). x.tag) (tags_paired vs ts)) k ≡ Some t
+    → slice_get (tags_paired vs ts) k ≡ Some (record { user = v; tag = t })
 paired_at [] ts k v t e f = absurd (none-some v e)
 paired_at (w ∷ vs) [] k v t e f = absurd (none-some t f)
 paired_at (w ∷ vs) (u ∷ ts) zero v t e f = ap Some (ap (λ (x : Vlan). let y : Tagged = record { user = x; tag = u } in y) (same_Some w v e) ∙ ap (λ (n : ℕ). let y : Tagged = record { user = v; tag = n } in y) (same_Some u t f))

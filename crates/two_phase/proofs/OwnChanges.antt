@@ -11,7 +11,7 @@ use Rattle.flow_rules.specs.Tables.{rules_at}
 use Rattle.flow_rules.specs.declared.rules.Rule.{Rule}
 use Rattle.update_model.specs.Changes.{switch_of, rule_of}
 use Rattle.update_model.specs.Mixtures.{is_insert}
-use Rattle.update_model.specs.Remaining.{remaining}
+use Rattle.update_model.specs.Remaining.{remaining_changes}
 use Rattle.update_model.specs.declared.Change.{Change}
 use Rattle.update_model.specs.declared.Change.TheVariants.{Insert, Delete, Replace}
 use Rattle.update_model.proofs.DifferenceLaws.{IsDifference, remaining_is, difference_switch}
@@ -58,9 +58,9 @@ module _ (net : Network) (old new : List (List Rule)) where
   among_rules s (Delete t r) d = inr (inl d.1)
   among_rules s (Replace t r) d = inr (inr d.1)
 
-  remaining_of : length old ≡ switch_count net → AreOfPlan (remaining old new)
+  remaining_of : length old ≡ switch_count net → AreOfPlan (remaining_changes old new)
   remaining_of count =
-      each_from_in IsOfPlan (remaining old new) (λ c i.
+      each_from_in IsOfPlan (remaining_changes old new) (λ c i.
       let (s, less, d) = remaining_is old new c i in
       record { at = s; inside = omega arith; switch = difference_switch s (rules_at old s) (rules_at new s) c d; among = among_rules s c d })
 
@@ -70,7 +70,7 @@ module _ (net : Network) (old new : List (List Rule)) where
       let take_out : ℕ → List Change = λ k. by_switch net Delete (of_mark net new mark k) in
       let first = by_switch net Insert (λ s. tagged_rules net s (rules_at new s)) ∷ [] in
       let laid = map lay in_order in
-      let exchange = filter (λ c. not (is_insert c)) (remaining old new) ∷ filter is_insert (remaining old new) ∷ [] in
+      let exchange = filter (λ c. not (is_insert c)) (remaining_changes old new) ∷ filter is_insert (remaining_changes old new) ∷ [] in
       let taken = map take_out back in
       let last = by_switch net Delete (λ s. tagged_rules net s (rules_at new s)) ∷ [] in
       let a : AllByRecursion AreOfPlan first = (swept Insert (λ s r. refl) (λ s r. refl) (λ s. tagged_rules net s (rules_at new s)) tagged_among, tt) in
@@ -78,7 +78,7 @@ module _ (net : Network) (old new : List (List Rule)) where
       each_map lay AreOfPlan in_order (each_from_in (λ k. AreOfPlan (lay k)) in_order (λ k _. swept Insert (λ s r. refl) (λ s r. refl) (of_mark net new mark k) (marked_among mark k)))
       in
       let rest = remaining_of count in
-      let c : AllByRecursion AreOfPlan exchange = (each_filter IsOfPlan (λ c. not (is_insert c)) (remaining old new) rest, (each_filter IsOfPlan is_insert (remaining old new) rest, tt)) in
+      let c : AllByRecursion AreOfPlan exchange = (each_filter IsOfPlan (λ c. not (is_insert c)) (remaining_changes old new) rest, (each_filter IsOfPlan is_insert (remaining_changes old new) rest, tt)) in
       let d : AllByRecursion AreOfPlan taken =
       each_map take_out AreOfPlan back (each_from_in (λ k. AreOfPlan (take_out k)) back (λ k _. swept Delete (λ s r. refl) (λ s r. refl) (of_mark net new mark k) (marked_among mark k)))
       in

@@ -21,7 +21,7 @@ use Rattle.flow_rules.specs.declared.rules.Rule.{Rule}
 use Rattle.flow_rules.specs.declared.rules.Rewrite.TheVariants.{Keep, Set}
 use Rattle.flow_rules.specs.declared.rules.Action.{Action}
 use Rattle.flow_rules.specs.declared.rules.Action.TheVariants as action
-use Rattle.path_walk.specs.Outcomes.{acted, sent, rewritten}
+use Rattle.path_walk.specs.Outcomes.{action_outcome, sent_outcome, rewritten_vlan}
 use Rattle.path_walk.specs.UserConfigs.{IsUserRule, IsUserAction}
 use Rattle.path_walk.specs.declared.Outcome.{Outcome}
 use Rattle.path_walk.specs.declared.Outcome.TheVariants.{Discard, Leave, Go}
@@ -89,19 +89,19 @@ module _ (net : Network) (is : IsNetwork net) where
       cond_both (list_any (stop_eq stop) net.hosts) at.Host (far_end stop net.links) (λ x. x ≡ at.Link s p → IsInner s p)
       (λ _ f. absurd (let g : at.Host ≡ at.Link s p = f in cc)) (λ _ f. link_inner s p (far_is_end stop net.links s p f)) e
 
-  sent_inner : (e : End) (stop : Stop) → end_at net stop ≡ e → (port : Port) (v : Vlan) (next : Place) → sent e port v ≡ Go next → IsInner next.switch next.port
+  sent_inner : (e : End) (stop : Stop) → end_at net stop ≡ e → (port : Port) (v : Vlan) (next : Place) → sent_outcome e port v ≡ Go next → IsInner next.switch next.port
   sent_inner at.Nothing stop is_end port v next goes = absurd (let f : Discard ≡ Go next = goes in cc)
   sent_inner at.Host stop is_end port v next goes = absurd (let f : Leave port v ≡ Go next = goes in cc)
   sent_inner (at.Link s p) stop is_end port v next goes =
       let f : place_at s p v ≡ next = cc in
       subst (λ x. IsInner x.switch x.port) f (end_inner stop s p is_end)
 
-  pub goes_inner : (place next : Place) (a : Action) → acted net place a ≡ Go next → IsInner next.switch next.port
+  pub goes_inner : (place next : Place) (a : Action) → action_outcome net place a ≡ Go next → IsInner next.switch next.port
   goes_inner place next action.Discard goes = absurd (let f : Discard ≡ Go next = goes in cc)
   goes_inner place next (action.Out port rewrite) goes =
-      cond_both (port.0 == place.port.0) Discard (sent (end_at net (stop_at place.switch port)) port (rewritten rewrite place.vlan)) (λ o. o ≡ Go next → IsInner next.switch next.port)
+      cond_both (port.0 == place.port.0) Discard (sent_outcome (end_at net (stop_at place.switch port)) port (rewritten_vlan rewrite place.vlan)) (λ o. o ≡ Go next → IsInner next.switch next.port)
       (λ _ f. absurd (let g : Discard ≡ Go next = f in cc))
-      (λ _ f. sent_inner (end_at net (stop_at place.switch port)) (stop_at place.switch port) refl port (rewritten rewrite place.vlan) next f) goes
+      (λ _ f. sent_inner (end_at net (stop_at place.switch port)) (stop_at place.switch port) refl port (rewritten_vlan rewrite place.vlan) next f) goes
 
   pub entry_within : (s : SwitchId) (p : Port) → IsIn (stop_at s p) net.hosts → s.0 < switch_count net
   entry_within s p i =
@@ -112,7 +112,7 @@ entry_host net s p i =
     in_map (λ (x : Stop). x.port) (stop_at s p) (filter (λ x. x.switch.0 == s.0) net.hosts)
     (in_filter (λ (x : Stop). x.switch.0 == s.0) (stop_at s p) net.hosts i (eq-eqb s.0 s.0 refl))
 
-restored : (v w : Vlan) → rewritten (restore v) w ≡ v
+restored : (v w : Vlan) → rewritten_vlan (restore v) w ≡ v
 restored vlan.Untagged w = refl
 restored (vlan.Id n) w = refl
 
@@ -123,52 +123,52 @@ carried_cond false tag o = refl
 module _ (net : Network) (s : SwitchId) (port : Port) where
   -- the action on a tagged packet, and the new rule's on the same packet with its own VLAN
   pub tagged_outcome : (user : Vlan) (tag : ℕ) (a : Action) → IsUserAction net s a
-      → acted net (place_at s port (vlan.Id tag)) (tagged_action net s user a) ≡ outcome_carrying (vlan.Id tag) (acted net (place_at s port user) a)
+      → action_outcome net (place_at s port (vlan.Id tag)) (tagged_action net s user a) ≡ outcome_carrying (vlan.Id tag) (action_outcome net (place_at s port user) a)
   tagged_outcome user tag action.Discard is = refl
   tagged_outcome user tag (action.Out p rewrite) is =
-      subst (λ w. acted net (place_at s port (vlan.Id tag)) (tagged_action net s user (action.Out p w)) ≡ outcome_carrying (vlan.Id tag) (acted net (place_at s port user) (action.Out p w))) (sym is.1)
+      subst (λ w. action_outcome net (place_at s port (vlan.Id tag)) (tagged_action net s user (action.Out p w)) ≡ outcome_carrying (vlan.Id tag) (action_outcome net (place_at s port user) (action.Out p w))) (sym is.1)
       (by_end (end_at net (stop_at s p)) refl)
     where
       by_end : (e : End) → end_at net (stop_at s p) ≡ e
-          → acted net (place_at s port (vlan.Id tag)) (cond (host_end e) (action.Out p (restore user)) (action.Out p Keep))
-          ≡ outcome_carrying (vlan.Id tag) (cond (p.0 == port.0) Discard (sent (end_at net (stop_at s p)) p user))
+          → action_outcome net (place_at s port (vlan.Id tag)) (cond (host_end e) (action.Out p (restore user)) (action.Out p Keep))
+          ≡ outcome_carrying (vlan.Id tag) (cond (p.0 == port.0) Discard (sent_outcome (end_at net (stop_at s p)) p user))
       by_end at.Host f =
-          ap (λ x. cond (p.0 == port.0) Discard (sent x p (rewritten (restore user) (vlan.Id tag)))) f
+          ap (λ x. cond (p.0 == port.0) Discard (sent_outcome x p (rewritten_vlan (restore user) (vlan.Id tag)))) f
           ∙ ap (λ x. cond (p.0 == port.0) Discard (Leave p x)) (restored user (vlan.Id tag))
           ∙ carried_cond (p.0 == port.0) (vlan.Id tag) (Leave p user)
-          ∙ ap (λ x. outcome_carrying (vlan.Id tag) (cond (p.0 == port.0) Discard (sent x p user))) (sym f)
+          ∙ ap (λ x. outcome_carrying (vlan.Id tag) (cond (p.0 == port.0) Discard (sent_outcome x p user))) (sym f)
       by_end (at.Link t q) f =
-          ap (λ x. cond (p.0 == port.0) Discard (sent x p (vlan.Id tag))) f
+          ap (λ x. cond (p.0 == port.0) Discard (sent_outcome x p (vlan.Id tag))) f
           ∙ carried_cond (p.0 == port.0) (vlan.Id tag) (Go (place_at t q user))
-          ∙ ap (λ x. outcome_carrying (vlan.Id tag) (cond (p.0 == port.0) Discard (sent x p user))) (sym f)
+          ∙ ap (λ x. outcome_carrying (vlan.Id tag) (cond (p.0 == port.0) Discard (sent_outcome x p user))) (sym f)
       by_end at.Nothing f =
-          ap (λ x. cond (p.0 == port.0) Discard (sent x p (vlan.Id tag))) f
+          ap (λ x. cond (p.0 == port.0) Discard (sent_outcome x p (vlan.Id tag))) f
           ∙ carried_cond (p.0 == port.0) (vlan.Id tag) Discard
-          ∙ ap (λ x. outcome_carrying (vlan.Id tag) (cond (p.0 == port.0) Discard (sent x p user))) (sym f)
+          ∙ ap (λ x. outcome_carrying (vlan.Id tag) (cond (p.0 == port.0) Discard (sent_outcome x p user))) (sym f)
 
   -- the action on an entering packet
   pub entering_outcome : (user : Vlan) (tag : ℕ) (a : Action) → IsUserAction net s a
-      → acted net (place_at s port user) (ingress_action net s tag a) ≡ outcome_carrying (vlan.Id tag) (acted net (place_at s port user) a)
+      → action_outcome net (place_at s port user) (ingress_action net s tag a) ≡ outcome_carrying (vlan.Id tag) (action_outcome net (place_at s port user) a)
   entering_outcome user tag action.Discard is = refl
   entering_outcome user tag (action.Out p rewrite) is =
-      subst (λ w. acted net (place_at s port user) (ingress_action net s tag (action.Out p w)) ≡ outcome_carrying (vlan.Id tag) (acted net (place_at s port user) (action.Out p w))) (sym is.1)
+      subst (λ w. action_outcome net (place_at s port user) (ingress_action net s tag (action.Out p w)) ≡ outcome_carrying (vlan.Id tag) (action_outcome net (place_at s port user) (action.Out p w))) (sym is.1)
       (by_end (end_at net (stop_at s p)) refl)
     where
       by_end : (e : End) → end_at net (stop_at s p) ≡ e
-          → acted net (place_at s port user) (cond (link_end e) (action.Out p (Set tag)) (action.Out p Keep))
-          ≡ outcome_carrying (vlan.Id tag) (cond (p.0 == port.0) Discard (sent (end_at net (stop_at s p)) p user))
+          → action_outcome net (place_at s port user) (cond (link_end e) (action.Out p (Set tag)) (action.Out p Keep))
+          ≡ outcome_carrying (vlan.Id tag) (cond (p.0 == port.0) Discard (sent_outcome (end_at net (stop_at s p)) p user))
       by_end at.Host f =
-          ap (λ x. cond (p.0 == port.0) Discard (sent x p user)) f
+          ap (λ x. cond (p.0 == port.0) Discard (sent_outcome x p user)) f
           ∙ carried_cond (p.0 == port.0) (vlan.Id tag) (Leave p user)
-          ∙ ap (λ x. outcome_carrying (vlan.Id tag) (cond (p.0 == port.0) Discard (sent x p user))) (sym f)
+          ∙ ap (λ x. outcome_carrying (vlan.Id tag) (cond (p.0 == port.0) Discard (sent_outcome x p user))) (sym f)
       by_end (at.Link t q) f =
-          ap (λ x. cond (p.0 == port.0) Discard (sent x p (vlan.Id tag))) f
+          ap (λ x. cond (p.0 == port.0) Discard (sent_outcome x p (vlan.Id tag))) f
           ∙ carried_cond (p.0 == port.0) (vlan.Id tag) (Go (place_at t q user))
-          ∙ ap (λ x. outcome_carrying (vlan.Id tag) (cond (p.0 == port.0) Discard (sent x p user))) (sym f)
+          ∙ ap (λ x. outcome_carrying (vlan.Id tag) (cond (p.0 == port.0) Discard (sent_outcome x p user))) (sym f)
       by_end at.Nothing f =
-          ap (λ x. cond (p.0 == port.0) Discard (sent x p user)) f
+          ap (λ x. cond (p.0 == port.0) Discard (sent_outcome x p user)) f
           ∙ carried_cond (p.0 == port.0) (vlan.Id tag) Discard
-          ∙ ap (λ x. outcome_carrying (vlan.Id tag) (cond (p.0 == port.0) Discard (sent x p user))) (sym f)
+          ∙ ap (λ x. outcome_carrying (vlan.Id tag) (cond (p.0 == port.0) Discard (sent_outcome x p user))) (sym f)
 
 -- an outcome that keeps the VLAN carries it
 pub carries_own : (v : Vlan) (o : Outcome) → HasVlan v o → o ≡ outcome_carrying v o

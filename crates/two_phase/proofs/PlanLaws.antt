@@ -9,7 +9,7 @@ use Rattle.flow_rules.specs.Tables.{rules_at, IsTable}
 use Rattle.flow_rules.specs.declared.rules.Rule.{Rule}
 use Rattle.path_walk.specs.UserConfigs.{IsUserConfig}
 use Rattle.update_model.specs.Changes.{tables_after, round_after, settled_tables}
-use Rattle.update_model.specs.Remaining.{remaining}
+use Rattle.update_model.specs.Remaining.{remaining_changes}
 use Rattle.update_model.specs.declared.Change.{Change}
 use Rattle.update_model.specs.declared.Change.TheVariants.{Insert, Delete}
 use Rattle.update_model.proofs.MadeLaws.{distinct_some}
@@ -163,10 +163,10 @@ module _ (net : Network) (net_is : IsNetwork net) (tags : IsTagging net) (old ne
   take_all_tags = by_switch net Delete (λ s. tagged_rules net s (rules_at new s))
 
   abbrev first_exchange : List Change
-  first_exchange = filter (λ c. not (is_insert c)) (remaining old new)
+  first_exchange = filter (λ c. not (is_insert c)) (remaining_changes old new)
 
   abbrev second_exchange : List Change
-  second_exchange = filter is_insert (remaining old new)
+  second_exchange = filter is_insert (remaining_changes old new)
 
   abbrev in_turn : List (List Change)
   in_turn = lay_all_tags ∷ (map lay laid ++ (first_exchange ∷ second_exchange ∷ (map take_away taken ++ take_all_tags ∷ [])))

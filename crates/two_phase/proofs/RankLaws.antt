@@ -9,7 +9,7 @@ use Rattle.net_base.specs.declared.ids.SwitchId.{SwitchId}
 use Rattle.topology.specs.Networks.{Network, switch_count}
 use Rattle.flow_rules.specs.Tables.{rules_at}
 use Rattle.flow_rules.specs.declared.rules.Rule.{Rule}
-use Rattle.dest_classes.specs.Classes.{with_number, ascending}
+use Rattle.dest_classes.specs.Classes.{with_number, ascending_numbers}
 use Rattle.dest_classes.proofs.ClassLaws.{in_ascending}
 use Rattle.tag_allocator.specs.Tags.{numbers_from}
 use Rattle.two_phase.specs.TwoPhasePlan.{ingress_rules, switches, ranks}
@@ -45,9 +45,9 @@ rising_with x (y ∷ ys) rising =
     more : (y x z : ℕ) → z ≡ x → y ≤ x → ¬ (x ≡ y) → y < z
     more y x z e le ne = let h = strict y x le ne in omega arith
 
-pub rising_ascent : (xs : List ℕ) → IsRising (ascending xs)
+pub rising_ascent : (xs : List ℕ) → IsRising (ascending_numbers xs)
 rising_ascent [] = tt
-rising_ascent (x ∷ xs) = rising_with x (ascending xs) (rising_ascent xs)
+rising_ascent (x ∷ xs) = rising_with x (ascending_numbers xs) (rising_ascent xs)
 
 falling_push : (xs : List ℕ) (x : ℕ) → IsFalling xs → ((y : ℕ) → IsIn y xs → x < y) → IsFalling (xs ++ x ∷ [])
 falling_push [] x falling above = (λ y i. absurd i, tt)

@@ -12,7 +12,7 @@ use Rattle.net_base.proofs.ListLaws.{in_flat_map, in_from_flat_map}
 use Rattle.topology.specs.Networks.{Network, switch_count}
 use Rattle.flow_rules.specs.declared.rules.Rule.{Rule}
 use Rattle.flow_rules.specs.Tables.{IsTable, rules_at}
-use Rattle.dest_classes.specs.Classes.{ascending}
+use Rattle.dest_classes.specs.Classes.{ascending_numbers}
 use Rattle.dest_classes.proofs.ClassLaws.{in_ascending}
 use Rattle.dest_classes.proofs.RisingLaws.{in_from_ascending, rises_ascending, same_rising}
 use Rattle.tag_allocator.specs.Tags.{numbers_from}
@@ -73,16 +73,16 @@ pub all_ordered : (net : Network) (rules : SwitchId → List Rule) → ((s : Swi
 all_ordered net rules tables lists n e h = record { tables = tables; are = h ∙ ap (λ k. map (λ s. in_key_order (rules s)) (first_switches k)) e }
 
 -- numbers in ascending order depend on which they are
-ascending_same : (xs ys : List ℕ) → IsSameSet xs ys → ascending xs ≡ ascending ys
+ascending_same : (xs ys : List ℕ) → IsSameSet xs ys → ascending_numbers xs ≡ ascending_numbers ys
 ascending_same xs ys same =
-    same_rising (ascending xs) (ascending ys) (rises_ascending xs) (rises_ascending ys)
+    same_rising (ascending_numbers xs) (ascending_numbers ys) (rises_ascending xs) (rises_ascending ys)
     (λ z. (λ i. in_ascending z ys ((same z).0 (in_from_ascending z xs i)), λ i. in_ascending z xs ((same z).1 (in_from_ascending z ys i))))
 
 -- the ranks are the priorities of the rules in key order
 pub ranks_are : (net : Network) (new : List (List Rule)) (lists : List (List Rule)) → AreOrdered net (λ s. ingress_rules net s (rules_at new s)) lists
-    → ascending (32768 ∷ flat_map (λ rules. map (λ r. r.key.priority) rules) lists) ≡ ranks net new
+    → ascending_numbers (32768 ∷ flat_map (λ rules. map (λ r. r.key.priority) rules) lists) ≡ ranks net new
 ranks_are net new lists ordered =
-    ap (λ ls. ascending (32768 ∷ flat_map priorities ls)) ordered.are
+    ap (λ ls. ascending_numbers (32768 ∷ flat_map priorities ls)) ordered.are
     ∙ ascending_same (32768 ∷ flat_map priorities (map sorted (switches net))) (32768 ∷ flat_map (λ s. priorities (given s)) (switches net)) (λ z. (to z, from z))
   where
     priorities : List Rule → List ℕ

@@ -16,7 +16,7 @@ use Rattle.flow_rules.specs.Order.{key_cmp}
 use Rattle.flow_rules.specs.Tables.{rules_at}
 use Rattle.flow_rules.specs.declared.rules.Rule.{Rule}
 use Rattle.update_model.specs.Mixtures.{is_insert}
-use Rattle.update_model.specs.Remaining.{remaining}
+use Rattle.update_model.specs.Remaining.{remaining_changes}
 use Rattle.update_model.specs.declared.Change.{Change}
 use Rattle.update_model.specs.declared.Change.TheVariants.{Insert, Delete}
 use Rattle.tag_allocator.specs.Tags.{numbers_from}
@@ -73,7 +73,7 @@ rounds_count net old new mark in_order back =
     let take_out : ℕ → List Change = λ k. by_switch net Delete (of_mark net new mark k) in
     let first = by_switch net Insert (λ s. tagged_rules net s (rules_at new s)) ∷ [] in
     let laid = map lay in_order in
-    let exchange = filter (λ c. not (is_insert c)) (remaining old new) ∷ filter is_insert (remaining old new) ∷ [] in
+    let exchange = filter (λ c. not (is_insert c)) (remaining_changes old new) ∷ filter is_insert (remaining_changes old new) ∷ [] in
     let taken = map take_out back in
     let last = by_switch net Delete (λ s. tagged_rules net s (rules_at new s)) ∷ [] in
     let a = length-append (first ++ laid ++ exchange ++ taken) last in
@@ -154,8 +154,8 @@ module _ (net : Network) (is : IsNetwork net) (old new : List (List Rule)) (fits
         let take_out : ℕ → List Change = λ k. by_switch net Delete (of_mark net new mark k) in
         let tags_in = by_switch net Insert (λ s. tagged_rules net s (rules_at new s)) in
         let tags_out = by_switch net Delete (λ s. tagged_rules net s (rules_at new s)) in
-        let gone = filter (λ c. not (is_insert c)) (remaining old new) in
-        let come = filter is_insert (remaining old new) in
+        let gone = filter (λ c. not (is_insert c)) (remaining_changes old new) in
+        let come = filter is_insert (remaining_changes old new) in
         let laid = map lay in_order in
         let taken = map take_out back in
         let exchange = gone ∷ come ∷ [] in
@@ -171,7 +171,7 @@ module _ (net : Network) (is : IsNetwork net) (old new : List (List Rule)) (fits
         let j = round_length net Delete (λ s. tagged_rules net s (rules_at new s)) in
         let l = layers_length net new mark Insert in_order distinct in
         let m = layers_length net new mark Delete back also_distinct in
-        let n = length_split is_insert (remaining old new) in
+        let n = length_split is_insert (remaining_changes old new) in
         let o = length_from 0 old new in
         let p = bands_most in
         omega arith

@@ -8,7 +8,7 @@ use Rattle.flow_rules.specs.declared.rules.Rule.{Rule}
 use Rattle.demands.specs.Duties.{DemandView}
 use Rattle.demands.specs.Good.{HasGoodPaths}
 use Rattle.update_model.specs.Mixtures.{is_insert}
-use Rattle.update_model.specs.Remaining.{remaining}
+use Rattle.update_model.specs.Remaining.{remaining_changes}
 use Rattle.update_model.specs.declared.Change.{Change}
 use Rattle.update_model.specs.declared.Change.TheVariants.{Insert, Delete}
 use Rattle.certificates.specs.Updates.{Task}
@@ -60,7 +60,7 @@ abbrev pub layered_rounds : Network → List (List Rule) → List (List Rule) �
 layered_rounds net old new mark laid taken =
     (by_switch net Insert (λ s. tagged_rules net s (rules_at new s)) ∷ [])
     ++ map (λ k. by_switch net Insert (of_mark net new mark k)) laid
-    ++ (filter (λ c. not (is_insert c)) (remaining old new) ∷ filter is_insert (remaining old new) ∷ [])
+    ++ (filter (λ c. not (is_insert c)) (remaining_changes old new) ∷ filter is_insert (remaining_changes old new) ∷ [])
     ++ map (λ k. by_switch net Delete (of_mark net new mark k)) taken
     ++ (by_switch net Delete (λ s. tagged_rules net s (rules_at new s)) ∷ [])
 

@@ -21,14 +21,14 @@ use Rattle.flow_rules.specs.declared.rules.Action.{Action}
 use Rattle.flow_rules.specs.declared.rules.Action.TheVariants.{Discard, Out}
 use Rattle.flow_rules.specs.declared.rules.Rule.{Rule}
 use Rattle.update_model.specs.Mixtures.{is_insert}
-use Rattle.update_model.specs.Remaining.{remaining}
+use Rattle.update_model.specs.Remaining.{remaining_changes}
 use Rattle.update_model.specs.declared.Change.{Change}
 use Rattle.update_model.specs.declared.Change.TheVariants.{Insert, Delete}
 use Rattle.certificates.specs.declared.Label.{Label}
 use Rattle.certificates.specs.declared.LabelPick.{LabelPick}
 use Rattle.table_difference.specs.SameClasses.{every_address}
 use Rattle.tag_allocator.specs.Tags.{Tagged, tags_of, numbers_from}
-use Rattle.dest_classes.specs.Classes.{ascending}
+use Rattle.dest_classes.specs.Classes.{ascending_numbers}
 
 -- what is at a port of a switch
 abbrev pub end_of_port : Network → SwitchId → Port → End
@@ -137,7 +137,7 @@ by_switch net change rules = flat_map (λ s. map (change s) (in_key_order (rules
 
 -- the ranks: the priorities of ingress rules, that of the defaults in any case, ascending and each once
 abbrev pub ranks : Network → List (List Rule) → List ℕ
-ranks net new = ascending (32768 ∷ flat_map (λ s. map (λ r. r.key.priority) (ingress_rules net s (rules_at new s))) (switches net))
+ranks net new = ascending_numbers (32768 ∷ flat_map (λ s. map (λ r. r.key.priority) (ingress_rules net s (rules_at new s))) (switches net))
 
 -- the ingress rules of one rank
 abbrev pub of_rank : Network → List (List Rule) → ℕ → SwitchId → List Rule
@@ -148,7 +148,7 @@ abbrev pub two_phase_rounds : Network → List (List Rule) → List (List Rule) 
 two_phase_rounds net old new =
     (by_switch net Insert (λ s. tagged_rules net s (rules_at new s)) ∷ [])
     ++ map (λ rank. by_switch net Insert (of_rank net new rank)) (reverse (ranks net new))
-    ++ (filter (λ c. not (is_insert c)) (remaining old new) ∷ filter is_insert (remaining old new) ∷ [])
+    ++ (filter (λ c. not (is_insert c)) (remaining_changes old new) ∷ filter is_insert (remaining_changes old new) ∷ [])
     ++ map (λ rank. by_switch net Delete (of_rank net new rank)) (ranks net new)
     ++ (by_switch net Delete (λ s. tagged_rules net s (rules_at new s)) ∷ [])
 

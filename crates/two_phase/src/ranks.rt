@@ -3,7 +3,7 @@ ghost use Rattle.std.specs.Prelude.{◌≡◌, ◌<◌, ◌≤◌, ◌∷◌, If
 ghost use Rattle.topology.specs.Networks.{switch_count};
 ghost use Rattle.flow_rules.specs.Tables.{rules_of_all, rules_at};
 ghost use Rattle.path_walk.specs.UserConfigs.{IsUserConfig};
-ghost use Rattle.dest_classes.specs.Classes.{ascending};
+ghost use Rattle.dest_classes.specs.Classes.{ascending_numbers};
 ghost use Rattle.tag_allocator.specs.Tags.{tags_of, available_tags};
 ghost use Rattle.two_phase.specs.TwoPhasePlan.{in_key_order};
 ghost use Rattle.two_phase.specs.SwitchRules.{AreOrdered, band_rules};
@@ -69,7 +69,8 @@ pub(crate) fn make_band(
 pub(crate) fn ranks_of(ingress: &SwitchRules) -> Result<Vec<u16>, Memory>
     ensures { IfOk result
         (λ v. v.items
-        ≡ ascending (32768 ∷ flat_map (λ rules. map (λ r. r.key.priority) rules) ingress.now)) }
+        ≡ ascending_numbers (32768
+        ∷ flat_map (λ rules. map (λ r. r.key.priority) rules) ingress.now)) }
 {
     let mut ranks = ingress.priorities(INGRESS_BASE)?;
     ranks.sort_unstable();

@@ -9,7 +9,7 @@ ghost use Rattle.flow_rules.specs.Tables.{rules_of_all, rules_at};
 ghost use Rattle.flow_rules.specs.declared.rules.Rule.{Rule};
 ghost use Rattle.path_walk.specs.UserConfigs.{IsUserConfig};
 ghost use Rattle.update_model.specs.Mixtures.{is_insert};
-ghost use Rattle.update_model.specs.Remaining.{remaining};
+ghost use Rattle.update_model.specs.Remaining.{remaining_changes};
 ghost use Rattle.update_model.specs.declared.Change.TheVariants.{Insert, Delete};
 ghost use Rattle.tag_allocator.specs.Tags.{tags_of, available_tags};
 ghost use Rattle.two_phase.specs.Laws.{FitsTwoPhase};
@@ -99,8 +99,8 @@ pub(crate) fn add_exchange(
     requires { length old.now < 2 ^ 32 }
     ensures { OnOk result (rounds.new ≡ rounds.old
         ++ filter (λ c. not (is_insert c))
-        (remaining (rules_of_all old.now) (rules_of_all new.now)) ∷ filter is_insert
-        (remaining (rules_of_all old.now) (rules_of_all new.now)) ∷ []) }
+        (remaining_changes (rules_of_all old.now) (rules_of_all new.now)) ∷ filter is_insert
+        (remaining_changes (rules_of_all old.now) (rules_of_all new.now)) ∷ []) }
 {
     let changes = remaining(alloc, old, new)?;
     let added = add_halves(alloc, rounds, &changes);

@@ -7,7 +7,7 @@ use Rattle.net_base.specs.declared.ids.Place.{Place}
 use Rattle.net_base.specs.declared.ids.Vlan.{Vlan}
 use Rattle.path_walk.specs.declared.Outcome.{Outcome}
 use Rattle.path_walk.specs.declared.Outcome.TheVariants.{Go}
-use Rattle.certificates.specs.TwoPhase.{carrying, outcome_carrying}
+use Rattle.certificates.specs.TwoPhase.{place_carrying, outcome_carrying}
 use Rattle.certificates.specs.declared.Label.{Label}
 use Rattle.two_phase_check.specs.Agreements.{AgreesWith}
 
@@ -26,7 +26,7 @@ agrees_going expected labels version user next place r is at says = (
   λ t. record {
     tag = next.vlan;
     same =
-        let there : next ≡ carrying next.vlan place =
+        let there : next ≡ place_carrying next.vlan place =
         ap (λ s. let p : Place = record { switch = s; port = next.port; vlan = next.vlan } in p) at.0 ∙ ap (λ q. let p : Place = record { switch = place.switch; port = q; vlan = next.vlan } in p) at.1 in
         subst (λ o. Go next ≡ outcome_carrying next.vlan o) (sym is) (ap Go there);
     labelled = says.0 t;

@@ -28,7 +28,7 @@ use Rattle.check_reasons.specs.Least.{IsLeastSwitch, IsLeastOf, lesser}
 use Rattle.check_reasons.proofs.LeastLaws.{least_iff, least_two}
 use Rattle.two_phase_check.specs.declared.two_phase.Follow.{Follow}
 use Rattle.two_phase_check.specs.declared.two_phase.Follow.TheVariants.{Differs, Keeps, Astray}
-use Rattle.two_phase_check.specs.Agreements.{EndsSoon, IsFirstStray, AgreesWith, AgreesAt, StraysBy, Tells, astray_at, differs, least_of, MixesBy, IsKept, MixesAmong, MixesAt, KeepsVersions, AreAllFound}
+use Rattle.two_phase_check.specs.Agreements.{EndsSoon, IsFirstStray, AgreesWith, AgreesAt, StraysBy, Tells, astray_at, differs, least_of, MixesBy, IsVersionKept, MixesAmong, MixesAt, KeepsVersions, AreAllFound}
 use Rattle.two_phase_check.proofs.StrayLaws.{stray_one, stray_none}
 
 module _ (net : Network) (valid : IsNetwork net) (tables : List (List Rule)) (dst : ℕ) where
@@ -155,13 +155,13 @@ module _ (t : Task) (k : ℕ) (class : Class) (labels : List Label) (found : Out
     keeps_each e false agrees = told_keeps false old old_told (no_lesser (astray_at old) (astray_at new) e).0 agrees
 
     -- or it keeps to a version
-    pub mixed_kept : IfNone (least_of class.entry.switch old new) (IsKept t k class labels found)
+    pub mixed_kept : IfNone (least_of class.entry.switch old new) (IsVersionKept t k class labels found)
     mixed_kept =
-        cond_both (differs old && differs new) (Some class.entry.switch) (lesser (astray_at old) (astray_at new)) (λ o. IfNone o (IsKept t k class labels found))
+        cond_both (differs old && differs new) (Some class.entry.switch) (lesser (astray_at old) (astray_at new)) (λ o. IfNone o (IsVersionKept t k class labels found))
         (λ e. tt)
         (λ e. none_of (lesser (astray_at old) (astray_at new)) (λ none. record { agrees = some_agrees e; keeps = keeps_each none }))
       where
-        none_of : (o : Option SwitchId) → (o ≡ None → IsKept t k class labels found) → IfNone o (IsKept t k class labels found)
+        none_of : (o : Option SwitchId) → (o ≡ None → IsVersionKept t k class labels found) → IfNone o (IsVersionKept t k class labels found)
         none_of None h = h refl
         none_of (Some s) h = tt
 
@@ -182,7 +182,7 @@ tells_keeps t k class labels version found next first is goes agrees keeps = (
 )
 
 module _ (t : Task) (k : ℕ) (class : Class) (labels : List Label) where
-  kept_not : (found : Outcome) (s : SwitchId) → IsKept t k class labels found → ¬ MixesBy t k class labels found s
+  kept_not : (found : Outcome) (s : SwitchId) → IsVersionKept t k class labels found → ¬ MixesBy t k class labels found s
   kept_not found s kept h =
       elim h [
         | inl x ↦ x.1 kept.agrees.0 kept.agrees.1
@@ -191,19 +191,19 @@ module _ (t : Task) (k : ℕ) (class : Class) (labels : List Label) where
 
   -- the least switch where one of these outcomes mixes the versions, or each keeps to one
   pub record IsLeastAmong (list : List Outcome) (o : Option SwitchId) : Type 0 where
-    pub none : IfNone o (AllByRecursion (IsKept t k class labels) list)
+    pub none : IfNone o (AllByRecursion (IsVersionKept t k class labels) list)
     pub some : IfSome o (IsLeastSwitch (MixesAmong t k class labels list))
 
   among_least : (list : List Outcome) (o : Option SwitchId) → IsLeastAmong list o → IsLeastOf (MixesAmong t k class labels list) o
-  among_least list None so = λ s (found, i, h). kept_not found s (each_at (IsKept t k class labels) list found so.none i) h
+  among_least list None so = λ s (found, i, h). kept_not found s (each_at (IsVersionKept t k class labels) list found so.none i) h
   among_least list (Some s) so = so.some
 
-  one_least : (found : Outcome) (o : Option SwitchId) → IfNone o (IsKept t k class labels found) → IfSome o (IsLeastSwitch (MixesBy t k class labels found)) → IsLeastOf (MixesBy t k class labels found) o
+  one_least : (found : Outcome) (o : Option SwitchId) → IfNone o (IsVersionKept t k class labels found) → IfSome o (IsLeastSwitch (MixesBy t k class labels found)) → IsLeastOf (MixesBy t k class labels found) o
   one_least found None none some = λ s h. kept_not found s none h
   one_least found (Some s) none some = some
 
   -- one outcome more
-  pub among_push : (list : List Outcome) (found : Outcome) (a b : Option SwitchId) → IsLeastAmong list a → IfNone b (IsKept t k class labels found)
+  pub among_push : (list : List Outcome) (found : Outcome) (a b : Option SwitchId) → IsLeastAmong list a → IfNone b (IsVersionKept t k class labels found)
       → IfSome b (IsLeastSwitch (MixesBy t k class labels found)) → IsLeastAmong (list ++ found ∷ []) (lesser a b)
   among_push list found a b so none some = record {
     none = none_both a b so.none none;
@@ -220,9 +220,9 @@ module _ (t : Task) (k : ℕ) (class : Class) (labels : List Label) where
         (least_two (MixesAmong t k class labels list) (MixesBy t k class labels found) a b (among_least list a so) (one_least found b none some)));
   }
     where
-      none_both : (x y : Option SwitchId) → IfNone x (AllByRecursion (IsKept t k class labels) list) → IfNone y (IsKept t k class labels found)
-          → IfNone (lesser x y) (AllByRecursion (IsKept t k class labels) (list ++ found ∷ []))
-      none_both None None p q = each_append (IsKept t k class labels) list (found ∷ []) p (q, tt)
+      none_both : (x y : Option SwitchId) → IfNone x (AllByRecursion (IsVersionKept t k class labels) list) → IfNone y (IsVersionKept t k class labels found)
+          → IfNone (lesser x y) (AllByRecursion (IsVersionKept t k class labels) (list ++ found ∷ []))
+      none_both None None p q = each_append (IsVersionKept t k class labels) list (found ∷ []) p (q, tt)
       none_both None (Some y) p q = tt
       none_both (Some x) None p q = tt
       none_both (Some x) (Some y) p q = tt
@@ -232,7 +232,7 @@ module _ (t : Task) (k : ℕ) (class : Class) (labels : List Label) where
       some_of (Some s) h = h
 
   -- one more of a list
-  pub among_more : (list : List Outcome) (i : ℕ) (d : Outcome) (a b : Option SwitchId) → i < length list → IsLeastAmong (take i list) a → IfNone b (IsKept t k class labels (get_or list i d))
+  pub among_more : (list : List Outcome) (i : ℕ) (d : Outcome) (a b : Option SwitchId) → i < length list → IsLeastAmong (take i list) a → IfNone b (IsVersionKept t k class labels (get_or list i d))
       → IfSome b (IsLeastSwitch (MixesBy t k class labels (get_or list i d))) → IsLeastAmong (take (i + 1) list) (lesser a b)
   among_more list i d a b within so none some =
       subst (λ xs. IsLeastAmong xs (lesser a b)) (sym (take_more list i d within)) (among_push (take i list) (get_or list i d) a b so none some)
@@ -243,7 +243,7 @@ module _ (t : Task) (k : ℕ) (class : Class) (labels : List Label) where
     class_kept = kept o so
       where
         kept : (x : Option SwitchId) → IsLeastAmong list x → IfNone x (KeepsVersions t k class labels)
-        kept None h = λ found possible. each_at (IsKept t k class labels) list found h.none ((all found).1 possible)
+        kept None h = λ found possible. each_at (IsVersionKept t k class labels) list found h.none ((all found).1 possible)
         kept (Some s) h = tt
 
     mixes_to : (s : SwitchId) → MixesAmong t k class labels list s → MixesAt t k class labels s

@@ -13,7 +13,7 @@ use Rattle.update_model.specs.Changes.{round_after, IsGoodRound}
 use Rattle.update_model.specs.Mixtures.{Rollout, tables_before, MayHold, IsPossible}
 use Rattle.certificates.specs.Updates.{Task, rollout}
 use Rattle.certificates.specs.Certified.{classes_for}
-use Rattle.certificates.specs.TwoPhase.{carrying, tables_of, KeepsPath, KeepsOn, IsLabelPickInForce, TwoPhaseCertificate}
+use Rattle.certificates.specs.TwoPhase.{place_carrying, tables_of, KeepsPath, KeepsOn, IsLabelPickInForce, TwoPhaseCertificate}
 use Rattle.certificates.specs.declared.Label.{Label}
 use Rattle.certificates.specs.declared.LabelPick.{LabelPick}
 use Rattle.certificates.specs.declared.TwoPhaseEvidence.{TwoPhaseEvidence}
@@ -31,7 +31,7 @@ use Rattle.two_phase_check.proofs.JudgedLaws.{table_one}
 
 module _ (u : Rollout) (k dst : ℕ) (was : (place : Place) (found : Outcome) → IsPossible u (suc k) dst place found → IsPossible u k dst place found) where
   path_stands : (tables : List (List Rule)) (first : Place) (tag : Vlan) → KeepsPath u k dst tables first tag → KeepsPath u (suc k) dst tables first tag
-  path_stands tables first tag keeps place reached found possible = keeps place reached found (was (carrying tag place) found possible)
+  path_stands tables first tag keeps place reached found possible = keeps place reached found (was (place_carrying tag place) found possible)
 
   way_stands : (tables : List (List Rule)) (entry : Place) (found : Outcome) → KeepsOn u k dst tables entry found → KeepsOn u (suc k) dst tables entry found
   way_stands tables entry found keeps first next is goes = path_stands tables first next.vlan (keeps first next is goes)

@@ -18,7 +18,7 @@ use Rattle.flow_rules.specs.declared.rules.Rule.{Rule}
 use Rattle.path_walk.specs.Paths.{Forwards, outcome_in, ended_by, IsEnd}
 use Rattle.path_walk.specs.declared.Outcome.{Outcome}
 use Rattle.path_walk.specs.declared.Outcome.TheVariants.{Discard, Go}
-use Rattle.certificates.specs.TwoPhase.{carrying, outcome_carrying, KeepsPath}
+use Rattle.certificates.specs.TwoPhase.{place_carrying, outcome_carrying, KeepsPath}
 use Rattle.check_reasons.specs.Reasons.{Strays}
 use Rattle.two_phase_check.specs.Agreements.{AreAllFound, HasOutcomeAlone, HasOtherOutcome, EndsSoon, IsFirstStray}
 use Rattle.update_model.specs.Changes.{changes_at, round_after}
@@ -92,7 +92,7 @@ module _ (net : Network) (tables : List (List Rule)) (dst : ℕ) where
 module _ (u : Rollout) (k dst : ℕ) (tables : List (List Rule)) (first : Place) (tag : Vlan) where
   -- a packet that carries the VLAN has the path's outcome alone
   abbrev pub Stays : Place → Type 0
-  Stays place = HasOutcomeAlone u k dst (carrying tag place) (outcome_carrying tag (outcome_in u.net tables place dst))
+  Stays place = HasOutcomeAlone u k dst (place_carrying tag place) (outcome_carrying tag (outcome_in u.net tables place dst))
 
   -- the path is followed for so many steps up to the place, and a packet stayed on it before
   pub record HasFollowed (i : ℕ) (place : Place) : Type 0 where
@@ -133,7 +133,7 @@ module _ (u : Rollout) (k dst : ℕ) (tables : List (List Rule)) (first : Place)
         ]
 
     -- here is the first place where it may stray
-    pub follow_strays : HasOtherOutcome u k dst (carrying tag place) (outcome_carrying tag (outcome_in u.net tables place dst)) → IsFirstStray u k dst tables first tag place.switch
+    pub follow_strays : HasOtherOutcome u k dst (place_carrying tag place) (outcome_carrying tag (outcome_in u.net tables place dst)) → IsFirstStray u k dst tables first tag place.switch
     follow_strays strays = record {
       rest = so.rest;
       walk = so.walk;

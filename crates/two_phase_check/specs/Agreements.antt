@@ -101,7 +101,7 @@ MixesBy t k class labels found s =
     ((s ≡ class.entry.switch) × ((version : Bool) → ¬ AgreesAt t class labels version found)) ⊎ ((version : Bool) × StraysBy t k class labels version found s)
 
 -- an outcome of the entry keeps to a version: it agrees with one, and after it a packet keeps to the path of each that it agrees with
-pub record IsKept (t : Task) (k : ℕ) (class : Class) (labels : List Label) (found : Outcome) : Type 0 where
+pub record IsVersionKept (t : Task) (k : ℕ) (class : Class) (labels : List Label) (found : Outcome) : Type 0 where
   pub agrees : (version : Bool) × AgreesAt t class labels version found
   pub keeps : (version : Bool) → AgreesAt t class labels version found → KeepsOn (rollout t) k class.first (tables_of (rollout t) t.update.new version) class.entry found
 
@@ -115,4 +115,4 @@ MixesAt t k class labels s = ((s ≡ class.entry.switch) × IsMixedAtEntry t k c
 
 -- each possible outcome of the entry keeps to a version
 abbrev pub KeepsVersions : Task → ℕ → Class → List Label → Type 0
-KeepsVersions t k class labels = (found : Outcome) → IsPossible (rollout t) k class.first class.entry found → IsKept t k class labels found
+KeepsVersions t k class labels = (found : Outcome) → IsPossible (rollout t) k class.first class.entry found → IsVersionKept t k class labels found

@@ -7,7 +7,7 @@ use Rattle.path_walk.specs.Paths.{outcome_in}
 use Rattle.path_walk.specs.declared.Outcome.{Outcome}
 use Rattle.path_walk.specs.declared.Outcome.TheVariants.{Go}
 use Rattle.certificates.specs.Updates.{Task, rollout}
-use Rattle.certificates.specs.TwoPhase.{carrying, outcome_carrying, tables_of, KeepsPath}
+use Rattle.certificates.specs.TwoPhase.{place_carrying, outcome_carrying, tables_of, KeepsPath}
 use Rattle.two_phase_check.specs.Agreements.{HasOutcomeAlone}
 use Rattle.two_phase_check.specs.declared.keeping.Way.{Way}
 use Rattle.two_phase_check.specs.declared.keeping.KeptPlace.{KeptPlace}
@@ -28,7 +28,7 @@ outcome_on t way place = outcome_in t.update.net (tables_of (rollout t) t.update
 
 -- a packet on the way may have the outcome of the path alone at the place
 abbrev pub StaysOn : Task → ℕ → Way → Place → Type 0
-StaysOn t k way place = HasOutcomeAlone (rollout t) k way.dst (carrying way.tag place) (outcome_carrying way.tag (outcome_on t way place))
+StaysOn t k way place = HasOutcomeAlone (rollout t) k way.dst (place_carrying way.tag place) (outcome_carrying way.tag (outcome_on t way place))
 
 -- what the path of a way does at a place: nothing is told, or a packet stays on it and it ends, or goes on to a place of the network
 abbrev pub IsStepOf : Task → ℕ → Way → Place → Step → Type 0

@@ -15,7 +15,7 @@ ghost use Rattle.check_reasons.specs.Passed.{IsFirstFrom, ChangesPass, ClassesPa
 ghost use Rattle.check_reasons.specs.AtomMarks.{AreTouched};
 ghost use Rattle.check_reasons.specs.Touched.{touches};
 ghost use Rattle.update_model.specs.Changes.{round_after};
-ghost use Rattle.two_phase_check.specs.Agreements.{Tells, IsKept, MixesBy, MixesAt, KeepsVersions};
+ghost use Rattle.two_phase_check.specs.Agreements.{Tells, IsVersionKept, MixesBy, MixesAt, KeepsVersions};
 ghost use Rattle.two_phase_check.specs.Agreements as seen;
 ghost use Rattle.two_phase_check.specs.Kept.{AreKept, number_at};
 ghost use Rattle.two_phase_check.specs.Judged.{AllKeepVersions, IsFirstMixed, StandsUntouched, StandUntouched};
@@ -146,7 +146,7 @@ fn mixed_by(
     requires room { 8192 < length room.old.list + room.old.spare }
     requires known { AreKept round.now.task round.now.number known.old }
     ensures none { IfNone result
-        (IsKept round.now.task round.now.number class round.now.labels found) }
+        (IsVersionKept round.now.task round.now.number class round.now.labels found) }
     ensures some { IfSome result
         (IsLeastSwitch (MixesBy round.now.task round.now.number class round.now.labels found)) }
     ensures room { 8192 < length room.new.list + room.new.spare }

@@ -5,7 +5,7 @@ use Rattle.std.proofs.lemmas.Bool.{cond-true, cond-false, cond_both, eqb-true, e
 use Rattle.std.proofs.lemmas.List.{drop_at, take-append-drop}
 use Rattle.openflow10.specs.Layout.{number_at}
 use Rattle.switch_session.specs.Fronts.{front_of, type_in, xid_in}
-use Rattle.switch_session.specs.Channels.{ChannelState, is_failed, is_open, failed, echo_reply, is_outstanding, answered, taken_open, taken_by, taken, acted, after_byte}
+use Rattle.switch_session.specs.Channels.{ChannelState, is_failed, is_open, after_failure, echo_reply, is_outstanding, after_reply, taken_open, taken_by, after_message, after_front, after_byte}
 use Rattle.switch_session.specs.Laws.{is_echo, AreCut, AreRequests}
 use Rattle.switch_session.specs.declared.Cause.{Cause}
 use Rattle.switch_session.specs.declared.Cause.TheVariants as cause
@@ -107,11 +107,11 @@ module _ (b : ℕ) (ch : ChannelState) (open_now : ch.session ≡ Open) (short :
   past : (after : ChannelState) → after.session ≡ ch.session → IsPastHello after.session
   past after same = subst IsPastHello (sym (same ∙ open_now)) tt
 
-  fails : (c : Cause) (base : ChannelState) → base.sent ≡ ch.sent → Does (failed c base)
+  fails : (c : Cause) (base : ChannelState) → base.sent ≡ ch.sent → Does (after_failure c base)
   fails c base sent = record {
     requests = [];
-    are = no_requests come (failed c base) (λ e. absurd (let f : true ≡ false = e in cc));
-    heard = heard_quiet ch (failed c base) (stays (failed c base)) sent;
+    are = no_requests come (after_failure c base) (λ e. absurd (let f : true ≡ false = e in cc));
+    heard = heard_quiet ch (after_failure c base) (stays (after_failure c base)) sent;
     session = tt;
   }
 
@@ -143,9 +143,9 @@ module _ (b : ℕ) (ch : ChannelState) (open_now : ch.session ≡ Open) (short :
       session = past after session;
     }
 
-    answers_it : (xid : ℕ) → (type_in m ≡ 2 → ⊥) → Does (answered xid base)
+    answers_it : (xid : ℕ) → (type_in m ≡ 2 → ⊥) → Does (after_reply xid base)
     answers_it xid differs =
-        cond_both (is_outstanding xid ch.outstanding) (record base { outstanding = None }) (failed (cause.Xid xid) base) Does
+        cond_both (is_outstanding xid ch.outstanding) (record base { outstanding = None }) (after_failure (cause.Xid xid) base) Does
         (λ e. other differs (record base { outstanding = None }) refl refl refl) (λ e. fails (cause.Xid xid) base refl)
 
     replies : type_in m ≡ 2 → Does (record base { sent = ch.sent ++ echo_reply m })
@@ -167,18 +167,18 @@ module _ (b : ℕ) (ch : ChannelState) (open_now : ch.session ≡ Open) (short :
 
     takes_open : Does (taken_open m base)
     takes_open =
-        cond_both (eqb (type_in m) 1) (failed (cause.Error (number_at 8 2 m) (number_at 10 2 m)) base)
-        (cond (eqb (type_in m) 2) (record base { sent = ch.sent ++ echo_reply m }) (cond (eqb (type_in m) 19) (answered (xid_in m) base) base)) Does
+        cond_both (eqb (type_in m) 1) (after_failure (cause.Error (number_at 8 2 m) (number_at 10 2 m)) base)
+        (cond (eqb (type_in m) 2) (record base { sent = ch.sent ++ echo_reply m }) (cond (eqb (type_in m) 19) (after_reply (xid_in m) base) base)) Does
         (λ e. fails (cause.Error (number_at 8 2 m) (number_at 10 2 m)) base refl)
-        (λ e. cond_both (eqb (type_in m) 2) (record base { sent = ch.sent ++ echo_reply m }) (cond (eqb (type_in m) 19) (answered (xid_in m) base) base) Does
+        (λ e. cond_both (eqb (type_in m) 2) (record base { sent = ch.sent ++ echo_reply m }) (cond (eqb (type_in m) 19) (after_reply (xid_in m) base) base) Does
         (λ t. replies (eqb-true (type_in m) 2 t))
-        (λ f. cond_both (eqb (type_in m) 19) (answered (xid_in m) base) base Does (λ t. answers_it (xid_in m) (eqb-false (type_in m) 2 f)) (λ g. other (eqb-false (type_in m) 2 f) base refl refl refl)))
+        (λ f. cond_both (eqb (type_in m) 19) (after_reply (xid_in m) base) base Does (λ t. answers_it (xid_in m) (eqb-false (type_in m) 2 f)) (λ g. other (eqb-false (type_in m) 2 f) base refl refl refl)))
 
-    takes_it : Does (taken m base)
-    unfolding taken
+    takes_it : Does (after_message m base)
+    unfolding after_message
     takes_it = subst (λ (s : Session). Does (taken_by s m base)) (sym open_now) takes_open
 
-  by_front : (f : Front) → front_of come ≡ f → Does (acted f (with_unread ch come))
+  by_front : (f : Front) → front_of come ≡ f → Does (after_front f (with_unread ch come))
   by_front Short at = record {
     requests = [];
     are = no_requests come (with_unread ch come) (λ e. refl);
@@ -209,8 +209,8 @@ module _ (b : ℕ) (ch : ChannelState) (waits : ch.session ≡ Waiting) (short :
   abbrev with_b : List ℕ
   with_b = ch.unread ++ b ∷ []
 
-  at_front : (f : Front) → front_of with_b ≡ f → after_byte b ch ≡ acted f (with_unread ch with_b)
-  at_front f at = reading_byte b ch (ap is_failed waits) ∙ ap (λ (x : Front). acted x (with_unread ch with_b)) at
+  at_front : (f : Front) → front_of with_b ≡ f → after_byte b ch ≡ after_front f (with_unread ch with_b)
+  at_front f at = reading_byte b ch (ap is_failed waits) ∙ ap (λ (x : Front). after_front x (with_unread ch with_b)) at
 
   pub still_waits : front_of with_b ≡ Short → after_byte b ch ≡ with_unread ch with_b
   still_waits at = at_front Short at
@@ -221,14 +221,14 @@ module _ (b : ℕ) (ch : ChannelState) (waits : ch.session ≡ Waiting) (short :
       ∙ ap (λ (s : Session). heard_of s ch.outstanding (length ch.sent) (record { session = s; unread = with_b; sent = ch.sent; outstanding = ch.outstanding })) waits
       ∙ nothing_of ch.outstanding ch.sent with_b
 
-  fails_by : (c : Cause) (base : ChannelState) → base.sent ≡ ch.sent → HeardAs (heard_by ch (failed c base)) []
-  fails_by c base sent = heard_quiet ch (failed c base) refl sent
+  fails_by : (c : Cause) (base : ChannelState) → base.sent ≡ ch.sent → HeardAs (heard_by ch (after_failure c base)) []
+  fails_by c base sent = heard_quiet ch (after_failure c base) refl sent
 
   pub record Breaks : Type 0 where
     pub heard : HeardAs (heard_by ch (after_byte b ch)) []
     pub failed : is_failed (after_byte b ch).session ≡ true
 
-  breaks_as : (c : Cause) (base : ChannelState) → base.sent ≡ ch.sent → after_byte b ch ≡ failed c base → Breaks
+  breaks_as : (c : Cause) (base : ChannelState) → base.sent ≡ ch.sent → after_byte b ch ≡ after_failure c base → Breaks
   breaks_as c base sent is = record {
     heard = subst (λ (x : ChannelState). HeardAs (heard_by ch x) []) (sym is) (fails_by c base sent);
     failed = ap (λ (x : ChannelState). is_failed x.session) is;
@@ -244,15 +244,15 @@ module _ (b : ℕ) (ch : ChannelState) (waits : ch.session ≡ Waiting) (short :
     abbrev left : ChannelState
     left = with_unread ch (drop n with_b)
 
-    taken_first : after_byte b ch ≡ cond (eqb (type_in first) 0) (record left { session = Open }) (failed cause.NoHello left)
-    unfolding taken
+    taken_first : after_byte b ch ≡ cond (eqb (type_in first) 0) (record left { session = Open }) (after_failure cause.NoHello left)
+    unfolding after_message
     taken_first = at_front (Message n) at ∙ ap (λ (s : Session). taken_by s first left) waits
 
     pub breaks_at_other : eqb (type_in first) 0 ≡ false → Breaks
-    breaks_at_other f = breaks_as cause.NoHello left refl (taken_first ∙ cond-false (eqb (type_in first) 0) (record left { session = Open }) (failed cause.NoHello left) f)
+    breaks_at_other f = breaks_as cause.NoHello left refl (taken_first ∙ cond-false (eqb (type_in first) 0) (record left { session = Open }) (after_failure cause.NoHello left) f)
 
     pub opens : eqb (type_in first) 0 ≡ true → after_byte b ch ≡ record left { session = Open }
-    opens t = taken_first ∙ cond-true (eqb (type_in first) 0) (record left { session = Open }) (failed cause.NoHello left) t
+    opens t = taken_first ∙ cond-true (eqb (type_in first) 0) (record left { session = Open }) (after_failure cause.NoHello left) t
 
     pub opened_heard : eqb (type_in first) 0 ≡ true → heard_by ch (after_byte b ch) ≡ Opened
     opened_heard t =

@@ -4,7 +4,7 @@ use Rattle.std.proofs.lemmas.Bool.{cond_both, ltb-true}
 use Rattle.std.proofs.lemmas.List.{drop_at}
 use Rattle.openflow10.specs.Layout.{number_at}
 use Rattle.switch_session.specs.Fronts.{front_of, type_in, xid_in}
-use Rattle.switch_session.specs.Channels.{ChannelState, failed, echo_reply, is_outstanding, answered, taken_by, taken, acted, after_byte}
+use Rattle.switch_session.specs.Channels.{ChannelState, after_failure, echo_reply, is_outstanding, after_reply, taken_by, after_message, after_front, after_byte}
 use Rattle.switch_session.specs.declared.Cause.TheVariants as cause
 use Rattle.switch_session.specs.declared.Session.{Session}
 use Rattle.switch_session.specs.declared.Session.TheVariants.{Waiting, Open, Failed}
@@ -23,28 +23,28 @@ module _ (m : List ℕ) (before base : ChannelState) (same : base.sent ≡ befor
   abbrev Says : ChannelState → Type 0
   Says after = SaysAtMost before after
 
-  by_answer : (xid : ℕ) → Says (answered xid base)
-  by_answer xid = cond_both (is_outstanding xid base.outstanding) _ (failed (cause.Xid xid) base) Says (λ e. inl same) (λ e. inl same)
+  by_answer : (xid : ℕ) → Says (after_reply xid base)
+  by_answer xid = cond_both (is_outstanding xid base.outstanding) _ (after_failure (cause.Xid xid) base) Says (λ e. inl same) (λ e. inl same)
 
   by_session : (s : Session) → base.session ≡ s → Says (taken_by s m base)
-  by_session Waiting is = cond_both (eqb (type_in m) 0) (record base { session = Open }) (failed cause.NoHello base) Says (λ e. inl same) (λ e. inl same)
+  by_session Waiting is = cond_both (eqb (type_in m) 0) (record base { session = Open }) (after_failure cause.NoHello base) Says (λ e. inl same) (λ e. inl same)
   by_session Open is =
-      cond_both (eqb (type_in m) 1) (failed (cause.Error (number_at 8 2 m) (number_at 10 2 m)) base)
-      (cond (eqb (type_in m) 2) (record base { sent = base.sent ++ echo_reply m }) (cond (eqb (type_in m) 19) (answered (xid_in m) base) base)) Says
+      cond_both (eqb (type_in m) 1) (after_failure (cause.Error (number_at 8 2 m) (number_at 10 2 m)) base)
+      (cond (eqb (type_in m) 2) (record base { sent = base.sent ++ echo_reply m }) (cond (eqb (type_in m) 19) (after_reply (xid_in m) base) base)) Says
       (λ e. inl same)
-      (λ e. cond_both (eqb (type_in m) 2) (record base { sent = base.sent ++ echo_reply m }) (cond (eqb (type_in m) 19) (answered (xid_in m) base) base) Says (λ t. inr (is, none))
-      (λ t. cond_both (eqb (type_in m) 19) (answered (xid_in m) base) base Says (λ f. by_answer (xid_in m)) (λ f. inl same)))
+      (λ e. cond_both (eqb (type_in m) 2) (record base { sent = base.sent ++ echo_reply m }) (cond (eqb (type_in m) 19) (after_reply (xid_in m) base) base) Says (λ t. inr (is, none))
+      (λ t. cond_both (eqb (type_in m) 19) (after_reply (xid_in m) base) base Says (λ f. by_answer (xid_in m)) (λ f. inl same)))
   by_session (Failed c) is = inl same
 
-  by_message : Says (taken m base)
-  unfolding taken
+  by_message : Says (after_message m base)
+  unfolding after_message
   by_message = by_session base.session refl
 
 module _ (b : ℕ) (ch : ChannelState) (quiet : IsQuiet ch) where
   grown : List ℕ
   grown = ch.unread ++ b ∷ []
 
-  by_front : (f : Front) → front_of (ch.unread ++ b ∷ []) ≡ f → SaysAtMost ch (acted f (with_unread ch (ch.unread ++ b ∷ [])))
+  by_front : (f : Front) → front_of (ch.unread ++ b ∷ []) ≡ f → SaysAtMost ch (after_front f (with_unread ch (ch.unread ++ b ∷ [])))
   by_front Short at = inl refl
   by_front (Fault c) at = inl refl
   by_front (Message n) at =

@@ -23,7 +23,7 @@ use Rattle.round_messages.specs.Requests.{is_changed, switch_numbered}
 use Rattle.switch_session.specs.declared.Session.{Session}
 use Rattle.switch_session.specs.declared.Session.TheVariants.{Waiting, Open}
 use Rattle.switch_session.specs.declared.Session.TheVariants as session
-use Rattle.switch_session.specs.Channels.{ChannelState, hello, is_open, is_failed, asked, after_byte}
+use Rattle.switch_session.specs.Channels.{ChannelState, hello, is_open, is_failed, after_request, after_byte}
 use Rattle.switch_session.proofs.ByteLaws.{keeps_barrier}
 use Rattle.turned_rounds.specs.Batches.{xid_behind, batch_of}
 use Rattle.turned_rounds.specs.declared.outgoing.Outgoing.{Outgoing}
@@ -32,8 +32,8 @@ use Rattle.two_way_runs.specs.States as two_way
 use Rattle.two_way_runs.specs.Runs.{IsTwoWayRun, state_after_two_way}
 use Rattle.two_way_runs.proofs.Turning.{TablesAre}
 use Rattle.two_way_driver.specs.PeerStates.{PeerState}
-use Rattle.two_way_driver.specs.Peers.{first_peer, failure_in, heard_of, kept_of, peer_after, queued, asks, asks_again, answers, reopened}
-use Rattle.two_way_driver.specs.Drivers.{DriverState, peer_at, with_peer, saying, send_if, sends, is_to_open, is_to, asks_if, next_if, asked_from, sent_out, settled_in, all_answered, settled_if_answered, undo_notes, made, undone, carried_out, answered, sent_again, opened, running_round, asked_round, heard, fed_byte, fed, first_words, first_driver, flagged, started_with, undone_with, turned_with, start_fault_in, back_fault_in, started_in, turned_in, reopened_driver}
+use Rattle.two_way_driver.specs.Peers.{first_peer, failure_in, heard_of, kept_of, peer_after, queued_peer, asks, asks_again, answers, reopened_peer}
+use Rattle.two_way_driver.specs.Drivers.{DriverState, peer_at, with_peer, with_said, send_if, sends, is_to_open, is_to, asks_if, next_if, asked_from, sent_out, settled_in, all_answered, settled_if_answered, undo_notes, made_state, undone_state, carried_out, answered_state, sent_again, opened_state, running_round, asked_round, heard_state, fed_byte, state_after_bytes, first_words, first_driver, flagged_state, started_with, undone_with, turned_with, start_fault_in, back_fault_in, started_in, turned_in, reopened_driver}
 use Rattle.two_way_driver.specs.Calls.{AreTurnable, DriverView, with_state, IsStageWithin, start_fault, back_fault}
 use Rattle.two_way_driver.specs.Laws.{Call, Start, Back, Reopen, Feed, IsCall, after_call, after_calls, driver_after, event_in, events_in, phase_of, InForceBySwitch, InForceAs, rollout_of, SaysRun, AllAreFree, BeginsAnswered}
 use Rattle.two_way_driver.specs.declared.Stage.{Stage}
@@ -147,12 +147,12 @@ outstanding_waits p free some = go p.asked refl
     go None e = absurd (none_some p.channel.outstanding some (free e).0)
     go (Some x) e = ap is_some e
 
-queued_asked : (x : ℕ) (p : PeerState) → (queued x p).asked ≡ p.asked
-queued_asked x p = cond_both (is_some p.channel.outstanding) (record p { behind = Some x }) (record p { channel = asked [] x p.channel }) (λ (q : PeerState). q.asked ≡ p.asked) (λ e. refl) (λ e. refl)
+queued_asked : (x : ℕ) (p : PeerState) → (queued_peer x p).asked ≡ p.asked
+queued_asked x p = cond_both (is_some p.channel.outstanding) (record p { behind = Some x }) (record p { channel = after_request [] x p.channel }) (λ (q : PeerState). q.asked ≡ p.asked) (λ e. refl) (λ e. refl)
 
 asks_asked : (x : ℕ) (p : PeerState) → (asks x p).asked ≡ Some x
 unfolding asks
-asks_asked x p = cond_both (is_open p.channel.session) (queued x (record p { asked = Some x })) (record p { asked = Some x }) (λ (q : PeerState). q.asked ≡ Some x) (λ e. queued_asked x (record p { asked = Some x })) (λ e. refl)
+asks_asked x p = cond_both (is_open p.channel.session) (queued_peer x (record p { asked = Some x })) (record p { asked = Some x }) (λ (q : PeerState). q.asked ≡ Some x) (λ e. queued_asked x (record p { asked = Some x })) (λ e. refl)
 
 -- behind the outstanding request stands one only where one was outstanding
 asks_behind : (x : ℕ) (p : PeerState) → p.behind ≡ None → ((asks x p).behind ≡ None) ⊎ (is_some p.channel.outstanding ≡ true)
@@ -160,8 +160,8 @@ unfolding asks
 asks_behind x p none =
     let q : PeerState = record p { asked = Some x } in
     let Here : PeerState → Type 0 = λ (r : PeerState). (r.behind ≡ None) ⊎ (is_some p.channel.outstanding ≡ true) in
-    cond_both (is_open p.channel.session) (queued x q) q Here
-    (λ e. cond_both (is_some p.channel.outstanding) (record q { behind = Some x }) (record q { channel = asked [] x p.channel }) Here (λ t. inr t) (λ t. inl none)) (λ e. inl none)
+    cond_both (is_open p.channel.session) (queued_peer x q) q Here
+    (λ e. cond_both (is_some p.channel.outstanding) (record q { behind = Some x }) (record q { channel = after_request [] x p.channel }) Here (λ t. inr t) (λ t. inl none)) (λ e. inl none)
 
 fits_asked : (stage : Stage) (changed flag : Bool) (x : ℕ) (p : PeerState) → PeerWaits stage changed (asks x p) flag → PeerFits stage changed (asks x p) flag
 fits_asked stage changed flag x p waits = record { free = λ e. absurd (let f : Some x ≡ None = sym (asks_asked x p) ∙ e in cc); waits = waits }
@@ -222,7 +222,7 @@ module _ (net : Network) (rounds inverses : List (List Change)) (old : List (Lis
 
   -- ---- words and peers
 
-  follows_says : (d : DriverState) (words : List Said) → events_in words ≡ [] → Follows d → Follows (saying words d)
+  follows_says : (d : DriverState) (words : List Said) → events_in words ≡ [] → Follows d → Follows (with_said words d)
   follows_says d words none f = record {
     state = f.state;
     reaches = says net rounds old good d.said words f.state none f.reaches;
@@ -326,8 +326,8 @@ module _ (net : Network) (rounds inverses : List (List Change)) (old : List (Lis
 
   -- the changes of a switch of a round that is carried out are made
   made_onward : (k : ℕ) (d : DriverState) (s : SwitchId) (p : PeerState) → d.stage ≡ Onward k → s.0 < switch_count net → get_or d.in_force s.0 false ≡ false
-      → PeerFits (Onward k) (changed_in (Onward k) s) p true → Follows (record d { stage = Onward k }) → Follows (made (round_after k rounds) s (with_peer s p (record d { stage = Onward k })))
-  unfolding made
+      → PeerFits (Onward k) (changed_in (Onward k) s) p true → Follows (record d { stage = Onward k }) → Follows (made_state (round_after k rounds) s (with_peer s p (record d { stage = Onward k })))
+  unfolding made_state
   made_onward k d s p is here off fit f =
       let less : k < length rounds = f.within in
       let e : DriverState = record d { stage = Onward k } in
@@ -348,8 +348,8 @@ module _ (net : Network) (rounds inverses : List (List Change)) (old : List (Lis
 
   -- and of one that is being taken back, where the request of the round itself was answered
   made_undone : (k : ℕ) (d : DriverState) (s : SwitchId) (p : PeerState) → d.stage ≡ Undone k → s.0 < switch_count net → get_or d.in_force s.0 false ≡ false
-      → PeerFits (Undone k) (changed_in (Undone k) s) p true → Follows (record d { stage = Undone k }) → Follows (made (round_after k rounds) s (with_peer s p (record d { stage = Undone k })))
-  unfolding made
+      → PeerFits (Undone k) (changed_in (Undone k) s) p true → Follows (record d { stage = Undone k }) → Follows (made_state (round_after k rounds) s (with_peer s p (record d { stage = Undone k })))
+  unfolding made_state
   made_undone k d s p is here off fit f =
       let less : k < length rounds = f.within in
       let e : DriverState = record d { stage = Undone k } in
@@ -370,8 +370,8 @@ module _ (net : Network) (rounds inverses : List (List Change)) (old : List (Lis
 
   -- the changes of a switch are taken back
   taken_back : (k : ℕ) (d : DriverState) (s : SwitchId) (p : PeerState) → s.0 < switch_count net
-      → PeerFits (Undone k) (changed_in (Undone k) s) p false → Follows (record d { stage = Undone k }) → Follows (undone (round_after k rounds) s (with_peer s p (record d { stage = Undone k })))
-  unfolding undone
+      → PeerFits (Undone k) (changed_in (Undone k) s) p false → Follows (record d { stage = Undone k }) → Follows (undone_state (round_after k rounds) s (with_peer s p (record d { stage = Undone k })))
+  unfolding undone_state
   taken_back k d s p here fit f =
       let less : k < length rounds = f.within in
       let e : DriverState = record d { stage = Undone k } in
@@ -398,11 +398,11 @@ module _ (net : Network) (rounds inverses : List (List Change)) (old : List (Lis
 
   answers_last : (p : PeerState) → p.behind ≡ None → answers p ≡ without_request p
   unfolding answers
-  answers_last p e = ap (λ (o : Option ℕ). let r : PeerState = option_map_or (λ x. record p { channel = asked [] x p.channel; behind = None }) o (record p { asked = None }) in r) e
+  answers_last p e = ap (λ (o : Option ℕ). let r : PeerState = option_map_or (λ x. record p { channel = after_request [] x p.channel; behind = None }) o (record p { asked = None }) in r) e
 
-  answers_more : (p : PeerState) (x : ℕ) → p.behind ≡ Some x → answers p ≡ record p { channel = asked [] x p.channel; behind = None }
+  answers_more : (p : PeerState) (x : ℕ) → p.behind ≡ Some x → answers p ≡ record p { channel = after_request [] x p.channel; behind = None }
   unfolding answers
-  answers_more p x e = ap (λ (o : Option ℕ). let r : PeerState = option_map_or (λ y. record p { channel = asked [] y p.channel; behind = None }) o (record p { asked = None }) in r) e
+  answers_more p x e = ap (λ (o : Option ℕ). let r : PeerState = option_map_or (λ y. record p { channel = after_request [] y p.channel; behind = None }) o (record p { asked = None }) in r) e
 
   module _ (d : DriverState) (s : SwitchId) (here : s.0 < switch_count net) where
     abbrev peer : PeerState
@@ -422,34 +422,34 @@ module _ (net : Network) (rounds inverses : List (List Change)) (old : List (Lis
 
     -- behind it stands the request of the turning
     more_answer : (stage : Stage) (x : ℕ) → d.stage ≡ stage → is_some (peer_at d s).asked ≡ true → (peer_at d s).behind ≡ Some x → Follows (record d { stage = stage })
-        → Follows (made (running_round rounds stage) s (with_peer s (record (peer_at d s) { channel = asked [] x (peer_at d s).channel; behind = None }) (record d { stage = stage })))
+        → Follows (made_state (running_round rounds stage) s (with_peer s (record (peer_at d s) { channel = after_request [] x (peer_at d s).channel; behind = None }) (record d { stage = stage })))
     more_answer (Settled k) x is some more f = absurd (none_some (peer_at d s).asked some (f.fits s here).waits)
     more_answer (Onward k) x is some more f = absurd (let g : Some x ≡ None = sym more ∙ (f.fits s here).waits.0 in cc)
     more_answer (Undone k) x is some more f =
         let w = (f.fits s here).waits in
-        made_undone k d s (record (peer_at d s) { channel = asked [] x (peer_at d s).channel; behind = None }) is here (w.0 (ap is_some more))
+        made_undone k d s (record (peer_at d s) { channel = after_request [] x (peer_at d s).channel; behind = None }) is here (w.0 (ap is_some more))
         (record { free = λ e. absurd (none_some (peer_at d s).asked some e); waits = ((λ t. let g : false ≡ true = t in absurd (cc)), (λ c e. absurd (none_some (peer_at d s).asked some e))) }) f
 
-    follows_answered : is_some (peer_at d s).asked ≡ true → (peer_at d s).channel.outstanding ≡ None → Follows d → Follows (answered (running_round rounds d.stage) s d)
-    unfolding answered
+    follows_answered : is_some (peer_at d s).asked ≡ true → (peer_at d s).channel.outstanding ≡ None → Follows d → Follows (answered_state (running_round rounds d.stage) s d)
+    unfolding answered_state
     follows_answered some none f =
         let p = peer_at d s in
         let round = running_round rounds d.stage in
         let e = with_peer s (answers p) d in
-        let End : Bool → PeerState → DriverState = λ b q. cond b (made round s (with_peer s q d)) (settled_if_answered (carried_out round s d.stage (with_peer s q d))) in
+        let End : Bool → PeerState → DriverState = λ b q. cond b (made_state round s (with_peer s q d)) (settled_if_answered (carried_out round s d.stage (with_peer s q d))) in
         go p.behind refl some none f
       where
         go : (o : Option ℕ) → (peer_at d s).behind ≡ o → is_some (peer_at d s).asked ≡ true → (peer_at d s).channel.outstanding ≡ None → Follows d
-            → Follows (cond (is_some (peer_at d s).behind) (made (running_round rounds d.stage) s (with_peer s (answers (peer_at d s)) d))
+            → Follows (cond (is_some (peer_at d s).behind) (made_state (running_round rounds d.stage) s (with_peer s (answers (peer_at d s)) d))
             (settled_if_answered (carried_out (running_round rounds d.stage) s d.stage (with_peer s (answers (peer_at d s)) d))))
         go None alone some none f =
             let q = without_request (peer_at d s) in
-            let E : Bool → PeerState → DriverState = λ b r. cond b (made (running_round rounds d.stage) s (with_peer s r d)) (settled_if_answered (carried_out (running_round rounds d.stage) s d.stage (with_peer s r d))) in
+            let E : Bool → PeerState → DriverState = λ b r. cond b (made_state (running_round rounds d.stage) s (with_peer s r d)) (settled_if_answered (carried_out (running_round rounds d.stage) s d.stage (with_peer s r d))) in
             let same : E (is_some (peer_at d s).behind) (answers (peer_at d s)) ≡ E false q = ap (λ b. E b (answers (peer_at d s))) (ap is_some alone) ∙ ap (E false) (answers_last (peer_at d s) alone) in
             subst Follows (sym same) (follows_if_answered (carried_out (running_round rounds d.stage) s d.stage (with_peer s q d)) (last_answer d.stage refl some none alone f))
         go (Some x) more some none f =
-            let q : PeerState = record (peer_at d s) { channel = asked [] x (peer_at d s).channel; behind = None } in
-            let E : Bool → PeerState → DriverState = λ b r. cond b (made (running_round rounds d.stage) s (with_peer s r d)) (settled_if_answered (carried_out (running_round rounds d.stage) s d.stage (with_peer s r d))) in
+            let q : PeerState = record (peer_at d s) { channel = after_request [] x (peer_at d s).channel; behind = None } in
+            let E : Bool → PeerState → DriverState = λ b r. cond b (made_state (running_round rounds d.stage) s (with_peer s r d)) (settled_if_answered (carried_out (running_round rounds d.stage) s d.stage (with_peer s r d))) in
             let same : E (is_some (peer_at d s).behind) (answers (peer_at d s)) ≡ E true q = ap (λ b. E b (answers (peer_at d s))) (ap is_some more) ∙ ap (E true) (answers_more (peer_at d s) x more) in
             subst Follows (sym same) (more_answer d.stage x refl some more f)
 
@@ -460,8 +460,8 @@ module _ (net : Network) (rounds inverses : List (List Change)) (old : List (Lis
   fits_again (Onward k) changed flag x p is fit = record { free = λ e. absurd (let g : Some x ≡ None = sym is ∙ e in cc); waits = (refl, fit.waits.1, fit.waits.2) }
   fits_again (Undone k) changed flag x p is fit = record { free = λ e. absurd (let g : Some x ≡ None = sym is ∙ e in cc); waits = ((λ t. let g : false ≡ true = t in absurd (cc)), fit.waits.1) }
 
-  follows_opened : (changes : List Change) (s : SwitchId) (d : DriverState) → s.0 < switch_count net → Follows d → Follows (opened net changes s d)
-  unfolding opened
+  follows_opened : (changes : List Change) (s : SwitchId) (d : DriverState) → s.0 < switch_count net → Follows d → Follows (opened_state net changes s d)
+  unfolding opened_state
   follows_opened changes s d here f = go (peer_at d s).asked refl
     where
       go : (o : Option ℕ) → (peer_at d s).asked ≡ o → Follows (option_map_or (λ x. sent_again net changes s x d) o d)
@@ -515,7 +515,7 @@ module _ (net : Network) (rounds inverses : List (List Change)) (old : List (Lis
     q_asked = refl
 
     -- the outstanding request was answered
-    hit : (is_some (peer_at d s).channel.outstanding && is_none (after_byte b (peer_at d s).channel).outstanding) ≡ true → Follows (heard net rounds inverses s Answered (with_peer s (peer_after b (peer_at d s)) d))
+    hit : (is_some (peer_at d s).channel.outstanding && is_none (after_byte b (peer_at d s).channel).outstanding) ≡ true → Follows (heard_state net rounds inverses s Answered (with_peer s (peer_after b (peer_at d s)) d))
     hit t =
         let (some, none) = both_of (is_some (peer_at d s).channel.outstanding) (after_byte b (peer_at d s).channel).outstanding t in
         let waits = outstanding_waits (peer_at d s) (f.fits s here).free some in
@@ -529,7 +529,7 @@ module _ (net : Network) (rounds inverses : List (List Change)) (old : List (Lis
         both_of false o e = absurd (let g : false ≡ true = e in cc)
 
     abbrev Hears : Heard → Type 0
-    Hears came = Follows (heard net rounds inverses s came (with_peer s (peer_after b (peer_at d s)) d))
+    Hears came = Follows (heard_state net rounds inverses s came (with_peer s (peer_after b (peer_at d s)) d))
 
     broke : (session : Session) → Hears (failure_in session)
     broke Waiting = follows_e
@@ -551,21 +551,21 @@ module _ (net : Network) (rounds inverses : List (List Change)) (old : List (Lis
         (λ _. cond_both (ltb (length ch.sent) (length after.sent)) (Replied (drop (length ch.sent) after.sent)) quiet Hears (λ _. follows_says e (Send s (drop (length ch.sent) after.sent) ∷ []) refl follows_e)
         (λ _. cond_both (is_failed ch.session) Nothing failure Hears (λ _. follows_e) (λ _. broke after.session))))
 
-  follows_fed : (s : SwitchId) (bytes : List ℕ) (d : DriverState) → s.0 < switch_count net → Follows d → Follows (fed net rounds inverses s bytes d)
+  follows_fed : (s : SwitchId) (bytes : List ℕ) (d : DriverState) → s.0 < switch_count net → Follows d → Follows (state_after_bytes net rounds inverses s bytes d)
   follows_fed s [] d here f = f
   follows_fed s (b ∷ bytes) d here f = follows_fed s bytes (fed_byte net rounds inverses s b d) here (follows_byte d s here b f)
 
   -- ---- a session is opened again
 
-  fits_reopened : (stage : Stage) (changed flag : Bool) (p : PeerState) → PeerFits stage changed p flag → PeerFits stage changed (reopened p) flag
+  fits_reopened : (stage : Stage) (changed flag : Bool) (p : PeerState) → PeerFits stage changed p flag → PeerFits stage changed (reopened_peer p) flag
   fits_reopened (Settled k) changed flag p fit = record { free = λ e. (refl, refl); waits = fit.waits }
   fits_reopened (Onward k) changed flag p fit = record { free = λ e. (refl, refl); waits = (refl, fit.waits.1, fit.waits.2) }
   fits_reopened (Undone k) changed flag p fit = record { free = λ e. (refl, refl); waits = ((λ t. let g : false ≡ true = t in absurd (cc)), fit.waits.1) }
 
   follows_reopened : (s : SwitchId) (d : DriverState) → s.0 < switch_count net → Follows d → Follows (reopened_driver s d)
   follows_reopened s d here f =
-      follows_says (with_peer s (reopened (peer_at d s)) d) (Send s hello ∷ []) refl
-      (follows_peer d s (reopened (peer_at d s)) here (fits_reopened d.stage (changed_in d.stage s) (get_or d.in_force s.0 false) (peer_at d s) (f.fits s here)) f)
+      follows_says (with_peer s (reopened_peer (peer_at d s)) d) (Send s hello ∷ []) refl
+      (follows_peer d s (reopened_peer (peer_at d s)) here (fits_reopened d.stage (changed_in d.stage s) (get_or d.in_force s.0 false) (peer_at d s) (f.fits s here)) f)
 
   -- ---- a round begins to run in a way
 
@@ -611,7 +611,7 @@ module _ (net : Network) (rounds inverses : List (List Change)) (old : List (Lis
       let count : ℕ = length d.peers in
       let peers = f.peers in
       let off : (n : ℕ) → n < switch_count net → get_or (replicate count false) n false ≡ false = λ n lt. get_replicate count n false (omega arith) in
-      let e = sent_out net round (Onward k) (flagged false (saying (Log logged.Start ∷ []) (record d { stage = Settled k }))) in
+      let e = sent_out net round (Onward k) (flagged_state false (with_said (Log logged.Start ∷ []) (record d { stage = Settled k }))) in
       follows_if_answered e (record {
         state = next;
         reaches = says net rounds old good (d.said ++ Log logged.Start ∷ []) (sends (is_to_open d.peers) (batch_of net d.next round)) next (sends_no_event (is_to_open d.peers) (batch_of net d.next round))
@@ -648,7 +648,7 @@ module _ (net : Network) (rounds inverses : List (List Change)) (old : List (Lis
       let count : ℕ = length d.peers in
       let peers = f.peers in
       let on : (n : ℕ) → n < switch_count net → get_or (replicate count true) n false ≡ true = λ n lt. get_replicate count n true (omega arith) in
-      let e = sent_out net changes (Undone k) (flagged true (saying (Log logged.Back ∷ []) (record d { stage = Settled (suc k) }))) in
+      let e = sent_out net changes (Undone k) (flagged_state true (with_said (Log logged.Back ∷ []) (record d { stage = Settled (suc k) }))) in
       follows_if_answered e (record {
         state = next;
         reaches = says net rounds old good (d.said ++ Log logged.Back ∷ []) (sends (is_to_open d.peers) (batch_of net d.next changes)) next (sends_no_event (is_to_open d.peers) (batch_of net d.next changes))
@@ -729,7 +729,7 @@ module _ (net : Network) (rounds inverses : List (List Change)) (old : List (Lis
       cond_both (is_none (back_fault (view d))) (with_state (turned_in net inverses d.stage d) (view d)) (view d) OnView
       (λ e. (turned_in net inverses d.stage d, refl, turns d.stage d f)) (λ e. (d, refl, f))
   follows_call d (Reopen s) ok f = (reopened_driver s d, refl, follows_reopened s d ok f)
-  follows_call d (Feed s bytes) ok f = (fed net rounds inverses s bytes d, refl, follows_fed s bytes d ok f)
+  follows_call d (Feed s bytes) ok f = (state_after_bytes net rounds inverses s bytes d, refl, follows_fed s bytes d ok f)
 
   follows_calls : (w : DriverView) (calls : List Call) → AllByRecursion (IsCall net) calls → OnView w → OnView (after_calls w calls)
   follows_calls w [] ok on = on

@@ -12,7 +12,7 @@ use Rattle.update_model.specs.Changes.{switch_of, round_after}
 use Rattle.update_model.specs.declared.Change.{Change}
 use Rattle.round_messages.specs.Requests.{is_changed, switch_numbered}
 use Rattle.switch_session.specs.Fronts.{front_of, type_in}
-use Rattle.switch_session.specs.Channels.{ChannelState, hello, is_open, is_failed, echo_reply, after_byte, asked}
+use Rattle.switch_session.specs.Channels.{ChannelState, hello, is_open, is_failed, echo_reply, after_byte, after_request}
 use Rattle.switch_session.specs.Laws.{AreRequests, ReadsAll}
 use Rattle.switch_session.specs.declared.Session.{Session}
 use Rattle.switch_session.specs.declared.Session.TheVariants.{Waiting, Open, Failed}
@@ -24,12 +24,12 @@ use Rattle.switch_session.proofs.TalkLaws.{front_nil}
 use Rattle.turned_rounds.specs.Batches.{xid_behind, batch_of}
 use Rattle.turned_rounds.specs.declared.outgoing.Outgoing.{Outgoing}
 use Rattle.two_way_driver.specs.PeerStates.{PeerState}
-use Rattle.two_way_driver.specs.Peers.{first_peer, opened_anew, heard_by, kept_of, peer_after, queued, asks, asks_again, answers, reopened}
-use Rattle.two_way_driver.specs.Drivers.{DriverState, peer_at, with_peer, saying, send_if, sends, is_to_open, is_to, next_if, asked_from, sent_out, settled_in, all_answered, settled_if_answered, log_if, change_notes, undo_notes, made, undone, carried_out, answered, sent_again, opened, running_round, asked_round, heard, fed_byte, fed, first_words, first_driver, flagged, started_in, turned_in, reopened_driver}
-use Rattle.two_way_driver.specs.Calls.{DriverView, with_state, silent, start_fault, back_fault, started, turned}
+use Rattle.two_way_driver.specs.Peers.{first_peer, opened_anew, heard_by, kept_of, peer_after, queued_peer, asks, asks_again, answers, reopened_peer}
+use Rattle.two_way_driver.specs.Drivers.{DriverState, peer_at, with_peer, with_said, send_if, sends, is_to_open, is_to, next_if, asked_from, sent_out, settled_in, all_answered, settled_if_answered, log_if, change_notes, undo_notes, made_state, undone_state, carried_out, answered_state, sent_again, opened_state, running_round, asked_round, heard_state, fed_byte, state_after_bytes, first_words, first_driver, flagged_state, started_in, turned_in, reopened_driver}
+use Rattle.two_way_driver.specs.Calls.{DriverView, with_state, silent_view, start_fault, back_fault, started_view, turned_view}
 use Rattle.two_way_driver.specs.Laws.{Call, Start, Back, Reopen, Feed, IsCall, after_call, after_calls, driver_after}
-use Rattle.two_way_driver.specs.Words.{after_call_anew, said_by_each, joined}
-use Rattle.two_way_driver.specs.Sending.{text_to, texts_to, texts_for, session_at, start_asks, back_asks, asking, unanswered, HasHello, Answers, Sends}
+use Rattle.two_way_driver.specs.Words.{after_call_anew, said_by_each, joined_words}
+use Rattle.two_way_driver.specs.Sending.{text_to, texts_to, texts_for, session_at, start_asks, back_asks, asking_messages, unanswered_messages, HasHello, Answers, Sends}
 use Rattle.two_way_driver.specs.declared.Stage.{Stage}
 use Rattle.two_way_driver.specs.declared.Stage.TheVariants.{Settled, Onward, Undone}
 use Rattle.two_way_driver.specs.declared.Logged.{Logged}
@@ -84,12 +84,12 @@ module _ (s : SwitchId) where
   unfolding settled_if_answered
   if_answered_quiet d = cond_both (all_answered d.peers) (settled_in d.stage d) d (Quiet d) (λ _. settled_quiet d.stage d) (λ _. refl)
 
-  made_quiet : (round : List Change) (t : SwitchId) (d : DriverState) → Quiet d (made round t d)
-  unfolding made
+  made_quiet : (round : List Change) (t : SwitchId) (d : DriverState) → Quiet d (made_state round t d)
+  unfolding made_state
   made_quiet round t d = quiet d.said (change_notes t 0 round) (changes_quiet t 0 round)
 
-  undone_quiet : (round : List Change) (t : SwitchId) (d : DriverState) → Quiet d (undone round t d)
-  unfolding undone
+  undone_quiet : (round : List Change) (t : SwitchId) (d : DriverState) → Quiet d (undone_state round t d)
+  unfolding undone_state
   undone_quiet round t d =
       cond_both (get_or d.in_force t.0 false) (record d { in_force = set d.in_force t.0 false; said = d.said ++ undo_notes t 0 round }) d (Quiet d)
       (λ _. quiet d.said (undo_notes t 0 round) (undos_quiet t 0 round)) (λ _. refl)
@@ -99,11 +99,11 @@ module _ (s : SwitchId) where
   carried_quiet round t (Onward k) d = made_quiet round t d
   carried_quiet round t (Undone k) d = undone_quiet round t d
 
-  answered_quiet : (round : List Change) (t : SwitchId) (d : DriverState) → Quiet d (answered round t d)
-  unfolding answered
+  answered_quiet : (round : List Change) (t : SwitchId) (d : DriverState) → Quiet d (answered_state round t d)
+  unfolding answered_state
   answered_quiet round t d =
       let e = with_peer t (answers (peer_at d t)) d in
-      cond_both (is_some (peer_at d t).behind) (made round t e) (settled_if_answered (carried_out round t e.stage e)) (Quiet d) (λ _. made_quiet round t e)
+      cond_both (is_some (peer_at d t).behind) (made_state round t e) (settled_if_answered (carried_out round t e.stage e)) (Quiet d) (λ _. made_quiet round t e)
       (λ _. if_answered_quiet (carried_out round t e.stage e) ∙ carried_quiet round t e.stage e)
 
   -- ---- messages to a switch
@@ -180,17 +180,17 @@ unfolding settled_if_answered
 if_answered_peers d = cond_both (all_answered d.peers) (settled_in d.stage d) d (λ (e : DriverState). e.peers ≡ d.peers) (λ _. settled_peers d.stage d) (λ _. refl)
 
 carried_peers : (round : List Change) (t : SwitchId) (stage : Stage) (d : DriverState) → (carried_out round t stage d).peers ≡ d.peers
-unfolding made undone
+unfolding made_state undone_state
 carried_peers round t (Settled k) d = refl
 carried_peers round t (Onward k) d = refl
 carried_peers round t (Undone k) d =
     cond_both (get_or d.in_force t.0 false) (record d { in_force = set d.in_force t.0 false; said = d.said ++ undo_notes t 0 round }) d (λ (e : DriverState). e.peers ≡ d.peers) (λ _. refl) (λ _. refl)
 
-answered_peers : (round : List Change) (t : SwitchId) (d : DriverState) → (answered round t d).peers ≡ set d.peers t.0 (answers (peer_at d t))
-unfolding answered made
+answered_peers : (round : List Change) (t : SwitchId) (d : DriverState) → (answered_state round t d).peers ≡ set d.peers t.0 (answers (peer_at d t))
+unfolding answered_state made_state
 answered_peers round t d =
     let e = with_peer t (answers (peer_at d t)) d in
-    cond_both (is_some (peer_at d t).behind) (made round t e) (settled_if_answered (carried_out round t e.stage e)) (λ (x : DriverState). x.peers ≡ e.peers) (λ _. refl)
+    cond_both (is_some (peer_at d t).behind) (made_state round t e) (settled_if_answered (carried_out round t e.stage e)) (λ (x : DriverState). x.peers ≡ e.peers) (λ _. refl)
     (λ _. if_answered_peers (carried_out round t e.stage e) ∙ carried_peers round t e.stage e)
 
 -- a channel with the same session and the same unread bytes
@@ -205,7 +205,7 @@ Alike p q = ReadsAs p.channel q.channel
 alike_answers : (p : PeerState) → Alike p (answers p)
 unfolding answers
 alike_answers p =
-    elim p.behind as (λ (o : Option ℕ). Alike p (option_map_or (λ x. record p { channel = asked [] x p.channel; behind = None }) o (record p { asked = None }))) [
+    elim p.behind as (λ (o : Option ℕ). Alike p (option_map_or (λ x. record p { channel = after_request [] x p.channel; behind = None }) o (record p { asked = None }))) [
       | None ↦ record { session = refl; unread = refl }
       | Some x ↦ record { session = refl; unread = refl }
     ]
@@ -214,8 +214,8 @@ alike_asks : (x : ℕ) (p : PeerState) → Alike p (asks x p)
 unfolding asks
 alike_asks x p =
     let q : PeerState = record p { asked = Some x } in
-    cond_both (is_open p.channel.session) (queued x q) q (Alike p)
-    (λ _. cond_both (is_some p.channel.outstanding) (record q { behind = Some x }) (record q { channel = asked [] x p.channel }) (Alike p)
+    cond_both (is_open p.channel.session) (queued_peer x q) q (Alike p)
+    (λ _. cond_both (is_some p.channel.outstanding) (record q { behind = Some x }) (record q { channel = after_request [] x p.channel }) (Alike p)
     (λ _. record { session = refl; unread = refl }) (λ _. record { session = refl; unread = refl })) (λ _. record { session = refl; unread = refl })
 
 -- what came of a byte leaves the peers, or puts one in place of that of the switch
@@ -224,15 +224,15 @@ data Touched (s : SwitchId) (e d : DriverState) : Type 0 where
   PutBack : (q : PeerState) → d.peers ≡ set e.peers s.0 q → Alike (peer_at e s) q → Touched s e d
 
 module _ (net : Network) (rounds inverses : List (List Change)) (s : SwitchId) where
-  opened_touches : (changes : List Change) (e : DriverState) → Touched s e (opened net changes s e)
-  unfolding opened
+  opened_touches : (changes : List Change) (e : DriverState) → Touched s e (opened_state net changes s e)
+  unfolding opened_state
   opened_touches changes e =
       elim (peer_at e s).asked as (λ (o : Option ℕ). Touched s e (option_map_or (λ x. sent_again net changes s x e) o e)) [
         | None ↦ AsBefore refl
         | Some x ↦ PutBack (asks_again x (peer_at e s)) refl (record { session = refl; unread = refl })
       ]
 
-  heard_touches : (came : Heard) (e : DriverState) → Touched s e (heard net rounds inverses s came e)
+  heard_touches : (came : Heard) (e : DriverState) → Touched s e (heard_state net rounds inverses s came e)
   heard_touches Nothing e = AsBefore refl
   heard_touches Opened e = opened_touches (asked_round rounds inverses e.stage) e
   heard_touches Answered e = PutBack (answers (peer_at e s)) (answered_peers (running_round rounds e.stage) s e) (alike_answers (peer_at e s))
@@ -251,15 +251,15 @@ touched_reads s e d less (PutBack q is alike) =
 -- ---- bytes that come from a switch, and what is sent to others
 
 module _ (net : Network) (rounds inverses : List (List Change)) (t s : SwitchId) (ne : t.0 ≢ s.0) where
-  opened_away : (changes : List Change) (d : DriverState) → Quiet s d (opened net changes t d)
-  unfolding opened
+  opened_away : (changes : List Change) (d : DriverState) → Quiet s d (opened_state net changes t d)
+  unfolding opened_state
   opened_away changes d =
       elim (peer_at d t).asked as (λ (o : Option ℕ). Quiet s d (option_map_or (λ x. sent_again net changes t x d) o d)) [
         | None ↦ refl
         | Some x ↦ quiet s d.said (sends (is_to t) (batch_of net d.first changes)) (texts_away s t (batch_of net d.first changes) ne)
       ]
 
-  pub heard_away : (came : Heard) (d : DriverState) → Quiet s d (heard net rounds inverses t came d)
+  pub heard_away : (came : Heard) (d : DriverState) → Quiet s d (heard_state net rounds inverses t came d)
   heard_away Nothing d = refl
   heard_away Opened d = opened_away (asked_round rounds inverses d.stage) d
   heard_away Answered d = answered_quiet s (running_round rounds d.stage) t d
@@ -272,7 +272,7 @@ module _ (net : Network) (rounds inverses : List (List Change)) (t s : SwitchId)
       let p = peer_at d t in
       heard_away (heard_by p.channel (after_byte b p.channel)) (with_peer t (peer_after b p) d)
 
-  fed_away : (bytes : List ℕ) (d : DriverState) → Quiet s d (fed net rounds inverses t bytes d)
+  fed_away : (bytes : List ℕ) (d : DriverState) → Quiet s d (state_after_bytes net rounds inverses t bytes d)
   fed_away [] d = refl
   fed_away (b ∷ bytes) d = fed_away bytes (fed_byte net rounds inverses t b d) ∙ byte_away b d
 
@@ -289,7 +289,7 @@ module _ (net : Network) (rounds inverses : List (List Change)) (s : SwitchId) w
   abbrev again : DriverState → List (List ℕ)
   again d = cond (is_some (peer_at d s).asked) (texts_for s (batch_of net d.first (asked_round rounds inverses d.stage))) []
 
-  heard_texts : (came : Heard) (texts : List (List ℕ)) (e : DriverState) → HeardAs came texts → texts_to s (heard net rounds inverses s came e).said ≡ texts_to s e.said ++ texts
+  heard_texts : (came : Heard) (texts : List (List ℕ)) (e : DriverState) → HeardAs came texts → texts_to s (heard_state net rounds inverses s came e).said ≡ texts_to s e.said ++ texts
   heard_texts Nothing texts e seen = sym (append-nil (texts_to s e.said)) ∙ ap (λ (l : List (List ℕ)). texts_to s e.said ++ l) (sym seen)
   heard_texts Opened texts e seen = absurd seen
   heard_texts Answered texts e seen = answered_quiet s (running_round rounds e.stage) s e ∙ sym (append-nil (texts_to s e.said)) ∙ ap (λ (l : List (List ℕ)). texts_to s e.said ++ l) (sym seen)
@@ -298,8 +298,8 @@ module _ (net : Network) (rounds inverses : List (List Change)) (s : SwitchId) w
   heard_texts (Broke cause) texts e seen = quiet s e.said (said.Failed s cause ∷ []) refl ∙ sym (append-nil (texts_to s e.said)) ∙ ap (λ (l : List (List ℕ)). texts_to s e.said ++ l) (sym seen)
 
   opened_texts : (changes : List Change) (e : DriverState)
-      → texts_to s (opened net changes s e).said ≡ texts_to s e.said ++ cond (is_some (peer_at e s).asked) (texts_for s (batch_of net e.first changes)) []
-  unfolding opened
+      → texts_to s (opened_state net changes s e).said ≡ texts_to s e.said ++ cond (is_some (peer_at e s).asked) (texts_for s (batch_of net e.first changes)) []
+  unfolding opened_state
   opened_texts changes e =
       let ms = batch_of net e.first changes in
       elim (peer_at e s).asked as (λ (o : Option ℕ). texts_to s (option_map_or (λ x. sent_again net changes s x e) o e).said ≡ texts_to s e.said ++ cond (is_some o) (texts_for s ms) []) [
@@ -364,20 +364,20 @@ module _ (net : Network) (rounds inverses : List (List Change)) (s : SwitchId) w
 
     next_nothing : heard_by (channel_of d) after ≡ Nothing → next b d ≡ put
     unfolding fed_byte
-    next_nothing is = ap (λ (h : Heard). heard net rounds inverses s h put) is
+    next_nothing is = ap (λ (h : Heard). heard_state net rounds inverses s h put) is
 
     next_opened : heard_by (channel_of d) after ≡ Opened → texts_to s (next b d).said ≡ texts_to s d.said ++ again d
     unfolding fed_byte
     next_opened is =
-        ap (λ (h : Heard). texts_to s (heard net rounds inverses s h put).said) is ∙ opened_texts (asked_round rounds inverses d.stage) put
+        ap (λ (h : Heard). texts_to s (heard_state net rounds inverses s h put).said) is ∙ opened_texts (asked_round rounds inverses d.stage) put
         ∙ ap (λ (o : Option ℕ). texts_to s d.said ++ cond (is_some o) (texts_for s (batch_of net d.first (asked_round rounds inverses d.stage))) []) put_asked
 
   -- ---- bytes from the switch
 
   -- a failed session says nothing, and stays
   record Dead (bytes : List ℕ) (d : DriverState) : Type 0 where
-    texts : texts_to s (fed net rounds inverses s bytes d).said ≡ texts_to s d.said
-    failed : is_failed (channel_of (fed net rounds inverses s bytes d)).session ≡ true
+    texts : texts_to s (state_after_bytes net rounds inverses s bytes d).said ≡ texts_to s d.said
+    failed : is_failed (channel_of (state_after_bytes net rounds inverses s bytes d)).session ≡ true
 
   fed_failed : (bytes : List ℕ) (d : DriverState) → s.0 < length d.peers → is_failed (channel_of d).session ≡ true → Dead bytes d
   fed_failed [] d less e = record { texts = refl; failed = e }
@@ -392,8 +392,8 @@ module _ (net : Network) (rounds inverses : List (List Change)) (s : SwitchId) w
   -- an open session is replied on
   record Served (came : List ℕ) (bytes : List ℕ) (d : DriverState) : Type 0 where
     more : List (List ℕ)
-    texts : texts_to s (fed net rounds inverses s bytes d).said ≡ texts_to s d.said ++ map echo_reply more
-    are : AreRequests came (channel_of (fed net rounds inverses s bytes d)) more
+    texts : texts_to s (state_after_bytes net rounds inverses s bytes d).said ≡ texts_to s d.said ++ map echo_reply more
+    are : AreRequests came (channel_of (state_after_bytes net rounds inverses s bytes d)) more
 
   fed_open : (bytes : List ℕ) (d : DriverState) → s.0 < length d.peers → (channel_of d).session ≡ Open → ReadsAll (channel_of d) → Served ((channel_of d).unread ++ bytes) bytes d
   fed_open [] d less is reads = record {
@@ -420,26 +420,26 @@ module _ (net : Network) (rounds inverses : List (List Change)) (s : SwitchId) w
               texts =
                   rest.texts ∙ ap (λ (l : List (List ℕ)). l ++ map echo_reply rest.more) texts ∙ append_assoc (texts_to s d.said) (map echo_reply first.requests) (map echo_reply rest.more)
                   ∙ ap (λ (l : List (List ℕ)). texts_to s d.said ++ l) (sym (map-append echo_reply first.requests rest.more));
-              are = subst (λ (l : List ℕ). AreRequests l (channel_of (fed net rounds inverses s bytes e)) (first.requests ++ rest.more)) row
-                  (requests_both come bytes (channel_of e) (channel_of (fed net rounds inverses s bytes e)) first.requests rest.more (ap is_failed at) are rest.are);
+              are = subst (λ (l : List ℕ). AreRequests l (channel_of (state_after_bytes net rounds inverses s bytes e)) (first.requests ++ rest.more)) row
+                  (requests_both come bytes (channel_of e) (channel_of (state_after_bytes net rounds inverses s bytes e)) first.requests rest.more (ap is_failed at) are rest.are);
             })
         | Failed c ↦ λ at past. (
             let rest = fed_failed bytes e (omega arith) (ap is_failed at) in
             record {
               more = first.requests;
               texts = rest.texts ∙ texts;
-              are = subst (λ (l : List ℕ). AreRequests l (channel_of (fed net rounds inverses s bytes e)) first.requests) row
-                  (requests_failed come bytes (channel_of e) (channel_of (fed net rounds inverses s bytes e)) first.requests rest.failed are);
+              are = subst (λ (l : List ℕ). AreRequests l (channel_of (state_after_bytes net rounds inverses s bytes e)) first.requests) row
+                  (requests_failed come bytes (channel_of e) (channel_of (state_after_bytes net rounds inverses s bytes e)) first.requests rest.failed are);
             })
       ] refl (subst IsPastHello (sym seen.session) first.session)
 
   -- a waiting session opens, or stays closed
   record Opens (came : List ℕ) (before : List (List ℕ)) (bytes : List ℕ) (d : DriverState) : Type 0 where
     more : List (List ℕ)
-    texts : texts_to s (fed net rounds inverses s bytes d).said ≡ texts_to s d.said ++ more
-    answers : Answers Waiting before came (channel_of (fed net rounds inverses s bytes d)) more
+    texts : texts_to s (state_after_bytes net rounds inverses s bytes d).said ≡ texts_to s d.said ++ more
+    answers : Answers Waiting before came (channel_of (state_after_bytes net rounds inverses s bytes d)) more
 
-  closed : (came : List ℕ) (before : List (List ℕ)) (bytes : List ℕ) (d : DriverState) → texts_to s (fed net rounds inverses s bytes d).said ≡ texts_to s d.said → ((n : ℕ) → ¬ HasHello came n) → Opens came before bytes d
+  closed : (came : List ℕ) (before : List (List ℕ)) (bytes : List ℕ) (d : DriverState) → texts_to s (state_after_bytes net rounds inverses s bytes d).said ≡ texts_to s d.said → ((n : ℕ) → ¬ HasHello came n) → Opens came before bytes d
   closed came before bytes d same none = record { more = []; texts = same ∙ sym (append-nil (texts_to s d.said)); answers = inl (record { none = none; texts_are = refl }) }
 
   fed_waiting : (bytes : List ℕ) (d : DriverState) → s.0 < length d.peers → (channel_of d).session ≡ Waiting → ReadsAll (channel_of d) → Opens ((channel_of d).unread ++ bytes) (again d) bytes d
@@ -470,8 +470,8 @@ module _ (net : Network) (rounds inverses : List (List Change)) (s : SwitchId) w
             record {
               more = rest.more;
               texts = rest.texts ∙ ap (λ (l : List (List ℕ)). l ++ rest.more) quiet_here;
-              answers = subst (λ (l : List ℕ). Answers Waiting (again d) l (channel_of (fed net rounds inverses s bytes e)) rest.more) these
-                  (subst (λ (l : List (List ℕ)). Answers Waiting l ((channel_of e).unread ++ bytes) (channel_of (fed net rounds inverses s bytes e)) rest.more) still rest.answers);
+              answers = subst (λ (l : List ℕ). Answers Waiting (again d) l (channel_of (state_after_bytes net rounds inverses s bytes e)) rest.more) these
+                  (subst (λ (l : List (List ℕ)). Answers Waiting l ((channel_of e).unread ++ bytes) (channel_of (state_after_bytes net rounds inverses s bytes e)) rest.more) still rest.answers);
             })
         | Fault c ↦ λ at. broken (breaks_at_fault b ch is short c at) (λ n has. let f : Fault c ≡ Message n = sym (fault_grows come bytes c at) ∙ has.front in absurd (cc))
         | Message n ↦ λ at. (
@@ -499,7 +499,7 @@ module _ (net : Network) (rounds inverses : List (List Change)) (s : SwitchId) w
                       replies = map echo_reply rest.more;
                       replied = record {
                         requests = rest.more;
-                        are = subst (λ (l : List ℕ). AreRequests l (channel_of (fed net rounds inverses s bytes e)) rest.more) these rest.are;
+                        are = subst (λ (l : List ℕ). AreRequests l (channel_of (state_after_bytes net rounds inverses s bytes e)) rest.more) these rest.are;
                         texts_are = refl;
                       };
                       texts_are = refl;
@@ -569,7 +569,7 @@ module _ (net : Network) (rounds inverses : List (List Change)) (count : ℕ) wh
       reading_touched s (with_peer s p d) (fed_byte net rounds inverses s b d) (touches net rounds inverses s b d within reads)
       (record { peers = length-set d.peers s.0 p ∙ h.peers; read = read_set d.peers s.0 p h.read put_reading })
 
-  reading_fed : (s : SwitchId) (bytes : List ℕ) (d : DriverState) → s.0 < count → IsReading count d → IsReading count (fed net rounds inverses s bytes d)
+  reading_fed : (s : SwitchId) (bytes : List ℕ) (d : DriverState) → s.0 < count → IsReading count d → IsReading count (state_after_bytes net rounds inverses s bytes d)
   reading_fed s [] d less h = h
   reading_fed s (b ∷ bytes) d less h = reading_fed s bytes (fed_byte net rounds inverses s b d) less (reading_byte_fed s b d less h)
 
@@ -583,7 +583,7 @@ module _ (net : Network) (rounds inverses : List (List Change)) (count : ℕ) wh
 
   reading_start : (stage : Stage) (d : DriverState) → IsReading count d → IsReading count (started_in net rounds stage d)
   reading_start (Settled k) d h =
-      let e = flagged false (saying (Log logged.Start ∷ []) d) in
+      let e = flagged_state false (with_said (Log logged.Start ∷ []) d) in
       reading_sent (round_after k rounds) (Onward k) e (reading_same d e refl h)
   reading_start (Onward k) d h = h
   reading_start (Undone k) d h = h
@@ -591,7 +591,7 @@ module _ (net : Network) (rounds inverses : List (List Change)) (count : ℕ) wh
   reading_turn : (stage : Stage) (d : DriverState) → IsReading count d → IsReading count (turned_in net inverses stage d)
   reading_turn (Settled zero) d h = h
   reading_turn (Settled (suc k)) d h =
-      let e = flagged true (saying (Log logged.Back ∷ []) d) in
+      let e = flagged_state true (with_said (Log logged.Back ∷ []) d) in
       reading_sent (round_after k inverses) (Undone k) e (reading_same d e refl h)
   reading_turn (Onward k) d h = reading_sent (round_after k inverses) (Undone k) d h
   reading_turn (Undone k) d h = h
@@ -610,14 +610,14 @@ module _ (v : DriverView) (s : SwitchId) where
   abbrev quiet_state : DriverState
   quiet_state = record v.state { said = [] }
 
-  start_sends : (stage : Stage) → texts_to s (started_in v.net v.rounds stage quiet_state).said ≡ option_map_or (asking v s) (start_asks v stage) []
-  start_sends (Settled k) = sent_texts v.net s (round_after k v.rounds) (Onward k) (flagged false (saying (Log logged.Start ∷ []) quiet_state))
+  start_sends : (stage : Stage) → texts_to s (started_in v.net v.rounds stage quiet_state).said ≡ option_map_or (asking_messages v s) (start_asks v stage) []
+  start_sends (Settled k) = sent_texts v.net s (round_after k v.rounds) (Onward k) (flagged_state false (with_said (Log logged.Start ∷ []) quiet_state))
   start_sends (Onward k) = refl
   start_sends (Undone k) = refl
 
-  back_sends : (stage : Stage) → texts_to s (turned_in v.net v.inverses stage quiet_state).said ≡ option_map_or (asking v s) (back_asks v stage) []
+  back_sends : (stage : Stage) → texts_to s (turned_in v.net v.inverses stage quiet_state).said ≡ option_map_or (asking_messages v s) (back_asks v stage) []
   back_sends (Settled zero) = refl
-  back_sends (Settled (suc k)) = sent_texts v.net s (round_after k v.inverses) (Undone k) (flagged true (saying (Log logged.Back ∷ []) quiet_state))
+  back_sends (Settled (suc k)) = sent_texts v.net s (round_after k v.inverses) (Undone k) (flagged_state true (with_said (Log logged.Back ∷ []) quiet_state))
   back_sends (Onward k) = sent_texts v.net s (round_after k v.inverses) (Undone k) quiet_state
   back_sends (Undone k) = refl
 
@@ -626,14 +626,14 @@ module _ (v : DriverView) (s : SwitchId) where
 
   sends_start : SendsSo Start
   sends_start =
-      elim (is_none (start_fault v)) as (λ b. texts_to s (cond b (started (silent v)) (silent v)).state.said ≡ option_map_or (asking v s) (cond b (start_asks v v.state.stage) None) []) [
+      elim (is_none (start_fault v)) as (λ b. texts_to s (cond b (started_view (silent_view v)) (silent_view v)).state.said ≡ option_map_or (asking_messages v s) (cond b (start_asks v v.state.stage) None) []) [
         | true ↦ start_sends v.state.stage
         | false ↦ refl
       ]
 
   sends_back : SendsSo Back
   sends_back =
-      elim (is_none (back_fault v)) as (λ b. texts_to s (cond b (turned (silent v)) (silent v)).state.said ≡ option_map_or (asking v s) (cond b (back_asks v v.state.stage) None) []) [
+      elim (is_none (back_fault v)) as (λ b. texts_to s (cond b (turned_view (silent_view v)) (silent_view v)).state.said ≡ option_map_or (asking_messages v s) (cond b (back_asks v v.state.stage) None) []) [
         | true ↦ back_sends v.state.stage
         | false ↦ refl
       ]
@@ -647,15 +647,15 @@ module _ (v : DriverView) (s : SwitchId) where
 
   module _ (within : s.0 < length v.state.peers) (read : AllRead v.state.peers) (bytes : List ℕ) where
     abbrev fed_state : DriverState
-    fed_state = fed v.net v.rounds v.inverses s bytes quiet_state
+    fed_state = state_after_bytes v.net v.rounds v.inverses s bytes quiet_state
 
     abbrev AnswersSo : Session → Type 0
-    AnswersSo x = Answers x (unanswered v s) ((peer_at v.state s).channel.unread ++ bytes) (peer_at fed_state s).channel (texts_to s fed_state.said)
+    AnswersSo x = Answers x (unanswered_messages v s) ((peer_at v.state s).channel.unread ++ bytes) (peer_at fed_state s).channel (texts_to s fed_state.said)
 
     answers_by : (x : Session) → session_at v s ≡ x → AnswersSo x
     answers_by Waiting is =
         let h = fed_waiting v.net v.rounds v.inverses s bytes quiet_state within is (read_at v.state.peers s.0 read) in
-        subst (Answers Waiting (unanswered v s) ((peer_at v.state s).channel.unread ++ bytes) (peer_at fed_state s).channel) (sym h.texts) h.answers
+        subst (Answers Waiting (unanswered_messages v s) ((peer_at v.state s).channel.unread ++ bytes) (peer_at fed_state s).channel) (sym h.texts) h.answers
     answers_by Open is =
         let h = fed_open v.net v.rounds v.inverses s bytes quiet_state within is (read_at v.state.peers s.0 read) in
         record { requests = h.more; are = h.are; texts_are = h.texts }
@@ -666,7 +666,7 @@ module _ (v : DriverView) (s : SwitchId) where
 
   sends_fed : (t : SwitchId) (bytes : List ℕ) → s.0 < length v.state.peers → AllRead v.state.peers → SendsSo (Feed t bytes)
   sends_fed t bytes within read =
-      let Here : SwitchId → Type 0 = λ r. Answers (session_at v s) (unanswered v s) ((peer_at v.state s).channel.unread ++ bytes) (peer_at (after_call_anew v (Feed r bytes)).state s).channel (texts_to s (after_call_anew v (Feed r bytes)).state.said) in
+      let Here : SwitchId → Type 0 = λ r. Answers (session_at v s) (unanswered_messages v s) ((peer_at v.state s).channel.unread ++ bytes) (peer_at (after_call_anew v (Feed r bytes)).state s).channel (texts_to s (after_call_anew v (Feed r bytes)).state.said) in
       record {
         here = λ e. (let same : t ≡ s = ap switch_numbered e in subst Here (sym same) (sends_here within read bytes));
         others = λ ne. fed_away v.net v.rounds v.inverses t s ne bytes quiet_state;
@@ -699,8 +699,8 @@ module _ (net : Network) (rounds inverses : List (List Change)) where
       cond_both (is_none (back_fault (view d))) (with_state (turned_in net inverses d.stage d) (view d)) (view d) OnReading
       (λ _. (turned_in net inverses d.stage d, refl, reading_turn net rounds inverses (switch_count net) d.stage d h)) (λ _. (d, refl, h))
   reading_call d (Reopen t) ok h =
-      (reopened_driver t d, refl, record { peers = length-set d.peers t.0 (reopened (peer_at d t)) ∙ h.peers; read = read_set d.peers t.0 (reopened (peer_at d t)) h.read read_first })
-  reading_call d (Feed t bytes) ok h = (fed net rounds inverses t bytes d, refl, reading_fed net rounds inverses (switch_count net) t bytes d ok h)
+      (reopened_driver t d, refl, record { peers = length-set d.peers t.0 (reopened_peer (peer_at d t)) ∙ h.peers; read = read_set d.peers t.0 (reopened_peer (peer_at d t)) h.read read_first })
+  reading_call d (Feed t bytes) ok h = (state_after_bytes net rounds inverses t bytes d, refl, reading_fed net rounds inverses (switch_count net) t bytes d ok h)
 
   reading_calls : (w : DriverView) (calls : List Call) → AllByRecursion (IsCall net) calls → OnReading w → OnReading (after_calls w calls)
   reading_calls w [] ok on = on
@@ -734,15 +734,15 @@ module _ (s : SwitchId) where
         | inr differs ↦ ap (λ b. cons_option (cond b (Some hello) None) rest) (ne_eqb n s.0 differs) ∙ hello_first (suc n) count (omega (arith, differs)) (omega arith)
       ]
 
-  texts_of_each : (pieces : List (List Said)) → texts_to s (joined pieces) ≡ flat_map (texts_to s) pieces
+  texts_of_each : (pieces : List (List Said)) → texts_to s (joined_words pieces) ≡ flat_map (texts_to s) pieces
   texts_of_each [] = refl
-  texts_of_each (words ∷ pieces) = texts-append s words (joined pieces) ∙ ap (λ (l : List (List ℕ)). texts_to s words ++ l) (texts_of_each pieces)
+  texts_of_each (words ∷ pieces) = texts-append s words (joined_words pieces) ∙ ap (λ (l : List (List ℕ)). texts_to s words ++ l) (texts_of_each pieces)
 
   pub all_calls : (net : Network) (rounds inverses : List (List Change)) (calls : List Call) → s.0 < switch_count net
       → texts_to s (driver_after net rounds inverses calls).state.said ≡ hello ∷ flat_map (texts_to s) (said_by_each (driver_after net rounds inverses []) calls)
   all_calls net rounds inverses calls less =
       let v = driver_after net rounds inverses [] in
       let first = first_words 0 (switch_count net) in
-      ap (texts_to s) (calls_said v calls) ∙ texts-append s first (joined (said_by_each v calls))
-      ∙ ap (λ (l : List (List ℕ)). l ++ texts_to s (joined (said_by_each v calls))) (hello_first 0 (switch_count net) (omega arith) (omega arith))
+      ap (texts_to s) (calls_said v calls) ∙ texts-append s first (joined_words (said_by_each v calls))
+      ∙ ap (λ (l : List (List ℕ)). l ++ texts_to s (joined_words (said_by_each v calls))) (hello_first 0 (switch_count net) (omega arith) (omega arith))
       ∙ ap (λ (l : List (List ℕ)). hello ∷ l) (texts_of_each (said_by_each v calls))

@@ -12,8 +12,8 @@ use Rattle.round_messages.specs.Requests.{is_changed, switch_numbered}
 use Rattle.switch_session.specs.Channels.{after_byte}
 use Rattle.two_way_driver.specs.PeerStates.{PeerState}
 use Rattle.two_way_driver.specs.Peers.{heard_by, peer_after, answers}
-use Rattle.two_way_driver.specs.Drivers.{DriverState, peer_at, with_peer, saying, next_if, asked_from, sent_out, settled_in, all_answered, settled_if_answered, undo_notes, made, undone, carried_out, answered, sent_again, opened, running_round, asked_round, heard, fed_byte, fed, flagged, started_with, undone_with, turned_with, start_fault_in, started_in, turned_in}
-use Rattle.two_way_driver.specs.Calls.{AreTurnable, DriverView, with_state, IsStageWithin, IsServing, start_fault, started, turned, fed_view}
+use Rattle.two_way_driver.specs.Drivers.{DriverState, peer_at, with_peer, with_said, next_if, asked_from, sent_out, settled_in, all_answered, settled_if_answered, undo_notes, made_state, undone_state, carried_out, answered_state, sent_again, opened_state, running_round, asked_round, heard_state, fed_byte, state_after_bytes, flagged_state, started_with, undone_with, turned_with, start_fault_in, started_in, turned_in}
+use Rattle.two_way_driver.specs.Calls.{AreTurnable, DriverView, with_state, IsStageWithin, IsServing, start_fault, started_view, turned_view, fed_view}
 use Rattle.two_way_driver.specs.Inside.{heard_on, fed_on}
 use Rattle.two_way_driver.specs.declared.legs.Leg.{Leg}
 use Rattle.two_way_driver.specs.declared.Stage.{Stage}
@@ -42,12 +42,12 @@ module _ (net : Network) (rounds inverses : List (List Change)) (count : ℕ) wh
   unfolding settled_if_answered
   kept_if_answered d h = cond_both (all_answered d.peers) (settled_in d.stage d) d IsKept (λ e. kept_settled d.stage d h.stage h) (λ e. h)
 
-  kept_made : (round : List Change) (s : SwitchId) (d : DriverState) → IsKept d → IsKept (made round s d)
-  unfolding made
+  kept_made : (round : List Change) (s : SwitchId) (d : DriverState) → IsKept d → IsKept (made_state round s d)
+  unfolding made_state
   kept_made round s d h = record { peers = h.peers; flags = length-set d.in_force s.0 true ∙ h.flags; stage = h.stage }
 
-  kept_undone : (round : List Change) (s : SwitchId) (d : DriverState) → IsKept d → IsKept (undone round s d)
-  unfolding undone
+  kept_undone : (round : List Change) (s : SwitchId) (d : DriverState) → IsKept d → IsKept (undone_state round s d)
+  unfolding undone_state
   kept_undone round s d h =
       elim (slice_index_or d.in_force s.0 false) as (λ b. IsKept (cond b (record d { in_force = set d.in_force s.0 false; said = d.said ++ undo_notes s 0 round }) d)) [
         | true ↦ record { peers = h.peers; flags = length-set d.in_force s.0 false ∙ h.flags; stage = h.stage }
@@ -62,23 +62,23 @@ module _ (net : Network) (rounds inverses : List (List Change)) (count : ℕ) wh
   kept_carried round s (Onward k) d h = kept_made round s d h
   kept_carried round s (Undone k) d h = kept_undone round s d h
 
-  kept_answered : (round : List Change) (s : SwitchId) (d : DriverState) → IsKept d → IsKept (answered round s d)
-  unfolding answered
+  kept_answered : (round : List Change) (s : SwitchId) (d : DriverState) → IsKept d → IsKept (answered_state round s d)
+  unfolding answered_state
   kept_answered round s d h =
       let e = with_peer s (answers (peer_at d s)) d in
       let k = kept_peer s (answers (peer_at d s)) d h in
-      cond_both (is_some (peer_at d s).behind) (made round s e) (settled_if_answered (carried_out round s e.stage e)) IsKept
+      cond_both (is_some (peer_at d s).behind) (made_state round s e) (settled_if_answered (carried_out round s e.stage e)) IsKept
       (λ t. kept_made round s e k) (λ f. kept_if_answered (carried_out round s e.stage e) (kept_carried round s e.stage e k))
 
-  kept_opened : (changes : List Change) (s : SwitchId) (d : DriverState) → IsKept d → IsKept (opened net changes s d)
-  unfolding opened
+  kept_opened : (changes : List Change) (s : SwitchId) (d : DriverState) → IsKept d → IsKept (opened_state net changes s d)
+  unfolding opened_state
   kept_opened changes s d h =
       elim (peer_at d s).asked as (λ (o : Option ℕ). IsKept (option_map_or (λ x. sent_again net changes s x d) o d)) [
         | None ↦ h
         | Some x ↦ record { peers = length-set d.peers s.0 _ ∙ h.peers; flags = h.flags; stage = h.stage }
       ]
 
-  kept_heard : (s : SwitchId) (came : Heard) (d : DriverState) → IsKept d → IsKept (heard net rounds inverses s came d)
+  kept_heard : (s : SwitchId) (came : Heard) (d : DriverState) → IsKept d → IsKept (heard_state net rounds inverses s came d)
   kept_heard s Nothing d h = h
   kept_heard s Opened d h = kept_opened (asked_round rounds inverses d.stage) s d h
   kept_heard s Answered d h = kept_answered (running_round rounds d.stage) s d h
@@ -91,7 +91,7 @@ module _ (net : Network) (rounds inverses : List (List Change)) (count : ℕ) wh
       let before = peer_at d s in
       kept_heard s (heard_by before.channel (after_byte b before.channel)) (with_peer s (peer_after b before) d) (kept_peer s (peer_after b before) d h)
 
-  pub kept_fed : (s : SwitchId) (bytes : List ℕ) (d : DriverState) → IsKept d → IsKept (fed net rounds inverses s bytes d)
+  pub kept_fed : (s : SwitchId) (bytes : List ℕ) (d : DriverState) → IsKept d → IsKept (state_after_bytes net rounds inverses s bytes d)
   kept_fed s [] d h = h
   kept_fed s (b ∷ bytes) d h = kept_fed s bytes (fed_byte net rounds inverses s b d) (kept_byte s b d h)
 
@@ -101,7 +101,7 @@ module _ (net : Network) (rounds inverses : List (List Change)) (count : ℕ) wh
 
   pub kept_started : (changes : List Change) (k : ℕ) (d : DriverState) → k < length rounds → length d.peers ≡ count → IsKept (started_with net changes k d)
   kept_started changes k d less peers =
-      let e = flagged false (saying _ d) in
+      let e = flagged_state false (with_said _ d) in
       kept_if_answered (sent_out net changes (Onward k) e) (kept_sent changes (Onward k) e less peers (length-replicate (length d.peers) false ∙ peers))
 
   pub kept_turned : (changes : List Change) (k : ℕ) (d : DriverState) → k < length rounds → length d.peers ≡ count → length d.in_force ≡ count → IsKept (turned_with net changes k d)
@@ -109,7 +109,7 @@ module _ (net : Network) (rounds inverses : List (List Change)) (count : ℕ) wh
 
   pub kept_undone_with : (changes : List Change) (k : ℕ) (d : DriverState) → k < length rounds → length d.peers ≡ count → IsKept (undone_with net changes k d)
   kept_undone_with changes k d less peers =
-      let e = flagged true (saying _ d) in
+      let e = flagged_state true (with_said _ d) in
       kept_if_answered (sent_out net changes (Undone k) e) (kept_sent changes (Undone k) e less peers (length-replicate (length d.peers) true ∙ peers))
 
   started_kept : (stage : Stage) (d : DriverState) → IsStageWithin rounds stage → start_fault_in net rounds d.peers stage ≡ None → IsKept d → IsKept (started_in net rounds stage d)
@@ -134,14 +134,14 @@ kept_of v h = record { peers = h.peers; flags = h.flags; stage = h.stage }
 serving_of : (v : DriverView) (d : DriverState) → AreTurnable v.net v.rounds v.inverses → IsKept v.net v.rounds v.inverses (switch_count v.net) d → IsServing (record v { state = d })
 serving_of v d turnable h = record { turnable = turnable; peers = h.peers; flags = h.flags; stage = h.stage }
 
-pub serving_started : (v : DriverView) → IsServing v → start_fault v ≡ None → IsServing (started v)
+pub serving_started : (v : DriverView) → IsServing v → start_fault v ≡ None → IsServing (started_view v)
 serving_started v h none = serving_of v (started_in v.net v.rounds v.state.stage v.state) h.turnable (started_kept v.net v.rounds v.inverses (switch_count v.net) v.state.stage v.state h.stage none (kept_of v h))
 
-pub serving_turned : (v : DriverView) → IsServing v → IsServing (turned v)
+pub serving_turned : (v : DriverView) → IsServing v → IsServing (turned_view v)
 serving_turned v h = serving_of v (turned_in v.net v.inverses v.state.stage v.state) h.turnable (turned_kept v.net v.rounds v.inverses (switch_count v.net) v.state.stage v.state h.stage (kept_of v h))
 
 pub serving_fed : (s : SwitchId) (bytes : List ℕ) (v : DriverView) → IsServing v → IsServing (fed_view s bytes v)
-serving_fed s bytes v h = serving_of v (fed v.net v.rounds v.inverses s bytes v.state) h.turnable (kept_fed v.net v.rounds v.inverses (switch_count v.net) s bytes v.state (kept_of v h))
+serving_fed s bytes v h = serving_of v (state_after_bytes v.net v.rounds v.inverses s bytes v.state) h.turnable (kept_fed v.net v.rounds v.inverses (switch_count v.net) s bytes v.state (kept_of v h))
 
 pub serving_byte : (s : SwitchId) (b : ℕ) (v : DriverView) → IsServing v → IsServing (fed_view s (b ∷ []) v)
 serving_byte s b v h = serving_fed s (b ∷ []) v h
@@ -150,10 +150,10 @@ serving_byte s b v h = serving_fed s (b ∷ []) v h
 
 module _ (leg : Leg) (net : Network) (rounds inverses : List (List Change)) (s : SwitchId) where
   heard_on_is : (came : Heard) (d : DriverState) → leg.net.now ≡ net → leg.round.now ≡ running_round rounds d.stage → leg.asked.now ≡ asked_round rounds inverses d.stage
-      → heard_on leg s came d ≡ heard net rounds inverses s came d
+      → heard_on leg s came d ≡ heard_state net rounds inverses s came d
   heard_on_is Nothing d same round asked = refl
-  heard_on_is Opened d same round asked = ap (λ n. opened n leg.asked.now s d) same ∙ ap (λ l. opened net l s d) asked
-  heard_on_is Answered d same round asked = ap (λ l. answered l s d) round
+  heard_on_is Opened d same round asked = ap (λ n. opened_state n leg.asked.now s d) same ∙ ap (λ l. opened_state net l s d) asked
+  heard_on_is Answered d same round asked = ap (λ l. answered_state l s d) round
   heard_on_is (Replied text) d same round asked = refl
   heard_on_is (Broke cause) d same round asked = refl
 

@@ -8,7 +8,7 @@ use Rattle.round_messages.specs.Requests.{is_changed, switch_numbered}
 use Rattle.turned_rounds.specs.declared.outgoing.Outgoing.{Outgoing}
 use Rattle.openflow10.specs.Layout.{number_at}
 use Rattle.switch_session.specs.Fronts.{front_of}
-use Rattle.switch_session.specs.Channels.{hello, first_channel, taken, after_byte, after_bytes}
+use Rattle.switch_session.specs.Channels.{hello, first_channel, after_message, after_byte, after_bytes}
 use Rattle.two_way_driver.specs.PeerStates.{PeerState}
 use Rattle.two_way_driver.specs.Peers.{opened_anew}
 use Rattle.two_way_driver.specs.Drivers.{first_words, log_if, send_if, sends, change_notes, undo_notes, asks_if, next_if, asked_from}
@@ -48,7 +48,7 @@ words_split n m less =
 
 -- HELLO opens a channel
 pub hello_opens : after_bytes hello first_channel ≡ opened_anew None
-unfolding after_byte taken front_of number_at
+unfolding after_byte after_message front_of number_at
 hello_opens = refl
 
 -- two facts of a call that went well give a third

@@ -8,10 +8,10 @@ use Rattle.update_model.specs.Changes.{round_after}
 use Rattle.update_model.specs.declared.Change.{Change}
 use Rattle.switch_session.specs.Channels.{after_byte}
 use Rattle.two_way_driver.specs.Peers.{heard_by, peer_after, answers}
-use Rattle.two_way_driver.specs.Drivers.{DriverState, peer_at, with_peer, saying, sent_out, settled_in, all_answered, settled_if_answered, change_notes, undo_notes, made, undone, carried_out, answered, sent_again, opened, running_round, asked_round, heard, fed_byte, fed, flagged, started_with, undone_with, turned_with, started_in, turned_in}
-use Rattle.two_way_driver.specs.Calls.{DriverView, silent, start_fault, back_fault, started, turned}
+use Rattle.two_way_driver.specs.Drivers.{DriverState, peer_at, with_peer, with_said, sent_out, settled_in, all_answered, settled_if_answered, change_notes, undo_notes, made_state, undone_state, carried_out, answered_state, sent_again, opened_state, running_round, asked_round, heard_state, fed_byte, state_after_bytes, flagged_state, started_with, undone_with, turned_with, started_in, turned_in}
+use Rattle.two_way_driver.specs.Calls.{DriverView, silent_view, start_fault, back_fault, started_view, turned_view}
 use Rattle.two_way_driver.specs.Laws.{Call, Start, Back, Reopen, Feed, after_call, after_calls}
-use Rattle.two_way_driver.specs.Words.{said_first, with_words, after_call_anew, after_calls_anew, said_by_each, joined}
+use Rattle.two_way_driver.specs.Words.{said_first, with_words, after_call_anew, after_calls_anew, said_by_each, joined_words}
 use Rattle.two_way_driver.specs.declared.Said.{Said}
 use Rattle.two_way_driver.specs.declared.Logged.TheVariants as logged
 use Rattle.two_way_driver.specs.declared.Said.TheVariants.{Log}
@@ -39,12 +39,12 @@ module _ (w : List Said) where
         | false ↦ refl
       ]
 
-  first_made : (round : List Change) (s : SwitchId) (d : DriverState) → made round s (said_first w d) ≡ said_first w (made round s d)
-  unfolding made
+  first_made : (round : List Change) (s : SwitchId) (d : DriverState) → made_state round s (said_first w d) ≡ said_first w (made_state round s d)
+  unfolding made_state
   first_made round s d = more d (record d { in_force = set d.in_force s.0 true }) (change_notes s 0 round)
 
-  first_undone : (round : List Change) (s : SwitchId) (d : DriverState) → undone round s (said_first w d) ≡ said_first w (undone round s d)
-  unfolding undone
+  first_undone : (round : List Change) (s : SwitchId) (d : DriverState) → undone_state round s (said_first w d) ≡ said_first w (undone_state round s d)
+  unfolding undone_state
   first_undone round s d =
       let next : List Said → DriverState = λ said. record d { in_force = set d.in_force s.0 false; said = said } in
       elim (slice_index_or d.in_force s.0 false) as (λ b. cond b (next ((w ++ d.said) ++ undo_notes s 0 round)) (said_first w d) ≡ said_first w (cond b (next (d.said ++ undo_notes s 0 round)) d)) [
@@ -57,17 +57,17 @@ module _ (w : List Said) where
   first_carried round s (Onward k) d = first_made round s d
   first_carried round s (Undone k) d = first_undone round s d
 
-  first_answered : (round : List Change) (s : SwitchId) (d : DriverState) → answered round s (said_first w d) ≡ said_first w (answered round s d)
-  unfolding answered
+  first_answered : (round : List Change) (s : SwitchId) (d : DriverState) → answered_state round s (said_first w d) ≡ said_first w (answered_state round s d)
+  unfolding answered_state
   first_answered round s d =
       let e = with_peer s (answers (peer_at d s)) d in
-      elim (is_some (peer_at d s).behind) as (λ b. cond b (made round s (said_first w e)) (settled_if_answered (carried_out round s e.stage (said_first w e))) ≡ said_first w (cond b (made round s e) (settled_if_answered (carried_out round s e.stage e)))) [
+      elim (is_some (peer_at d s).behind) as (λ b. cond b (made_state round s (said_first w e)) (settled_if_answered (carried_out round s e.stage (said_first w e))) ≡ said_first w (cond b (made_state round s e) (settled_if_answered (carried_out round s e.stage e)))) [
         | true ↦ first_made round s e
         | false ↦ ap settled_if_answered (first_carried round s e.stage e) ∙ first_if_answered (carried_out round s e.stage e)
       ]
 
-  first_opened : (net : Network) (changes : List Change) (s : SwitchId) (d : DriverState) → opened net changes s (said_first w d) ≡ said_first w (opened net changes s d)
-  unfolding opened
+  first_opened : (net : Network) (changes : List Change) (s : SwitchId) (d : DriverState) → opened_state net changes s (said_first w d) ≡ said_first w (opened_state net changes s d)
+  unfolding opened_state
   first_opened net changes s d =
       elim (peer_at d s).asked as (λ (o : Option ℕ). option_map_or (λ x. sent_again net changes s x (said_first w d)) o (said_first w d) ≡ said_first w (option_map_or (λ x. sent_again net changes s x d) o d)) [
         | None ↦ refl
@@ -75,7 +75,7 @@ module _ (w : List Said) where
       ]
 
   module _ (net : Network) (rounds inverses : List (List Change)) where
-    first_heard : (s : SwitchId) (came : Heard) (d : DriverState) → heard net rounds inverses s came (said_first w d) ≡ said_first w (heard net rounds inverses s came d)
+    first_heard : (s : SwitchId) (came : Heard) (d : DriverState) → heard_state net rounds inverses s came (said_first w d) ≡ said_first w (heard_state net rounds inverses s came d)
     first_heard s Nothing d = refl
     first_heard s Opened d = first_opened net (asked_round rounds inverses d.stage) s d
     first_heard s Answered d = first_answered (running_round rounds d.stage) s d
@@ -88,9 +88,9 @@ module _ (w : List Said) where
         let before = peer_at d s in
         first_heard s (heard_by before.channel (after_byte b before.channel)) (with_peer s (peer_after b before) d)
 
-    pub first_fed : (s : SwitchId) (bytes : List ℕ) (d : DriverState) → fed net rounds inverses s bytes (said_first w d) ≡ said_first w (fed net rounds inverses s bytes d)
+    pub first_fed : (s : SwitchId) (bytes : List ℕ) (d : DriverState) → state_after_bytes net rounds inverses s bytes (said_first w d) ≡ said_first w (state_after_bytes net rounds inverses s bytes d)
     first_fed s [] d = refl
-    first_fed s (b ∷ bytes) d = ap (fed net rounds inverses s bytes) (first_byte s b d) ∙ first_fed s bytes (fed_byte net rounds inverses s b d)
+    first_fed s (b ∷ bytes) d = ap (state_after_bytes net rounds inverses s bytes) (first_byte s b d) ∙ first_fed s bytes (fed_byte net rounds inverses s b d)
 
   first_sent : (net : Network) (changes : List Change) (stage : Stage) (d : DriverState) → sent_out net changes stage (said_first w d) ≡ said_first w (sent_out net changes stage d)
   unfolding sent_out
@@ -99,15 +99,15 @@ module _ (w : List Said) where
   first_turned_with : (net : Network) (changes : List Change) (k : ℕ) (d : DriverState) → turned_with net changes k (said_first w d) ≡ said_first w (turned_with net changes k d)
   first_turned_with net changes k d = ap settled_if_answered (first_sent net changes (Undone k) d) ∙ first_if_answered (sent_out net changes (Undone k) d)
 
-  first_flagged : (on : Bool) (words : List Said) (d : DriverState) → flagged on (saying words (said_first w d)) ≡ said_first w (flagged on (saying words d))
-  first_flagged on words d = ap (flagged on) (more d d words)
+  first_flagged : (on : Bool) (words : List Said) (d : DriverState) → flagged_state on (with_said words (said_first w d)) ≡ said_first w (flagged_state on (with_said words d))
+  first_flagged on words d = ap (flagged_state on) (more d d words)
 
   first_undone_with : (net : Network) (changes : List Change) (k : ℕ) (d : DriverState) → undone_with net changes k (said_first w d) ≡ said_first w (undone_with net changes k d)
-  first_undone_with net changes k d = ap (turned_with net changes k) (first_flagged true (Log logged.Back ∷ []) d) ∙ first_turned_with net changes k (flagged true (saying (Log logged.Back ∷ []) d))
+  first_undone_with net changes k d = ap (turned_with net changes k) (first_flagged true (Log logged.Back ∷ []) d) ∙ first_turned_with net changes k (flagged_state true (with_said (Log logged.Back ∷ []) d))
 
   first_started_with : (net : Network) (changes : List Change) (k : ℕ) (d : DriverState) → started_with net changes k (said_first w d) ≡ said_first w (started_with net changes k d)
   first_started_with net changes k d =
-      let e = flagged false (saying (Log logged.Start ∷ []) d) in
+      let e = flagged_state false (with_said (Log logged.Start ∷ []) d) in
       ap (λ (x : DriverState). settled_if_answered (sent_out net changes (Onward k) x)) (first_flagged false (Log logged.Start ∷ []) d)
       ∙ ap settled_if_answered (first_sent net changes (Onward k) e) ∙ first_if_answered (sent_out net changes (Onward k) e)
 
@@ -127,12 +127,12 @@ module _ (w : List Said) where
 
   pub first_call : (v : DriverView) (c : Call) → after_call (with_words w v) c ≡ with_words w (after_call v c)
   first_call v Start =
-      elim (is_none (start_fault v)) as (λ b. cond b (started (with_words w v)) (with_words w v) ≡ with_words w (cond b (started v) v)) [
+      elim (is_none (start_fault v)) as (λ b. cond b (started_view (with_words w v)) (with_words w v) ≡ with_words w (cond b (started_view v) v)) [
         | true ↦ ap (as_view v) (first_started v.net v.rounds v.state.stage v.state)
         | false ↦ refl
       ]
   first_call v Back =
-      elim (is_none (back_fault v)) as (λ b. cond b (turned (with_words w v)) (with_words w v) ≡ with_words w (cond b (turned v) v)) [
+      elim (is_none (back_fault v)) as (λ b. cond b (turned_view (with_words w v)) (with_words w v) ≡ with_words w (cond b (turned_view v) v)) [
         | true ↦ ap (as_view v) (first_turned v.net v.inverses v.state.stage v.state)
         | false ↦ refl
       ]
@@ -140,31 +140,31 @@ module _ (w : List Said) where
   first_call v (Feed s bytes) = ap (as_view v) (first_fed v.net v.rounds v.inverses s bytes v.state)
 
 -- a driver is itself without its words, with them in front
-with_own_words : (v : DriverView) → with_words v.state.said (silent v) ≡ v
+with_own_words : (v : DriverView) → with_words v.state.said (silent_view v) ≡ v
 with_own_words v = ap (λ (l : List Said). record v { state = record v.state { said = l } }) (append-nil v.state.said)
 
 pub call_is : (v : DriverView) (c : Call) → after_call v c ≡ with_words v.state.said (after_call_anew v c)
-call_is v c = ap (λ (x : DriverView). after_call x c) (sym (with_own_words v)) ∙ first_call v.state.said (silent v) c
+call_is v c = ap (λ (x : DriverView). after_call x c) (sym (with_own_words v)) ∙ first_call v.state.said (silent_view v) c
 
 -- what each call says doesn't depend on what was said before, nor does what is left else
 same_said : (w : List Said) (v : DriverView) (calls : List Call) → said_by_each (with_words w v) calls ≡ said_by_each v calls
 same_said w v [] = refl
 same_said w v (c ∷ calls) = refl
 
-same_kept : (w : List Said) (v : DriverView) (calls : List Call) → silent (after_calls_anew (with_words w v) calls) ≡ silent (after_calls_anew v calls)
+same_kept : (w : List Said) (v : DriverView) (calls : List Call) → silent_view (after_calls_anew (with_words w v) calls) ≡ silent_view (after_calls_anew v calls)
 same_kept w v [] = refl
 same_kept w v (c ∷ calls) = refl
 
-pub calls_said : (v : DriverView) (calls : List Call) → (after_calls v calls).state.said ≡ v.state.said ++ joined (said_by_each v calls)
+pub calls_said : (v : DriverView) (calls : List Call) → (after_calls v calls).state.said ≡ v.state.said ++ joined_words (said_by_each v calls)
 calls_said v [] = sym (append-nil v.state.said)
 calls_said v (c ∷ calls) =
     let u = after_call_anew v c in
     let w = v.state.said in
-    calls_said (after_call v c) calls ∙ ap (λ (x : DriverView). x.state.said ++ joined (said_by_each x calls)) (call_is v c)
-    ∙ ap (λ (l : List (List Said)). (w ++ u.state.said) ++ joined l) (same_said w u calls) ∙ append_assoc w u.state.said (joined (said_by_each u calls))
+    calls_said (after_call v c) calls ∙ ap (λ (x : DriverView). x.state.said ++ joined_words (said_by_each x calls)) (call_is v c)
+    ∙ ap (λ (l : List (List Said)). (w ++ u.state.said) ++ joined_words l) (same_said w u calls) ∙ append_assoc w u.state.said (joined_words (said_by_each u calls))
 
-pub calls_kept : (v : DriverView) (calls : List Call) → silent (after_calls v calls) ≡ silent (after_calls_anew v calls)
+pub calls_kept : (v : DriverView) (calls : List Call) → silent_view (after_calls v calls) ≡ silent_view (after_calls_anew v calls)
 calls_kept v [] = refl
 calls_kept v (c ∷ calls) =
     let u = after_call_anew v c in
-    calls_kept (after_call v c) calls ∙ ap (λ (x : DriverView). silent (after_calls_anew x calls)) (call_is v c) ∙ same_kept v.state.said u calls
+    calls_kept (after_call v c) calls ∙ ap (λ (x : DriverView). silent_view (after_calls_anew x calls)) (call_is v c) ∙ same_kept v.state.said u calls

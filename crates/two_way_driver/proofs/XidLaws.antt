@@ -10,8 +10,8 @@ use Rattle.update_model.specs.declared.Change.{Change}
 use Rattle.switch_session.specs.Channels.{after_byte}
 use Rattle.turned_rounds.specs.Batches.{xid_behind, batch_of}
 use Rattle.two_way_driver.specs.Peers.{heard_by, peer_after, answers}
-use Rattle.two_way_driver.specs.Drivers.{DriverState, peer_at, with_peer, saying, sent_out, settled_in, all_answered, settled_if_answered, undo_notes, made, undone, carried_out, answered, sent_again, opened, running_round, asked_round, heard, fed_byte, fed, flagged, started_in, turned_in}
-use Rattle.two_way_driver.specs.Calls.{DriverView, start_fault, back_fault, started, turned}
+use Rattle.two_way_driver.specs.Drivers.{DriverState, peer_at, with_peer, with_said, sent_out, settled_in, all_answered, settled_if_answered, undo_notes, made_state, undone_state, carried_out, answered_state, sent_again, opened_state, running_round, asked_round, heard_state, fed_byte, state_after_bytes, flagged_state, started_in, turned_in}
+use Rattle.two_way_driver.specs.Calls.{DriverView, start_fault, back_fault, started_view, turned_view}
 use Rattle.two_way_driver.specs.Laws.{Call, Start, Back, Reopen, Feed, after_call}
 use Rattle.two_way_driver.specs.Sending.{start_asks, back_asks, asked_by, GoesOn}
 use Rattle.two_way_driver.specs.declared.Stage.{Stage}
@@ -41,23 +41,23 @@ unfolding settled_if_answered
 numbers_if_answered d = cond_both (all_answered d.peers) (settled_in d.stage d) d (SameNumbers d) (λ _. numbers_settled d.stage d) (λ _. numbers_refl d)
 
 pub numbers_carried : (round : List Change) (t : SwitchId) (stage : Stage) (d : DriverState) → SameNumbers d (carried_out round t stage d)
-unfolding made undone
+unfolding made_state undone_state
 numbers_carried round t (Settled k) d = numbers_refl d
 numbers_carried round t (Onward k) d = record { first = refl; next = refl }
 numbers_carried round t (Undone k) d =
     cond_both (get_or d.in_force t.0 false) (record d { in_force = set d.in_force t.0 false; said = d.said ++ undo_notes t 0 round }) d (SameNumbers d)
     (λ _. record { first = refl; next = refl }) (λ _. numbers_refl d)
 
-pub numbers_answered : (round : List Change) (t : SwitchId) (d : DriverState) → SameNumbers d (answered round t d)
-unfolding answered made
+pub numbers_answered : (round : List Change) (t : SwitchId) (d : DriverState) → SameNumbers d (answered_state round t d)
+unfolding answered_state made_state
 numbers_answered round t d =
     let e = with_peer t (answers (peer_at d t)) d in
     let last = carried_out round t e.stage e in
-    cond_both (is_some (peer_at d t).behind) (made round t e) (settled_if_answered last) (SameNumbers d) (λ _. record { first = refl; next = refl })
+    cond_both (is_some (peer_at d t).behind) (made_state round t e) (settled_if_answered last) (SameNumbers d) (λ _. record { first = refl; next = refl })
     (λ _. let a = numbers_carried round t e.stage e in let b = numbers_if_answered last in record { first = b.first ∙ a.first; next = b.next ∙ a.next })
 
-pub numbers_opened : (net : Network) (changes : List Change) (t : SwitchId) (d : DriverState) → SameNumbers d (opened net changes t d)
-unfolding opened
+pub numbers_opened : (net : Network) (changes : List Change) (t : SwitchId) (d : DriverState) → SameNumbers d (opened_state net changes t d)
+unfolding opened_state
 numbers_opened net changes t d =
     elim (peer_at d t).asked as (λ (o : Option ℕ). SameNumbers d (option_map_or (λ x. sent_again net changes t x d) o d)) [
       | None ↦ numbers_refl d
@@ -65,7 +65,7 @@ numbers_opened net changes t d =
     ]
 
 module _ (net : Network) (rounds inverses : List (List Change)) where
-  pub numbers_heard : (t : SwitchId) (came : Heard) (d : DriverState) → SameNumbers d (heard net rounds inverses t came d)
+  pub numbers_heard : (t : SwitchId) (came : Heard) (d : DriverState) → SameNumbers d (heard_state net rounds inverses t came d)
   numbers_heard t Nothing d = numbers_refl d
   numbers_heard t Opened d = numbers_opened net (asked_round rounds inverses d.stage) t d
   numbers_heard t Answered d = numbers_answered (running_round rounds d.stage) t d
@@ -79,7 +79,7 @@ module _ (net : Network) (rounds inverses : List (List Change)) where
       let h = numbers_heard t (heard_by p.channel (after_byte b p.channel)) (with_peer t (peer_after b p) d) in
       record { first = h.first; next = h.next }
 
-  pub numbers_fed : (t : SwitchId) (bytes : List ℕ) (d : DriverState) → SameNumbers d (fed net rounds inverses t bytes d)
+  pub numbers_fed : (t : SwitchId) (bytes : List ℕ) (d : DriverState) → SameNumbers d (state_after_bytes net rounds inverses t bytes d)
   numbers_fed t [] d = numbers_refl d
   numbers_fed t (b ∷ bytes) d =
       let a = numbers_byte t b d in
@@ -97,13 +97,13 @@ module _ (v : DriverView) where
   takes_sent changes stage d = let h = numbers_if_answered (sent_out v.net changes stage d) in record { first = h.first; next = h.next }
 
   pub takes_start : (stage : Stage) (d : DriverState) → TakesNumbers v.net (start_asks v stage) d (started_in v.net v.rounds stage d)
-  takes_start (Settled k) d = let h = takes_sent (round_after k v.rounds) (Onward k) (flagged false (saying (Log logged.Start ∷ []) d)) in record { first = h.first; next = h.next }
+  takes_start (Settled k) d = let h = takes_sent (round_after k v.rounds) (Onward k) (flagged_state false (with_said (Log logged.Start ∷ []) d)) in record { first = h.first; next = h.next }
   takes_start (Onward k) d = record { first = refl; next = refl }
   takes_start (Undone k) d = record { first = refl; next = refl }
 
   pub takes_back : (stage : Stage) (d : DriverState) → TakesNumbers v.net (back_asks v stage) d (turned_in v.net v.inverses stage d)
   takes_back (Settled zero) d = record { first = refl; next = refl }
-  takes_back (Settled (suc k)) d = let h = takes_sent (round_after k v.inverses) (Undone k) (flagged true (saying (Log logged.Back ∷ []) d)) in record { first = h.first; next = h.next }
+  takes_back (Settled (suc k)) d = let h = takes_sent (round_after k v.inverses) (Undone k) (flagged_state true (with_said (Log logged.Back ∷ []) d)) in record { first = h.first; next = h.next }
   takes_back (Onward k) d = takes_sent (round_after k v.inverses) (Undone k) d
   takes_back (Undone k) d = record { first = refl; next = refl }
 
@@ -112,12 +112,12 @@ module _ (v : DriverView) where
 
   pub takes_call : (c : Call) → Takes (asked_by v c) (after_call v c)
   takes_call Start =
-      elim (is_none (start_fault v)) as (λ b. Takes (cond b (start_asks v v.state.stage) None) (cond b (started v) v)) [
+      elim (is_none (start_fault v)) as (λ b. Takes (cond b (start_asks v v.state.stage) None) (cond b (started_view v) v)) [
         | true ↦ takes_start v.state.stage v.state
         | false ↦ record { first = refl; next = refl }
       ]
   takes_call Back =
-      elim (is_none (back_fault v)) as (λ b. Takes (cond b (back_asks v v.state.stage) None) (cond b (turned v) v)) [
+      elim (is_none (back_fault v)) as (λ b. Takes (cond b (back_asks v v.state.stage) None) (cond b (turned_view v) v)) [
         | true ↦ takes_back v.state.stage v.state
         | false ↦ record { first = refl; next = refl }
       ]

@@ -7,7 +7,7 @@ use Rattle.update_model.specs.Changes.{round_after}
 use Rattle.update_model.specs.Ranges.{IsPlanChange}
 use Rattle.update_model.specs.declared.Change.{Change}
 use Rattle.round_messages.specs.Requests.{is_changed}
-use Rattle.two_way_driver.specs.Drivers.{DriverState, fed, start_fault_in, back_fault_in, started_in, turned_in, reopened_driver}
+use Rattle.two_way_driver.specs.Drivers.{DriverState, state_after_bytes, start_fault_in, back_fault_in, started_in, turned_in, reopened_driver}
 use Rattle.two_way_driver.specs.declared.Stage.{Stage}
 use Rattle.two_way_driver.specs.declared.Stage.TheVariants.{Settled, Onward, Undone}
 use Rattle.two_way_driver.specs.declared.faults.CallFault.{CallFault}
@@ -52,29 +52,29 @@ abbrev pub back_fault : DriverView → Option CallFault
 back_fault v = back_fault_in v.net v.rounds v.state.peers v.state.stage
 
 -- a driver after the next round starts
-abbrev pub started : DriverView → DriverView
-started v = with_state (started_in v.net v.rounds v.state.stage v.state) v
+abbrev pub started_view : DriverView → DriverView
+started_view v = with_state (started_in v.net v.rounds v.state.stage v.state) v
 
 -- a driver after it turns back
-abbrev pub turned : DriverView → DriverView
-turned v = with_state (turned_in v.net v.inverses v.state.stage v.state) v
+abbrev pub turned_view : DriverView → DriverView
+turned_view v = with_state (turned_in v.net v.inverses v.state.stage v.state) v
 
 -- a driver after bytes from a switch
 abbrev pub fed_view : SwitchId → List ℕ → DriverView → DriverView
-fed_view s bytes v = with_state (fed v.net v.rounds v.inverses s bytes v.state) v
+fed_view s bytes v = with_state (state_after_bytes v.net v.rounds v.inverses s bytes v.state) v
 
 -- a driver after the session with a switch is opened again
 abbrev pub reopened_view : SwitchId → DriverView → DriverView
 reopened_view s v = with_state (reopened_driver s v.state) v
 
 -- a driver that forgot what was said
-abbrev pub silent : DriverView → DriverView
-silent v = with_state (record v.state { said = [] }) v
+abbrev pub silent_view : DriverView → DriverView
+silent_view v = with_state (record v.state { said = [] }) v
 
 -- the refusal of a call that has this fault, if it has one: want of memory comes only where it has none
-abbrev pub IsRefusal : Option CallFault → CallFault → Type 0
-IsRefusal of fault.Memory = of ≡ None
-IsRefusal of refusal = of ≡ Some refusal
+abbrev pub IsCallRefusal : Option CallFault → CallFault → Type 0
+IsCallRefusal of fault.Memory = of ≡ None
+IsCallRefusal of refusal = of ≡ Some refusal
 
 -- after a refusal for another cause than want of memory a driver is as before
 abbrev pub KeepsUnlessMemory : DriverView → DriverView → CallFault → Type 0

@@ -11,7 +11,7 @@ use Rattle.switch_session.specs.Channels.{hello, is_open, after_byte}
 use Rattle.turned_rounds.specs.Batches.{next_xid, xid_behind, batch_of}
 use Rattle.turned_rounds.specs.declared.outgoing.Outgoing.{Outgoing}
 use Rattle.two_way_driver.specs.PeerStates.{PeerState}
-use Rattle.two_way_driver.specs.Peers.{first_peer, heard_by, peer_after, asks, asks_again, answers, reopened}
+use Rattle.two_way_driver.specs.Peers.{first_peer, heard_by, peer_after, asks, asks_again, answers, reopened_peer}
 use Rattle.two_way_driver.specs.declared.Stage.{Stage}
 use Rattle.two_way_driver.specs.declared.Stage.TheVariants.{Settled, Onward, Undone}
 use Rattle.two_way_driver.specs.declared.Logged.{Logged}
@@ -41,8 +41,8 @@ abbrev pub with_peer : SwitchId → PeerState → DriverState → DriverState
 with_peer s p d = record d { peers = slice_set d.peers s.0 p }
 
 -- a driver that says more
-abbrev pub saying : List Said → DriverState → DriverState
-saying words d = record d { said = d.said ++ words }
+abbrev pub with_said : List Said → DriverState → DriverState
+with_said words d = record d { said = d.said ++ words }
 
 -- ---- messages
 
@@ -91,8 +91,8 @@ sent_out net changes stage d =
 -- a driver whose running round is settled
 unfoldable pub settled_in : Stage → DriverState → DriverState
 settled_in (Settled k) d = d
-settled_in (Onward k) d = saying (Log logged.Settle ∷ []) (record d { stage = Settled (suc k) })
-settled_in (Undone k) d = saying (Log logged.SettleBack ∷ []) (record d { stage = Settled k })
+settled_in (Onward k) d = with_said (Log logged.Settle ∷ []) (record d { stage = Settled (suc k) })
+settled_in (Undone k) d = with_said (Log logged.SettleBack ∷ []) (record d { stage = Settled k })
 
 -- no barrier request of the running round waits for its answer
 abbrev pub all_answered : List PeerState → Bool
@@ -121,25 +121,25 @@ undo_notes s i (c ∷ changes) =
     undo_notes s (suc i) changes ++ log_if ((switch_of c).0 == s.0) (logged.Undo i)
 
 -- the changes of a switch are made
-unfoldable pub made : List Change → SwitchId → DriverState → DriverState
-made round s d = record d { in_force = slice_set d.in_force s.0 true; said = d.said ++ change_notes s 0 round }
+unfoldable pub made_state : List Change → SwitchId → DriverState → DriverState
+made_state round s d = record d { in_force = slice_set d.in_force s.0 true; said = d.said ++ change_notes s 0 round }
 
 -- the changes of a switch are taken back, if they are in force
-unfoldable pub undone : List Change → SwitchId → DriverState → DriverState
-undone round s d =
+unfoldable pub undone_state : List Change → SwitchId → DriverState → DriverState
+undone_state round s d =
     if slice_index_or d.in_force s.0 false then record d { in_force = slice_set d.in_force s.0 false; said = d.said ++ undo_notes s 0 round } else d
 
 -- the last barrier request of a switch was answered, by how the round goes
 abbrev pub carried_out : List Change → SwitchId → Stage → DriverState → DriverState
 carried_out round s (Settled k) d = d
-carried_out round s (Onward k) d = made round s d
-carried_out round s (Undone k) d = undone round s d
+carried_out round s (Onward k) d = made_state round s d
+carried_out round s (Undone k) d = undone_state round s d
 
 -- the outstanding barrier request of a switch was answered: that of the round, behind which stands that of its turning; or the last one
-unfoldable pub answered : List Change → SwitchId → DriverState → DriverState
-answered round s d =
+unfoldable pub answered_state : List Change → SwitchId → DriverState → DriverState
+answered_state round s d =
     let e = with_peer s (answers (peer_at d s)) d in
-    if is_some (peer_at d s).behind then made round s e else settled_if_answered (carried_out round s e.stage e)
+    if is_some (peer_at d s).behind then made_state round s e else settled_if_answered (carried_out round s e.stage e)
 
 -- ---- bytes come
 
@@ -149,8 +149,8 @@ sent_again net changes s x d =
     record (with_peer s (asks_again x (peer_at d s)) d) { said = d.said ++ sends (is_to s) (batch_of net d.first changes) }
 
 -- the session of a switch is open now: its messages are sent again, if they aren't answered
-unfoldable pub opened : Network → List Change → SwitchId → DriverState → DriverState
-opened net changes s d = option_map_or (λ x. sent_again net changes s x d) (peer_at d s).asked d
+unfoldable pub opened_state : Network → List Change → SwitchId → DriverState → DriverState
+opened_state net changes s d = option_map_or (λ x. sent_again net changes s x d) (peer_at d s).asked d
 
 -- the changes of the running round
 abbrev pub running_round : List (List Change) → Stage → List Change
@@ -165,23 +165,23 @@ asked_round rounds inverses (Onward k) = round_after k rounds
 asked_round rounds inverses (Undone k) = round_after k inverses
 
 -- a driver after this came of a byte from a switch
-abbrev pub heard : Network → List (List Change) → List (List Change) → SwitchId → Heard → DriverState → DriverState
-heard net rounds inverses s Nothing d = d
-heard net rounds inverses s Opened d = opened net (asked_round rounds inverses d.stage) s d
-heard net rounds inverses s Answered d = answered (running_round rounds d.stage) s d
-heard net rounds inverses s (Replied text) d = saying (Send s text ∷ []) d
-heard net rounds inverses s (Broke cause) d = saying (Failed s cause ∷ []) d
+abbrev pub heard_state : Network → List (List Change) → List (List Change) → SwitchId → Heard → DriverState → DriverState
+heard_state net rounds inverses s Nothing d = d
+heard_state net rounds inverses s Opened d = opened_state net (asked_round rounds inverses d.stage) s d
+heard_state net rounds inverses s Answered d = answered_state (running_round rounds d.stage) s d
+heard_state net rounds inverses s (Replied text) d = with_said (Send s text ∷ []) d
+heard_state net rounds inverses s (Broke cause) d = with_said (Failed s cause ∷ []) d
 
 -- a driver after a byte from a switch
 unfoldable pub fed_byte : Network → List (List Change) → List (List Change) → SwitchId → ℕ → DriverState → DriverState
 fed_byte net rounds inverses s b d =
     let before = peer_at d s in
-    heard net rounds inverses s (heard_by before.channel (after_byte b before.channel)) (with_peer s (peer_after b before) d)
+    heard_state net rounds inverses s (heard_by before.channel (after_byte b before.channel)) (with_peer s (peer_after b before) d)
 
 -- a driver after bytes from a switch, one after the other: so it makes no difference in which pieces they come
-abbrev pub fed : Network → List (List Change) → List (List Change) → SwitchId → List ℕ → DriverState → DriverState
-fed net rounds inverses s [] d = d
-fed net rounds inverses s (b ∷ bytes) d = fed net rounds inverses s bytes (fed_byte net rounds inverses s b d)
+abbrev pub state_after_bytes : Network → List (List Change) → List (List Change) → SwitchId → List ℕ → DriverState → DriverState
+state_after_bytes net rounds inverses s [] d = d
+state_after_bytes net rounds inverses s (b ∷ bytes) d = state_after_bytes net rounds inverses s bytes (fed_byte net rounds inverses s b d)
 
 -- ---- calls
 
@@ -201,8 +201,8 @@ first_driver net = record {
 }
 
 -- a driver for whose running round all changes are in force, or none is
-abbrev pub flagged : Bool → DriverState → DriverState
-flagged b d = record d { in_force = replicate (length d.peers) b }
+abbrev pub flagged_state : Bool → DriverState → DriverState
+flagged_state b d = record d { in_force = replicate (length d.peers) b }
 
 -- the first of the switches whose session isn't open
 abbrev pub first_not_open : List PeerState → List SwitchId → Option SwitchId
@@ -210,11 +210,11 @@ first_not_open peers switches = find (λ s. not (is_open (slice_index_or peers s
 
 -- the next round starts
 abbrev pub started_with : Network → List Change → ℕ → DriverState → DriverState
-started_with net changes k d = settled_if_answered (sent_out net changes (Onward k) (flagged false (saying (Log logged.Start ∷ []) d)))
+started_with net changes k d = settled_if_answered (sent_out net changes (Onward k) (flagged_state false (with_said (Log logged.Start ∷ []) d)))
 
 -- the round that was settled last begins to be taken back
 abbrev pub undone_with : Network → List Change → ℕ → DriverState → DriverState
-undone_with net changes k d = settled_if_answered (sent_out net changes (Undone k) (flagged true (saying (Log logged.Back ∷ []) d)))
+undone_with net changes k d = settled_if_answered (sent_out net changes (Undone k) (flagged_state true (with_said (Log logged.Back ∷ []) d)))
 
 -- the running round is turned back
 abbrev pub turned_with : Network → List Change → ℕ → DriverState → DriverState
@@ -251,4 +251,4 @@ turned_in net inverses (Undone k) d = d
 
 -- a driver after the session with a switch is opened again
 abbrev pub reopened_driver : SwitchId → DriverState → DriverState
-reopened_driver s d = saying (Send s hello ∷ []) (with_peer s (reopened (peer_at d s)) d)
+reopened_driver s d = with_said (Send s hello ∷ []) (with_peer s (reopened_peer (peer_at d s)) d)

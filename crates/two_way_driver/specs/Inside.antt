@@ -3,7 +3,7 @@ use Rattle.std.specs.Prelude.{ℕ, ◌+◌, ◌<◌, ◌^◌, [], ◌∷◌}
 use Rattle.net_base.specs.declared.ids.SwitchId.{SwitchId}
 use Rattle.switch_session.specs.Channels.{after_byte}
 use Rattle.two_way_driver.specs.Peers.{heard_by, peer_after}
-use Rattle.two_way_driver.specs.Drivers.{DriverState, peer_at, with_peer, saying, opened, answered}
+use Rattle.two_way_driver.specs.Drivers.{DriverState, peer_at, with_peer, with_said, opened_state, answered_state}
 use Rattle.two_way_driver.specs.Calls.{DriverView}
 use Rattle.two_way_driver.specs.declared.Said.TheVariants.{Send, Failed}
 use Rattle.two_way_driver.specs.declared.legs.Leg.{Leg}
@@ -31,10 +31,10 @@ FitsNext (Undone k) = Unit {0}
 -- a driver after this came of a byte from a switch, where the running round is this one
 abbrev pub heard_on : Leg → SwitchId → Heard → DriverState → DriverState
 heard_on leg s Nothing d = d
-heard_on leg s Opened d = opened leg.net.now leg.asked.now s d
-heard_on leg s Answered d = answered leg.round.now s d
-heard_on leg s (Replied text) d = saying (Send s text ∷ []) d
-heard_on leg s (Broke cause) d = saying (Failed s cause ∷ []) d
+heard_on leg s Opened d = opened_state leg.net.now leg.asked.now s d
+heard_on leg s Answered d = answered_state leg.round.now s d
+heard_on leg s (Replied text) d = with_said (Send s text ∷ []) d
+heard_on leg s (Broke cause) d = with_said (Failed s cause ∷ []) d
 
 -- a driver after a byte from a switch, where the running round is this one
 abbrev pub fed_on : Leg → SwitchId → ℕ → DriverState → DriverState

@@ -17,7 +17,7 @@ use Rattle.switch_session.specs.Channels.{ChannelState, is_failed}
 use Rattle.switch_session.specs.declared.fronts.Front.TheVariants.{Short}
 use Rattle.two_way_driver.specs.PeerStates.{PeerState}
 use Rattle.two_way_driver.specs.Drivers.{DriverState, peer_at, first_driver}
-use Rattle.two_way_driver.specs.Calls.{DriverView, start_fault, back_fault, started, turned, reopened_view, fed_view}
+use Rattle.two_way_driver.specs.Calls.{DriverView, start_fault, back_fault, started_view, turned_view, reopened_view, fed_view}
 use Rattle.two_way_driver.specs.declared.Stage.{Stage}
 use Rattle.two_way_driver.specs.declared.Stage.TheVariants.{Settled, Onward, Undone}
 use Rattle.two_way_driver.specs.declared.Logged.{Logged}
@@ -41,8 +41,8 @@ IsCall net (Feed s bytes) = s.0 < switch_count net
 
 -- a driver after a call; one that is refused leaves it as it was
 abbrev pub after_call : DriverView → Call → DriverView
-after_call v Start = if is_none (start_fault v) then started v else v
-after_call v Back = if is_none (back_fault v) then turned v else v
+after_call v Start = if is_none (start_fault v) then started_view v else v
+after_call v Back = if is_none (back_fault v) then turned_view v else v
 after_call v (Reopen s) = reopened_view s v
 after_call v (Feed s bytes) = fed_view s bytes v
 

@@ -1,7 +1,7 @@
 -- One switch: what comes of a byte from it, and its barrier requests, which it answers in the order in which they were sent.
 use Rattle.std.specs.Prelude.{ℕ, ◌&&◌, not, nat_lt, if◌then◌else◌, [], length, drop, Option, Some, None, is_some, is_none}
 use Rattle.std.specs.Option.{option_map_or}
-use Rattle.switch_session.specs.Channels.{ChannelState, first_channel, hello, is_failed, is_open, after_byte, asked}
+use Rattle.switch_session.specs.Channels.{ChannelState, first_channel, hello, is_failed, is_open, after_byte, after_request}
 use Rattle.switch_session.specs.declared.Session.{Session}
 use Rattle.switch_session.specs.declared.Session.TheVariants.{Waiting, Open, Failed}
 use Rattle.two_way_driver.specs.PeerStates.{PeerState}
@@ -43,21 +43,21 @@ unfoldable pub peer_after : ℕ → PeerState → PeerState
 peer_after b p = record p { channel = kept_of p.channel (after_byte b p.channel) }
 
 -- a barrier request is sent on an open session: it is outstanding, or stands behind the one that is
-abbrev pub queued : ℕ → PeerState → PeerState
-queued x p = if is_some p.channel.outstanding then record p { behind = Some x } else record p { channel = asked [] x p.channel }
+abbrev pub queued_peer : ℕ → PeerState → PeerState
+queued_peer x p = if is_some p.channel.outstanding then record p { behind = Some x } else record p { channel = after_request [] x p.channel }
 
 -- a barrier request of the running round waits for its answer; on an open session it is sent
 unfoldable pub asks : ℕ → PeerState → PeerState
-asks x p = if is_open p.channel.session then queued x (record p { asked = Some x }) else record p { asked = Some x }
+asks x p = if is_open p.channel.session then queued_peer x (record p { asked = Some x }) else record p { asked = Some x }
 
 -- the session was just opened, so nothing is outstanding on it: the barrier request is sent again
 abbrev pub asks_again : ℕ → PeerState → PeerState
-asks_again x p = record p { channel = asked [] x p.channel; behind = None }
+asks_again x p = record p { channel = after_request [] x p.channel; behind = None }
 
 -- the outstanding barrier request was answered: the one behind it is outstanding now, or it was the last one
 unfoldable pub answers : PeerState → PeerState
-answers p = option_map_or (λ x. record p { channel = asked [] x p.channel; behind = None }) p.behind (record p { asked = None })
+answers p = option_map_or (λ x. record p { channel = after_request [] x p.channel; behind = None }) p.behind (record p { asked = None })
 
 -- the session waits for HELLO again
-abbrev pub reopened : PeerState → PeerState
-reopened p = record p { channel = first_channel; behind = None }
+abbrev pub reopened_peer : PeerState → PeerState
+reopened_peer p = record p { channel = first_channel; behind = None }

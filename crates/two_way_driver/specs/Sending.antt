@@ -57,12 +57,12 @@ asked_by v (Reopen s) = None
 asked_by v (Feed s bytes) = None
 
 -- the messages that ask a switch for these changes, if its session is open; the first message to all switches has the next xid
-abbrev pub asking : DriverView → SwitchId → List Change → List (List ℕ)
-asking v s changes = if is_open (session_at v s) then texts_for s (batch_of v.net v.state.next changes) else []
+abbrev pub asking_messages : DriverView → SwitchId → List Change → List (List ℕ)
+asking_messages v s changes = if is_open (session_at v s) then texts_for s (batch_of v.net v.state.next changes) else []
 
 -- the messages of the running round to a switch, in the way it goes and with the xids that they had, if it hasn't answered them
-abbrev pub unanswered : DriverView → SwitchId → List (List ℕ)
-unanswered v s =
+abbrev pub unanswered_messages : DriverView → SwitchId → List (List ℕ)
+unanswered_messages v s =
     if is_some (peer_at v.state s).asked then texts_for s (batch_of v.net v.state.first (asked_round v.rounds v.inverses v.state.stage))
     else []
 
@@ -98,13 +98,13 @@ Answers (Failed c) again came after texts = texts ≡ []
 
 -- what bytes that come from a switch make a driver send to a switch: nothing, if it is another one
 pub record SendsFed (before after : DriverView) (from : SwitchId) (bytes : List ℕ) (s : SwitchId) (texts : List (List ℕ)) : Type 0 where
-  pub here : from.0 ≡ s.0 → Answers (session_at before s) (unanswered before s) ((peer_at before.state s).channel.unread ++ bytes) (peer_at after.state s).channel texts
+  pub here : from.0 ≡ s.0 → Answers (session_at before s) (unanswered_messages before s) ((peer_at before.state s).channel.unread ++ bytes) (peer_at after.state s).channel texts
   pub others : from.0 ≢ s.0 → texts ≡ []
 
 -- what a call sends to a switch, in order
 abbrev pub Sends : DriverView → DriverView → SwitchId → Call → List (List ℕ) → Type 0
-Sends before after s Start texts = texts ≡ option_map_or (asking before s) (asked_by before Start) []
-Sends before after s Back texts = texts ≡ option_map_or (asking before s) (asked_by before Back) []
+Sends before after s Start texts = texts ≡ option_map_or (asking_messages before s) (asked_by before Start) []
+Sends before after s Back texts = texts ≡ option_map_or (asking_messages before s) (asked_by before Back) []
 Sends before after s (Reopen t) texts = texts ≡ (if t.0 == s.0 then hello ∷ [] else [])
 Sends before after s (Feed t bytes) texts = SendsFed before after t bytes s texts
 

@@ -1,7 +1,7 @@
 -- What is said, whether a caller forgets it in between or not.
 use Rattle.std.specs.Prelude.{List, [], ◌∷◌, ◌++◌, flat_map}
 use Rattle.two_way_driver.specs.Drivers.{DriverState}
-use Rattle.two_way_driver.specs.Calls.{DriverView, with_state, silent}
+use Rattle.two_way_driver.specs.Calls.{DriverView, with_state, silent_view}
 use Rattle.two_way_driver.specs.Laws.{Call, after_call}
 use Rattle.two_way_driver.specs.declared.Said.{Said}
 
@@ -14,7 +14,7 @@ with_words words v = with_state (said_first words v.state) v
 
 -- a driver after a call before which all was forgotten
 abbrev pub after_call_anew : DriverView → Call → DriverView
-after_call_anew v c = after_call (silent v) c
+after_call_anew v c = after_call (silent_view v) c
 
 -- a driver after calls, before each of which all was forgotten
 abbrev pub after_calls_anew : DriverView → List Call → DriverView
@@ -27,5 +27,5 @@ said_by_each v [] = []
 said_by_each v (c ∷ calls) = (after_call_anew v c).state.said ∷ said_by_each (after_call_anew v c) calls
 
 -- what was said in pieces, in a row
-abbrev pub joined : List (List Said) → List Said
-joined pieces = flat_map (λ words. words) pieces
+abbrev pub joined_words : List (List Said) → List Said
+joined_words pieces = flat_map (λ words. words) pieces

@@ -1,8 +1,8 @@
 //! The driver.
 ghost use Rattle.std.specs.Prelude.{◌≡◌, ◌<◌, ◌+◌, length, IfOk, IfErr, OnOk, None};
 ghost use Rattle.topology.specs.Networks.{switch_count};
-ghost use Rattle.two_way_driver.specs.Drivers.{peer_at, fed, reopened_driver, first_driver};
-ghost use Rattle.two_way_driver.specs.Calls.{AreTurnable, IsServing, IsRefusal, KeepsUnlessMemory, start_fault, back_fault, started, turned, with_state, fed_view, reopened_view, silent};
+ghost use Rattle.two_way_driver.specs.Drivers.{peer_at, state_after_bytes, reopened_driver, first_driver};
+ghost use Rattle.two_way_driver.specs.Calls.{AreTurnable, IsServing, IsCallRefusal, KeepsUnlessMemory, start_fault, back_fault, started_view, turned_view, with_state, fed_view, reopened_view, silent_view};
 ghost use Rattle.two_way_driver.specs.Inside.{view_of};
 
 use crate::faults::CallFault;
@@ -39,8 +39,8 @@ fn start_on(plan: &Plan, talks: &mut Talks) -> Result<(), CallFault>
     requires { IsServing (view_of plan.now talks.old) }
     ensures allowed { OnOk result (start_fault (view_of plan.now talks.old) ≡ None) }
     ensures ok { OnOk result
-        (view_of plan.now talks.new ≡ started (view_of plan.now talks.old)) }
-    ensures refused { IfErr result (IsRefusal (start_fault (view_of plan.now talks.old))) }
+        (view_of plan.now talks.new ≡ started_view (view_of plan.now talks.old)) }
+    ensures refused { IfErr result (IsCallRefusal (start_fault (view_of plan.now talks.old))) }
     ensures err { IfErr result
         (KeepsUnlessMemory (view_of plan.now talks.old) (view_of plan.now talks.new)) }
 {
@@ -55,8 +55,8 @@ fn undo_on(plan: &Plan, talks: &mut Talks, k: u32) -> Result<(), CallFault>
     requires settled { talks.old.stage ≡ Stage.Settled (k + 1) }
     ensures allowed { OnOk result (back_fault (view_of plan.now talks.old) ≡ None) }
     ensures ok { OnOk result
-        (view_of plan.now talks.new ≡ turned (view_of plan.now talks.old)) }
-    ensures refused { IfErr result (IsRefusal (back_fault (view_of plan.now talks.old))) }
+        (view_of plan.now talks.new ≡ turned_view (view_of plan.now talks.old)) }
+    ensures refused { IfErr result (IsCallRefusal (back_fault (view_of plan.now talks.old))) }
     ensures err { IfErr result
         (KeepsUnlessMemory (view_of plan.now talks.old) (view_of plan.now talks.new)) }
 {
@@ -73,8 +73,8 @@ fn back_on(plan: &Plan, talks: &mut Talks) -> Result<(), CallFault>
     requires { IsServing (view_of plan.now talks.old) }
     ensures allowed { OnOk result (back_fault (view_of plan.now talks.old) ≡ None) }
     ensures ok { OnOk result
-        (view_of plan.now talks.new ≡ turned (view_of plan.now talks.old)) }
-    ensures refused { IfErr result (IsRefusal (back_fault (view_of plan.now talks.old))) }
+        (view_of plan.now talks.new ≡ turned_view (view_of plan.now talks.old)) }
+    ensures refused { IfErr result (IsCallRefusal (back_fault (view_of plan.now talks.old))) }
     ensures err { IfErr result
         (KeepsUnlessMemory (view_of plan.now talks.old) (view_of plan.now talks.new)) }
 {
@@ -141,9 +141,9 @@ impl<'a> Driver<'a> {
     pub fn start(&mut self) -> Result<(), CallFault>
         requires { IsServing self.old }
         ensures allowed { OnOk result (start_fault self.old ≡ None) }
-        ensures ok { OnOk result (self.new ≡ started self.old) }
+        ensures ok { OnOk result (self.new ≡ started_view self.old) }
         ensures serving { OnOk result (IsServing self.new) }
-        ensures refused { IfErr result (IsRefusal (start_fault self.old)) }
+        ensures refused { IfErr result (IsCallRefusal (start_fault self.old)) }
         ensures err { IfErr result (KeepsUnlessMemory self.old self.new) }
     {
         start_on(&self.plan, &mut self.talks)
@@ -154,9 +154,9 @@ impl<'a> Driver<'a> {
     pub fn back(&mut self) -> Result<(), CallFault>
         requires { IsServing self.old }
         ensures allowed { OnOk result (back_fault self.old ≡ None) }
-        ensures ok { OnOk result (self.new ≡ turned self.old) }
+        ensures ok { OnOk result (self.new ≡ turned_view self.old) }
         ensures serving { OnOk result (IsServing self.new) }
-        ensures refused { IfErr result (IsRefusal (back_fault self.old)) }
+        ensures refused { IfErr result (IsCallRefusal (back_fault self.old)) }
         ensures err { IfErr result (KeepsUnlessMemory self.old self.new) }
     {
         back_on(&self.plan, &mut self.talks)
@@ -196,7 +196,7 @@ impl<'a> Driver<'a> {
 
     /// Forgets what was said.
     pub fn forget(&mut self)
-        ensures ok { self.new ≡ silent self.old }
+        ensures ok { self.new ≡ silent_view self.old }
         ensures serving { IsServing self.old → IsServing self.new }
     {
         self.talks.said.clear();

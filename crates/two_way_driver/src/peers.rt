@@ -1,7 +1,7 @@
 //! What a driver keeps of one switch.
 ghost use Rattle.std.specs.Prelude.{◌≡◌, is_none, length, IfOk, OnOk};
 ghost use Rattle.switch_session.specs.Channels.{is_open, after_byte};
-ghost use Rattle.two_way_driver.specs.Peers.{first_peer, opened_anew, failure_in, heard_of, heard_by, peer_after, asks, asks_again, answers, reopened};
+ghost use Rattle.two_way_driver.specs.Peers.{first_peer, opened_anew, failure_in, heard_of, heard_by, peer_after, asks, asks_again, answers, reopened_peer};
 
 use net_base::Memory;
 use std::alloc::Global;
@@ -200,7 +200,7 @@ impl Peer {
 
     /// The session waits for HELLO again, with nothing unread and no barrier request sent.
     pub(crate) fn reopen(&mut self, alloc: Global) -> Result<(), Memory>
-        ensures { OnOk result (self.new ≡ reopened self.old) }
+        ensures { OnOk result (self.new ≡ reopened_peer self.old) }
     {
         self.channel = Channel::make(alloc)?;
         self.behind = None;

@@ -6,7 +6,7 @@ ghost use Rattle.update_model.specs.Ranges.{IsPlanChange};
 ghost use Rattle.turned_rounds.specs.Batches.{xid_behind};
 ghost use Rattle.switch_session.specs.Channels.{after_byte, hello};
 ghost use Rattle.two_way_driver.specs.Peers.{first_peer, heard_by, peer_after};
-ghost use Rattle.two_way_driver.specs.Drivers.{saying, log_if, send_if, sends, is_to_open, is_to, asks_if, next_if, asked_from, sent_out, settled_in, all_answered, settled_if_answered, change_notes, undo_notes, made, undone, carried_out, answered, opened, heard, fed_byte, first_driver, first_words, flagged, started_with, undone_with, turned_with, reopened_driver};
+ghost use Rattle.two_way_driver.specs.Drivers.{with_said, log_if, send_if, sends, is_to_open, is_to, asks_if, next_if, asked_from, sent_out, settled_in, all_answered, settled_if_answered, change_notes, undo_notes, made_state, undone_state, carried_out, answered_state, opened_state, heard_state, fed_byte, first_driver, first_words, flagged_state, started_with, undone_with, turned_with, reopened_driver};
 ghost use Rattle.two_way_driver.specs.Inside.{state_of, FitsNext, heard_on, fed_on};
 
 use crate::legs::Leg;
@@ -197,7 +197,7 @@ impl Talks {
 
     /// Says one thing more.
     fn say(&mut self, words: Said) -> Result<(), Memory>
-        ensures { OnOk result (state_of self.new ≡ saying (words ∷ []) (state_of self.old)) }
+        ensures { OnOk result (state_of self.new ≡ with_said (words ∷ []) (state_of self.old)) }
     {
         self.said.push(words)?;
         Ok(())
@@ -256,11 +256,11 @@ impl Talks {
     }
 
     /// The changes of a switch are made.
-    #[tactic(auto, unfolding(crate::specs::Drivers::made))]
+    #[tactic(auto, unfolding(crate::specs::Drivers::made_state))]
     fn make_changes(&mut self, round: &[Change], switch: SwitchId) -> Result<(), Memory>
         requires { switch.0 < length self.old.in_force.items }
         ensures after { OnOk result
-            (state_of self.new ≡ made round.now switch (state_of self.old)) }
+            (state_of self.new ≡ made_state round.now switch (state_of self.old)) }
         ensures stage { self.new.stage ≡ self.old.stage }
     {
         push_changes(&mut self.said, round, switch)?;
@@ -269,11 +269,11 @@ impl Talks {
     }
 
     /// The changes of a switch are taken back, if they are in force.
-    #[tactic(auto, unfolding(crate::specs::Drivers::undone))]
+    #[tactic(auto, unfolding(crate::specs::Drivers::undone_state))]
     fn undo_changes(&mut self, round: &[Change], switch: SwitchId) -> Result<(), Memory>
         requires { switch.0 < length self.old.in_force.items }
         ensures after { OnOk result
-            (state_of self.new ≡ undone round.now switch (state_of self.old)) }
+            (state_of self.new ≡ undone_state round.now switch (state_of self.old)) }
         ensures stage { self.new.stage ≡ self.old.stage }
     {
         if !self.in_force[switch.0 as usize] {
@@ -300,13 +300,13 @@ impl Talks {
     }
 
     /// The outstanding barrier request of a switch was answered.
-    #[tactic(auto, unfolding(crate::specs::Drivers::answered))]
+    #[tactic(auto, unfolding(crate::specs::Drivers::answered_state))]
     fn answer(&mut self, round: &[Change], switch: SwitchId) -> Result<(), Memory>
         requires peer { switch.0 < length self.old.peers.items }
         requires flag { switch.0 < length self.old.in_force.items }
         requires fits { FitsNext self.old.stage }
         ensures { OnOk result
-            (state_of self.new ≡ answered round.now switch (state_of self.old)) }
+            (state_of self.new ≡ answered_state round.now switch (state_of self.old)) }
     {
         if !self.peers[switch.0 as usize].answer() {
             return self.make_changes(round, switch);
@@ -316,13 +316,13 @@ impl Talks {
     }
 
     /// The session of a switch is open now: what isn't answered is sent again.
-    #[tactic(auto, unfolding(crate::specs::Drivers::opened))]
+    #[tactic(auto, unfolding(crate::specs::Drivers::opened_state))]
     fn open(&mut self, net: &Net, changes: &[Change], switch: SwitchId) -> Result<(), Memory>
         requires plan { AllByRecursion (IsPlanChange net.now) changes.now }
         requires peer { switch.0 < length self.old.peers.items }
         ensures { OnOk result
             (state_of self.new
-            ≡ opened net.now changes.now switch (state_of self.old)) }
+            ≡ opened_state net.now changes.now switch (state_of self.old)) }
     {
         let Some(xid) = self.peers[switch.0 as usize].asked() else {
             return Ok(());
@@ -340,7 +340,7 @@ impl Talks {
         requires flag { switch.0 < length self.old.in_force.items }
         requires fits { FitsNext self.old.stage }
         ensures { OnOk result
-            (state_of self.new ≡ heard_on leg.now switch heard (state_of self.old)) }
+            (state_of self.new ≡ heard_on leg.now switch heard_state (state_of self.old)) }
     {
         match heard {
             Heard::Nothing => Ok(()),
@@ -367,7 +367,7 @@ impl Talks {
 
     /// The changes of the running round are all in force, or none is.
     fn flag(&mut self, in_force: bool) -> Result<(), Memory>
-        ensures { OnOk result (state_of self.new ≡ flagged in_force (state_of self.old)) }
+        ensures { OnOk result (state_of self.new ≡ flagged_state in_force (state_of self.old)) }
     {
         let alloc = *self.peers.allocator();
         self.in_force = vec![in alloc; in_force; self.peers.len()]?;

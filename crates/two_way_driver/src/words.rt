@@ -1,8 +1,8 @@
 //! What a driver says doesn't depend on what it said before. The law is a function that does nothing: its contract is the law.
 ghost use Rattle.std.specs.Prelude.{◌≡◌, ◌++◌, List};
-ghost use Rattle.two_way_driver.specs.Calls.{DriverView, silent, start_fault, back_fault};
+ghost use Rattle.two_way_driver.specs.Calls.{DriverView, silent_view, start_fault, back_fault};
 ghost use Rattle.two_way_driver.specs.Laws.{Call, after_call, after_calls};
-ghost use Rattle.two_way_driver.specs.Words.{with_words, after_calls_anew, said_by_each, joined};
+ghost use Rattle.two_way_driver.specs.Words.{with_words, after_calls_anew, said_by_each, joined_words};
 ghost use Rattle.two_way_driver.specs.declared.Said.{Said};
 
 /// It makes no difference to a call what was said before, and whether that was forgotten: the same calls are refused, a call
@@ -16,7 +16,7 @@ pub fn said_call_by_call()
     ensures call { (words : List Said) (v : DriverView) (call : Call)
         → after_call (with_words words v) call ≡ with_words words (after_call v call) }
     ensures said { (v : DriverView) (calls : List Call)
-        → (after_calls v calls).state.said ≡ v.state.said ++ joined (said_by_each v calls) }
+        → (after_calls v calls).state.said ≡ v.state.said ++ joined_words (said_by_each v calls) }
     ensures kept { (v : DriverView) (calls : List Call)
-        → silent (after_calls v calls) ≡ silent (after_calls_anew v calls) }
+        → silent_view (after_calls v calls) ≡ silent_view (after_calls_anew v calls) }
 {}

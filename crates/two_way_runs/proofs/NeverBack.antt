@@ -7,7 +7,7 @@ use Rattle.path_walk.specs.declared.Ended.TheVariants.{UnderWay}
 use Rattle.update_model.specs.Changes.{round_after}
 use Rattle.update_model.specs.Mixtures.{Rollout}
 use Rattle.update_model.specs.Runs.{AreEnabled, state_after, IsRun, state_after_run}
-use Rattle.update_model.specs.States.{State, IsEnabled, entered, settled, settled_count, state_after_event}
+use Rattle.update_model.specs.States.{State, IsEnabled, entered_packet, phase_after_settle, settled_count, state_after_event}
 use Rattle.update_model.specs.declared.Event.{Event}
 use Rattle.update_model.specs.declared.Event.TheVariants as event
 use Rattle.update_model.specs.declared.Packet.{Packet}
@@ -15,7 +15,7 @@ use Rattle.update_model.specs.declared.Phase.{Phase}
 use Rattle.update_model.specs.declared.Phase.TheVariants.{Settled, Running}
 use Rattle.two_way_runs.specs.States.{TwoWayState, Onward, first_two_way, IsTwoWayEnabled, two_way_after, tables_made}
 use Rattle.two_way_runs.specs.Runs.{AreTwoWayEnabled, two_way_state, IsTwoWayRun, state_after_two_way}
-use Rattle.two_way_runs.specs.Laws.{onward, onward_state}
+use Rattle.two_way_runs.specs.Laws.{onward_events, onward_state}
 use Rattle.two_way_runs.proofs.Flags.{turned_set, turned_get, got_turned, turned_replicate, turned_all, all_turned}
 
 -- no round 0 runs
@@ -32,12 +32,12 @@ IsCounted st = (st.settles ≡ settled_count st.phase) × IsPhase st.phase
 abbrev state_of : Phase → List (List Rule) → List Bool → List Packet → State
 state_of phase tables pending packets = record { phase = phase; tables = tables; pending = pending; packets = packets }
 
-settled_one_more : (phase : Phase) (settles k : ℕ) → phase ≡ Running k → IsPhase phase → settles ≡ settled_count phase → suc settles ≡ settled_count (settled phase)
+settled_one_more : (phase : Phase) (settles k : ℕ) → phase ≡ Running k → IsPhase phase → settles ≡ settled_count phase → suc settles ≡ settled_count (phase_after_settle phase)
 settled_one_more (Settled j) settles k is begun same = absurd (let e : Settled j ≡ Running k = is in cc)
 settled_one_more (Running zero) settles k is begun same = absurd begun
 settled_one_more (Running (suc j)) settles k is begun same = ap suc same
 
-settled_phase : (phase : Phase) → IsPhase (settled phase)
+settled_phase : (phase : Phase) → IsPhase (phase_after_settle phase)
 settled_phase (Settled j) = tt
 settled_phase (Running j) = tt
 
@@ -83,7 +83,7 @@ module _ (u : Rollout) where
       ap (λ flags. state_of (Running (suc (settled_count st.phase))) st.tables flags st.packets) (turned_replicate (length (round_after (settled_count st.phase) u.rounds)) false)
   same_after st counted (event.Change i) = ap (λ flags. state_of st.phase (tables_made u st i) flags st.packets) (turned_set st.in_force i true)
   same_after st counted event.Settle = refl
-  same_after st counted (event.Enter place dst) = ap (λ n. state_of st.phase st.tables (map not st.in_force) (st.packets ++ entered place dst n ∷ [])) counted.0
+  same_after st counted (event.Enter place dst) = ap (λ n. state_of st.phase st.tables (map not st.in_force) (st.packets ++ entered_packet place dst n ∷ [])) counted.0
   same_after st counted (event.Hop i) = refl
   same_after st counted (event.Lose i) = refl
 
@@ -95,7 +95,7 @@ module _ (u : Rollout) where
   counted_after st counted (event.Hop i) may = counted
   counted_after st counted (event.Lose i) may = counted
 
-  are_onward : (st : TwoWayState) → IsCounted st → (events : List Event) → AreTwoWayEnabled u st (onward events) → AreEnabled u.net u.rounds (onward_state st) events
+  are_onward : (st : TwoWayState) → IsCounted st → (events : List Event) → AreTwoWayEnabled u st (onward_events events) → AreEnabled u.net u.rounds (onward_state st) events
   are_onward st counted [] are = tt
   are_onward st counted (e ∷ events) are = (
     may_onward st counted e are.0,
@@ -103,7 +103,7 @@ module _ (u : Rollout) where
         (are_onward (two_way_after u st (Onward e)) (counted_after st counted e are.0) events are.1),
   )
 
-  are_two_way : (st : TwoWayState) → IsCounted st → (events : List Event) → AreEnabled u.net u.rounds (onward_state st) events → AreTwoWayEnabled u st (onward events)
+  are_two_way : (st : TwoWayState) → IsCounted st → (events : List Event) → AreEnabled u.net u.rounds (onward_state st) events → AreTwoWayEnabled u st (onward_events events)
   are_two_way st counted [] are = tt
   are_two_way st counted (e ∷ events) are =
       let may = may_two_way st counted e are.0 in (
@@ -112,15 +112,15 @@ module _ (u : Rollout) where
             (subst (λ s. AreEnabled u.net u.rounds s events) (sym (same_after st counted e)) are.1),
       )
 
-  same_state : (st : TwoWayState) → IsCounted st → (events : List Event) → AreTwoWayEnabled u st (onward events)
-      → onward_state (two_way_state u st (onward events)) ≡ state_after u.net u.rounds (onward_state st) events
+  same_state : (st : TwoWayState) → IsCounted st → (events : List Event) → AreTwoWayEnabled u st (onward_events events)
+      → onward_state (two_way_state u st (onward_events events)) ≡ state_after u.net u.rounds (onward_state st) events
   same_state st counted [] are = refl
   same_state st counted (e ∷ events) are =
       same_state (two_way_after u st (Onward e)) (counted_after st counted e are.0) events are.1
       ∙ ap (λ s. state_after u.net u.rounds s events) (same_after st counted e)
 
-  pub onward_runs : (events : List Event) → IsTwoWayRun u (onward events) ↔ IsRun u events
+  pub onward_runs : (events : List Event) → IsTwoWayRun u (onward_events events) ↔ IsRun u events
   onward_runs events = (are_onward (first_two_way u.old) (refl, tt) events, are_two_way (first_two_way u.old) (refl, tt) events)
 
-  pub onward_states : (events : List Event) → IsRun u events → onward_state (state_after_two_way u (onward events)) ≡ state_after_run u events
+  pub onward_states : (events : List Event) → IsRun u events → onward_state (state_after_two_way u (onward_events events)) ≡ state_after_run u events
   onward_states events run = same_state (first_two_way u.old) (refl, tt) events ((onward_runs events).1 run)

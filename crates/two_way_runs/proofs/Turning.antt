@@ -22,7 +22,7 @@ use Rattle.path_walk.specs.declared.Outcome.TheVariants.{Discard, Leave, Go}
 use Rattle.update_model.specs.Changes.{switch_of, Applies, changes_at, rules_after, tables_after_change, round_after}
 use Rattle.update_model.specs.Mixtures.{Rollout, tables_before, MayHold, IsPossible, MayGo, AreGoodRounds}
 use Rattle.update_model.specs.OneRound.{EndWasPossible}
-use Rattle.update_model.specs.States.{IsUnderWay, entered, hopped, lost, settled, settled_count}
+use Rattle.update_model.specs.States.{IsUnderWay, entered_packet, hopped_packet, lost_packet, phase_after_settle, settled_count}
 use Rattle.update_model.specs.declared.Change.{Change}
 use Rattle.update_model.specs.declared.Event.TheVariants as event
 use Rattle.update_model.specs.declared.Packet.{Packet}
@@ -101,29 +101,29 @@ module _ (u : Rollout) (good : AreGoodRounds u) where
   beside_within j k within (inr e) = omega arith
 
   -- a packet that hops by a possible outcome still walks through the round's mixtures
-  hopped_walks : (p : Packet) (k : ℕ) (found : Outcome) → IsUnderWay p → WalkedRound u k p → IsPossible u k p.dst p.at found → WalkedRound u k (hopped p found)
+  hopped_walks : (p : Packet) (k : ℕ) (found : Outcome) → IsUnderWay p → WalkedRound u k p → IsPossible u k p.dst p.at found → WalkedRound u k (hopped_packet p found)
   hopped_walks p k (Go next) under w possible = record {
     rest = w.rest ++ next ∷ [];
     walk = IsWalk-push (MayGo u k p.dst) p.entry w.rest next w.walk (subst (λ x. MayGo u k p.dst x next) (sym w.at_is) possible);
     at_is = end_of-push p.entry w.rest next;
     visits_are = ap (λ v. v ++ stop_of next ∷ []) w.visits_are ∙ sym (map-push stop_of (p.entry ∷ w.rest) next);
-    ended = subst (λ e. EndWasPossible u (record (hopped p (Go next)) { born = k }) e) (sym under) tt;
+    ended = subst (λ e. EndWasPossible u (record (hopped_packet p (Go next)) { born = k }) e) (sym under) tt;
   }
   hopped_walks p k Discard under w possible = record { rest = w.rest; walk = w.walk; at_is = w.at_is; visits_are = w.visits_are; ended = (refl, possible) }
   hopped_walks p k (Leave port vlan) under w possible = record { rest = w.rest; walk = w.walk; at_is = w.at_is; visits_are = w.visits_are; ended = (refl, possible) }
 
   -- what a hop leaves as it is
-  hopped_entry : (p : Packet) (found : Outcome) → IsEntry u.net p.entry → IsEntry u.net (hopped p found).entry
+  hopped_entry : (p : Packet) (found : Outcome) → IsEntry u.net p.entry → IsEntry u.net (hopped_packet p found).entry
   hopped_entry p (Go next) h = h
   hopped_entry p Discard h = h
   hopped_entry p (Leave port vlan) h = h
 
-  hopped_dst : (p : Packet) (found : Outcome) → p.dst < 2 ^ 32 → (hopped p found).dst < 2 ^ 32
+  hopped_dst : (p : Packet) (found : Outcome) → p.dst < 2 ^ 32 → (hopped_packet p found).dst < 2 ^ 32
   hopped_dst p (Go next) h = h
   hopped_dst p Discard h = h
   hopped_dst p (Leave port vlan) h = h
 
-  hopped_born : (p : Packet) (found : Outcome) → (hopped p found).born ≡ p.born
+  hopped_born : (p : Packet) (found : Outcome) → (hopped_packet p found).born ≡ p.born
   hopped_born p (Go next) = refl
   hopped_born p Discard = refl
   hopped_born p (Leave port vlan) = refl
@@ -135,7 +135,7 @@ module _ (u : Rollout) (good : AreGoodRounds u) where
     possible : (k : ℕ) → MayHold u k p.at.switch (rules_at tables p.at.switch) → IsPossible u k p.dst p.at (outcome_in u.net tables p.at p.dst)
     possible k held = record { mixed = rules_at tables p.at.switch; held = held; is = refl }
 
-    hopped_between : (j : ℕ) → TablesAre u (Settled j) tables in_force → IsBetween u j settles p → IsBetween u j settles (hopped p (outcome_in u.net tables p.at p.dst))
+    hopped_between : (j : ℕ) → TablesAre u (Settled j) tables in_force → IsBetween u j settles p → IsBetween u j settles (hopped_packet p (outcome_in u.net tables p.at p.dst))
     hopped_between j are between =
         let born = hopped_born p (outcome_in u.net tables p.at p.dst) in
         record {
@@ -154,11 +154,11 @@ module _ (u : Rollout) (good : AreGoodRounds u) where
           | inr now ↦ (j, within, between.fresh (omega arith) j (inl refl))
         ]
 
-    hopped_sound : (phase : Phase) → TablesAre u phase tables in_force → IsSound u phase settles p → IsSound u phase settles (hopped p (outcome_in u.net tables p.at p.dst))
+    hopped_sound : (phase : Phase) → TablesAre u phase tables in_force → IsSound u phase settles p → IsSound u phase settles (hopped_packet p (outcome_in u.net tables p.at p.dst))
     hopped_sound (Settled j) are sound =
         let between = hopped_between j are (sound.in_time under) in
         record {
-          walked = walked_between j (hopped p (outcome_in u.net tables p.at p.dst)) are.0 between;
+          walked = walked_between j (hopped_packet p (outcome_in u.net tables p.at p.dst)) are.0 between;
           entry = hopped_entry p (outcome_in u.net tables p.at p.dst) sound.entry;
           dst = hopped_dst p (outcome_in u.net tables p.at p.dst) sound.dst;
           born = subst (λ b. b ≤ settles) (sym (hopped_born p (outcome_in u.net tables p.at p.dst))) sound.born;
@@ -182,7 +182,7 @@ module _ (u : Rollout) (good : AreGoodRounds u) where
   not_under_way (Running zero) settles p ended = tt
   not_under_way (Running (suc k)) settles p ended = λ under. absurd (ended under)
 
-  lost_sound : (phase : Phase) (settles : ℕ) (p : Packet) → IsSound u phase settles p → IsSound u phase settles (lost p)
+  lost_sound : (phase : Phase) (settles : ℕ) (p : Packet) → IsSound u phase settles p → IsSound u phase settles (lost_packet p)
   lost_sound phase settles p sound =
       let (k, within, w) = sound.walked in
       record {
@@ -190,15 +190,15 @@ module _ (u : Rollout) (good : AreGoodRounds u) where
         entry = sound.entry;
         dst = sound.dst;
         born = sound.born;
-        in_time = not_under_way phase settles (lost p) (λ under. let e : Lost ≡ UnderWay = under in cc);
+        in_time = not_under_way phase settles (lost_packet p) (λ under. let e : Lost ≡ UnderWay = under in cc);
       }
 
   -- a packet that enters
-  entered_walks : (k settles : ℕ) (place : Place) (dst : ℕ) → WalkedRound u k (entered place dst settles)
+  entered_walks : (k settles : ℕ) (place : Place) (dst : ℕ) → WalkedRound u k (entered_packet place dst settles)
   entered_walks k settles place dst = record { rest = []; walk = tt; at_is = refl; visits_are = refl; ended = tt }
 
   entered_sound : (phase : Phase) (settles : ℕ) (tables : List (List Rule)) (in_force : List Bool) → TablesAre u phase tables in_force → (place : Place) (dst : ℕ) → IsEntry u.net place
-      → dst < 2 ^ 32 → IsSound u phase settles (entered place dst settles)
+      → dst < 2 ^ 32 → IsSound u phase settles (entered_packet place dst settles)
   entered_sound (Settled j) settles tables in_force are place dst entry fits = record {
     walked = (j, are.0, entered_walks j settles place dst);
     entry = entry;
@@ -302,7 +302,7 @@ module _ (u : Rollout) (good : AreGoodRounds u) where
 
   -- the round is settled
   settle_tables : (phase : Phase) (tables : List (List Rule)) (in_force : List Bool) (k : ℕ) → phase ≡ Running k → AllByRecursion (λ b. b ≡ true) in_force
-      → TablesAre u phase tables in_force → TablesAre u (settled phase) tables in_force
+      → TablesAre u phase tables in_force → TablesAre u (phase_after_settle phase) tables in_force
   settle_tables (Settled j) tables in_force k is on are = absurd (let e : Settled j ≡ Running k = is in cc)
   settle_tables (Running zero) tables in_force k is on are = absurd are
   settle_tables (Running (suc j)) tables in_force k is on are =
@@ -314,7 +314,7 @@ module _ (u : Rollout) (good : AreGoodRounds u) where
       )
 
   settle_packet : (phase : Phase) (settles k : ℕ) → phase ≡ Running k → (tables : List (List Rule)) (in_force : List Bool) → TablesAre u phase tables in_force → (p : Packet)
-      → IsSound u phase settles p → IsSound u (settled phase) (suc settles) p
+      → IsSound u phase settles p → IsSound u (phase_after_settle phase) (suc settles) p
   settle_packet (Settled j) settles k is tables in_force are p sound = absurd (let e : Settled j ≡ Running k = is in cc)
   settle_packet (Running zero) settles k is tables in_force are p sound = absurd are
   settle_packet (Running (suc j)) settles k is tables in_force are p sound =
@@ -371,25 +371,25 @@ module _ (u : Rollout) (good : AreGoodRounds u) where
   sound_after st (Onward event.Settle) sound may = record {
     count = sound.count;
     tables = settle_tables st.phase st.tables st.in_force may.k may.running may.all_in_force sound.tables;
-    packets = each_weaker (IsSound u st.phase st.settles) (IsSound u (settled st.phase) (suc st.settles))
+    packets = each_weaker (IsSound u st.phase st.settles) (IsSound u (phase_after_settle st.phase) (suc st.settles))
         (settle_packet st.phase st.settles may.k may.running st.tables st.in_force sound.tables) st.packets sound.packets;
   }
   sound_after st (Onward (event.Enter place dst)) sound may = record {
     count = sound.count;
     tables = sound.tables;
-    packets = each_append (IsSound u st.phase st.settles) st.packets (entered place dst st.settles ∷ []) sound.packets
+    packets = each_append (IsSound u st.phase st.settles) st.packets (entered_packet place dst st.settles ∷ []) sound.packets
         (entered_sound st.phase st.settles st.tables st.in_force sound.tables place dst may.0 may.1, tt);
   }
   sound_after st (Onward (event.Hop i)) sound may = record {
     count = sound.count;
     tables = sound.tables;
-    packets = each_with_packet (IsSound u st.phase st.settles) (λ p. hopped p (outcome_in u.net st.tables p.at p.dst)) st.packets i may.0 may.1
+    packets = each_with_packet (IsSound u st.phase st.settles) (λ p. hopped_packet p (outcome_in u.net st.tables p.at p.dst)) st.packets i may.0 may.1
         (hopped_sound st.tables st.in_force st.settles may.0 may.2 st.phase sound.tables) sound.packets;
   }
   sound_after st (Onward (event.Lose i)) sound may = record {
     count = sound.count;
     tables = sound.tables;
-    packets = each_with_packet (IsSound u st.phase st.settles) lost st.packets i may.0 may.1 (lost_sound st.phase st.settles may.0) sound.packets;
+    packets = each_with_packet (IsSound u st.phase st.settles) lost_packet st.packets i may.0 may.1 (lost_sound st.phase st.settles may.0) sound.packets;
   }
   sound_after st (Undo i) sound may = record {
     count = changed_count (λ c. tables_undone u (settled_count st.phase) c st.tables) st.tables (λ c. length-set st.tables (switch_of c).0 _) (round_after (settled_count st.phase) u.rounds) i ∙ sound.count;

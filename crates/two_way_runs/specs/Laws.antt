@@ -21,8 +21,8 @@ use Rattle.two_way_runs.specs.Inverse.{inverse_of}
 use Rattle.two_way_runs.specs.Runs.{IsTwoWayRun, state_after_two_way}
 
 -- events of an update that is never turned back
-abbrev pub onward : List Event → List TwoWayEvent
-onward events = map Onward events
+abbrev pub onward_events : List Event → List TwoWayEvent
+onward_events events = map Onward events
 
 -- what a run that is never turned back sees of a state: a change is pending where it isn't in force
 abbrev pub onward_state : TwoWayState → State

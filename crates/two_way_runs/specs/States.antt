@@ -11,7 +11,7 @@ use Rattle.path_walk.specs.Paths.{outcome_in}
 use Rattle.path_walk.specs.declared.Ended.TheVariants.{UnderWay}
 use Rattle.update_model.specs.Changes.{switch_of, rule_of, Applies, round_after, tables_after_change}
 use Rattle.update_model.specs.Mixtures.{Rollout, tables_before}
-use Rattle.update_model.specs.States.{IsHopping, entered, hopped, lost, settled, settled_count, with_packet}
+use Rattle.update_model.specs.States.{IsHopping, entered_packet, hopped_packet, lost_packet, phase_after_settle, settled_count, with_packet}
 use Rattle.update_model.specs.declared.Change.{Change}
 use Rattle.update_model.specs.declared.Event.{Event}
 use Rattle.update_model.specs.declared.Event.TheVariants as event
@@ -125,11 +125,11 @@ abbrev pub two_way_after : Rollout → TwoWayState → TwoWayEvent → TwoWaySta
 two_way_after u a (Onward event.Start) =
     record a { phase = Running (suc (settled_count a.phase)); in_force = replicate (length (round_after (settled_count a.phase) u.rounds)) false }
 two_way_after u a (Onward (event.Change i)) = record a { tables = tables_made u a i; in_force = slice_set a.in_force i true }
-two_way_after u a (Onward event.Settle) = record a { phase = settled a.phase; settles = suc a.settles }
-two_way_after u a (Onward (event.Enter place dst)) = record a { packets = a.packets ++ entered place dst a.settles ∷ [] }
+two_way_after u a (Onward event.Settle) = record a { phase = phase_after_settle a.phase; settles = suc a.settles }
+two_way_after u a (Onward (event.Enter place dst)) = record a { packets = a.packets ++ entered_packet place dst a.settles ∷ [] }
 two_way_after u a (Onward (event.Hop i)) =
-    record a { packets = with_packet (λ p. hopped p (outcome_in u.net a.tables p.at p.dst)) i a.packets }
-two_way_after u a (Onward (event.Lose i)) = record a { packets = with_packet lost i a.packets }
+    record a { packets = with_packet (λ p. hopped_packet p (outcome_in u.net a.tables p.at p.dst)) i a.packets }
+two_way_after u a (Onward (event.Lose i)) = record a { packets = with_packet lost_packet i a.packets }
 two_way_after u a (Undo i) = record a { tables = tables_taken_back u a i; in_force = slice_set a.in_force i false }
 two_way_after u a Back =
     record a { phase = turned_back a.phase; in_force = replicate (length (round_after (settled_count (turned_back a.phase)) u.rounds)) true }

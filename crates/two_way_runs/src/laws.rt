@@ -15,14 +15,14 @@ ghost use Rattle.certificates.specs.declared.Evidence.{Evidence};
 ghost use Rattle.two_way_runs.specs.States.{TwoWayEvent, MayUndo};
 ghost use Rattle.two_way_runs.specs.Inverse.{inverse_round};
 ghost use Rattle.two_way_runs.specs.Runs.{IsTwoWayRun, state_after_two_way};
-ghost use Rattle.two_way_runs.specs.Laws.{onward, onward_state, TablesAreMixtures, WalkedSomeRound, IsTakenBack, IsTwoWayConsistent};
+ghost use Rattle.two_way_runs.specs.Laws.{onward_events, onward_state, TablesAreMixtures, WalkedSomeRound, IsTakenBack, IsTwoWayConsistent};
 
 /// A run in which nothing is turned back is a run of the update as it is carried out, with the same states.
 pub fn never_turned_back()
     ensures runs { (u : Rollout) (events : List Event)
-        → IsTwoWayRun u (onward events) ↔ IsRun u events }
+        → IsTwoWayRun u (onward_events events) ↔ IsRun u events }
     ensures states { (u : Rollout) (events : List Event) → IsRun u events
-        → onward_state (state_after_two_way u (onward events))
+        → onward_state (state_after_two_way u (onward_events events))
         ≡ state_after_run u events }
 {}
 

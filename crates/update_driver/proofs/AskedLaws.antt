@@ -19,8 +19,8 @@ use Rattle.openflow10.specs.declared.Message.TheVariants.{BarrierRequest}
 use Rattle.round_messages.specs.Requests.{switch_numbered}
 use Rattle.round_messages.specs.ToSwitch.{AskFor, AreFor}
 use Rattle.round_messages.proofs.BySwitch.{each_round}
-use Rattle.switch_session.specs.Channels.{ChannelState, first_channel, asked}
-use Rattle.update_driver.specs.Drivers.{messages_for, barrier_in, told, told_all}
+use Rattle.switch_session.specs.Channels.{ChannelState, first_channel, after_request}
+use Rattle.update_driver.specs.Drivers.{messages_for, barrier_in, told_channel, told_all}
 use Rattle.update_driver.proofs.RunLaws.{is_waited_for, AreAsked}
 
 -- a change's message is no barrier request
@@ -41,16 +41,16 @@ pub barrier_for : (cs : List Change) (c : Change) (ms : List Message) → IsIn c
 barrier_for [] c ms i are = absurd i
 barrier_for (d ∷ cs) c ms i are = (are.xid, ap barrier_in are.are ∙ barrier_behind (d ∷ cs) are.asking are.xid are.ask)
 
-told_outstanding : (ms : List Message) (ch : ChannelState) (xid : ℕ) → barrier_in ms ≡ Some xid → is_some (told ms ch).outstanding ≡ true
-told_outstanding ms ch xid e = ap (λ (o : Option ℕ). let r : ChannelState = option_map_or (λ x. asked (flat_map wire_text ms) x ch) o ch in is_some r.outstanding) e
+told_outstanding : (ms : List Message) (ch : ChannelState) (xid : ℕ) → barrier_in ms ≡ Some xid → is_some (told_channel ms ch).outstanding ≡ true
+told_outstanding ms ch xid e = ap (λ (o : Option ℕ). let r : ChannelState = option_map_or (λ x. after_request (flat_map wire_text ms) x ch) o ch in is_some r.outstanding) e
 
 pub told_at : (net : Network) (rounds : List (List Change)) (k n : ℕ) (channels : List ChannelState) (i : ℕ) (d : ChannelState) → i < length channels
-    → get_or (told_all net rounds k n channels) i d ≡ told (messages_for net rounds k (switch_numbered (n + i))) (get_or channels i d)
+    → get_or (told_all net rounds k n channels) i d ≡ told_channel (messages_for net rounds k (switch_numbered (n + i))) (get_or channels i d)
 told_at net rounds k n [] i d lt = absurd (omega arith)
-told_at net rounds k n (c ∷ channels) zero d lt = let same : n ≡ n + zero = omega arith in ap (λ (j : ℕ). told (messages_for net rounds k (switch_numbered j)) c) same
+told_at net rounds k n (c ∷ channels) zero d lt = let same : n ≡ n + zero = omega arith in ap (λ (j : ℕ). told_channel (messages_for net rounds k (switch_numbered j)) c) same
 told_at net rounds k n (c ∷ channels) (suc i) d lt =
     let same : suc n + i ≡ n + suc i = omega arith in
-    told_at net rounds k (suc n) channels i d (omega arith) ∙ ap (λ (j : ℕ). told (messages_for net rounds k (switch_numbered j)) (get_or channels i d)) same
+    told_at net rounds k (suc n) channels i d (omega arith) ∙ ap (λ (j : ℕ). told_channel (messages_for net rounds k (switch_numbered j)) (get_or channels i d)) same
 
 -- the changes of a round are those of the rounds
 pub each_round_of : (P : Change → Type 0) (rounds : List (List Change)) (k : ℕ) → k < length rounds → AllByRecursion (AllByRecursion P) rounds → AllByRecursion P (round_after k rounds)
@@ -70,5 +70,5 @@ are_asked net rounds plan k channels less count i c at =
     let here : IsIn c (changes_at s round) = in_filter (λ d. eqb (switch_of d).0 s.0) c round stands (eq-eqb s.0 s.0 refl) in
     let (xid, is) = barrier_for (changes_at s round) c (messages_for net rounds k s) here (each_round net rounds k s plan) in
     let place : 0 + s.0 ≡ s.0 = omega arith in
-    ap (λ (x : ChannelState). is_some x.outstanding) (told_at net rounds k 0 channels s.0 first_channel within ∙ ap (λ (j : ℕ). told (messages_for net rounds k (switch_numbered j)) (get_or channels s.0 first_channel)) place)
+    ap (λ (x : ChannelState). is_some x.outstanding) (told_at net rounds k 0 channels s.0 first_channel within ∙ ap (λ (j : ℕ). told_channel (messages_for net rounds k (switch_numbered j)) (get_or channels s.0 first_channel)) place)
     ∙ told_outstanding (messages_for net rounds k s) (get_or channels s.0 first_channel) xid is

@@ -11,7 +11,7 @@ use Rattle.net_base.specs.declared.ids.SwitchId.{SwitchId}
 use Rattle.net_base.proofs.MemberLaws.{each_append}
 use Rattle.topology.specs.Networks.{Network, switch_count}
 use Rattle.update_model.specs.Changes.{round_after}
-use Rattle.update_model.specs.States.{settled, settled_count}
+use Rattle.update_model.specs.States.{phase_after_settle, settled_count}
 use Rattle.update_model.specs.Worlds.{running_round}
 use Rattle.update_model.specs.Ranges.{IsPlanChange}
 use Rattle.update_model.specs.declared.Change.{Change}
@@ -25,14 +25,14 @@ use Rattle.switch_session.specs.Channels.{ChannelState, first_channel, after_byt
 use Rattle.switch_session.specs.Laws.{KeepsBarrier}
 use Rattle.switch_session.specs.Seen.{ChannelView}
 use Rattle.switch_session.proofs.ByteLaws.{keeps_barrier}
-use Rattle.update_driver.specs.Drivers.{DriverState, first_driver, first_not_open, start_fault_in, channel_at, with_channel, none_outstanding, settled_if_answered, change_events, made, is_answered, heard, fed, told_all, started_driver, start_fault, started}
+use Rattle.update_driver.specs.Drivers.{DriverState, first_driver, first_not_open, start_fault_in, channel_at, with_channel, none_outstanding, settled_if_answered, change_events, made_driver, is_answered, heard_driver, driver_after_bytes, told_all, started_driver, start_fault, started_phase}
 use Rattle.update_driver.specs.Calls.{Call, Start, Feed, IsCall, after_call, after_calls, driver_after, AreDrivable, DriverView, IsMadeByCalls}
 use Rattle.update_driver.specs.Laws.{LogIsRun, begun_count}
-use Rattle.update_driver.specs.Answers.{with_state, IsRefusal}
+use Rattle.update_driver.specs.Answers.{with_state, IsStartRefusal}
 use Rattle.update_driver.specs.Inside.{states_of, with_states, MayStartWith, HoldMessages, HoldEvents, IsDriver, IsPhaseWithin, begun_by_turns, heard_with, told_by_turns}
 use Rattle.update_driver.specs.declared.StartFault.{StartFault}
 use Rattle.update_driver.specs.declared.StartFault.TheVariants as fault
-use Rattle.update_driver.specs.declared.turns.Turn.{Turn}
+use Rattle.update_driver.specs.declared.turns.SwitchStart.{SwitchStart}
 use Rattle.update_driver.proofs.ListLaws.{all_at}
 use Rattle.update_driver.proofs.SoundLaws.{no_barrier, IsSound, sound_driver, begun, settled_begun}
 use Rattle.update_driver.proofs.PieceLaws.{parts}
@@ -70,12 +70,12 @@ reached_run v drivable reached = subst (λ (d : DriverState). LogIsRun v.net v.r
 settled_or_not : (d : DriverState) → ((settled_if_answered d).phase ≡ d.phase) ⊎ (none_outstanding d.channels ≡ true)
 settled_or_not d = elim (cases_Bool (none_outstanding d.channels)) [
   | inl none ↦ inr none
-  | inr some ↦ inl (ap (λ (x : DriverState). x.phase) (cond-false (none_outstanding d.channels) (record d { phase = settled d.phase; log = d.log ++ event.Settle ∷ [] }) d some))
+  | inr some ↦ inl (ap (λ (x : DriverState). x.phase) (cond-false (none_outstanding d.channels) (record d { phase = phase_after_settle d.phase; log = d.log ++ event.Settle ∷ [] }) d some))
 ]
 
 settled_channels : (d : DriverState) → (settled_if_answered d).channels ≡ d.channels
 settled_channels d =
-    elim (none_outstanding d.channels) as (λ t. (let r : DriverState = cond t (record d { phase = settled d.phase; log = d.log ++ event.Settle ∷ [] }) d in r.channels) ≡ d.channels) [ true ↦ refl | false ↦ refl ]
+    elim (none_outstanding d.channels) as (λ t. (let r : DriverState = cond t (record d { phase = phase_after_settle d.phase; log = d.log ++ event.Settle ∷ [] }) d in r.channels) ≡ d.channels) [ true ↦ refl | false ↦ refl ]
 
 -- no channel waits
 none_waits : (channels : List ChannelState) (s : ℕ) → none_outstanding channels ≡ true → is_some (get_or channels s first_channel).outstanding ≡ true → ⊥
@@ -87,27 +87,27 @@ none_waits channels s none some =
 
 -- ---- bytes come
 
-module _ (v : DriverView) (turns : List Turn) (xid : ℕ) (inv : IsDriver v turns xid) (s : SwitchId) (within : s.0 < switch_count v.net) (bytes : List ℕ) where
+module _ (v : DriverView) (turns : List SwitchStart) (xid : ℕ) (inv : IsDriver v turns xid) (s : SwitchId) (within : s.0 < switch_count v.net) (bytes : List ℕ) where
   abbrev after : ChannelState
   after = after_bytes bytes (channel_at v.state s)
 
   abbrev next : DriverState
-  next = fed v.rounds s bytes v.state
+  next = driver_after_bytes v.rounds s bytes v.state
 
   -- where the driver waited for the switch, its turn has the events
-  pub heard_is : (t : Turn) → t ≡ get_or turns s.0 t → heard_with s.0 t.events.items bytes v.state ≡ next
+  pub heard_is : (t : SwitchStart) → t ≡ get_or turns s.0 t → heard_with s.0 t.events.items bytes v.state ≡ next
   heard_is t at =
       let test = is_answered (channel_at v.state s).outstanding after.outstanding in
       elim (cases_Bool test) [
         | inl e ↦ (
             let (some, none) = parts (is_some (channel_at v.state s).outstanding) after.outstanding e in
-            let events : t.events.items ≡ change_events s 0 (running_round v.state.phase v.rounds) = ap (λ (x : Turn). x.events.items) at ∙ inv.events s.0 t within some in
+            let events : t.events.items ≡ change_events s 0 (running_round v.state.phase v.rounds) = ap (λ (x : SwitchStart). x.events.items) at ∙ inv.events s.0 t within some in
             cond-true test (settled_if_answered (record (with_channel s after v.state) { log = v.state.log ++ t.events.items })) (with_channel s after v.state) e
             ∙ ap (λ l. settled_if_answered (record (with_channel s after v.state) { log = v.state.log ++ l })) events
-            ∙ sym (cond-true test (made v.rounds s (with_channel s after v.state)) (with_channel s after v.state) e))
+            ∙ sym (cond-true test (made_driver v.rounds s (with_channel s after v.state)) (with_channel s after v.state) e))
         | inr e ↦
             cond-false test (settled_if_answered (record (with_channel s after v.state) { log = v.state.log ++ t.events.items })) (with_channel s after v.state) e
-            ∙ sym (cond-false test (made v.rounds s (with_channel s after v.state)) (with_channel s after v.state) e)
+            ∙ sym (cond-false test (made_driver v.rounds s (with_channel s after v.state)) (with_channel s after v.state) e)
       ]
 
   abbrev made_now : DriverState
@@ -173,7 +173,7 @@ module _ (v : DriverView) (turns : List Turn) (xid : ℕ) (inv : IsDriver v turn
 
 -- ---- a round starts
 
-module _ (v : DriverView) (old : List Turn) (xid : ℕ) (inv : IsDriver v old xid) (k : ℕ) (settled_is : v.state.phase ≡ Settled k) (more : k < length v.rounds) (no_fault : start_fault v.net v.rounds v.state ≡ None) (round : List Change)
+module _ (v : DriverView) (old : List SwitchStart) (xid : ℕ) (inv : IsDriver v old xid) (k : ℕ) (settled_is : v.state.phase ≡ Settled k) (more : k < length v.rounds) (no_fault : start_fault v.net v.rounds v.state ≡ None) (round : List Change)
     (round_is : round ≡ round_after k v.rounds) where
   pub first_is : xid ≡ first_xid v.net v.rounds k
   first_is = inv.next ∙ ap (λ p. first_xid v.net v.rounds (begun_count p)) settled_is
@@ -197,7 +197,7 @@ module _ (v : DriverView) (old : List Turn) (xid : ℕ) (inv : IsDriver v old xi
       let count = ap length whole ∙ length-append (requests_from v.net 0 (take k v.rounds)) (round_requests v.net k round) in
       omega (arith, count, first_is)
 
-  module _ (turns : List Turn) (messages : (j : ℕ) → HoldMessages j (sent_from xid (round_requests v.net j round)) turns) (events : HoldEvents round turns) (count : length turns ≡ switch_count v.net) where
+  module _ (turns : List SwitchStart) (messages : (j : ℕ) → HoldMessages j (sent_from xid (round_requests v.net j round)) turns) (events : HoldEvents round turns) (count : length turns ≡ switch_count v.net) where
     told_is : told_by_turns turns v.state.channels ≡ told_all v.net v.rounds k 0 v.state.channels
     told_is =
         let hold : HoldMessages k (sent_from (first_xid v.net v.rounds k) (round_requests v.net k (round_after k v.rounds))) turns =
@@ -206,14 +206,14 @@ module _ (v : DriverView) (old : List Turn) (xid : ℕ) (inv : IsDriver v old xi
 
     pub begun_is : begun_by_turns turns v.state ≡ started_driver v.net v.rounds v.state
     begun_is =
-        let Started : List ChannelState → DriverState = λ l. settled_if_answered (record v.state { phase = started v.state.phase; log = v.state.log ++ event.Start ∷ []; channels = l }) in
+        let Started : List ChannelState → DriverState = λ l. settled_if_answered (record v.state { phase = started_phase v.state.phase; log = v.state.log ++ event.Start ∷ []; channels = l }) in
         ap Started (told_is ∙ ap (λ (n : ℕ). told_all v.net v.rounds n 0 v.state.channels) (sym (ap settled_count settled_is)))
 
     abbrev began : DriverState
     began = begun v.net v.rounds v.state
 
     began_phase : began.phase ≡ Running (suc k)
-    began_phase = ap started settled_is
+    began_phase = ap started_phase settled_is
 
     pub started_keeps : (next : ℕ) → next ≡ xid + length (round_requests v.net k round) → IsDriver (with_state (started_driver v.net v.rounds v.state) v) turns next
     started_keeps next next_is = record {
@@ -230,7 +230,7 @@ module _ (v : DriverView) (old : List Turn) (xid : ℕ) (inv : IsDriver v old xi
 
 -- ---- what is seen
 
-module _ (net : Network) (rounds : List (List Change)) (phase : Phase) (log : List Event) (channels : List ChannelView) (turns : List Turn) (xid : ℕ) (v : DriverView)
+module _ (net : Network) (rounds : List (List Change)) (phase : Phase) (log : List Event) (channels : List ChannelView) (turns : List SwitchStart) (xid : ℕ) (v : DriverView)
     (seen : let w : DriverView = record { net = net; rounds = rounds; state = with_states phase log channels } in w ≡ v)
     (inv : IsDriver (record { net = net; rounds = rounds; state = with_states phase log channels }) turns xid) where
   pub kept : IsDriver v turns xid
@@ -251,12 +251,12 @@ module _ (net : Network) (rounds : List (List Change)) (phase : Phase) (log : Li
   abbrev at_state : DriverState → DriverView
   at_state d = record { net = net; rounds = rounds; state = d }
 
-  module _ {T E : Type 0} (s : SwitchId) (bytes : List ℕ) (lt : s.0 < switch_count v.net) (t : Turn) (at : t ≡ get_or turns s.0 t) (events : List Event) (events_are : events ≡ t.events.items) (next : DriverState) (r : Result T E)
+  module _ {T E : Type 0} (s : SwitchId) (bytes : List ℕ) (lt : s.0 < switch_count v.net) (t : SwitchStart) (at : t ≡ get_or turns s.0 t) (events : List Event) (events_are : events ≡ t.events.items) (next : DriverState) (r : Result T E)
       (ok : OnOk r (next ≡ heard_with s.0 events bytes (with_states phase log channels))) (err : OnErr r (next ≡ with_states phase log channels)) where
     within_here : s.0 < switch_count net
     within_here = let same = ap (λ (w : DriverView). switch_count w.net) seen in omega arith
 
-    fed_here : next ≡ heard_with s.0 events bytes (with_states phase log channels) → next ≡ fed rounds s bytes (with_states phase log channels)
+    fed_here : next ≡ heard_with s.0 events bytes (with_states phase log channels) → next ≡ driver_after_bytes rounds s bytes (with_states phase log channels)
     fed_here e = e ∙ ap (λ l. heard_with s.0 l bytes (with_states phase log channels)) events_are ∙ heard_is here turns xid inv s within_here bytes t at
 
     pub feed_keeps : IsDriver (at_state next) turns xid
@@ -265,8 +265,8 @@ module _ (net : Network) (rounds : List (List Change)) (phase : Phase) (log : Li
         (λ e. subst (λ d. IsDriver (at_state d) turns xid) (sym (fed_here e)) (fed_driver here turns xid inv s within_here bytes))
         (λ e. subst (λ d. IsDriver (at_state d) turns xid) (sym e) inv)
 
-    pub feed_ok : OnOk r (at_state next ≡ with_state (fed v.rounds s bytes v.state) v)
-    feed_ok = on_ok_weaker r (λ e. ap at_state (fed_here e) ∙ ap (λ (w : DriverView). with_state (fed w.rounds s bytes w.state) w) seen) ok
+    pub feed_ok : OnOk r (at_state next ≡ with_state (driver_after_bytes v.rounds s bytes v.state) v)
+    feed_ok = on_ok_weaker r (λ e. ap at_state (fed_here e) ∙ ap (λ (w : DriverView). with_state (driver_after_bytes w.rounds s bytes w.state) w) seen) ok
 
     pub feed_err : OnErr r (at_state next ≡ v)
     feed_err = on_err_weaker r (λ e. ap at_state e ∙ seen) err
@@ -276,7 +276,7 @@ module _ (net : Network) (rounds : List (List Change)) (phase : Phase) (log : Li
     pub start_few : switch_count net ≤ 128 → xid + length round + switch_count net < 2 ^ 32
     start_few few = few_xids here turns xid inv may.k may.settled may.more (may.no_fault log) round may.round_is few
 
-    module _ (list : List Turn) (messages : (j : ℕ) → HoldMessages j (sent_from xid (round_requests net j round)) list) (events : HoldEvents round list) (count : length list ≡ switch_count net) (next : DriverState)
+    module _ (list : List SwitchStart) (messages : (j : ℕ) → HoldMessages j (sent_from xid (round_requests net j round)) list) (events : HoldEvents round list) (count : length list ≡ switch_count net) (next : DriverState)
         (begins : next ≡ begun_by_turns list (with_states phase log channels)) where
       started_here : next ≡ started_driver net rounds (with_states phase log channels)
       started_here = begins ∙ begun_is here turns xid inv may.k may.settled may.more (may.no_fault log) round may.round_is list messages events count
@@ -302,7 +302,7 @@ never_memory net rounds d (Settled k) e =
     not_open None f = let g : None ≡ Some fault.Memory = f in cc
     not_open (Some s) f = let g : Some (fault.NotOpen s) ≡ Some fault.Memory = f in cc
 
-pub refused_as : (v : DriverView) (e : StartFault) → start_fault v.net v.rounds v.state ≡ Some e → IsRefusal (start_fault v.net v.rounds v.state) e
+pub refused_as : (v : DriverView) (e : StartFault) → start_fault v.net v.rounds v.state ≡ Some e → IsStartRefusal (start_fault v.net v.rounds v.state) e
 refused_as v fault.Running h = h
 refused_as v fault.Finished h = h
 refused_as v (fault.NotOpen s) h = h

@@ -7,13 +7,13 @@ use Rattle.net_base.specs.declared.ids.SwitchId.{SwitchId}
 use Rattle.net_base.proofs.MemberLaws.{each_append}
 use Rattle.topology.specs.Networks.{Network}
 use Rattle.update_model.specs.Changes.{switch_of}
-use Rattle.update_model.specs.States.{settled, settled_count}
+use Rattle.update_model.specs.States.{phase_after_settle, settled_count}
 use Rattle.update_model.specs.Worlds.{running_round}
 use Rattle.update_model.specs.declared.Change.{Change}
 use Rattle.update_model.specs.declared.Event.{Event}
 use Rattle.update_model.specs.declared.Event.TheVariants as event
 use Rattle.switch_session.specs.Channels.{after_bytes}
-use Rattle.update_driver.specs.Drivers.{DriverState, first_driver, channel_at, with_channel, none_outstanding, settled_if_answered, change_events, made, is_answered, fed, told_all, started_driver, start_fault, started}
+use Rattle.update_driver.specs.Drivers.{DriverState, first_driver, channel_at, with_channel, none_outstanding, settled_if_answered, change_events, made_driver, is_answered, driver_after_bytes, told_all, started_driver, start_fault, started_phase}
 use Rattle.update_driver.specs.Calls.{Call, Start, Feed, IsCall, AreDrivable, after_call, after_calls, driver_after}
 use Rattle.update_driver.specs.Laws.{IsOfUpdate, LogIsRun, WaitsForBarriers}
 use Rattle.update_driver.proofs.SoundLaws.{sound_driver, begun}
@@ -31,7 +31,7 @@ HasNoPackets d = AllByRecursion IsOfUpdate d.log
 
 none_settled : (d : DriverState) → HasNoPackets d → HasNoPackets (settled_if_answered d)
 none_settled d h =
-    cond_both (none_outstanding d.channels) (record d { phase = settled d.phase; log = d.log ++ event.Settle ∷ [] }) d HasNoPackets (λ e. each_append IsOfUpdate d.log (event.Settle ∷ []) h (tt, tt)) (λ e. h)
+    cond_both (none_outstanding d.channels) (record d { phase = phase_after_settle d.phase; log = d.log ++ event.Settle ∷ [] }) d HasNoPackets (λ e. each_append IsOfUpdate d.log (event.Settle ∷ []) h (tt, tt)) (λ e. h)
 
 module _ (net : Network) (rounds : List (List Change)) where
   none_called : (d : DriverState) (c : Call) → HasNoPackets d → HasNoPackets (after_call net rounds d c)
@@ -41,7 +41,7 @@ module _ (net : Network) (rounds : List (List Change)) where
       let after = after_bytes bytes (channel_at d s) in
       let events = change_events s 0 (running_round d.phase rounds) in
       let next : DriverState = record (with_channel s after d) { log = d.log ++ events } in
-      cond_both (is_answered (channel_at d s).outstanding after.outstanding) (made rounds s (with_channel s after d)) (with_channel s after d) HasNoPackets
+      cond_both (is_answered (channel_at d s).outstanding after.outstanding) (made_driver rounds s (with_channel s after d)) (with_channel s after d) HasNoPackets
       (λ e. none_settled next (each_append IsOfUpdate d.log events h (events_are s 0 (running_round d.phase rounds)))) (λ e. h)
 
   none_after : (d : DriverState) (calls : List Call) → HasNoPackets d → HasNoPackets (after_calls net rounds d calls)

@@ -10,7 +10,7 @@ use Rattle.topology.specs.Networks.{Network, switch_count}
 use Rattle.flow_rules.specs.declared.rules.Rule.{Rule}
 use Rattle.update_model.specs.Changes.{switch_of, round_after}
 use Rattle.update_model.specs.Mixtures.{Rollout, AreGoodRounds}
-use Rattle.update_model.specs.States.{State, first_state, IsEnabled, settled_count, settled, state_after_event}
+use Rattle.update_model.specs.States.{State, first_state, IsEnabled, settled_count, phase_after_settle, state_after_event}
 use Rattle.update_model.specs.Runs.{AreEnabled, state_after, IsRun, state_after_run}
 use Rattle.update_model.specs.Worlds.{running_round}
 use Rattle.path_walk.specs.declared.Ended.TheVariants.{UnderWay}
@@ -24,7 +24,7 @@ use Rattle.schedule_pilot.proofs.PendingLaws.{pending_applies, same_count}
 use Rattle.switch_session.specs.Channels.{ChannelState, first_channel, after_bytes}
 use Rattle.switch_session.specs.Laws.{KeepsBarrier}
 use Rattle.switch_session.proofs.ByteLaws.{keeps_barrier}
-use Rattle.update_driver.specs.Drivers.{DriverState, first_driver, channel_at, with_channel, none_outstanding, settled_if_answered, change_events, made, is_answered, heard, told_all, started_driver, start_fault, started}
+use Rattle.update_driver.specs.Drivers.{DriverState, first_driver, channel_at, with_channel, none_outstanding, settled_if_answered, change_events, made_driver, is_answered, heard_driver, told_all, started_driver, start_fault, started_phase}
 use Rattle.update_driver.specs.Calls.{Call, Start, Feed, IsCall, after_call, after_calls, driver_after}
 use Rattle.update_driver.specs.Laws.{update_from}
 use Rattle.update_driver.specs.Inside.{IsPhaseWithin}
@@ -227,7 +227,7 @@ module _ (net : Network) (rounds : List (List Change)) (old : List (List Rule)) 
   -- a running round is settled, if no barrier is outstanding
   follows_settled : (d : DriverState) (k : ℕ) → d.phase ≡ Running (suc k) → Follows d → Follows (settled_if_answered d)
   follows_settled d k running f =
-      cond_both (none_outstanding d.channels) (record d { phase = settled d.phase; log = d.log ++ event.Settle ∷ [] }) d Follows
+      cond_both (none_outstanding d.channels) (record d { phase = phase_after_settle d.phase; log = d.log ++ event.Settle ∷ [] }) d Follows
       (λ none.
       let st = state_after_run u d.log in
       let w = running_waits d k running st.pending f.waits in
@@ -235,8 +235,8 @@ module _ (net : Network) (rounds : List (List Change)) (old : List (List Rule)) 
       let off = all_off st.pending (round_after k rounds) w.0 (λ i c at. w.1 i c at ∙ ap Some (none_here c)) in
       let may : IsEnabled net rounds st event.Settle = record { k = suc k; running = f.phase ∙ running; none_pending = off } in
       let on = goes_on d.log (event.Settle ∷ []) f.run (may, tt) in
-      follows_from (record d { phase = settled d.phase; log = d.log ++ event.Settle ∷ [] }) (state_after_event net rounds st event.Settle) on.run on.state
-      (keeps_after st event.Settle f.keeps may) (ap settled f.phase) f.packets (subst (λ p. Waits rounds (settled p) d.channels st.pending) (sym running) tt))
+      follows_from (record d { phase = phase_after_settle d.phase; log = d.log ++ event.Settle ∷ [] }) (state_after_event net rounds st event.Settle) on.run on.state
+      (keeps_after st event.Settle f.keeps may) (ap phase_after_settle f.phase) f.packets (subst (λ p. Waits rounds (phase_after_settle p) d.channels st.pending) (sym running) tt))
       (λ some. f)
 
   -- ---- bytes come
@@ -267,7 +267,7 @@ module _ (net : Network) (rounds : List (List Change)) (old : List (List Rule)) 
     }
 
     -- it was
-    follows_made : (k : ℕ) → k < length rounds → d.phase ≡ Running (suc k) → is_some (channel_at d s).outstanding ≡ true → is_some ch.outstanding ≡ false → Follows d → Follows (made rounds s (with_channel s ch d))
+    follows_made : (k : ℕ) → k < length rounds → d.phase ≡ Running (suc k) → is_some (channel_at d s).outstanding ≡ true → is_some ch.outstanding ≡ false → Follows d → Follows (made_driver rounds s (with_channel s ch d))
     follows_made k less running some none f =
         let round = round_after k rounds in
         let st = state_after_run u d.log in
@@ -303,9 +303,9 @@ module _ (net : Network) (rounds : List (List Change)) (old : List (List Rule)) 
     runs_in (Running zero) is ok sound some = absurd ok
     runs_in (Running (suc k)) is ok sound some = record { k = k; less = ok; running = is }
 
-    follows_heard : IsSound net rounds d → KeepsBarrier (channel_at d s) ch → Follows d → Follows (heard rounds s ch d)
+    follows_heard : IsSound net rounds d → KeepsBarrier (channel_at d s) ch → Follows d → Follows (heard_driver rounds s ch d)
     follows_heard sound only f =
-        cond_both (is_answered (channel_at d s).outstanding ch.outstanding) (made rounds s (with_channel s ch d)) (with_channel s ch d) Follows
+        cond_both (is_answered (channel_at d s).outstanding ch.outstanding) (made_driver rounds s (with_channel s ch d)) (with_channel s ch d) Follows
         (λ hit.
         let (some, none) = parts (is_some (channel_at d s).outstanding) ch.outstanding hit in
         let r = runs_in d.phase refl sound.phase sound some in
@@ -328,14 +328,14 @@ module _ (net : Network) (rounds : List (List Change)) (old : List (List Rule)) 
       let round = round_after k rounds in
       let waits : Waits rounds (Running (suc k)) (told_all net rounds k 0 d.channels) (replicate (length round) true) =
       (length-replicate (length round) true, λ i c at. get_replicate (length round) i true (slice_get_within round i c at) ∙ ap Some (sym (asked i c at))) in
-      let Began : Phase → Type 0 = λ p. Waits rounds (started p) (told_all net rounds (settled_count p) 0 d.channels) (replicate (length (round_after (settled_count p) rounds)) true) in
+      let Began : Phase → Type 0 = λ p. Waits rounds (started_phase p) (told_all net rounds (settled_count p) 0 d.channels) (replicate (length (round_after (settled_count p) rounds)) true) in
       let here : Began d.phase = subst Began (sym may.settled) waits in
-      let there : Waits rounds (started d.phase) (told_all net rounds (settled_count d.phase) 0 d.channels) (replicate (length (round_after (settled_count st.phase) rounds)) true) =
-      subst (λ p. Waits rounds (started d.phase) (told_all net rounds (settled_count d.phase) 0 d.channels) (replicate (length (round_after (settled_count p) rounds)) true)) (sym f.phase) here in
-      follows_from (begun net rounds d) (state_after_event net rounds st event.Start) on.run on.state (keeps_after st event.Start f.keeps enabled) (ap started f.phase) f.packets there
+      let there : Waits rounds (started_phase d.phase) (told_all net rounds (settled_count d.phase) 0 d.channels) (replicate (length (round_after (settled_count st.phase) rounds)) true) =
+      subst (λ p. Waits rounds (started_phase d.phase) (told_all net rounds (settled_count d.phase) 0 d.channels) (replicate (length (round_after (settled_count p) rounds)) true)) (sym f.phase) here in
+      follows_from (begun net rounds d) (state_after_event net rounds st event.Start) on.run on.state (keeps_after st event.Start f.keeps enabled) (ap started_phase f.phase) f.packets there
 
   pub follows_started : (d : DriverState) → (may : MayBegin net rounds d) → AreAsked (round_after may.k rounds) (told_all net rounds may.k 0 d.channels) → Follows d → Follows (started_driver net rounds d)
-  follows_started d may asked f = follows_settled (begun net rounds d) may.k (ap started may.settled) (follows_begun d may asked f)
+  follows_started d may asked f = follows_settled (begun net rounds d) may.k (ap started_phase may.settled) (follows_begun d may asked f)
 
   -- ---- all calls
 

@@ -12,7 +12,7 @@ use Rattle.net_base.proofs.MemberLaws.{each_append}
 use Rattle.topology.specs.Networks.{Network, switch_count}
 use Rattle.update_model.specs.Changes.{changes_at, round_after}
 use Rattle.update_model.specs.Ranges.{IsPlanChange}
-use Rattle.update_model.specs.States.{settled, settled_count}
+use Rattle.update_model.specs.States.{phase_after_settle, settled_count}
 use Rattle.update_model.specs.Worlds.{running_round}
 use Rattle.update_model.specs.declared.Change.{Change}
 use Rattle.update_model.specs.declared.Event.TheVariants as event
@@ -24,11 +24,11 @@ use Rattle.round_messages.specs.Requests.{Sent, Request, switches_changed, switc
 use Rattle.round_messages.specs.ToSwitch.{messages_to, AreFor}
 use Rattle.round_messages.proofs.Requests.{sent_from-append}
 use Rattle.round_messages.proofs.BySwitch.{messages_to-append, each_round}
-use Rattle.switch_session.specs.Channels.{ChannelState, first_channel, hello, echo_reply, asked, after_bytes}
+use Rattle.switch_session.specs.Channels.{ChannelState, first_channel, hello, echo_reply, after_request, after_bytes}
 use Rattle.switch_session.specs.Laws.{AreRequests, ReadsAll}
 use Rattle.switch_session.proofs.TalkLaws.{front_nil}
 use Rattle.switch_session.proofs.RequestLaws.{requests_first, requests_as, requests_fed, reads_bytes}
-use Rattle.update_driver.specs.Drivers.{DriverState, first_driver, channel_at, with_channel, none_outstanding, settled_if_answered, change_events, made, is_answered, heard, fed, messages_for, barrier_in, told, told_all, started_driver, start_fault, started}
+use Rattle.update_driver.specs.Drivers.{DriverState, first_driver, channel_at, with_channel, none_outstanding, settled_if_answered, change_events, made_driver, is_answered, heard_driver, driver_after_bytes, messages_for, barrier_in, told_channel, told_all, started_driver, start_fault, started_phase}
 use Rattle.update_driver.specs.Calls.{Call, Start, Feed, IsCall, AreDrivable, bytes_in, bytes_from, after_call, after_calls, driver_after}
 use Rattle.update_driver.specs.Laws.{Part, Reply, Ask, part_text, request_in, message_in, begun_count, messages_until, SendsOnly}
 use Rattle.update_driver.proofs.SoundLaws.{IsSound, MayBegin, sound_first, sound_call, may_begin, begun, none_is, begun_settled}
@@ -211,13 +211,13 @@ sent_replies messages came bytes a h =
     }
 
 -- messages for changes, sent on a channel: none, or some that have a barrier request
-sent_asks : (cs : List Change) (messages ms : List Message) (came : List ℕ) (c : ChannelState) → AreFor cs ms → SentSo messages came c → SentSo (messages ++ ms) came (told ms c)
+sent_asks : (cs : List Change) (messages ms : List Message) (came : List ℕ) (c : ChannelState) → AreFor cs ms → SentSo messages came c → SentSo (messages ++ ms) came (told_channel ms c)
 sent_asks [] messages ms came c are h =
-    subst (λ l. SentSo (messages ++ l) came (told l c)) (sym are) (subst (λ l. SentSo l came c) (sym (append-nil messages)) h)
+    subst (λ l. SentSo (messages ++ l) came (told_channel l c)) (sym are) (subst (λ l. SentSo l came c) (sym (append-nil messages)) h)
 sent_asks (d ∷ cs) messages ms came c are h =
     let (xid, is) = barrier_for (d ∷ cs) d ms (inl refl) are in
     let parts = map Ask ms in
-    let next : ChannelState = asked (flat_map wire_text ms) xid c in
+    let next : ChannelState = after_request (flat_map wire_text ms) xid c in
     let same : filter_map request_in h.parts ≡ filter_map request_in (h.parts ++ parts) = sym (append-nil (filter_map request_in h.parts)) ∙ requests_more [] h.parts parts (asks_answer_nothing ms) in
     let after : SentSo (messages ++ ms) came next = record {
       parts = h.parts ++ parts;
@@ -226,7 +226,7 @@ sent_asks (d ∷ cs) messages ms came c are h =
       requests = requests_as came c next (filter_map request_in (h.parts ++ parts)) refl refl (subst (AreRequests came c) same h.requests);
       reads = h.reads;
     } in
-    subst (SentSo (messages ++ ms) came) (ap (λ (o : Option ℕ). option_map_or (λ x. asked (flat_map wire_text ms) x c) o c) (sym is)) after
+    subst (SentSo (messages ++ ms) came) (ap (λ (o : Option ℕ). option_map_or (λ x. after_request (flat_map wire_text ms) x c) o c) (sym is)) after
 
 -- ---- all switches
 
@@ -237,7 +237,7 @@ module _ (net : Network) (rounds : List (List Change)) (plan : AllByRecursion (A
 
   all_settled : (came : SwitchId → List ℕ) (d : DriverState) → AllSent came d → AllSent came (settled_if_answered d)
   all_settled came d h =
-      cond_both (none_outstanding d.channels) (record d { phase = settled d.phase; log = d.log ++ event.Settle ∷ [] }) d (AllSent came)
+      cond_both (none_outstanding d.channels) (record d { phase = phase_after_settle d.phase; log = d.log ++ event.Settle ∷ [] }) d (AllSent came)
       (λ none s lt. subst (λ k. SentSo (messages_until k s (sent_in net rounds)) (came s) (channel_at d s)) (sym (begun_settled d.phase)) (h s lt)) (λ some. h)
 
   -- the bytes that came, with those of one call more
@@ -263,12 +263,12 @@ module _ (net : Network) (rounds : List (List Change)) (plan : AllByRecursion (A
             (subst (λ (l : List ℕ). SentSo messages l (channel_at d s)) these (h s lt))
       ]
 
-  all_fed : (came : SwitchId → List ℕ) (d : DriverState) (t : SwitchId) (bytes : List ℕ) → t.0 < length d.channels → AllSent came d → AllSent (with_call came (Feed t bytes)) (fed rounds t bytes d)
+  all_fed : (came : SwitchId → List ℕ) (d : DriverState) (t : SwitchId) (bytes : List ℕ) → t.0 < length d.channels → AllSent came d → AllSent (with_call came (Feed t bytes)) (driver_after_bytes rounds t bytes d)
   all_fed came d t bytes within h =
       let c = after_bytes bytes (channel_at d t) in
       let more = with_call came (Feed t bytes) in
       let next = all_with came d t bytes within h in
-      cond_both (is_answered (channel_at d t).outstanding c.outstanding) (made rounds t (with_channel t c d)) (with_channel t c d) (AllSent more)
+      cond_both (is_answered (channel_at d t).outstanding c.outstanding) (made_driver rounds t (with_channel t c d)) (with_channel t c d) (AllSent more)
       (λ e. all_settled more (record (with_channel t c d) { log = d.log ++ change_events t 0 (running_round d.phase rounds) }) next) (λ e. next)
 
   all_begun : (came : SwitchId → List ℕ) (d : DriverState) → IsSound net rounds d → MayBegin net rounds d → AllSent came d → AllSent came (begun net rounds d)
@@ -277,14 +277,14 @@ module _ (net : Network) (rounds : List (List Change)) (plan : AllByRecursion (A
       let count = sound.count in
       let sent = sent_in net rounds in
       let ms = messages_for net rounds k s in
-      let Begun : Phase → Type 0 = λ p. SentSo (messages_until (begun_count (started p)) s sent) (came s) (get_or (told_all net rounds (settled_count p) 0 d.channels) s.0 first_channel) in
+      let Begun : Phase → Type 0 = λ p. SentSo (messages_until (begun_count (started_phase p)) s sent) (came s) (get_or (told_all net rounds (settled_count p) 0 d.channels) s.0 first_channel) in
       let place : 0 + s.0 ≡ s.0 = omega arith in
-      let at : get_or (told_all net rounds k 0 d.channels) s.0 first_channel ≡ told ms (channel_at d s) =
-      told_at net rounds k 0 d.channels s.0 first_channel (omega arith) ∙ ap (λ (j : ℕ). told (messages_for net rounds k (switch_numbered j)) (channel_at d s)) place in
+      let at : get_or (told_all net rounds k 0 d.channels) s.0 first_channel ≡ told_channel ms (channel_at d s) =
+      told_at net rounds k 0 d.channels s.0 first_channel (omega arith) ∙ ap (λ (j : ℕ). told_channel (messages_for net rounds k (switch_numbered j)) (channel_at d s)) place in
       let before : SentSo (messages_until k s sent) (came s) (channel_at d s) = subst (λ p. SentSo (messages_until (begun_count p) s sent) (came s) (channel_at d s)) may.settled (h s lt) in
       let after = sent_asks (changes_at s (round_after k rounds)) (messages_until k s sent) ms (came s) (channel_at d s) (each_round net rounds k s plan) before in
       let next : messages_until k s sent ++ ms ≡ messages_until (suc k) s sent = sym (until_next s net rounds 0 k 1) in
-      subst Begun (sym may.settled) (subst (SentSo (messages_until (suc k) s sent) (came s)) (sym at) (subst (λ l. SentSo l (came s) (told ms (channel_at d s))) next after))
+      subst Begun (sym may.settled) (subst (SentSo (messages_until (suc k) s sent) (came s)) (sym at) (subst (λ l. SentSo l (came s) (told_channel ms (channel_at d s))) next after))
 
   -- nothing more came
   all_same : (came more : SwitchId → List ℕ) (d : DriverState) → ((s : SwitchId) → came s ≡ more s) → AllSent came d → AllSent more d

@@ -8,7 +8,7 @@ use Rattle.std.proofs.lemmas.List.{length-replicate}
 use Rattle.net_base.specs.declared.ids.SwitchId.{SwitchId}
 use Rattle.topology.specs.Networks.{Network, switch_count}
 use Rattle.update_model.specs.Changes.{round_after}
-use Rattle.update_model.specs.States.{settled_count, settled}
+use Rattle.update_model.specs.States.{settled_count, phase_after_settle}
 use Rattle.update_model.specs.Worlds.{running_round}
 use Rattle.update_model.specs.declared.Change.{Change}
 use Rattle.update_model.specs.declared.Event.{Event}
@@ -19,7 +19,7 @@ use Rattle.round_messages.specs.Requests.{switches_changed, switch_numbered}
 use Rattle.switch_session.specs.Channels.{ChannelState, first_channel, after_bytes}
 use Rattle.switch_session.specs.Laws.{KeepsBarrier}
 use Rattle.switch_session.proofs.ByteLaws.{keeps_barrier}
-use Rattle.update_driver.specs.Drivers.{DriverState, first_driver, channel_at, with_channel, none_outstanding, settled_if_answered, change_events, made, is_answered, heard, fed, messages_for, told, told_all, started_driver, first_not_open, start_fault_in, start_fault, started}
+use Rattle.update_driver.specs.Drivers.{DriverState, first_driver, channel_at, with_channel, none_outstanding, settled_if_answered, change_events, made_driver, is_answered, heard_driver, driver_after_bytes, messages_for, told_channel, told_all, started_driver, first_not_open, start_fault_in, start_fault, started_phase}
 use Rattle.update_driver.specs.Calls.{Call, Start, Feed, IsCall, after_call, after_calls, driver_after}
 use Rattle.update_driver.specs.Laws.{begun_count, WaitsForBarriers, BeginsAnswered}
 use Rattle.update_driver.specs.Inside.{IsPhaseWithin}
@@ -29,13 +29,13 @@ use Rattle.update_driver.proofs.ListLaws.{all_at, all_set, all_replicate}
 
 -- ---- the rounds that were begun
 
-pub begun_settled : (p : Phase) → begun_count (settled p) ≡ begun_count p
+pub begun_settled : (p : Phase) → begun_count (phase_after_settle p) ≡ begun_count p
 begun_settled (Settled k) = refl
 begun_settled (Running k) = refl
 
 pub settled_begun : (d : DriverState) → begun_count (settled_if_answered d).phase ≡ begun_count d.phase
 settled_begun d =
-    elim (none_outstanding d.channels) as (λ t. begun_count (let r : DriverState = cond t (record d { phase = settled d.phase; log = d.log ++ event.Settle ∷ [] }) d in r.phase) ≡ begun_count d.phase) [ true ↦ begun_settled d.phase | false ↦ refl ]
+    elim (none_outstanding d.channels) as (λ t. begun_count (let r : DriverState = cond t (record d { phase = phase_after_settle d.phase; log = d.log ++ event.Settle ∷ [] }) d in r.phase) ≡ begun_count d.phase) [ true ↦ begun_settled d.phase | false ↦ refl ]
 
 -- ---- barriers
 
@@ -68,14 +68,14 @@ module _ (net : Network) (rounds : List (List Change)) where
     waits = λ k is. all_replicate no_barrier (switch_count net) first_channel refl;
   }
 
-  phase_settled : (phase : Phase) → IsPhaseWithin rounds phase → IsPhaseWithin rounds (settled phase)
+  phase_settled : (phase : Phase) → IsPhaseWithin rounds phase → IsPhaseWithin rounds (phase_after_settle phase)
   phase_settled (Settled k) within = within
   phase_settled (Running zero) within = absurd within
   phase_settled (Running (suc k)) within = omega arith
 
   sound_settled : (d : DriverState) → IsSound net rounds d → IsSound net rounds (settled_if_answered d)
   sound_settled d sound =
-      cond_both (none_outstanding d.channels) (record d { phase = settled d.phase; log = d.log ++ event.Settle ∷ [] }) d (IsSound net rounds)
+      cond_both (none_outstanding d.channels) (record d { phase = phase_after_settle d.phase; log = d.log ++ event.Settle ∷ [] }) d (IsSound net rounds)
       (λ none. record { count = sound.count; phase = phase_settled d.phase sound.phase; waits = λ k is. none }) (λ some. sound)
 
   -- while none is outstanding, none is after bytes came
@@ -95,14 +95,14 @@ module _ (net : Network) (rounds : List (List Change)) where
   sound_logged : (d : DriverState) (log : List Event) → IsSound net rounds d → IsSound net rounds (record d { log = log })
   sound_logged d log sound = record { count = sound.count; phase = sound.phase; waits = sound.waits }
 
-  sound_made : (d : DriverState) (s : SwitchId) → IsSound net rounds d → IsSound net rounds (made rounds s d)
+  sound_made : (d : DriverState) (s : SwitchId) → IsSound net rounds d → IsSound net rounds (made_driver rounds s d)
   sound_made d s sound = sound_settled (record d { log = d.log ++ change_events s 0 (running_round d.phase rounds) }) (sound_logged d (d.log ++ change_events s 0 (running_round d.phase rounds)) sound)
 
-  pub sound_fed : (d : DriverState) (s : SwitchId) (bytes : List ℕ) → IsSound net rounds d → IsSound net rounds (fed rounds s bytes d)
+  pub sound_fed : (d : DriverState) (s : SwitchId) (bytes : List ℕ) → IsSound net rounds d → IsSound net rounds (driver_after_bytes rounds s bytes d)
   sound_fed d s bytes sound =
       let after = after_bytes bytes (channel_at d s) in
       let next = sound_with d s after (keeps_barrier bytes (channel_at d s)) sound in
-      cond_both (is_answered (channel_at d s).outstanding after.outstanding) (made rounds s (with_channel s after d)) (with_channel s after d) (IsSound net rounds)
+      cond_both (is_answered (channel_at d s).outstanding after.outstanding) (made_driver rounds s (with_channel s after d)) (with_channel s after d) (IsSound net rounds)
       (λ e. sound_made (with_channel s after d) s next) (λ e. next)
 
   length-told_all : (k n : ℕ) (channels : List ChannelState) → length (told_all net rounds k n channels) ≡ length channels
@@ -128,13 +128,13 @@ module _ (net : Network) (rounds : List (List Change)) where
 
   -- a round that just began
   abbrev pub begun : DriverState → DriverState
-  begun d = record d { phase = started d.phase; log = d.log ++ event.Start ∷ []; channels = told_all net rounds (settled_count d.phase) 0 d.channels }
+  begun d = record d { phase = started_phase d.phase; log = d.log ++ event.Start ∷ []; channels = told_all net rounds (settled_count d.phase) 0 d.channels }
 
   pub sound_begun : (d : DriverState) → IsSound net rounds d → MayBegin d → IsSound net rounds (begun d)
   sound_begun d sound may = record {
     count = length-told_all (settled_count d.phase) 0 d.channels ∙ sound.count;
-    phase = subst (λ p. IsPhaseWithin rounds (started p)) (sym may.settled) may.more;
-    waits = λ k is. absurd (let f : Running (suc may.k) ≡ Settled k = sym (ap started may.settled) ∙ is in cc);
+    phase = subst (λ p. IsPhaseWithin rounds (started_phase p)) (sym may.settled) may.more;
+    waits = λ k is. absurd (let f : Running (suc may.k) ≡ Settled k = sym (ap started_phase may.settled) ∙ is in cc);
   }
 
   pub sound_started : (d : DriverState) → IsSound net rounds d → MayBegin d → IsSound net rounds (started_driver net rounds d)
@@ -159,16 +159,16 @@ module _ (net : Network) (rounds : List (List Change)) where
 
   -- ---- what a call begins
 
-  fed_begins : (d : DriverState) (s : SwitchId) (bytes : List ℕ) → begun_count (fed rounds s bytes d).phase ≡ begun_count d.phase
+  fed_begins : (d : DriverState) (s : SwitchId) (bytes : List ℕ) → begun_count (driver_after_bytes rounds s bytes d).phase ≡ begun_count d.phase
   fed_begins d s bytes =
       let after = after_bytes bytes (channel_at d s) in
-      cond_both (is_answered (channel_at d s).outstanding after.outstanding) (made rounds s (with_channel s after d)) (with_channel s after d) (λ (e : DriverState). begun_count e.phase ≡ begun_count d.phase)
+      cond_both (is_answered (channel_at d s).outstanding after.outstanding) (made_driver rounds s (with_channel s after d)) (with_channel s after d) (λ (e : DriverState). begun_count e.phase ≡ begun_count d.phase)
       (λ e. settled_begun (record (with_channel s after d) { log = d.log ++ change_events s 0 (running_round d.phase rounds) })) (λ e. refl)
 
   start_begins : (d : DriverState) → IsSound net rounds d → MayBegin d → BeginsAnswered d (started_driver net rounds d)
   start_begins d sound may =
       let before : begun_count d.phase ≡ may.k = ap begun_count may.settled in
-      let begins : begun_count (started d.phase) ≡ suc may.k = ap (λ p. begun_count (started p)) may.settled in
+      let begins : begun_count (started_phase d.phase) ≡ suc may.k = ap (λ p. begun_count (started_phase p)) may.settled in
       inr (settled_begun (begun d) ∙ begins ∙ ap suc (sym before), sound.waits may.k may.settled)
 
   call_begins : (d : DriverState) (c : Call) → IsSound net rounds d → BeginsAnswered d (after_call net rounds d c)

@@ -19,12 +19,12 @@ use Rattle.round_messages.proofs.Marking.{HasChanged, same_passed, found_from}
 use Rattle.round_messages.specs.Requests.{is_changed, switches_changed, switch_numbered, first_xid, round_requests, sent_from}
 use Rattle.round_messages.specs.ToSwitch.{messages_to}
 use Rattle.round_messages.proofs.BySwitch.{round_alone}
-use Rattle.switch_session.specs.Channels.{ChannelState, first_channel, is_open, asked, after_bytes}
+use Rattle.switch_session.specs.Channels.{ChannelState, first_channel, is_open, after_request, after_bytes}
 use Rattle.switch_session.specs.Seen.{ChannelView}
-use Rattle.update_driver.specs.Drivers.{DriverState, channel_at, none_outstanding, settled_if_answered, is_answered, first_not_open, start_fault_in, messages_for, barrier_in, told, told_all}
+use Rattle.update_driver.specs.Drivers.{DriverState, channel_at, none_outstanding, settled_if_answered, is_answered, first_not_open, start_fault_in, messages_for, barrier_in, told_channel, told_all}
 use Rattle.update_driver.specs.Inside.{states_of, with_states, heard_with, HoldMessages, HasRoomFrom, told_by_turn, told_by_turns}
 use Rattle.update_driver.specs.declared.StartFault.TheVariants as fault
-use Rattle.update_driver.specs.declared.turns.Turn.{Turn}
+use Rattle.update_driver.specs.declared.turns.SwitchStart.{SwitchStart}
 
 -- ---- channels and their states
 
@@ -52,13 +52,13 @@ length-states vs = length-map vs (λ (x : ChannelView). x.state)
 
 -- ---- turns are sent
 
-pub told_ahead : (turns : List Turn) (channels : List ChannelState) (n : ℕ) (d : ChannelState) → get_or (told_by_turns (take n turns) channels) n d ≡ get_or channels n d
+pub told_ahead : (turns : List SwitchStart) (channels : List ChannelState) (n : ℕ) (d : ChannelState) → get_or (told_by_turns (take n turns) channels) n d ≡ get_or channels n d
 told_ahead turns channels zero d = refl
 told_ahead [] channels (suc n) d = refl
 told_ahead (t ∷ turns) [] (suc n) d = refl
 told_ahead (t ∷ turns) (c ∷ channels) (suc n) d = told_ahead turns channels n d
 
-told_next : (turns : List Turn) (channels : List ChannelState) (n : ℕ) (t : Turn) (d : ChannelState) → n < length turns → n < length channels
+told_next : (turns : List SwitchStart) (channels : List ChannelState) (n : ℕ) (t : SwitchStart) (d : ChannelState) → n < length turns → n < length channels
     → told_by_turns (take (suc n) turns) channels ≡ set (told_by_turns (take n turns) channels) n (told_by_turn (get_or turns n t) (get_or channels n d))
 told_next [] channels n t d lt less = absurd (omega arith)
 told_next (x ∷ turns) [] n t d lt less = absurd (omega arith)
@@ -66,12 +66,12 @@ told_next (x ∷ turns) (c ∷ channels) zero t d lt less = refl
 told_next (x ∷ turns) (c ∷ channels) (suc n) t d lt less = ap (λ l. told_by_turn x c ∷ l) (told_next turns channels n t d (omega arith) (omega arith))
 
 -- the first turns are sent
-pub record ToldBelow (n : ℕ) (turns : List Turn) (first now : List ChannelView) : Type 0 where
+pub record ToldBelow (n : ℕ) (turns : List SwitchStart) (first now : List ChannelView) : Type 0 where
   pub count : length now ≡ length first
   pub states : states_of now ≡ told_by_turns (take n turns) (states_of first)
   pub room : HasRoomFrom n turns now
 
-module _ (n : ℕ) (turns : List Turn) (first now : List ChannelView) (so_far : ToldBelow n turns first now) (lt : n < length turns) (less : n < length first) (t : Turn) (at : get_or turns n t ≡ t) where
+module _ (n : ℕ) (turns : List SwitchStart) (first now : List ChannelView) (so_far : ToldBelow n turns first now) (lt : n < length turns) (less : n < length first) (t : SwitchStart) (at : get_or turns n t ≡ t) where
   next_states : (d : ChannelState) → told_by_turns (take (n + 1) turns) (states_of first) ≡ set (states_of now) n (told_by_turn t (get_or (states_of now) n d))
   next_states d =
       let step : n + 1 ≡ suc n = omega arith in
@@ -98,16 +98,16 @@ module _ (n : ℕ) (turns : List Turn) (first now : List ChannelView) (so_far : 
 -- ---- room
 
 -- there is room in the first channels
-pub record ReservedBelow (n : ℕ) (turns : List Turn) (first now : List ChannelView) : Type 0 where
+pub record ReservedBelow (n : ℕ) (turns : List SwitchStart) (first now : List ChannelView) : Type 0 where
   pub count : length now ≡ length first
   pub states : states_of now ≡ states_of first
-  pub room : (i : ℕ) (t : Turn) (v : ChannelView) → i < n → length (get_or turns i t).text.items ≤ (get_or now i v).room
+  pub room : (i : ℕ) (t : SwitchStart) (v : ChannelView) → i < n → length (get_or turns i t).text.items ≤ (get_or now i v).room
 
 -- a channel that keeps its state
-pub reserved_kept : (n : ℕ) (turns : List Turn) (first now : List ChannelView) (v old : ChannelView) → ReservedBelow n turns first now → old ≡ get_or now n old → v.state ≡ old.state → states_of (set now n v) ≡ states_of first
+pub reserved_kept : (n : ℕ) (turns : List SwitchStart) (first now : List ChannelView) (v old : ChannelView) → ReservedBelow n turns first now → old ≡ get_or now n old → v.state ≡ old.state → states_of (set now n v) ≡ states_of first
 reserved_kept n turns first now v old so_far at_old state = states_kept now n v old (state ∙ ap (λ (x : ChannelView). x.state) at_old) ∙ so_far.states
 
-pub reserved_more : (n : ℕ) (turns : List Turn) (first now : List ChannelView) (t : Turn) (v old : ChannelView) → ReservedBelow n turns first now → n < length turns → n < length now → t ≡ get_or turns n t
+pub reserved_more : (n : ℕ) (turns : List SwitchStart) (first now : List ChannelView) (t : SwitchStart) (v old : ChannelView) → ReservedBelow n turns first now → n < length turns → n < length now → t ≡ get_or turns n t
     → old ≡ get_or now n old → v.state ≡ old.state → length t.text.items ≤ v.room → ReservedBelow (n + 1) turns first (set now n v)
 reserved_more n turns first now t v old so_far lt less at at_old state room = record {
   count = length-set now n v ∙ so_far.count;
@@ -116,7 +116,7 @@ reserved_more n turns first now t v old so_far lt less at at_old state room = re
     | inl same ↦
         let Room : ℕ → Type 0 = λ j. length (get_or turns j x).text.items ≤ (get_or (set now n v) j w).room in
         let here : get_or turns n x ≡ t = get_or_default turns n x t lt ∙ sym at in
-        subst Room (sym same) (subst (λ (y : Turn). length y.text.items ≤ (get_or (set now n v) n w).room) (sym here)
+        subst Room (sym same) (subst (λ (y : SwitchStart). length y.text.items ≤ (get_or (set now n v) n w).room) (sym here)
         (subst (λ (y : ChannelView). length t.text.items ≤ y.room) (sym (get_or-set_same now n v w less)) room))
     | inr differs ↦ subst (λ (y : ChannelView). length (get_or turns i x).text.items ≤ y.room) (sym (get_or-set_other now n i v w differs)) (so_far.room i x w (omega arith))
   ];
@@ -124,13 +124,13 @@ reserved_more n turns first now t v old so_far lt less at at_old state room = re
 
 -- ---- what is sent are the messages of `emit`
 
-told_same : (ms : List Message) (t : Turn) (c : ChannelState) → t.text.items ≡ flat_map wire_text ms → t.barrier ≡ barrier_in ms → told_by_turn t c ≡ told ms c
+told_same : (ms : List Message) (t : SwitchStart) (c : ChannelState) → t.text.items ≡ flat_map wire_text ms → t.barrier ≡ barrier_in ms → told_by_turn t c ≡ told_channel ms c
 told_same ms t c text barrier =
-    ap (λ x. option_map_or (λ xid. asked x xid c) t.barrier c) text ∙ ap (λ o. option_map_or (λ xid. asked (flat_map wire_text ms) xid c) o c) barrier
+    ap (λ x. option_map_or (λ xid. after_request x xid c) t.barrier c) text ∙ ap (λ o. option_map_or (λ xid. after_request (flat_map wire_text ms) xid c) o c) barrier
 
-told_as : (net : Network) (rounds : List (List Change)) (k n : ℕ) (turns : List Turn) (channels : List ChannelState) → length turns ≡ length channels
-    → ((i : ℕ) (d : Turn) → i < length turns → (get_or turns i d).text.items ≡ flat_map wire_text (messages_for net rounds k (switch_numbered (n + i))))
-    → ((i : ℕ) (d : Turn) → i < length turns → (get_or turns i d).barrier ≡ barrier_in (messages_for net rounds k (switch_numbered (n + i)))) → told_by_turns turns channels ≡ told_all net rounds k n channels
+told_as : (net : Network) (rounds : List (List Change)) (k n : ℕ) (turns : List SwitchStart) (channels : List ChannelState) → length turns ≡ length channels
+    → ((i : ℕ) (d : SwitchStart) → i < length turns → (get_or turns i d).text.items ≡ flat_map wire_text (messages_for net rounds k (switch_numbered (n + i))))
+    → ((i : ℕ) (d : SwitchStart) → i < length turns → (get_or turns i d).barrier ≡ barrier_in (messages_for net rounds k (switch_numbered (n + i)))) → told_by_turns turns channels ≡ told_all net rounds k n channels
 told_as net rounds k n [] [] e text barrier = refl
 told_as net rounds k n [] (c ∷ channels) e text barrier = absurd (omega arith)
 told_as net rounds k n (t ∷ turns) [] e text barrier = absurd (omega arith)
@@ -142,9 +142,9 @@ told_as net rounds k n (t ∷ turns) (c ∷ channels) e text barrier =
     let rest = told_as net rounds k (suc n) turns channels (omega arith)
     (λ i d lt. let place : n + suc i ≡ suc n + i = omega arith in subst (λ (j : ℕ). (get_or turns i d).text.items ≡ flat_map wire_text (messages_for net rounds k (switch_numbered j))) place (text (suc i) d (omega arith)))
     (λ i d lt. let place : n + suc i ≡ suc n + i = omega arith in subst (λ (j : ℕ). (get_or turns i d).barrier ≡ barrier_in (messages_for net rounds k (switch_numbered j))) place (barrier (suc i) d (omega arith))) in
-    ap (λ x. x ∷ told_by_turns turns channels) first ∙ ap (λ l. told (messages_for net rounds k (switch_numbered n)) c ∷ l) rest
+    ap (λ x. x ∷ told_by_turns turns channels) first ∙ ap (λ l. told_channel (messages_for net rounds k (switch_numbered n)) c ∷ l) rest
 
-pub told_round : (net : Network) (rounds : List (List Change)) (k : ℕ) (turns : List Turn) (channels : List ChannelState) → k < length rounds → length turns ≡ length channels
+pub told_round : (net : Network) (rounds : List (List Change)) (k : ℕ) (turns : List SwitchStart) (channels : List ChannelState) → k < length rounds → length turns ≡ length channels
     → HoldMessages k (sent_from (first_xid net rounds k) (round_requests net k (round_after k rounds))) turns → told_by_turns turns channels ≡ told_all net rounds k 0 channels
 told_round net rounds k turns channels less count hold =
     let alone : (i : ℕ) → messages_to k (switch_numbered i) (sent_from (first_xid net rounds k) (round_requests net k (round_after k rounds))) ≡ messages_for net rounds k (switch_numbered (0 + i)) =

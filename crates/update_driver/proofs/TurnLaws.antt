@@ -22,8 +22,8 @@ use Rattle.round_messages.proofs.Requests.{sent_from-append}
 use Rattle.round_messages.proofs.BySwitch.{messages_to-append}
 use Rattle.update_driver.specs.Drivers.{change_events, barrier_in}
 use Rattle.update_driver.specs.Inside.{HoldMessages, HoldEvents, AreUnasked, PutsMessage, PutsBarriers, TakesTurn, barriers_below}
-use Rattle.update_driver.specs.declared.turns.Turn.{Turn}
-use Rattle.update_driver.specs.declared.turns.Turns.{Turns}
+use Rattle.update_driver.specs.declared.turns.SwitchStart.{SwitchStart}
+use Rattle.update_driver.specs.declared.turns.SwitchStarts.{SwitchStarts}
 
 -- ---- lists
 
@@ -94,7 +94,7 @@ one_away k s t m away = let same : eqb k k ≡ true = eq-eqb k k refl in rw (sam
 flat_map-one : (ms : List Message) (m : Message) → flat_map wire_text (ms ++ m ∷ []) ≡ flat_map wire_text ms ++ wire_text m
 flat_map-one ms m = flat_map-append wire_text ms (m ∷ []) ∙ ap (λ l. flat_map wire_text ms ++ l) (append-nil (wire_text m))
 
-module _ (k : ℕ) (sent : List Sent) (t : SwitchId) (m : Message) (events : List Event) (f : Option ℕ → Option ℕ) (a b : Turns) where
+module _ (k : ℕ) (sent : List Sent) (t : SwitchId) (m : Message) (events : List Event) (f : Option ℕ → Option ℕ) (a b : SwitchStarts) where
   abbrev one : Sent
   one = record { round = k; switch = t; message = m }
 
@@ -105,7 +105,7 @@ module _ (k : ℕ) (sent : List Sent) (t : SwitchId) (m : Message) (events : Lis
   more_away s away = messages_to-append k s sent (one ∷ []) ∙ ap (λ l. messages_to k s sent ++ l) (one_away k s t m away) ∙ append-nil (messages_to k s sent)
 
   pub hold_more : HoldMessages k sent a.list.items → PutsMessage t.0 (wire_text m) events f a b → t.0 < length a.list.items
-      → ((d : Turn) → f (get_or a.list.items t.0 d).barrier ≡ barrier_in (messages_to k t sent ++ m ∷ [])) → HoldMessages k (sent ++ one ∷ []) b.list.items
+      → ((d : SwitchStart) → f (get_or a.list.items t.0 d).barrier ≡ barrier_in (messages_to k t sent ++ m ∷ [])) → HoldMessages k (sent ++ one ∷ []) b.list.items
   hold_more hold puts within barrier =
       let count = puts.count in
       record {
@@ -117,7 +117,7 @@ module _ (k : ℕ) (sent : List Sent) (t : SwitchId) (m : Message) (events : Lis
               ∙ ap (λ l. l ++ wire_text m) (hold.text s d (omega arith)) ∙ sym (flat_map-one (messages_to k (switch_numbered s) sent) m) ∙ ap (flat_map wire_text) (sym (more_here (switch_numbered s) here))
           | inr differs ↦
               let away : eqb t.0 s ≡ false = ne_eqb t.0 s (λ e. differs (sym e)) in
-              ap (λ (x : Turn). x.text.items) (puts.others s d differs) ∙ hold.text s d (omega arith) ∙ ap (flat_map wire_text) (sym (more_away (switch_numbered s) away))
+              ap (λ (x : SwitchStart). x.text.items) (puts.others s d differs) ∙ hold.text s d (omega arith) ∙ ap (flat_map wire_text) (sym (more_away (switch_numbered s) away))
         ];
         barrier = λ s d lt. elim (cases_eq s t.0) [
           | inl same ↦
@@ -126,21 +126,21 @@ module _ (k : ℕ) (sent : List Sent) (t : SwitchId) (m : Message) (events : Lis
               subst Barrier (sym same) (puts.barrier_is d ∙ barrier d ∙ ap barrier_in (sym (more_here t here)))
           | inr differs ↦
               let away : eqb t.0 s ≡ false = ne_eqb t.0 s (λ e. differs (sym e)) in
-              ap (λ (x : Turn). x.barrier) (puts.others s d differs) ∙ hold.barrier s d (omega arith) ∙ ap barrier_in (sym (more_away (switch_numbered s) away))
+              ap (λ (x : SwitchStart). x.barrier) (puts.others s d differs) ∙ hold.barrier s d (omega arith) ∙ ap barrier_in (sym (more_away (switch_numbered s) away))
         ];
       }
 
 -- ---- the changes
 
 -- the first changes are put in
-pub record ChangesPut (changes : List Change) (i : ℕ) (a b : Turns) : Type 0 where
+pub record ChangesPut (changes : List Change) (i : ℕ) (a b : SwitchStarts) : Type 0 where
   pub count : length b.list.items ≡ length a.list.items
   pub xid : b.xid ≡ a.xid + i
   pub messages : (k : ℕ) → HoldMessages k (sent_from a.xid (map (change_request k) (take i changes))) b.list.items
   pub events : HoldEvents (take i changes) b.list.items
   pub unasked : AreUnasked 0 b.list.items
 
-module _ (changes : List Change) (i : ℕ) (c : Change) (a b e : Turns) (so_far : ChangesPut changes i a b) (lt : i < length changes) (is : get_or changes i c ≡ c) (within : (switch_of c).0 < length b.list.items)
+module _ (changes : List Change) (i : ℕ) (c : Change) (a b e : SwitchStarts) (so_far : ChangesPut changes i a b) (lt : i < length changes) (is : get_or changes i c ≡ c) (within : (switch_of c).0 < length b.list.items)
     (puts : PutsMessage (switch_of c).0 (wire_text (message_of c b.xid)) (event.Change i ∷ []) (λ x. x) b e) where
   more : take (i + 1) changes ≡ take i changes ++ c ∷ []
   more = take_more changes i c lt ∙ ap (λ x. take i changes ++ x ∷ []) is
@@ -181,7 +181,7 @@ module _ (changes : List Change) (i : ℕ) (c : Change) (a b e : Turns) (so_far 
             | inr differs ↦
                 let away : eqb (switch_of c).0 s ≡ false = ne_eqb (switch_of c).0 s (λ x. differs (sym x)) in
                 let so = change_events (switch_numbered s) 0 (take i changes) in
-                ap (λ (x : Turn). x.events.items) (puts.others s d differs) ∙ so_far.events.events s d (omega arith) ∙ sym (append-nil so)
+                ap (λ (x : SwitchStart). x.events.items) (puts.others s d differs) ∙ so_far.events.events s d (omega arith) ∙ sym (append-nil so)
                 ∙ ap (λ l. so ++ l) (sym (no_event (switch_numbered s) (0 + length (take i changes)) c away))
                 ∙ sym (change_events-more (switch_numbered s) 0 (take i changes) c) ∙ ap (change_events (switch_numbered s) 0) (sym more)
           ];
@@ -189,7 +189,7 @@ module _ (changes : List Change) (i : ℕ) (c : Change) (a b e : Turns) (so_far 
         unasked = record {
           barrier = λ s d le less. elim (cases_eq s (switch_of c).0) [
             | inl same ↦ ap (λ (n : ℕ). (get_or e.list.items n d).barrier) same ∙ puts.barrier_is d ∙ so_far.unasked.barrier (switch_of c).0 d (omega arith) within
-            | inr differs ↦ ap (λ (x : Turn). x.barrier) (puts.others s d differs) ∙ so_far.unasked.barrier s d (omega arith) (omega arith)
+            | inr differs ↦ ap (λ (x : SwitchStart). x.barrier) (puts.others s d differs) ∙ so_far.unasked.barrier s d (omega arith) (omega arith)
           ];
         };
       }
@@ -203,7 +203,7 @@ passed_more : (changes : List Change) (n : ℕ) → passed changes (n + 1) ≡ p
 passed_more changes n = filter_of_map_range_with_len_more (is_changed changes) switch_numbered 0 n n (omega arith)
 
 -- a switch without an event gets no barrier request
-pub barrier_past : (n : ℕ) (a b : Turns) → PutsBarriers n a b → n < length b.list.items → ((d : Turn) → (get_or b.list.items n d).events.items ≡ []) → (d : Turn) → PutsBarriers (n + 1) a b
+pub barrier_past : (n : ℕ) (a b : SwitchStarts) → PutsBarriers n a b → n < length b.list.items → ((d : SwitchStart) → (get_or b.list.items n d).events.items ≡ []) → (d : SwitchStart) → PutsBarriers (n + 1) a b
 barrier_past n a b so_far lt none d = record {
   count = so_far.count;
   few = omega (arith, so_far.few);
@@ -223,7 +223,7 @@ barrier_past n a b so_far lt none d = record {
         ]
 
 -- one with an event gets one
-module _ (n : ℕ) (a b e : Turns) (so_far : PutsBarriers n a b) (lt : n < length b.list.items) (d : Turn) (some : (get_or b.list.items n d).events.items ≡ [] → ⊥)
+module _ (n : ℕ) (a b e : SwitchStarts) (so_far : PutsBarriers n a b) (lt : n < length b.list.items) (d : SwitchStart) (some : (get_or b.list.items n d).events.items ≡ [] → ⊥)
     (puts : PutsMessage n (wire_text (BarrierRequest b.xid)) [] (λ x. Some b.xid) b e) where
   one_passed : (changes : List Change) → HoldEvents changes b.list.items → passed changes (n + 1) ≡ passed changes n ++ switch_numbered n ∷ []
   one_passed changes hold =
@@ -248,7 +248,7 @@ module _ (n : ℕ) (a b e : Turns) (so_far : PutsBarriers n a b) (lt : n < lengt
         events = λ s t less. elim (cases_eq s n) [
           | inl same ↦ ap (λ (x : ℕ). (get_or e.list.items x t).events.items) same ∙ puts.events_are t ∙ append-nil (get_or b.list.items n t).events.items
               ∙ ap (λ (x : ℕ). (get_or b.list.items x t).events.items) (sym same) ∙ hold.events s t (omega arith)
-          | inr differs ↦ ap (λ (x : Turn). x.events.items) (puts.others s t differs) ∙ hold.events s t (omega arith)
+          | inr differs ↦ ap (λ (x : SwitchStart). x.events.items) (puts.others s t differs) ∙ hold.events s t (omega arith)
         ];
       }
 
@@ -259,7 +259,7 @@ module _ (n : ℕ) (a b e : Turns) (so_far : PutsBarriers n a b) (lt : n < lengt
         count = puts.count ∙ so_far.count;
         few = omega (arith, so_far.few, puts.xid);
         unasked = record {
-          barrier = λ s t le less. ap (λ (x : Turn). x.barrier) (puts.others s t (λ x. omega arith)) ∙ so_far.unasked.barrier s t (omega arith) (omega arith);
+          barrier = λ s t le less. ap (λ (x : SwitchStart). x.barrier) (puts.others s t (λ x. omega arith)) ∙ so_far.unasked.barrier s t (omega arith) (omega arith);
         };
         messages = λ k sent changes hold events.
             let held = so_far.messages k sent changes hold events in
@@ -287,15 +287,15 @@ round_sent net k xid changes =
 
 -- ---- one turn more
 
-some_turn : (turns : List Turn) (n : ℕ) → n < length turns → Turn
+some_turn : (turns : List SwitchStart) (n : ℕ) → n < length turns → SwitchStart
 some_turn [] n lt = absurd (omega arith)
 some_turn (t ∷ turns) n lt = t
 
-pub turn_taken : (n : ℕ) (a b e : Turns) → PutsBarriers n a b → n < length b.list.items → TakesTurn n b e → PutsBarriers (n + 1) a e
+pub turn_taken : (n : ℕ) (a b e : SwitchStarts) → PutsBarriers n a b → n < length b.list.items → TakesTurn n b e → PutsBarriers (n + 1) a e
 turn_taken n a b e so_far lt (inl h) = subst (PutsBarriers (n + 1) a) (sym h.1) (barrier_past n a b so_far lt h.0 (some_turn b.list.items n lt))
 turn_taken n a b e so_far lt (inr h) = let d = some_turn b.list.items n lt in barrier_put n a b e so_far lt d (h.0 d) h.1
 
-pub turns_hold : (net : Network) (k xid : ℕ) (changes : List Change) (first put done : Turns) → first.xid ≡ xid → HoldMessages k (sent_from first.xid (map (change_request k) changes)) put.list.items
+pub turns_hold : (net : Network) (k xid : ℕ) (changes : List Change) (first put done : SwitchStarts) → first.xid ≡ xid → HoldMessages k (sent_from first.xid (map (change_request k) changes)) put.list.items
     → HoldEvents changes put.list.items → put.xid ≡ first.xid + length changes → length put.list.items ≡ switch_count net → PutsBarriers (length put.list.items) put done
     → HoldMessages k (sent_from xid (round_requests net k changes)) done.list.items
 turns_hold net k xid changes first put done from hold events number count puts =

@@ -10,8 +10,8 @@ abbrev pub with_state : DriverState → DriverView → DriverView
 with_state d v = record v { state = d }
 
 -- the refusal of a start that has this fault, if it has one: want of memory comes only where it has none
-abbrev pub IsRefusal : Option StartFault → StartFault → Type 0
-IsRefusal fault Running = fault ≡ Some Running
-IsRefusal fault Finished = fault ≡ Some Finished
-IsRefusal fault (NotOpen s) = fault ≡ Some (NotOpen s)
-IsRefusal fault Memory = fault ≡ None
+abbrev pub IsStartRefusal : Option StartFault → StartFault → Type 0
+IsStartRefusal fault Running = fault ≡ Some Running
+IsStartRefusal fault Finished = fault ≡ Some Finished
+IsStartRefusal fault (NotOpen s) = fault ≡ Some (NotOpen s)
+IsStartRefusal fault Memory = fault ≡ None

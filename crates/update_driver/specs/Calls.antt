@@ -5,7 +5,7 @@ use Rattle.net_base.specs.declared.ids.SwitchId.{SwitchId}
 use Rattle.topology.specs.Networks.{Network, switch_count}
 use Rattle.update_model.specs.Ranges.{IsPlanChange}
 use Rattle.update_model.specs.declared.Change.{Change}
-use Rattle.update_driver.specs.Drivers.{DriverState, first_driver, fed, started_driver, start_fault}
+use Rattle.update_driver.specs.Drivers.{DriverState, first_driver, driver_after_bytes, started_driver, start_fault}
 
 -- a call: the next round is to start, or bytes come from a switch
 pub data Call : Type 0 where
@@ -20,7 +20,7 @@ IsCall net (Feed s bytes) = s.0 < switch_count net
 -- a driver after a call; a start that is refused leaves it as it was
 abbrev pub after_call : Network → List (List Change) → DriverState → Call → DriverState
 after_call net rounds d Start = if is_none (start_fault net rounds d) then started_driver net rounds d else d
-after_call net rounds d (Feed s bytes) = fed rounds s bytes d
+after_call net rounds d (Feed s bytes) = driver_after_bytes rounds s bytes d
 
 -- a driver after calls
 abbrev pub after_calls : Network → List (List Change) → DriverState → List Call → DriverState

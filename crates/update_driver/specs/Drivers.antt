@@ -5,7 +5,7 @@ use Rattle.std.specs.Option.{option_map, option_map_or}
 use Rattle.net_base.specs.declared.ids.SwitchId.{SwitchId}
 use Rattle.topology.specs.Networks.{Network, switch_count}
 use Rattle.update_model.specs.Changes.{switch_of, round_after}
-use Rattle.update_model.specs.States.{settled_count, settled}
+use Rattle.update_model.specs.States.{settled_count, phase_after_settle}
 use Rattle.update_model.specs.Worlds.{running_round}
 use Rattle.update_model.specs.declared.Change.{Change}
 use Rattle.update_model.specs.declared.Event.{Event}
@@ -17,7 +17,7 @@ use Rattle.openflow10.specs.declared.Message.{Message}
 use Rattle.openflow10.specs.declared.Message.TheVariants.{Flow, BarrierRequest, BarrierReply}
 use Rattle.round_messages.specs.Requests.{switch_numbered, switches_changed, sent_in}
 use Rattle.round_messages.specs.ToSwitch.{messages_to}
-use Rattle.switch_session.specs.Channels.{ChannelState, first_channel, is_open, asked, after_bytes}
+use Rattle.switch_session.specs.Channels.{ChannelState, first_channel, is_open, after_request, after_bytes}
 use Rattle.update_driver.specs.declared.StartFault.{StartFault}
 use Rattle.update_driver.specs.declared.StartFault.TheVariants as fault
 
@@ -45,7 +45,7 @@ none_outstanding channels = list_all (λ c. is_none c.outstanding) channels
 
 -- a driver that settles the running round, if no barrier is outstanding
 abbrev pub settled_if_answered : DriverState → DriverState
-settled_if_answered d = if none_outstanding d.channels then record d { phase = settled d.phase; log = d.log ++ event.Settle ∷ [] } else d
+settled_if_answered d = if none_outstanding d.channels then record d { phase = phase_after_settle d.phase; log = d.log ++ event.Settle ∷ [] } else d
 
 -- ---- bytes come
 
@@ -55,22 +55,22 @@ change_events s i [] = []
 change_events s i (c ∷ changes) = if (switch_of c).0 == s.0 then event.Change i ∷ change_events s (suc i) changes else change_events s (suc i) changes
 
 -- the barrier of a switch was answered, so its changes are made
-abbrev pub made : List (List Change) → SwitchId → DriverState → DriverState
-made rounds s d = settled_if_answered (record d { log = d.log ++ change_events s 0 (running_round d.phase rounds) })
+abbrev pub made_driver : List (List Change) → SwitchId → DriverState → DriverState
+made_driver rounds s d = settled_if_answered (record d { log = d.log ++ change_events s 0 (running_round d.phase rounds) })
 
 -- whether a barrier that was outstanding isn't any more
 abbrev pub is_answered : Option ℕ → Option ℕ → Bool
 is_answered before after = is_some before && is_none after
 
 -- a driver after bytes from a switch made this of its channel
-abbrev pub heard : List (List Change) → SwitchId → ChannelState → DriverState → DriverState
-heard rounds s channel d =
-    if is_answered (channel_at d s).outstanding channel.outstanding then made rounds s (with_channel s channel d)
+abbrev pub heard_driver : List (List Change) → SwitchId → ChannelState → DriverState → DriverState
+heard_driver rounds s channel d =
+    if is_answered (channel_at d s).outstanding channel.outstanding then made_driver rounds s (with_channel s channel d)
     else with_channel s channel d
 
 -- a driver after bytes come from a switch
-abbrev pub fed : List (List Change) → SwitchId → List ℕ → DriverState → DriverState
-fed rounds s bytes d = heard rounds s (after_bytes bytes (channel_at d s)) d
+abbrev pub driver_after_bytes : List (List Change) → SwitchId → List ℕ → DriverState → DriverState
+driver_after_bytes rounds s bytes d = heard_driver rounds s (after_bytes bytes (channel_at d s)) d
 
 -- ---- a round starts
 
@@ -86,23 +86,23 @@ barrier_in (BarrierRequest xid ∷ messages) = Some xid
 barrier_in (BarrierReply xid ∷ messages) = barrier_in messages
 
 -- a channel after messages that end with a barrier request were sent; where there are none, nothing was
-abbrev pub told : List Message → ChannelState → ChannelState
-told messages channel = option_map_or (λ xid. asked (flat_map wire_text messages) xid channel) (barrier_in messages) channel
+abbrev pub told_channel : List Message → ChannelState → ChannelState
+told_channel messages channel = option_map_or (λ xid. after_request (flat_map wire_text messages) xid channel) (barrier_in messages) channel
 
 -- the channels to the switches from number n on, after each switch was sent its messages of round k
 abbrev pub told_all : Network → List (List Change) → ℕ → ℕ → List ChannelState → List ChannelState
 told_all net rounds k n [] = []
-told_all net rounds k n (c ∷ channels) = told (messages_for net rounds k (switch_numbered n)) c ∷ told_all net rounds k (suc n) channels
+told_all net rounds k n (c ∷ channels) = told_channel (messages_for net rounds k (switch_numbered n)) c ∷ told_all net rounds k (suc n) channels
 
 -- the phase after the next round starts
-abbrev pub started : Phase → Phase
-started phase = Running (suc (settled_count phase))
+abbrev pub started_phase : Phase → Phase
+started_phase phase = Running (suc (settled_count phase))
 
 -- a driver after the next round starts; a round without changes is settled at once
 abbrev pub started_driver : Network → List (List Change) → DriverState → DriverState
 started_driver net rounds d =
     settled_if_answered (record d {
-      phase = started d.phase;
+      phase = started_phase d.phase;
       log = d.log ++ event.Start ∷ [];
       channels = told_all net rounds (settled_count d.phase) 0 d.channels;
     })

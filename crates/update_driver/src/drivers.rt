@@ -1,13 +1,13 @@
 //! The driver.
 ghost use Rattle.std.specs.Prelude.{◌≡◌, ◌<◌, ℕ, List, IfOk, IfErr, OnErr, OnOk, None};
 ghost use Rattle.topology.specs.Networks.{switch_count};
-ghost use Rattle.update_driver.specs.Drivers.{first_driver, channel_at, fed, started_driver, start_fault};
+ghost use Rattle.update_driver.specs.Drivers.{first_driver, channel_at, driver_after_bytes, started_driver, start_fault};
 ghost use Rattle.update_driver.specs.Calls.{AreDrivable, IsMadeByCalls};
 ghost use Rattle.update_driver.specs.Laws.{LogIsRun};
-ghost use Rattle.update_driver.specs.Answers.{with_state, IsRefusal};
+ghost use Rattle.update_driver.specs.Answers.{with_state, IsStartRefusal};
 
 use crate::starts::{begin, hear, make_channels, next_round};
-use crate::turns::{Turn, Turns, turns_of};
+use crate::turns::{SwitchStart, SwitchStarts, turns_of};
 use crate::{Session, StartFault};
 use net_base::{Memory, SwitchId};
 use std::alloc::Global;
@@ -28,7 +28,7 @@ pub struct Driver<'a> {
     phase: Phase,
     log: Vec<Event>,
     channels: Vec<Channel>,
-    turns: Vec<Turn>,
+    turns: Vec<SwitchStart>,
     xid: u32,
 }
 
@@ -52,7 +52,7 @@ impl<'a> Driver<'a> {
             (λ d. d ≡ record { net = net.now; rounds = rounds.now; state = first_driver net.now }) }
     {
         let channels = make_channels(alloc, net.switches())?;
-        let Turns { list, xid } = Turns::make(alloc, net.switches(), 1)?;
+        let SwitchStarts { list, xid } = SwitchStarts::make(alloc, net.switches(), 1)?;
         Ok(Driver {
             net,
             rounds,
@@ -78,12 +78,17 @@ impl<'a> Driver<'a> {
             ≡ with_state (started_driver self.old.net self.old.rounds self.old.state)
             self.old) }
         ensures refused { IfErr result
-            (IsRefusal (start_fault self.old.net self.old.rounds self.old.state)) }
+            (IsStartRefusal (start_fault self.old.net self.old.rounds self.old.state)) }
         ensures err { OnErr result (self.new ≡ self.old) }
     {
         self.net.keeps_rules();
         let round = next_round(self.net, self.rounds, self.phase, &self.channels)?;
-        let Turns { list, xid } = turns_of(*self.log.allocator(), self.net, round, self.xid)?;
+        let SwitchStarts { list, xid } = turns_of(
+            *self.log.allocator(),
+            self.net,
+            round,
+            self.xid,
+        )?;
         begin(&list, &mut self.phase, &mut self.log, &mut self.channels)?;
         self.turns = list;
         self.xid = xid;
@@ -98,7 +103,8 @@ impl<'a> Driver<'a> {
     pub fn feed(&mut self, s: SwitchId, bytes: &[u8]) -> Result<(), Memory>
         requires { s.0 < switch_count self.old.net }
         ensures ok { OnOk result
-            (self.new ≡ with_state (fed self.old.rounds s bytes.now self.old.state) self.old) }
+            (self.new ≡ with_state (driver_after_bytes self.old.rounds s bytes.now self.old.state)
+            self.old) }
         ensures err { OnErr result (self.new ≡ self.old) }
     {
         let number = s.0 as usize;

@@ -4,7 +4,7 @@ ghost use Rattle.std.specs.List.{AllByRecursion};
 ghost use Rattle.net_base.specs.declared.ids.SwitchId.{SwitchId};
 ghost use Rattle.topology.specs.Networks.{Network, switch_count};
 ghost use Rattle.update_model.specs.declared.Change.{Change};
-ghost use Rattle.update_driver.specs.Drivers.{DriverState, fed};
+ghost use Rattle.update_driver.specs.Drivers.{DriverState, driver_after_bytes};
 ghost use Rattle.update_driver.specs.Calls.{Call, IsCall, AreDrivable, after_call, bytes_from, byte_by_byte, driver_after};
 ghost use Rattle.update_driver.specs.Laws.{BeginsAnswered, LogIsRun, SendsOnly, WaitsForBarriers};
 
@@ -14,7 +14,8 @@ pub fn pieces_make_no_difference()
         → driver_after net rounds (byte_by_byte calls) ≡ driver_after net rounds calls }
     ensures fed { (rounds : List (List Change)) (s : SwitchId) (a b : List ℕ) (d : DriverState)
         → s.0 < length d.channels
-        → fed rounds s (a ++ b) d ≡ fed rounds s b (fed rounds s a d) }
+        → driver_after_bytes rounds s (a ++ b) d
+        ≡ driver_after_bytes rounds s b (driver_after_bytes rounds s a d) }
 {}
 
 /// The log is a run of the model, without packets, from all tables from which every round is good.

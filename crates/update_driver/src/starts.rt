@@ -3,16 +3,16 @@ ghost use Rattle.std.specs.Prelude.{◌≡◌, ℕ, ◌<◌, ◌≤◌, ◌+◌,
 ghost use Rattle.std.specs.List.{AllByRecursion, list_all, range_with_len};
 ghost use Rattle.topology.specs.Networks.{switch_count};
 ghost use Rattle.update_model.specs.Ranges.{IsPlanChange};
-ghost use Rattle.update_model.specs.States.{settled, settled_count};
+ghost use Rattle.update_model.specs.States.{phase_after_settle, settled_count};
 ghost use Rattle.update_driver.specs.Laws.{begun_count};
 ghost use Rattle.net_base.specs.Switches.{has};
 ghost use Rattle.round_messages.specs.Requests.{switch_numbered};
 ghost use Rattle.switch_session.specs.Channels.{first_channel, is_open};
-ghost use Rattle.update_driver.specs.Drivers.{none_outstanding, settled_if_answered, started};
+ghost use Rattle.update_driver.specs.Drivers.{none_outstanding, settled_if_answered, started_phase};
 ghost use Rattle.update_driver.specs.Inside.{states_of, with_states, HasRoomFrom, told_by_turn, told_by_turns, begun_by_turns, heard_with, IsPhaseWithin, MayStartWith, IsRefusedWith};
 
 use crate::StartFault;
-use crate::turns::Turn;
+use crate::turns::SwitchStart;
 use net_base::{Memory, SwitchId, SwitchSet};
 use round_messages::changed_switches;
 use std::alloc::Global;
@@ -76,7 +76,7 @@ fn none_outstanding(channels: &[Channel]) -> bool
 
 /// The phase after the running round is settled.
 fn settled(phase: Phase) -> Phase
-    ensures { result ≡ settled phase }
+    ensures { result ≡ phase_after_settle phase }
 {
     match phase {
         Phase::Settled(k) => Phase::Settled(k),
@@ -99,7 +99,7 @@ fn settled_of(phase: Phase) -> u32
 /// The phase after the next round starts.
 fn started(phase: Phase) -> Phase
     requires { begun_count phase + 1 < 2 ^ 32 }
-    ensures { result ≡ started phase }
+    ensures { result ≡ started_phase phase }
 {
     Phase::Running(settled_of(phase) + 1)
 }
@@ -171,7 +171,7 @@ pub(crate) fn next_round<'a>(
 }
 
 /// Makes room in each channel for what its turn has to send.
-fn reserve_all(channels: &mut [Channel], turns: &[Turn]) -> Result<(), Memory>
+fn reserve_all(channels: &mut [Channel], turns: &[SwitchStart]) -> Result<(), Memory>
     requires { length channels.old ≡ length turns.now }
     ensures states { states_of channels.new ≡ states_of channels.old }
     ensures room { OnOk result (HasRoomFrom 0 turns.now channels.new) }
@@ -183,7 +183,7 @@ fn reserve_all(channels: &mut [Channel], turns: &[Turn]) -> Result<(), Memory>
 }
 
 /// Sends to a switch what its turn has to send. There is room for it.
-fn ask(channel: &mut Channel, turn: &Turn)
+fn ask(channel: &mut Channel, turn: &SwitchStart)
     requires { length turn.now.text.items ≤ channel.old.room }
     ensures { channel.new.state ≡ told_by_turn turn.now channel.old.state }
 {
@@ -193,7 +193,7 @@ fn ask(channel: &mut Channel, turn: &Turn)
 }
 
 /// Sends to each switch what its turn has to send. There is room for it.
-fn ask_all(channels: &mut [Channel], turns: &[Turn])
+fn ask_all(channels: &mut [Channel], turns: &[SwitchStart])
     requires count { length channels.old ≡ length turns.now }
     requires room { HasRoomFrom 0 turns.now channels.old }
     ensures { states_of channels.new ≡ told_by_turns turns.now (states_of channels.old) }
@@ -205,7 +205,7 @@ fn ask_all(channels: &mut [Channel], turns: &[Turn])
 
 /// The next round begins: its turns are sent, and it is settled at once if no barrier is outstanding.
 pub(crate) fn begin(
-    turns: &[Turn],
+    turns: &[SwitchStart],
     phase: &mut Phase,
     log: &mut Vec<Event>,
     channels: &mut Vec<Channel>,

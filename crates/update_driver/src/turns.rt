@@ -17,7 +17,7 @@ use update_model::{Change, Event};
 
 /// What the start of a round is to one switch.
 #[derive(Drop)]
-pub struct Turn {
+pub struct SwitchStart {
     /// The messages that are sent to it, one after the other.
     pub text: Vec<u8>,
     /// The events of its changes, which are made once it answers.
@@ -28,25 +28,25 @@ pub struct Turn {
 
 /// What the start of a round is to each switch, and the xid of the next message.
 #[derive(Drop)]
-pub struct Turns {
-    pub list: Vec<Turn>,
+pub struct SwitchStarts {
+    pub list: Vec<SwitchStart>,
     pub xid: u32,
 }
 
 /// The turn of a switch that gets no message.
-fn no_turn(alloc: Global) -> Turn
+fn no_turn(alloc: Global) -> SwitchStart
     ensures { IsEmptyTurn result }
 {
-    Turn {
+    SwitchStart {
         text: Vec::new(alloc),
         events: Vec::new(alloc),
         barrier: None,
     }
 }
 
-impl Turns {
+impl SwitchStarts {
     /// No messages yet, for so many switches.
-    pub(crate) fn make(alloc: Global, switches: u32, xid: u32) -> Result<Turns, Memory>
+    pub(crate) fn make(alloc: Global, switches: u32, xid: u32) -> Result<SwitchStarts, Memory>
         ensures empty { IfOk result (λ t. AreEmpty t.list.items) }
         ensures count { IfOk result (λ t. length t.list.items ≡ switches) }
         ensures xid { IfOk result (λ t. t.xid ≡ xid) }
@@ -55,7 +55,7 @@ impl Turns {
         for _number in 0..switches {
             list.push(no_turn(alloc))?;
         }
-        Ok(Turns { list, xid })
+        Ok(SwitchStarts { list, xid })
     }
 
     /// The message of a change, which has this number in its round.
@@ -143,7 +143,7 @@ pub(crate) fn turns_of(
     net: &Net,
     changes: &[Change],
     xid: u32,
-) -> Result<Turns, Memory>
+) -> Result<SwitchStarts, Memory>
     requires plan { AllByRecursion (IsPlanChange net.now) changes.now }
     requires xids { xid + length changes.now + switch_count net.now < 2 ^ 32 }
     ensures messages { IfOk result
@@ -154,7 +154,7 @@ pub(crate) fn turns_of(
     ensures xid { IfOk result
         (λ t. (k : ℕ) → t.xid ≡ xid + length (round_requests net.now k changes.now)) }
 {
-    let mut turns = Turns::make(alloc, net.switches(), xid)?;
+    let mut turns = SwitchStarts::make(alloc, net.switches(), xid)?;
     turns.put_changes(changes, net)?;
     turns.put_barriers()?;
     Ok(turns)

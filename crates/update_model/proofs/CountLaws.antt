@@ -10,7 +10,7 @@ use Rattle.net_base.proofs.MemberLaws.{each_weaker, each_append, each_set}
 use Rattle.net_base.specs.declared.ids.Place.{Place}
 use Rattle.path_walk.specs.declared.Ended.{Ended}
 use Rattle.path_walk.specs.declared.Ended.TheVariants.{UnderWay, Left, Dropped, Lost}
-use Rattle.update_model.specs.States.{entered, with_packet, IsUnderWay}
+use Rattle.update_model.specs.States.{entered_packet, with_packet, IsUnderWay}
 use Rattle.update_model.specs.Worlds.{goes_on, is_late, AreCounted}
 use Rattle.update_model.specs.declared.Packet.{Packet}
 

@@ -13,7 +13,7 @@ use Rattle.flow_rules.specs.declared.rules.Rule.{Rule}
 use Rattle.flow_rules.specs.declared.rules.Action.{Action}
 use Rattle.flow_rules.proofs.KeyLaws.{key_eq-true, key_eq-refl}
 use Rattle.flow_rules.specs.Same.{action_eq}
-use Rattle.update_model.specs.Remaining.{keys_in_order, rule_with, difference, changes_between, changes_from, remaining}
+use Rattle.update_model.specs.Remaining.{keys_in_order, rule_with, difference, changes_between, changes_from, remaining_changes}
 use Rattle.update_model.specs.Changes.{switch_of, entry_named}
 use Rattle.update_model.specs.declared.Change.{Change}
 use Rattle.update_model.specs.declared.Change.TheVariants.{Insert, Delete, Replace}
@@ -178,14 +178,14 @@ from_distinct n (now ∷ nows) (new ∷ news) =
 
 module _ (old new : List (List Rule)) where
   -- each change that remains is a difference at its switch
-  pub remaining_is : (c : Change) → IsIn c (remaining old new) → (s : SwitchId) × (s.0 < length old) × IsDifference s (rules_at old s) (rules_at new s) c
+  pub remaining_is : (c : Change) → IsIn c (remaining_changes old new) → (s : SwitchId) × (s.0 < length old) × IsDifference s (rules_at old s) (rules_at new s) c
   remaining_is c i =
       let (k, m, e, less, l) = from_is 0 old new c i in
       let f : k ≡ m = omega arith in
       (at_switch m, omega arith, subst (λ x. IsDifference (at_switch m) (get_or old x []) (get_or new x []) c) f (between_is (at_switch m) (get_or old k []) (get_or new k []) c l))
 
-  pub remaining_in : (s : SwitchId) (c : Change) → s.0 < length old → s.0 < length new → IsIn c (changes_between s (rules_at old s) (rules_at new s)) → IsIn c (remaining old new)
+  pub remaining_in : (s : SwitchId) (c : Change) → s.0 < length old → s.0 < length new → IsIn c (changes_between s (rules_at old s) (rules_at new s)) → IsIn c (remaining_changes old new)
   remaining_in s c less other i = from_in 0 s.0 s.0 old new c (omega arith) less other i
 
-  pub remaining_distinct : IsDistinct (map entry_named (remaining old new))
+  pub remaining_distinct : IsDistinct (map entry_named (remaining_changes old new))
   remaining_distinct = from_distinct 0 old new

@@ -6,7 +6,7 @@ use Rattle.std.proofs.lemmas.Bool.{cond-true, cond-false, both_ways, cond_both}
 use Rattle.net_base.specs.Members.{IsIn, IsSubsequence, IsDistinct}
 use Rattle.net_base.proofs.MemberLaws.{find_passes, in_map, in_from_map, in_filter, in_from_filter, in_from_subsequence, each_at}
 use Rattle.flow_rules.specs.Patterns.{Header, covers, key_eq}
-use Rattle.flow_rules.specs.Tables.{keys_of, covering, matched, IsClear}
+use Rattle.flow_rules.specs.Tables.{keys_of, covering_rules, matched_rule, IsClear}
 use Rattle.flow_rules.proofs.KeyLaws.{key_eq-refl, key_ne, cases_key}
 use Rattle.flow_rules.proofs.LookupLaws.{IsTop, is_top, top_tested, top_told, top_of, matched_is_top, matched_none}
 use Rattle.flow_rules.specs.declared.rules.Key.{Key}
@@ -29,14 +29,14 @@ found_in p (y ∷ xs) x e =
     ] refl e
 
 -- the rule that matches covers, and is of greatest priority
-matched_top : (h : Header) (rules : List Rule) (r : Rule) → matched h rules ≡ Some r → IsIn r (covering h rules) × IsTop (covering h rules) r
+matched_top : (h : Header) (rules : List Rule) (r : Rule) → matched_rule h rules ≡ Some r → IsIn r (covering_rules h rules) × IsTop (covering_rules h rules) r
 matched_top h rules r e =
-    let (i, passes) = found_in (is_top (covering h rules)) (covering h rules) r e in
-    (i, top_told (covering h rules) r passes)
+    let (i, passes) = found_in (is_top (covering_rules h rules)) (covering_rules h rules) r e in
+    (i, top_told (covering_rules h rules) r passes)
 
 -- where a rule covers, one matches
-some_matches : (h : Header) (rules : List Rule) (q : Rule) → IsIn q (covering h rules) → (r : Rule) × (matched h rules ≡ Some r)
-some_matches h rules q i = best (covering h rules) i
+some_matches : (h : Header) (rules : List Rule) (q : Rule) → IsIn q (covering_rules h rules) → (r : Rule) × (matched_rule h rules ≡ Some r)
+some_matches h rules q i = best (covering_rules h rules) i
   where
     best : (zs : List Rule) → IsIn q zs → (r : Rule) × (find (is_top zs) zs ≡ Some r)
     best [] j = absurd j
@@ -104,7 +104,7 @@ module _ (rules : List Rule) (changes : List Change) (applies : AllByRecursion (
         written (Replace s q) j f there i = (q, in_from_stands_all rules made q some_apply some_distinct (inr (Replace s q, j, refl)), sym f)
 
   -- what matches in a mixture may match
-  pub may_match : (h : Header) (mixed : List Rule) → IsMixture rules changes mixed → (r : Rule) → matched h mixed ≡ Some r → MayMatch rules changes h r
+  pub may_match : (h : Header) (mixed : List Rule) → IsMixture rules changes mixed → (r : Rule) → matched_rule h mixed ≡ Some r → MayMatch rules changes h r
   may_match h mixed mixture r e =
       let (i, top) = matched_top h mixed r e in
       let (j, covered) = in_from_filter (λ q. covers q.key.pattern h) r mixed i in
@@ -122,7 +122,7 @@ module _ (rules : List Rule) (changes : List Change) (applies : AllByRecursion (
       }
 
   -- where nothing matches in a mixture, nothing that is kept covers
-  pub may_miss : (h : Header) (mixed : List Rule) → IsMixture rules changes mixed → matched h mixed ≡ None → MayMiss rules changes h
+  pub may_miss : (h : Header) (mixed : List Rule) → IsMixture rules changes mixed → matched_rule h mixed ≡ None → MayMiss rules changes h
   may_miss h mixed mixture e k kept covers_k =
       let (q, m, same) = kept_stands mixture.made mixture.some k kept in
       let c : covers q.key.pattern h ≡ true = subst (λ z. covers z.pattern h ≡ true) (sym same) covers_k in
@@ -130,7 +130,7 @@ module _ (rules : List Rule) (changes : List Change) (applies : AllByRecursion (
       let f : None ≡ Some r = sym e ∙ found in cc
 
   -- and where nothing that is kept covers, nothing matches in the mixture that leaves out what it can
-  pub misses_somewhere : (h : Header) → MayMiss rules changes h → (mixed : List Rule) × IsMixture rules changes mixed × (matched h mixed ≡ None)
+  pub misses_somewhere : (h : Header) → MayMiss rules changes h → (mixed : List Rule) × IsMixture rules changes mixed × (matched_rule h mixed ≡ None)
   misses_somewhere h miss =
       let made = filter deletes changes in
       let some = some_filter deletes changes in (
@@ -205,7 +205,7 @@ module _ (rules : List Rule) (changes : List Change) (applies : AllByRecursion (
         )
 
     -- what may match does in some mixture
-    pub matches_somewhere : (r : Rule) → MayMatch rules changes h r → (mixed : List Rule) × IsMixture rules changes mixed × (matched h mixed ≡ Some r)
+    pub matches_somewhere : (r : Rule) → MayMatch rules changes h r → (mixed : List Rule) × IsMixture rules changes mixed × (matched_rule h mixed ≡ Some r)
     matches_somewhere r may =
         let (on, i) = stands_here r may.available in
         let mixed = mixed_of r.key on in

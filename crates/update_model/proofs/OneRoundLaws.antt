@@ -20,7 +20,7 @@ use Rattle.path_walk.specs.declared.Outcome.TheVariants.{Discard, Leave, Go}
 use Rattle.update_model.specs.Changes.{Applies, IsGoodRound, changes_at, rules_after, tables_after_change, round_after}
 use Rattle.update_model.specs.Mixtures.{Rollout, tables_before, MayHold, IsPossible, MayGo, AreGoodRounds}
 use Rattle.update_model.specs.OneRound.{WalkedOneRound, EndWasPossible}
-use Rattle.update_model.specs.States.{State, first_state, IsUnderWay, settled_count, IsEnabled, entered, hopped, lost, with_packet, settled, state_after_event}
+use Rattle.update_model.specs.States.{State, first_state, IsUnderWay, settled_count, IsEnabled, entered_packet, hopped_packet, lost_packet, with_packet, phase_after_settle, state_after_event}
 use Rattle.update_model.specs.Runs.{AreEnabled, state_after, IsRun, state_after_run}
 use Rattle.update_model.specs.declared.Change.{Change}
 use Rattle.update_model.specs.declared.Packet.{Packet}
@@ -137,7 +137,7 @@ module _ (u : Rollout) (good : AreGoodRounds u) where
       )
 
   settle_tables : (phase : Phase) (tables : List (List Rule)) (flags : List Bool) (k : ℕ) → phase ≡ Running k → AllByRecursion (λ b. b ≡ false) flags
-      → TablesAre u phase tables flags → TablesAre u (settled phase) tables flags
+      → TablesAre u phase tables flags → TablesAre u (phase_after_settle phase) tables flags
   settle_tables (Settled j) tables flags k is off are = absurd (let e : Settled j ≡ Running k = is in cc)
   settle_tables (Running zero) tables flags k is off are = absurd are
   settle_tables (Running (suc j)) tables flags k is off are = (
@@ -146,14 +146,14 @@ module _ (u : Rollout) (good : AreGoodRounds u) where
         (ap (λ m. rules_after (changes_at s m) (rules_at (tables_before u j) s)) (made_every flags (round_after j u.rounds) are.1 off) ∙ sym (next_tables u j are.0 (good j are.0) s)) (are.2 s),
   )
 
-  settle_packet : (phase : Phase) (k : ℕ) → phase ≡ Running k → (p : Packet) → IsSound u phase p → IsSound u (settled phase) p
+  settle_packet : (phase : Phase) (k : ℕ) → phase ≡ Running k → (p : Packet) → IsSound u phase p → IsSound u (phase_after_settle phase) p
   settle_packet (Settled j) k is p sound = absurd (let e : Settled j ≡ Running k = is in cc)
   settle_packet (Running j) k is p sound =
       let born = sound.0.0 in
       ((omega arith, λ under. let h = sound.0.1 under in omega arith), sound.1, sound.2)
 
   entered_sound : (phase : Phase) (tables : List (List Rule)) (flags : List Bool) → TablesAre u phase tables flags → (place : Place) (dst : ℕ) → IsEntry u.net place → dst < 2 ^ 32
-      → IsSound u phase (entered place dst (settled_count phase))
+      → IsSound u phase (entered_packet place dst (settled_count phase))
   entered_sound (Settled k) tables flags are place dst entry fits =
       ((omega arith, λ _. omega arith), record { rest = []; walk = tt; at_is = refl; visits_are = refl; ended = tt }, record { entry = entry; dst = fits; born = are.0 })
   entered_sound (Running zero) tables flags are place dst entry fits = absurd are
@@ -161,19 +161,19 @@ module _ (u : Rollout) (good : AreGoodRounds u) where
       ((omega arith, λ _. refl), record { rest = []; walk = tt; at_is = refl; visits_are = refl; ended = tt }, record { entry = entry; dst = fits; born = (let h = are.0 in omega arith) })
 
   -- a packet that hops by a possible outcome still walks through its round's mixtures
-  hopped_walks : (p : Packet) (found : Outcome) → IsUnderWay p → WalkedOneRound u p → IsPossible u p.born p.dst p.at found → WalkedOneRound u (hopped p found)
+  hopped_walks : (p : Packet) (found : Outcome) → IsUnderWay p → WalkedOneRound u p → IsPossible u p.born p.dst p.at found → WalkedOneRound u (hopped_packet p found)
   hopped_walks p (Go next) under w possible = record {
     rest = w.rest ++ next ∷ [];
     walk = IsWalk-push (MayGo u p.born p.dst) p.entry w.rest next w.walk (subst (λ x. MayGo u p.born p.dst x next) (sym w.at_is) possible);
     at_is = end_of-push p.entry w.rest next;
     visits_are = ap (λ v. v ++ stop_of next ∷ []) w.visits_are ∙ sym (map-push stop_of (p.entry ∷ w.rest) next);
-    ended = subst (λ e. EndWasPossible u (hopped p (Go next)) e) (sym under) tt;
+    ended = subst (λ e. EndWasPossible u (hopped_packet p (Go next)) e) (sym under) tt;
   }
   hopped_walks p Discard under w possible = record { rest = w.rest; walk = w.walk; at_is = w.at_is; visits_are = w.visits_are; ended = (refl, possible) }
   hopped_walks p (Leave port vlan) under w possible = record { rest = w.rest; walk = w.walk; at_is = w.at_is; visits_are = w.visits_are; ended = (refl, possible) }
 
   -- what a hop and a loss keep of the time
-  hopped_in_time : (phase : Phase) (p : Packet) (found : Outcome) → IsUnderWay p → InTime phase p → InTime phase (hopped p found)
+  hopped_in_time : (phase : Phase) (p : Packet) (found : Outcome) → IsUnderWay p → InTime phase p → InTime phase (hopped_packet p found)
   hopped_in_time (Settled k) p (Go next) under time = (time.0, time.1)
   hopped_in_time (Settled k) p Discard under time = (time.0, λ _. time.1 under)
   hopped_in_time (Settled k) p (Leave port vlan) under time = (time.0, λ _. time.1 under)
@@ -181,12 +181,12 @@ module _ (u : Rollout) (good : AreGoodRounds u) where
   hopped_in_time (Running k) p Discard under time = (time.0, λ _. time.1 under)
   hopped_in_time (Running k) p (Leave port vlan) under time = (time.0, λ _. time.1 under)
 
-  hopped_admitted : (p : Packet) (found : Outcome) → IsAdmitted u p → IsAdmitted u (hopped p found)
+  hopped_admitted : (p : Packet) (found : Outcome) → IsAdmitted u p → IsAdmitted u (hopped_packet p found)
   hopped_admitted p (Go next) h = record { entry = h.entry; dst = h.dst; born = h.born }
   hopped_admitted p Discard h = record { entry = h.entry; dst = h.dst; born = h.born }
   hopped_admitted p (Leave port vlan) h = record { entry = h.entry; dst = h.dst; born = h.born }
 
-  lost_sound : (phase : Phase) (p : Packet) → IsUnderWay p → IsSound u phase p → IsSound u phase (lost p)
+  lost_sound : (phase : Phase) (p : Packet) → IsUnderWay p → IsSound u phase p → IsSound u phase (lost_packet p)
   lost_sound (Settled k) p under sound = ((sound.0.0, λ _. sound.0.1 under), record { rest = sound.1.rest; walk = sound.1.walk; at_is = sound.1.at_is; visits_are = sound.1.visits_are; ended = tt }, record { entry = sound.2.entry; dst = sound.2.dst; born = sound.2.born })
   lost_sound (Running k) p under sound = ((sound.0.0, λ _. sound.0.1 under), record { rest = sound.1.rest; walk = sound.1.walk; at_is = sound.1.at_is; visits_are = sound.1.visits_are; ended = tt }, record { entry = sound.2.entry; dst = sound.2.dst; born = sound.2.born })
 
@@ -201,15 +201,15 @@ module _ (u : Rollout) (good : AreGoodRounds u) where
   }
   sound_after st event.Settle sound may = record {
     tables = settle_tables st.phase st.tables st.pending may.k may.running may.none_pending sound.tables;
-    packets = each_weaker (IsSound u st.phase) (IsSound u (settled st.phase)) (settle_packet st.phase may.k may.running) st.packets sound.packets;
+    packets = each_weaker (IsSound u st.phase) (IsSound u (phase_after_settle st.phase)) (settle_packet st.phase may.k may.running) st.packets sound.packets;
   }
   sound_after st (event.Enter place dst) sound may = record {
     tables = sound.tables;
-    packets = each_append (IsSound u st.phase) st.packets (entered place dst (settled_count st.phase) ∷ []) sound.packets (entered_sound st.phase st.tables st.pending sound.tables place dst may.0 may.1, tt);
+    packets = each_append (IsSound u st.phase) st.packets (entered_packet place dst (settled_count st.phase) ∷ []) sound.packets (entered_sound st.phase st.tables st.pending sound.tables place dst may.0 may.1, tt);
   }
   sound_after st (event.Hop i) sound may = record {
     tables = sound.tables;
-    packets = each_with_packet (IsSound u st.phase) (λ p. hopped p (outcome_in u.net st.tables p.at p.dst)) st.packets i may.0 may.1
+    packets = each_with_packet (IsSound u st.phase) (λ p. hopped_packet p (outcome_in u.net st.tables p.at p.dst)) st.packets i may.0 may.1
         (λ s. (
           hopped_in_time st.phase may.0 (outcome_in u.net st.tables may.0.at may.0.dst) may.2 s.0,
           hopped_walks may.0 (outcome_in u.net st.tables may.0.at may.0.dst) may.2 s.1
@@ -220,7 +220,7 @@ module _ (u : Rollout) (good : AreGoodRounds u) where
   }
   sound_after st (event.Lose i) sound may = record {
     tables = sound.tables;
-    packets = each_with_packet (IsSound u st.phase) lost st.packets i may.0 may.1 (lost_sound st.phase may.0 may.2) sound.packets;
+    packets = each_with_packet (IsSound u st.phase) lost_packet st.packets i may.0 may.1 (lost_sound st.phase may.0 may.2) sound.packets;
   }
 
   pub sound_run : (st : State) (events : List Event) → Sound u st → AreEnabled u.net u.rounds st events → Sound u (state_after u.net u.rounds st events)

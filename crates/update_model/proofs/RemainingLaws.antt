@@ -15,7 +15,7 @@ use Rattle.flow_rules.specs.declared.rules.Key.{Key}
 use Rattle.flow_rules.specs.declared.rules.Rule.{Rule}
 use Rattle.update_model.specs.Changes.{switch_of, AppliesTo, Applies, rules_after_change, tables_after, tables_after_change}
 use Rattle.update_model.proofs.Matches.{Writes}
-use Rattle.update_model.specs.Remaining.{rule_with, difference, changes_between, changes_from, with_key, keys_in_order, remaining, AreRemaining}
+use Rattle.update_model.specs.Remaining.{rule_with, difference, changes_between, changes_from, with_key, keys_in_order, remaining_changes, AreRemaining}
 use Rattle.update_model.specs.declared.Change.{Change}
 use Rattle.update_model.specs.declared.Change.TheVariants.{Insert, Delete, Replace}
 use Rattle.update_model.proofs.ChangeLaws.{key_named, writes_key, stands_from_in, in_from_stands, rules_at-after_change}
@@ -269,8 +269,8 @@ fewer_from n (now ∷ nows) (new ∷ news) (suc i) after less more e =
     ∙ ap suc (sym (length-append (changes_between (switch_at n) now new) (changes_from (suc n) (set nows i after) news)))
 
 -- each change that remains applies, and after it one fewer remains
-pub remaining_shortens : (tables new : List (List Rule)) → ((s : SwitchId) → AreUnique (rules_at tables s)) → ((s : SwitchId) → AreUnique (rules_at new s)) → (d : Change) → IsIn d (remaining tables new)
-    → Applies tables d × (length (remaining tables new) ≡ suc (length (remaining (tables_after_change d tables) new)))
+pub remaining_shortens : (tables new : List (List Rule)) → ((s : SwitchId) → AreUnique (rules_at tables s)) → ((s : SwitchId) → AreUnique (rules_at new s)) → (d : Change) → IsIn d (remaining_changes tables new)
+    → Applies tables d × (length (remaining_changes tables new) ≡ suc (length (remaining_changes (tables_after_change d tables) new)))
 remaining_shortens tables new unique new_unique d i =
     let (n, j, less, more) = in_from_changes 0 tables new d i in
     let s = switch_at (0 + n) in
@@ -282,7 +282,7 @@ remaining_shortens tables new unique new_unique d i =
     subst (λ m. length (changes_between (switch_at m) (get_or tables n []) (get_or new n [])) ≡ suc (length (changes_between (switch_at m) (rules_after_change d (get_or tables n [])) (get_or new n [])))) (sym zero_n) h.fewer in (
       subst (λ x. (x.0 < length tables) × AppliesTo (rules_at tables x) d) (sym h.switch) (less, h.applies),
       fewer_from 0 tables new n (rules_after_change d (get_or tables n [])) less more fewer
-          ∙ ap (λ (x : SwitchId). suc (length (remaining (set tables x.0 (rules_after_change d (rules_at tables x))) new))) (sym h.switch),
+          ∙ ap (λ (x : SwitchId). suc (length (remaining_changes (set tables x.0 (rules_after_change d (rules_at tables x))) new))) (sym h.switch),
     )
 
 -- at each switch no two rules have one key
@@ -299,7 +299,7 @@ unique_then tables d applies unique s =
 
 -- what remains at first is what is made and what remains after it
 pub remaining_made : (new : List (List Rule)) → AllUnique new → (tables : List (List Rule)) → AllUnique tables → (changes : List Change) → AreRemaining tables new changes
-    → length (remaining tables new) ≡ length changes + length (remaining (tables_after changes tables) new)
+    → length (remaining_changes tables new) ≡ length changes + length (remaining_changes (tables_after changes tables) new)
 remaining_made new new_unique tables unique [] made = omega arith
 remaining_made new new_unique tables unique (c ∷ changes) made =
     let (applies, fewer) = remaining_shortens tables new unique new_unique c made.0 in

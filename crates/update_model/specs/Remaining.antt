@@ -46,10 +46,10 @@ changes_from n (now ∷ nows) [] = []
 changes_from n (now ∷ nows) (new ∷ news) = changes_between (record { 0 = n }) now new ++ changes_from (suc n) nows news
 
 -- the changes that remain, by switch and then in key order
-abbrev pub remaining : List (List Rule) → List (List Rule) → List Change
-remaining now new = changes_from 0 now new
+abbrev pub remaining_changes : List (List Rule) → List (List Rule) → List Change
+remaining_changes now new = changes_from 0 now new
 
 -- each change is one of those that remain when it is made
 abbrev pub AreRemaining : List (List Rule) → List (List Rule) → List Change → Type 0
 AreRemaining now new [] = Unit {0}
-AreRemaining now new (c ∷ cs) = IsIn c (remaining now new) × AreRemaining (tables_after_change c now) new cs
+AreRemaining now new (c ∷ cs) = IsIn c (remaining_changes now new) × AreRemaining (tables_after_change c now) new cs

@@ -75,26 +75,26 @@ IsEnabled net rounds state (event.Hop i) = IsHopping state.packets i
 IsEnabled net rounds state (event.Lose i) = IsHopping state.packets i
 
 -- a packet that enters when k rounds are settled
-abbrev pub entered : Place → ℕ → ℕ → Packet
-entered place dst k = record { entry = place; dst = dst; at = place; born = k; visits = stop_of place ∷ []; ended = UnderWay }
+abbrev pub entered_packet : Place → ℕ → ℕ → Packet
+entered_packet place dst k = record { entry = place; dst = dst; at = place; born = k; visits = stop_of place ∷ []; ended = UnderWay }
 
 -- a packet after an outcome at its place: it goes on, leaves or is dropped
-abbrev pub hopped : Packet → Outcome → Packet
-hopped p (Go next) = record p { at = next; visits = p.visits ++ stop_of next ∷ [] }
-hopped p found = record p { ended = ended_by p.at found }
+abbrev pub hopped_packet : Packet → Outcome → Packet
+hopped_packet p (Go next) = record p { at = next; visits = p.visits ++ stop_of next ∷ [] }
+hopped_packet p found = record p { ended = ended_by p.at found }
 
 -- a packet after it is lost
-abbrev pub lost : Packet → Packet
-lost p = record p { ended = Lost }
+abbrev pub lost_packet : Packet → Packet
+lost_packet p = record p { ended = Lost }
 
 -- the packets after packet i is changed
 abbrev pub with_packet : (Packet → Packet) → ℕ → List Packet → List Packet
 with_packet f i packets = option_map_or (λ p. slice_set packets i (f p)) (slice_get packets i) packets
 
 -- the phase after the running round is settled
-abbrev pub settled : Phase → Phase
-settled (Settled k) = Settled k
-settled (Running k) = Settled k
+abbrev pub phase_after_settle : Phase → Phase
+phase_after_settle (Settled k) = Settled k
+phase_after_settle (Running k) = Settled k
 
 -- the state after an event
 abbrev pub state_after_event : Network → List (List Change) → State → Event → State
@@ -102,9 +102,9 @@ state_after_event net rounds a event.Start =
     record a { phase = Running (suc (settled_count a.phase)); pending = replicate (length (slice_index_or rounds (settled_count a.phase) [])) true }
 state_after_event net rounds a (event.Change i) =
     record a { tables = option_map_or (λ c. tables_after_change c a.tables) (slice_get (slice_index_or rounds (settled_count a.phase) []) i) a.tables; pending = slice_set a.pending i false }
-state_after_event net rounds a event.Settle = record a { phase = settled a.phase }
+state_after_event net rounds a event.Settle = record a { phase = phase_after_settle a.phase }
 state_after_event net rounds a (event.Enter place dst) =
     record a { packets = a.packets ++ record { entry = place; dst = dst; at = place; born = settled_count a.phase; visits = stop_of place ∷ []; ended = UnderWay } ∷ [] }
 state_after_event net rounds a (event.Hop i) =
-    record a { packets = with_packet (λ p. hopped p (outcome_in net a.tables p.at p.dst)) i a.packets }
+    record a { packets = with_packet (λ p. hopped_packet p (outcome_in net a.tables p.at p.dst)) i a.packets }
 state_after_event net rounds a (event.Lose i) = record a { packets = with_packet (λ p. record p { ended = Lost }) i a.packets }

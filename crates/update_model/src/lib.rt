@@ -9,7 +9,7 @@ ghost use Rattle.flow_rules.specs.Tables.{rules_at, rules_of_all};
 ghost use Rattle.path_walk.specs.Paths.{ended_by, outcome_in};
 ghost use Rattle.update_model.specs.Changes.{with_change, rule_of, Applies, AppliesTo, switch_of, rules_after_change, spare_after_change, tables_after_change, round_after};
 ghost use Rattle.update_model.specs.Mixtures.{is_insert, is_delete, is_replace};
-ghost use Rattle.update_model.specs.States.{with_packet, hopped, entered, settled_count, first_state, IsUnderWay, IsHopping, IsEnabled, MayStart, MayChange, MaySettle};
+ghost use Rattle.update_model.specs.States.{with_packet, hopped_packet, entered_packet, settled_count, first_state, IsUnderWay, IsHopping, IsEnabled, MayStart, MayChange, MaySettle};
 
 pub mod laws;
 mod pending;
@@ -132,7 +132,7 @@ impl Visits {
 fn move_packet(packets: &mut Vec<Packet>, i: usize, next: Place) -> Result<(), Memory>
     requires { i < vec_len packets.old }
     ensures ok { IfOk result (λ _. packets.new.items
-        ≡ with_packet (λ p. hopped p (Outcome.Go next)) i packets.old.items) }
+        ≡ with_packet (λ p. hopped_packet p (Outcome.Go next)) i packets.old.items) }
     ensures err { OnErr result (packets.new.items ≡ packets.old.items) }
 {
     let packet = &mut packets[i];
@@ -146,7 +146,7 @@ fn move_packet(packets: &mut Vec<Packet>, i: usize, next: Place) -> Result<(), M
 
 /// A packet that enters at a place when so many rounds are settled.
 fn enter_packet(alloc: Global, place: Place, dst: u32, born: u32) -> Result<Packet, Memory>
-    ensures { IfOk result (λ p. p ≡ entered place dst born) }
+    ensures { IfOk result (λ p. p ≡ entered_packet place dst born) }
 {
     let mut visits = Visits {
         list: Vec::new(alloc),

@@ -1,7 +1,7 @@
 //! The packets of a network, and how many of them are under way.
 ghost use Rattle.std.specs.Prelude.{◌≡◌, ℕ, suc, ◌<◌, ◌≤◌, ◌^◌, ◌++◌, ◌∷◌, [], true, false, Some, slice_get, IfOk, OnErr, IsTrue, ◌↔◌, vec_len};
 ghost use Rattle.std.specs.List.{AllByRecursion};
-ghost use Rattle.update_model.specs.States.{with_packet, hopped, entered, IsUnderWay, IsHopping};
+ghost use Rattle.update_model.specs.States.{with_packet, hopped_packet, entered_packet, IsUnderWay, IsHopping};
 ghost use Rattle.update_model.specs.Worlds.{goes_on};
 
 use crate::{Packet, add_packet, end_packet, enter_packet, is_under_way, move_packet};
@@ -88,7 +88,7 @@ impl Traffic {
     pub(crate) fn enter(&mut self, place: Place, dst: u32) -> Result<(), Memory>
         ensures ok { IfOk result (λ _. self.new
             ≡ record self.old {
-              packets = self.old.packets ++ entered place dst
+              packets = self.old.packets ++ entered_packet place dst
                   self.old.settled ∷ [];
             }) }
         ensures err { OnErr result (self.new ≡ self.old) }
@@ -104,7 +104,7 @@ impl Traffic {
         requires { IsHopping self.old.packets i }
         ensures ok { IfOk result (λ _. self.new
             ≡ record self.old {
-              packets = with_packet (λ p. hopped p (Outcome.Go next)) i
+              packets = with_packet (λ p. hopped_packet p (Outcome.Go next)) i
                   self.old.packets;
             }) }
         ensures err { OnErr result (self.new ≡ self.old) }
@@ -128,7 +128,10 @@ impl Traffic {
     pub(crate) fn hop(&mut self, i: usize, found: Outcome) -> Result<(), Memory>
         requires { IsHopping self.old.packets i }
         ensures ok { IfOk result (λ _. self.new
-            ≡ record self.old { packets = with_packet (λ p. hopped p found) i self.old.packets }) }
+            ≡ record self.old {
+              packets
+                  = with_packet (λ p. hopped_packet p found) i self.old.packets;
+            }) }
         ensures err { OnErr result (self.new ≡ self.old) }
     {
         let switch = self.packets[i].at.switch;

@@ -5,7 +5,7 @@ ghost use Rattle.topology.specs.Networks.{IsEntry, switch_count};
 ghost use Rattle.flow_rules.specs.Tables.{rules_of_all, rules_at};
 ghost use Rattle.path_walk.specs.Paths.{outcome_in};
 ghost use Rattle.update_model.specs.Changes.{Applies, round_after};
-ghost use Rattle.update_model.specs.States.{first_state, with_packet, hopped, settled_count, IsUnderWay, IsHopping, IsEnabled, MayStart, MayChange, MaySettle};
+ghost use Rattle.update_model.specs.States.{first_state, with_packet, hopped_packet, settled_count, IsUnderWay, IsHopping, IsEnabled, MayStart, MayChange, MaySettle};
 ghost use Rattle.update_model.specs.Worlds.{IsPending, running_round, world_after, StartsFrom, AppliesAt};
 
 use crate::pending::Pending;

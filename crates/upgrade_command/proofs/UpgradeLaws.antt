@@ -6,7 +6,7 @@ use Rattle.command_base.specs.declared.status.Status.{Status}
 use Rattle.command_base.specs.Names.{PlanNames}
 use Rattle.command_base.specs.Readings.{reading_plan_files}
 use Rattle.command_base.specs.Updates.{PlanMeaning, FilesMeanOnePlan, WritesPlan}
-use Rattle.command_base.specs.Runs.{IsSettled, Answered}
+use Rattle.command_base.specs.Runs.{IsComplete, Answered}
 use Rattle.command_base.proofs.MeaningLaws.{plan_files_meant}
 use Rattle.command_base.proofs.AnswerLaws.{SaysOfFiles, says_of_files, done_means, wrote, status_of, text_of}
 use Rattle.command_base.proofs.RunLaws.{settled_done}
@@ -19,7 +19,7 @@ writes files names old new result r m mean =
     let says = r.said m mean in
     record { text = _; means = says.means; written = wrote r _ (text_of r.answer _ _ says.answer_is) }
 
-pub promised : (files : Files) (names : PlanNames) (old new : Option (List ℕ)) (result : Status) → (IsSettled result → Answered IsUpgradeAnswer files (reading_plan_files names) old new result) → UpgradePromise files names old new result
+pub promised : (files : Files) (names : PlanNames) (old new : Option (List ℕ)) (result : Status) → (IsComplete result → Answered IsUpgradeAnswer files (reading_plan_files names) old new result) → UpgradePromise files names old new result
 promised files names old new result answered = record {
   done = λ settled. done_means (says_of_files (plan_files_meant files names) (answered settled)) (λ m says. status_of _ _ _ says.answer_is);
   same = λ m mean is. writes files names old new result (says_of_files (plan_files_meant files names) (answered (settled_done _ is))) m mean;

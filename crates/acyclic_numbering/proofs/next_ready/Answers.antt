@@ -2,7 +2,7 @@ use Rattle.std.proofs.Common.{◌≡◌, subst, inl, inr, arith}
 use Rattle.std.proofs.lemmas.Bool.{both_ways, cases_lt}
 use Rattle.net_base.specs.declared.ids.SwitchId.{SwitchId}
 use Rattle.acyclic_numbering.specs.Heights.{IsEdge}
-use Rattle.acyclic_numbering.specs.Numbered.{IsOpen, IsReady}
+use Rattle.acyclic_numbering.specs.Numbered.{IsOpen, IsNumberable}
 use Rattle.net_base.proofs.NameLaws.{same_switch}
 use Rattle.acyclic_numbering.proofs.next_ready.Goals as goal
 
@@ -14,5 +14,5 @@ loop-i-preserved c s below opens ready =
           let e : s.0 ≡ c.loop-i.i = omega arith in
           let same = same_switch s (record { 0 = c.loop-i.i }) e in
           both_ways c.is_next.result c.if-is_next.false (c.is_next.ensures.1
-          (subst (λ (x : SwitchId). IsOpen c.args.pending.now x) same opens, subst (λ (x : SwitchId). IsReady (IsEdge c.args.edges.now) c.args.pending.now x) same ready)))
+          (subst (λ (x : SwitchId). IsOpen c.args.pending.now x) same opens, subst (λ (x : SwitchId). IsNumberable (IsEdge c.args.edges.now) c.args.pending.now x) same ready)))
     ]

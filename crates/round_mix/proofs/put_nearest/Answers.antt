@@ -1,5 +1,5 @@
 use Rattle.std.proofs.Common.{◌≡◌, ◌+◌, ◌<◌, ◌++◌, ℕ, rules, List, length, map, drop, sym, ◌∙◌, ap, subst, arith}
-use Rattle.path_walk.specs.Outcomes.{acted, header_at}
+use Rattle.path_walk.specs.Outcomes.{action_outcome, header_at}
 use Rattle.path_walk.specs.declared.Outcome.{Outcome}
 use Rattle.flow_rules.specs.declared.rules.Action.{Action}
 use Rattle.round_mix.specs.Scan.{scan}
@@ -15,18 +15,18 @@ overflow_add-result c =
 pub returns-then-is_kept-clause-ends : goal.returns-then-is_kept-clause-ends
 returns-then-is_kept-clause-ends c _ =
     c.put_actions.ensures.items
-    ∙ found_kept (acted c.args.net.now c.args.packet.place) (header_at c.args.packet.place c.args.packet.dst) c.args.rules.now c.args.from c.args.outcomes.now.items
+    ∙ found_kept (action_outcome c.args.net.now c.args.packet.place) (header_at c.args.packet.place c.args.packet.dst) c.args.rules.now c.args.from c.args.outcomes.now.items
     c.in-Some.position c.index-rules-position.result c.in-Some.ensures.met c.in-Some.ensures.first c.index-rules-position.is (sym c.is_kept.ensures ∙ c.if-is_kept.true)
 
 pub returns-in-None-clause-ends : goal.returns-in-None-clause-ends
 returns-in-None-clause-ends c _ =
     c.put.ensures.items
-    ∙ ap (λ (found : List Action). c.args.outcomes.now.items ++ map (acted c.args.net.now c.args.packet.place) found)
+    ∙ ap (λ (found : List Action). c.args.outcomes.now.items ++ map (action_outcome c.args.net.now c.args.packet.place) found)
     (sym (scan_none (header_at c.args.packet.place c.args.packet.dst) c.args.rules.now c.args.from c.requires.within c.in-None.ensures.first))
 
 pub returns-else-is_kept-clause-goes_on : goal.returns-else-is_kept-clause-goes_on
 returns-else-is_kept-clause-goes_on c next is =
-    let f = acted c.args.net.now c.args.packet.place in
+    let f = action_outcome c.args.net.now c.args.packet.place in
     let h = header_at c.args.packet.place c.args.packet.dst in
     let marks = c.args.rules.now in
     let old = c.args.outcomes.now.items in

@@ -2,7 +2,7 @@ use Rattle.std.proofs.Common.{◌≡◌, length, sym, subst, ap}
 use Rattle.std.proofs.lemmas.Result.{IfOk-weaker}
 use Rattle.flow_rules.specs.Tables.{rules_of_all}
 use Rattle.dest_classes.specs.Classes.{ClassList}
-use Rattle.update_model.specs.Remaining.{remaining}
+use Rattle.update_model.specs.Remaining.{remaining_changes}
 use Rattle.certificates.specs.Certified.{IsCertified, classes_for}
 use Rattle.certificates.specs.Laws.{task_of}
 use Rattle.certificates.specs.Valid.{IsValidPlan}
@@ -59,7 +59,7 @@ pub returns-clause-count : goal.returns-clause-count
 returns-clause-count c =
     let to : Target = record { net = c.args.net.now; new = rules_of_all c.args.new.now; demands = c.args.duties.now.demands; classes = c.args.classes.now } in
     let old = rules_of_all c.args.old.now in
-    let P : Ordered → Type 0 = OfPlan (λ p. length p.rounds ≡ length (remaining old to.new)) in
+    let P : Ordered → Type 0 = OfPlan (λ p. length p.rounds ≡ length (remaining_changes old to.new)) in
     IfOk-weaker c.answer_to.result (IsAnswered to old) P (λ o a. subst P (sym a.answer_is) (answer_count to old c.requires.classes c.keeps_rules.ensures c.requires.old c.requires.new a.search a.stored c.rounds_make_no_classes.ensures c.requires.old_good c.requires.new_good a.none_remains a.ended)) c.answer_to.ensures
 
 pub returns-clause-tried : goal.returns-clause-tried

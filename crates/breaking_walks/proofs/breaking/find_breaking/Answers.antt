@@ -4,7 +4,7 @@ use Rattle.std.proofs.lemmas.Option.{IfSome_then}
 use Rattle.std.proofs.lemmas.Result.{IfOk-weaker}
 use Rattle.topology.specs.Networks.{IsNetwork, switch_count}
 use Rattle.demands.specs.Duties.{PacketDuties, duties_of}
-use Rattle.breaking_walks.specs.Rounds.{update_of}
+use Rattle.breaking_walks.specs.Rounds.{round_rollout}
 use Rattle.breaking_walks.specs.Breaking.{HasBreakingWalk}
 use Rattle.breaking_walks.specs.Broken.{IsBroken, IsNoneDropped, IsNoneUnmet, IsNoneTwice}
 use Rattle.breaking_walks.specs.declared.BreakingWalk.{BreakingWalk}
@@ -14,7 +14,7 @@ use Rattle.breaking_walks.proofs.breaking.find_breaking.Goals as goal
 
 pub returns-clause-some : goal.returns-clause-some
 returns-clause-some c =
-    let u = update_of c.args.round in
+    let u = round_rollout c.args.round in
     let k = c.args.round.number in
     let entry = c.args.numbered.class.entry in
     let dst = c.args.numbered.class.first in
@@ -25,7 +25,7 @@ returns-clause-some c =
 pub returns-clause-none : goal.returns-clause-none
 returns-clause-none c =
     let r = c.args.round in
-    let u = update_of r in
+    let u = round_rollout r in
     let k = r.number in
     let entry = c.args.numbered.class.entry in
     let dst = c.args.numbered.class.first in

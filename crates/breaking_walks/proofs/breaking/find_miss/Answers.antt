@@ -3,7 +3,7 @@ use Rattle.std.specs.Prelude.{Option, IfSome}
 use Rattle.net_base.specs.Members.{IsIn}
 use Rattle.net_base.proofs.ItemLaws.{in_from_get}
 use Rattle.demands.specs.Duties.{PacketDuties, duties_of}
-use Rattle.breaking_walks.specs.Rounds.{update_of}
+use Rattle.breaking_walks.specs.Rounds.{round_rollout}
 use Rattle.breaking_walks.specs.declared.BreakingWalk.{BreakingWalk}
 use Rattle.breaking_walks.specs.Broken.{IsBroken}
 use Rattle.breaking_walks.proofs.BreakLaws.{none_unmet_all}
@@ -11,7 +11,7 @@ use Rattle.breaking_walks.proofs.breaking.find_miss.Goals as goal
 
 pub returns-in-Some-clause-some : goal.returns-in-Some-clause-some
 returns-in-Some-clause-some c =
-    let u = update_of c.args.round in
+    let u = round_rollout c.args.round in
     let k = c.args.round.number in
     let entry = c.args.numbered.class.entry in
     let dst = c.args.numbered.class.first in
@@ -29,4 +29,4 @@ returns-clause-none c =
     let duties = duties_of c.args.duties.now.demands entry dst in
     let count : c.chains-i-end.result ≡ length duties.chains = c.chains-i-end.ensures.count c.args.numbered.class c.requires.class in
     let all : length duties.chains ≤ c.loop-i.i = (let past = c.loop-i-test.false in omega arith) in
-    none_unmet_all (update_of c.args.round) c.args.round.number dst entry duties c.loop-i.i all (c.loop-i.invariant)
+    none_unmet_all (round_rollout c.args.round) c.args.round.number dst entry duties c.loop-i.i all (c.loop-i.invariant)

@@ -2,7 +2,7 @@ use Rattle.std.proofs.Common.{List, [], ◌∷◌, subst}
 use Rattle.std.specs.Prelude.{Option, IfSome, IfNone}
 use Rattle.net_base.specs.declared.ids.Place.{Place}
 use Rattle.net_base.specs.declared.ids.SwitchId.{SwitchId}
-use Rattle.breaking_walks.specs.Rounds.{update_of}
+use Rattle.breaking_walks.specs.Rounds.{round_rollout}
 use Rattle.breaking_walks.specs.declared.search.Aim.TheVariants.{Meet}
 use Rattle.breaking_walks.specs.Searches.{IsFound, IsNoneFound}
 use Rattle.breaking_walks.proofs.BreakLaws.{twice_broken, none_twice_next}
@@ -11,11 +11,11 @@ use Rattle.breaking_walks.proofs.breaking.find_repeat.Goals as goal
 
 pub returns-then-are_falling-clause-none : goal.returns-then-are_falling-clause-none
 returns-then-are_falling-clause-none c rest walk less =
-    never_again (update_of c.args.round) c.args.round.number c.args.class.first c.args.class.entry (c.in_ok-are_falling.ensures c.if-are_falling.true) rest walk
+    never_again (round_rollout c.args.round) c.args.round.number c.args.class.first c.args.class.entry (c.in_ok-are_falling.ensures c.if-are_falling.true) rest walk
 
 pub returns-in-Some-clause-some : goal.returns-in-Some-clause-some
 returns-in-Some-clause-some c d =
-    let u = update_of c.args.round in
+    let u = round_rollout c.args.round in
     let k = c.args.round.number in
     let entry = c.args.class.entry in
     let dst = c.args.class.first in
@@ -26,7 +26,7 @@ returns-in-Some-clause-some c d =
 
 pub loop-i-preserved : goal.loop-i-preserved
 loop-i-preserved c =
-    let u = update_of c.args.round in
+    let u = round_rollout c.args.round in
     let k = c.args.round.number in
     let entry = c.args.class.entry in
     let dst = c.args.class.first in

@@ -1,6 +1,6 @@
-use Rattle.breaking_walks.specs.Rounds.{update_of}
+use Rattle.breaking_walks.specs.Rounds.{round_rollout}
 use Rattle.breaking_walks.specs.Broken.{IsNoneTwice}
 use Rattle.breaking_walks.proofs.breaking.find_repeat.Given as goal
 
 abbrev pub invariant-loop-i : goal.invariant-loop-i
-invariant-loop-i l = IsNoneTwice (update_of l.round) l.round.number l.class.first l.class.entry l.i
+invariant-loop-i l = IsNoneTwice (round_rollout l.round) l.round.number l.class.first l.class.entry l.i

@@ -3,7 +3,7 @@ use Rattle.std.specs.Prelude.{Option, IfSome}
 use Rattle.net_base.specs.Walks.{end_of}
 use Rattle.net_base.specs.declared.ids.Place.{Place}
 use Rattle.topology.specs.Networks.{IsNetwork, switch_count}
-use Rattle.breaking_walks.specs.Rounds.{update_of}
+use Rattle.breaking_walks.specs.Rounds.{round_rollout}
 use Rattle.breaking_walks.specs.declared.search.Aim.TheVariants.{LeaveUnmet}
 use Rattle.breaking_walks.specs.Searches.{IsFound}
 use Rattle.breaking_walks.proofs.WithinLaws.{end_within}
@@ -12,7 +12,7 @@ use Rattle.breaking_walks.proofs.breaking.find_unmet.Goals as goal
 pub leave_at-requires-clause-within : goal.leave_at-requires-clause-within
 leave_at-requires-clause-within c =
     let r = c.args.round in
-    let u = update_of r in
+    let u = round_rollout r in
     let k = r.number in
     let entry = c.args.class.entry in
     let dst = c.args.class.first in

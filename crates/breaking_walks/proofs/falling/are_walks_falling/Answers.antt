@@ -6,7 +6,7 @@ use Rattle.path_walk.specs.declared.Outcome.{Outcome}
 use Rattle.update_model.specs.Mixtures.{IsPossible}
 use Rattle.acyclic_numbering.specs.Heights.{IsEdge, Falls}
 use Rattle.acyclic_numbering.specs.declared.Edge.{Edge}
-use Rattle.breaking_walks.specs.Rounds.{update_of}
+use Rattle.breaking_walks.specs.Rounds.{round_rollout}
 use Rattle.breaking_walks.specs.Surveys.{NeverRepeats}
 use Rattle.breaking_walks.specs.declared.trail.Node.{Node}
 use Rattle.breaking_walks.proofs.SearchLaws.{node_within}
@@ -15,7 +15,7 @@ use Rattle.breaking_walks.proofs.falling.are_walks_falling.Goals as goal
 
 pub looking-init : goal.looking-init
 looking-init c =
-    let u = update_of c.args.round in
+    let u = round_rollout c.args.round in
     let k = c.args.round.number in
     let dst = c.args.class.first in
     let entry = c.args.class.entry in
@@ -26,11 +26,11 @@ pub possible-requires-clause-within : goal.possible-requires-clause-within
 possible-requires-clause-within c =
     let r = c.args.round in
     let is_net : IsNetwork r.net.now = c.keeps_rules.ensures in
-    node_within (update_of r) r.number c.args.class.first c.args.class.entry [] c.looking.trail c.looking.invariant.so.is_trail is_net c.requires.entry c.looking.next c.at.result c.at.ensures.at
+    node_within (round_rollout r) r.number c.args.class.first c.args.class.entry [] c.looking.trail c.looking.invariant.so.is_trail is_net c.requires.entry c.looking.next c.at.result c.at.ensures.at
 
 pub looking-preserved : goal.looking-preserved
 looking-preserved c =
-    let u = update_of c.args.round in
+    let u = round_rollout c.args.round in
     let k = c.args.round.number in
     let dst = c.args.class.first in
     let all = subst (λ (xs : List Outcome). (o : Outcome) → IsIn o xs ↔ IsPossible u k dst c.at.result.0.place o) (sym c.list-found.ensures) c.in_ok-outcomes.ensures in
@@ -46,7 +46,7 @@ looking-smaller c =
 
 pub returns : goal.returns
 returns c =
-    let u = update_of c.args.round in
+    let u = round_rollout c.args.round in
     let k = c.args.round.number in
     let dst = c.args.class.first in
     let entry = c.args.class.entry in

@@ -4,7 +4,7 @@ use Rattle.net_base.specs.Members.{IsIn}
 use Rattle.topology.specs.Networks.{IsNetwork}
 use Rattle.path_walk.specs.declared.Outcome.{Outcome}
 use Rattle.update_model.specs.Mixtures.{MayGo, IsPossible}
-use Rattle.breaking_walks.specs.Rounds.{update_of}
+use Rattle.breaking_walks.specs.Rounds.{round_rollout}
 use Rattle.breaking_walks.specs.declared.trail.Node.{Node}
 use Rattle.breaking_walks.proofs.SearchLaws.{IsAimedNode, IsSearched, node_within, way_found, searched_one, none_found}
 use Rattle.breaking_walks.proofs.TrailLaws.{node_at, searched_none}
@@ -12,7 +12,7 @@ use Rattle.breaking_walks.proofs.search.find.Goals as goal
 
 pub searching-init : goal.searching-init
 searching-init c =
-    let u = update_of c.args.round in
+    let u = round_rollout c.args.round in
     let k = c.args.round.number in
     let dst = c.args.class.first in
     let entry = c.args.class.entry in
@@ -25,11 +25,11 @@ pub possible-requires-clause-within : goal.possible-requires-clause-within
 possible-requires-clause-within c =
     let r = c.args.round in
     let is_net : IsNetwork r.net.now = c.keeps_rules.ensures in
-    node_within (update_of r) r.number c.args.class.first c.args.class.entry c.args.chain.now c.searching.trail c.searching.invariant.is_trail is_net c.requires.entry c.searching.next c.at.result c.at.ensures.at
+    node_within (round_rollout r) r.number c.args.class.first c.args.class.entry c.args.chain.now c.searching.trail c.searching.invariant.is_trail is_net c.requires.entry c.searching.next c.at.result c.at.ensures.at
 
 pub returns-then-is_aimed_at-clause-some : goal.returns-then-is_aimed_at-clause-some
 returns-then-is_aimed_at-clause-some c =
-    let u = update_of c.args.round in
+    let u = round_rollout c.args.round in
     let k = c.args.round.number in
     let dst = c.args.class.first in
     let all = subst (λ (xs : List Outcome). (o : Outcome) → IsIn o xs ↔ IsPossible u k dst c.at.result.0.place o) (sym c.list-found.ensures) c.in_ok-outcomes.ensures in
@@ -38,7 +38,7 @@ returns-then-is_aimed_at-clause-some c =
 
 pub searching-preserved : goal.searching-preserved
 searching-preserved c =
-    let u = update_of c.args.round in
+    let u = round_rollout c.args.round in
     let k = c.args.round.number in
     let dst = c.args.class.first in
     let all = subst (λ (xs : List Outcome). (o : Outcome) → IsIn o xs ↔ IsPossible u k dst c.at.result.0.place o) (sym c.list-found.ensures) c.in_ok-outcomes.ensures in
@@ -54,5 +54,5 @@ searching-smaller c =
 
 pub returns-clause-none : goal.returns-clause-none
 returns-clause-none c =
-    none_found (update_of c.args.round) c.args.round.number c.args.class.first c.args.class.entry c.args.chain.now c.args.aim c.searching.next c.searching.trail c.searching.invariant
+    none_found (round_rollout c.args.round) c.args.round.number c.args.class.first c.args.class.entry c.args.chain.now c.args.aim c.searching.next c.searching.trail c.searching.invariant
     (let none = c.searching-test.false in let count = c.count.ensures.count in omega arith)

@@ -3,7 +3,7 @@ use Rattle.std.specs.Prelude.{Option, IfSome}
 use Rattle.demands.specs.Duties.{duties_of}
 use Rattle.breaking_walks.specs.Breaking.{IsBreakingWalk}
 use Rattle.breaking_walks.specs.declared.BreakingWalk.{BreakingWalk}
-use Rattle.counter_run.specs.Showing.{update_in}
+use Rattle.counter_run.specs.Showing.{shown_rollout}
 use Rattle.counter_run.proofs.BreakLaws.{has_walk}
 use Rattle.counter_run.proofs.ClassLaws.{entry_within}
 use Rattle.counter_run.proofs.finding.class_run.Goals as goal
@@ -13,7 +13,7 @@ breaking_walk-requires-clause-entry c = entry_within c.args.stage.round.net.now 
 
 pub returns-in_ok-breaking_run-in-Some-clause-some : goal.returns-in_ok-breaking_run-in-Some-clause-some
 returns-in_ok-breaking_run-in-Some-clause-some c =
-    let u = update_in c.args.stage in
+    let u = shown_rollout c.args.stage in
     let k = c.args.stage.round.number in
     let class = c.args.numbered.class in
     let duties = duties_of c.args.duties.now.demands class.entry class.first in

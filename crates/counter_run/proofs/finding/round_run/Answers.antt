@@ -3,7 +3,7 @@ use Rattle.std.specs.Prelude.{Option, IfNone}
 use Rattle.std.proofs.lemmas.Option.{slice_get-get_or}
 use Rattle.dest_classes.specs.declared.Class.{Class}
 use Rattle.dest_classes.proofs.MapLaws.{number_fits}
-use Rattle.counter_run.specs.Showing.{update_in}
+use Rattle.counter_run.specs.Showing.{shown_rollout}
 use Rattle.counter_run.specs.Explaining.{ClassBreaks}
 use Rattle.counter_run.proofs.ClassLaws.{class_enters, classes_more}
 use Rattle.counter_run.proofs.finding.round_run.Goals as goal
@@ -12,7 +12,7 @@ pub loop-number-preserved-then-known : goal.loop-number-preserved-then-known
 loop-number-preserved-then-known c =
     let n = c.loop-number.number in
     let less : n < length c.args.good.now = (let test = c.loop-number-test.true in let end = c.count-number-end.ensures.count in let count = c.requires.count in omega arith) in
-    classes_more (update_in c.args.stage) c.args.classes.now c.args.duties.now.demands c.args.stage.round.number n c.loop-number.invariant
+    classes_more (shown_rollout c.args.stage) c.args.classes.now c.args.duties.now.demands c.args.stage.round.number n c.loop-number.invariant
     (λ class is. c.requires.good n class is (slice_get-get_or c.args.good.now n false less ∙ ap Some c.if-known.true))
 
 pub class_run-requires-clause-entry : goal.class_run-requires-clause-entry
@@ -20,7 +20,7 @@ class_run-requires-clause-entry c = class_enters c.args.stage.round.net.now c.ar
 
 pub loop-number-preserved : goal.loop-number-preserved
 loop-number-preserved c =
-    let u = update_in c.args.stage in
+    let u = shown_rollout c.args.stage in
     let demands = c.args.duties.now.demands in
     let k = c.args.stage.round.number in
     let found = c.class-class.result in

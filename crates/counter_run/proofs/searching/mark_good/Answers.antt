@@ -4,7 +4,7 @@ use Rattle.std.specs.Vec.{with_items}
 use Rattle.std.proofs.lemmas.List.{with_items_is}
 use Rattle.dest_classes.specs.Classes.{ClassList, IsClass}
 use Rattle.round_survey.specs.Surveys.{AreGood}
-use Rattle.counter_run.specs.Showing.{update_in}
+use Rattle.counter_run.specs.Showing.{shown_rollout}
 use Rattle.counter_run.proofs.searching.mark_good.Goals as goal
 
 pub look-requires-clause-before : goal.look-requires-clause-before
@@ -12,7 +12,7 @@ look-requires-clause-before c j less n class is = c.requires.before j less n cla
 
 pub returns-then-by_survey-clause-good : goal.returns-then-by_survey-clause-good
 returns-then-by_survey-clause-good c =
-    subst (λ (map : ClassList). OnOk c.look.result (AreGood (update_in c.args.stage) c.args.duties.now.demands c.args.stage.round.number map c.look.new.self.good.items)) c.requires.duties
+    subst (λ (map : ClassList). OnOk c.look.result (AreGood (shown_rollout c.args.stage) c.args.duties.now.demands c.args.stage.round.number map c.look.new.self.good.items)) c.requires.duties
     c.look.ensures.good
 
 pub returns-clause-good : goal.returns-clause-good

@@ -8,7 +8,7 @@ use Rattle.dest_classes.proofs.MapLaws.{number_fits}
 use Rattle.update_model.specs.declared.Change.{Change}
 use Rattle.check_reasons.specs.Touched.{touches}
 use Rattle.class_watch.proofs.ListLaws.{get_set_same, get_set_other}
-use Rattle.counter_run.specs.Showing.{update_in}
+use Rattle.counter_run.specs.Showing.{shown_rollout}
 use Rattle.counter_run.specs.Explaining.{ClassBreaks}
 use Rattle.counter_run.proofs.ClassLaws.{class_unchanged}
 use Rattle.counter_run.proofs.searching.mark_unchanged.Goals as goal
@@ -16,7 +16,7 @@ use Rattle.counter_run.proofs.searching.mark_unchanged.Goals as goal
 pub loop-number-preserved : goal.loop-number-preserved
 loop-number-preserved c =
     let stage = c.args.stage in
-    let u = update_in stage in
+    let u = shown_rollout stage in
     let demands = c.args.duties.now.demands in
     let good = c.loop-number.good in
     let i = c.loop-number.number in

@@ -1,6 +1,6 @@
 use Rattle.std.proofs.Common.{subst, sym, take}
 use Rattle.demands.specs.Duties.{duties_of}
-use Rattle.counter_run.specs.Showing.{IsBreakingRun, AreFewFor, update_in}
+use Rattle.counter_run.specs.Showing.{IsBreakingRun, AreFewFor, shown_rollout}
 use Rattle.counter_run.proofs.AddLaws.{run_added}
 use Rattle.counter_run.proofs.FewLaws.{few_events}
 use Rattle.counter_run.proofs.ShownLaws.{shown}
@@ -18,12 +18,12 @@ add_walk-requires-clause-stage c = record {
 
 pub add_walk-requires-clause-end : goal.add_walk-requires-clause-end
 add_walk-requires-clause-end c =
-    end_possible (update_in c.args.stage) c.args.stage.round.number c.args.class.first c.args.class.entry
+    end_possible (shown_rollout c.args.stage) c.args.stage.round.number c.args.class.first c.args.class.entry
     (duties_of c.args.duties.now.demands c.args.class.entry c.args.class.first) c.args.walk.now.rest c.args.walk.now.end c.requires.walk.breaks
 
 pub returns : goal.returns
 returns c =
-    let u = update_in c.args.stage in
+    let u = shown_rollout c.args.stage in
     let k = c.args.stage.round.number in
     let along = c.in_ok-add_walk.ensures in
     let events_are = run_added (take k c.args.stage.round.rounds.now) c.args.class.entry c.args.class.first along.steps c.in_ok-events.events c.add_whole_rounds.new.events c.add_entry.new.events

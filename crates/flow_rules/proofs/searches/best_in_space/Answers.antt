@@ -5,7 +5,7 @@ use Rattle.net_base.specs.Members.{IsIn}
 use Rattle.net_base.proofs.MemberLaws.{in_append_cases}
 use Rattle.flow_rules.specs.Patterns.{Header}
 use Rattle.flow_rules.specs.Scan.{covers_at, IsBeaten}
-use Rattle.flow_rules.specs.Tuples.{around, slot_of}
+use Rattle.flow_rules.specs.Tuples.{pattern_around, slot_of}
 use Rattle.flow_rules.specs.declared.rules.Pattern.{Pattern}
 use Rattle.flow_rules.proofs.ClashLaws.{rule_at}
 use Rattle.flow_rules.proofs.SearchLaws.{covers_of, hit_within, all_beaten, best_matched, none_matched}
@@ -24,7 +24,7 @@ loop-kind-preserved c =
       hit = c.best_of_kind-best.ensures.hit;
       seen = λ q i j e. elim (in_append_cases q (take n kinds) (k ∷ []) (subst (λ qs. IsIn q qs) more i)) [
         | inl l ↦ c.best_of_kind-best.ensures.kept j (c.loop-kind.invariant.seen q l j e)
-        | inr l ↦ elim l [ inl is ↦ c.best_of_kind-best.ensures.slot j (e ∙ ap (λ (x : Pattern). slot_of c.args.space.now.count (around x h)) is) | inr o ↦ absurd o ]
+        | inr l ↦ elim l [ inl is ↦ c.best_of_kind-best.ensures.slot j (e ∙ ap (λ (x : Pattern). slot_of c.args.space.now.count (pattern_around x h)) is) | inr o ↦ absurd o ]
       ];
     }
 

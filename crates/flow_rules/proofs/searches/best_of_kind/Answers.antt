@@ -2,7 +2,7 @@ use Rattle.std.proofs.Common.{◌≡◌, ◌+◌, ◌≤◌, ℕ, length, get_or
 use Rattle.std.specs.Prelude.{Option}
 use Rattle.flow_rules.specs.Patterns.{Header}
 use Rattle.flow_rules.specs.Scan.{IsBeaten}
-use Rattle.flow_rules.specs.Tuples.{around, slot_of, slots_of, link_number}
+use Rattle.flow_rules.specs.Tuples.{pattern_around, slot_of, slots_of, link_number}
 use Rattle.flow_rules.proofs.SearchLaws.{first_same, first_seen, less_link, none_below, step_same, step_seen}
 use Rattle.flow_rules.proofs.searches.best_of_kind.Goals as goal
 
@@ -11,7 +11,7 @@ loop-at-preserved c =
     let h : Header = record { port = c.args.packet.port; vlan = c.args.packet.vlan; dst = c.args.packet.dst } in
     let rules = c.args.rules.now in
     let slots = slots_of c.args.space.now in
-    let slot = slot_of c.args.space.now.count (around c.args.kind.now h) in
+    let slot = slot_of c.args.space.now.count (pattern_around c.args.kind.now h) in
     let i = c.in-Some.position in
     let held = c.loop-at.invariant in
     let same : get_or slots i 0 ≡ slot = held.same i c.in-Some.is in
@@ -30,7 +30,7 @@ pub loop-at-init : goal.loop-at-init
 loop-at-init c =
     let h : Header = record { port = c.args.packet.port; vlan = c.args.packet.vlan; dst = c.args.packet.dst } in
     let slots = slots_of c.args.space.now in
-    let slot = slot_of c.args.space.now.count (around c.args.kind.now h) in
+    let slot = slot_of c.args.space.now.count (pattern_around c.args.kind.now h) in
     let count = c.requires.count in
     let within : link_number c.first-at.result ≤ length c.args.space.now.patterns = c.first-at.ensures.within in
     record {

@@ -1,7 +1,7 @@
 use Rattle.std.proofs.Common.{◌≡◌, length, sym, subst, ap, ◌∙◌, add-one, arith}
 use Rattle.check_reasons.specs.Cases.{CaseView}
 use Rattle.check_reasons.specs.Passed.{RoundsPass}
-use Rattle.plan_checker.specs.Checking.{IsReady}
+use Rattle.plan_checker.specs.Checking.{IsReadyToCheck}
 use Rattle.plan_checker.proofs.checking.rounds_reason.Goals as goal
 
 pub loop-k-preserved : goal.loop-k-preserved
@@ -10,7 +10,7 @@ loop-k-preserved c =
     let next = sym (add-one c.loop-k.k) in
     record {
       passed = subst (λ k. RoundsPass c.args.case.now.task c.args.case.now.evidence k) next c.in_default.ensures.none.0;
-      ready = subst (λ k. IsReady c.args.case.now k c.round_reason.new.room) next c.in_default.ensures.none.1;
+      ready = subst (λ k. IsReadyToCheck c.args.case.now k c.round_reason.new.room) next c.in_default.ensures.none.1;
     }
 
 pub returns-clause-none : goal.returns-clause-none
@@ -20,5 +20,5 @@ returns-clause-none c =
     let upto = c.loop-k.auto.k-end in
     let all : c.loop-k.k ≡ length c.args.case.now.task.rounds = omega arith in (
       subst (λ k. RoundsPass c.args.case.now.task c.args.case.now.evidence k) all c.loop-k.invariant.passed,
-      subst (λ k. IsReady c.args.case.now k c.loop-k.room) all c.loop-k.invariant.ready,
+      subst (λ k. IsReadyToCheck c.args.case.now k c.loop-k.room) all c.loop-k.invariant.ready,
     )

@@ -3,7 +3,7 @@ use Rattle.std.specs.List.{AllByRecursion}
 use Rattle.std.proofs.lemmas.Result.{IfOk-weaker}
 use Rattle.update_model.specs.Mixtures.{Rollout, tables_before}
 use Rattle.mixed_walks.specs.Walks.{IsRoundOf}
-use Rattle.round_judge.specs.declared.judging.Verdict.{Verdict}
+use Rattle.round_judge.specs.declared.judging.RoundVerdict.{RoundVerdict}
 use Rattle.round_judge.specs.Judged.{IsNextRound, IsNewlySafe, AreJudged, AreMetJudged}
 use Rattle.round_judge.specs.Visits.{HoldTables, HoldRound, HoldAfter}
 use Rattle.round_judge.proofs.JudgingLaws.{picks_later}
@@ -34,9 +34,9 @@ returns-else-has_picks c =
     let changes = c.args.tried.now.changes.now in
     let mixes = c.args.tried.now.mixes.now in
     IfOk-weaker c.judge_rest.result
-    (λ (v : Verdict). (u : Rollout) (k : ℕ) → IsRoundOf to.net mixes u k → IsNextRound to u e k changes → AllByRecursion (IsNewlySafe to u e k) c.in-Safe.found.items → HoldRound to u k c.judge_met.new.watch.came.items
+    (λ (v : RoundVerdict). (u : Rollout) (k : ℕ) → IsRoundOf to.net mixes u k → IsNextRound to u e k changes → AllByRecursion (IsNewlySafe to u e k) c.in-Safe.found.items → HoldRound to u k c.judge_met.new.watch.came.items
     → AreJudged to u e k v × HoldAfter to u k v c.judge_rest.new.watch.came.items)
-    (λ (v : Verdict). (u : Rollout) (k : ℕ) → IsRoundOf to.net mixes u k → IsNextRound to u e k changes → HoldTables to (tables_before u k) c.args.watch.now.came.items → AreJudged to u e k v × HoldAfter to u k v c.judge_rest.new.watch.came.items)
+    (λ (v : RoundVerdict). (u : Rollout) (k : ℕ) → IsRoundOf to.net mixes u k → IsNextRound to u e k changes → HoldTables to (tables_before u k) c.args.watch.now.came.items → AreJudged to u e k v × HoldAfter to u k v c.judge_rest.new.watch.came.items)
     (λ v all u k round next held.
     let met = subst (λ w. AreMetJudged to u e k w c.judge_met.new.watch.came.items) c.in-Safe.is (c.in_ok-failing.ensures.judged u k round next held) in
     all u k round next met.new met.known) c.judge_rest.ensures

@@ -6,8 +6,8 @@ use Rattle.certificates.specs.declared.OrderedEvidence.{OrderedEvidence}
 use Rattle.update_model.specs.declared.Change.{Change}
 use Rattle.std.proofs.Common.{◌≡◌, List}
 use Rattle.table_difference.specs.Targets.{Target}
-use Rattle.round_judge.specs.declared.judging.Verdict.{Verdict}
-use Rattle.round_judge.specs.declared.judging.Verdict.TheVariants.{Safe, Unsafe}
+use Rattle.round_judge.specs.declared.judging.RoundVerdict.{RoundVerdict}
+use Rattle.round_judge.specs.declared.judging.RoundVerdict.TheVariants.{Safe, Unsafe}
 use Rattle.round_judge.specs.Judged.{IsNextRound, AreMetJudged, AreFirstJudged}
 use Rattle.round_judge.specs.Visits.{HoldTables, HoldAfter}
 use Rattle.round_judge.proofs.JudgingLaws.{picks_later}
@@ -16,7 +16,7 @@ use Rattle.round_judge.proofs.judging.judge_in_order.Goals as goal
 
 -- where there is a round before, what is found for the classes that are met is what is found for all, in order
 met_first : (to : Target) (u : Rollout) (e : OrderedEvidence) (k : ℕ) (changes : List Change) → u.net ≡ to.net → IsNextRound to u e k changes → 0 < k
-    → (v : Verdict) (came : List ℕ) → AreMetJudged to u e k v came → AreFirstJudged to u e k v × HoldAfter to u k v came
+    → (v : RoundVerdict) (came : List ℕ) → AreMetJudged to u e k v came → AreFirstJudged to u e k v × HoldAfter to u k v came
 met_first to u e k changes net next later (Safe found) came met = (met.later later, round_after_it to u k net next.within (next.good k (omega arith)) came met.known)
 met_first to u e k changes net next later (Unsafe f) came (unsafe, below, known) = (record { is_unsafe = unsafe; below = below later }, known)
 
@@ -28,8 +28,8 @@ returns-then-has_picks c =
     let mixes = c.args.tried.now.mixes.now in
     let came = c.judge_met.new.watch.came.items in
     IfOk-weaker c.judge_met.result
-    (λ (v : Verdict). (u : Rollout) (k : ℕ) → IsRoundOf to.net mixes u k → IsNextRound to u e k changes → HoldTables to (tables_before u k) c.args.watch.now.came.items → AreMetJudged to u e k v came)
-    (λ (v : Verdict). (u : Rollout) (k : ℕ) → IsRoundOf to.net mixes u k → IsNextRound to u e k changes → HoldTables to (tables_before u k) c.args.watch.now.came.items
+    (λ (v : RoundVerdict). (u : Rollout) (k : ℕ) → IsRoundOf to.net mixes u k → IsNextRound to u e k changes → HoldTables to (tables_before u k) c.args.watch.now.came.items → AreMetJudged to u e k v came)
+    (λ (v : RoundVerdict). (u : Rollout) (k : ℕ) → IsRoundOf to.net mixes u k → IsNextRound to u e k changes → HoldTables to (tables_before u k) c.args.watch.now.came.items
     → AreFirstJudged to u e k v × HoldAfter to u k v came)
     (λ v all u k round next held.
     met_first to u e k changes round.net_is next (picks_later e.picks k (c.has_picks.ensures c.if-has_picks.true) next.picks) v came (all u k round next held)) c.judge_met.ensures.judged

@@ -7,7 +7,7 @@ use Rattle.dest_classes.specs.declared.Class.{Class}
 use Rattle.update_model.specs.Mixtures.{Rollout}
 use Rattle.mixed_walks.specs.Walks.{IsRoundOf}
 use Rattle.round_judge.specs.declared.judging.Found.{Found}
-use Rattle.round_judge.specs.declared.judging.Judged.{Judged}
+use Rattle.round_judge.specs.declared.judging.ClassVerdict.{ClassVerdict}
 use Rattle.round_judge.specs.Judged.{IsNextRound, IsJudged, IsNewlySafe}
 use Rattle.class_watch.specs.Walks.{HoldsWalks}
 use Rattle.round_judge.specs.Visits.{marks_at}
@@ -30,8 +30,8 @@ returns-clause-judged c =
     let number = c.args.number in
     let numbered = c.numbered.result in
     IfOk-weaker c.judge_class.result
-    (λ (j : Judged). (u : Rollout) (k : ℕ) → IsRoundOf to.net mixes u k → IsNextRound to u e k changes → IsJudged to u e k numbered.number numbered.class j)
-    (λ (j : Judged). (u : Rollout) (k : ℕ) (class : Class) → IsRoundOf to.net mixes u k → IsClass to.classes number class → IsNextRound to u e k changes
+    (λ (j : ClassVerdict). (u : Rollout) (k : ℕ) → IsRoundOf to.net mixes u k → IsNextRound to u e k changes → IsJudged to u e k numbered.number numbered.class j)
+    (λ (j : ClassVerdict). (u : Rollout) (k : ℕ) (class : Class) → IsRoundOf to.net mixes u k → IsClass to.classes number class → IsNextRound to u e k changes
     → AllByRecursion (IsNewlySafe to u e k) c.args.before.now.items → IsJudged to u e k number class j)
     (λ j all u k class round is next before.
     let same = numbered_class to.classes number numbered c.numbered.ensures.number c.numbered.ensures.class class is in

@@ -6,7 +6,7 @@ use Rattle.std.proofs.lemmas.Result.{IfOk-weaker}
 use Rattle.update_model.specs.Mixtures.{Rollout}
 use Rattle.mixed_walks.specs.Walks.{IsRoundOf}
 use Rattle.round_judge.specs.declared.unsafe_class.UnsafeClass.{UnsafeClass}
-use Rattle.round_judge.specs.declared.judging.Verdict.{Verdict}
+use Rattle.round_judge.specs.declared.judging.RoundVerdict.{RoundVerdict}
 use Rattle.round_judge.specs.Judged.{IsNextRound, IsNewlySafe, AreJudged, verdict_of}
 use Rattle.round_judge.specs.Visits.{HoldRound, HoldAfter}
 use Rattle.round_judge.proofs.JudgingLaws.{verdict_there}
@@ -24,7 +24,7 @@ returns c =
     let came = c.judge_each-failing.new.watch.came.items in
     let before = c.reverse.new.self.items in
     verdict_there
-    (λ (v : Verdict). (u : Rollout) (k : ℕ) → IsRoundOf to.net tried.mixes.now u k → IsNextRound to u e k tried.changes.now → AllByRecursion (IsNewlySafe to u e k) c.args.met.items
+    (λ (v : RoundVerdict). (u : Rollout) (k : ℕ) → IsRoundOf to.net tried.mixes.now u k → IsNextRound to u e k tried.changes.now → AllByRecursion (IsNewlySafe to u e k) c.args.met.items
     → HoldRound to u k c.args.watch.now.came.items → AreJudged to u e k v × HoldAfter to u k v came)
     found c.judge_each-failing.result c.verdict_of.result c.verdict_of.ensures
     (IfOk-weaker c.judge_each-failing.result

@@ -1,8 +1,8 @@
 use Rattle.std.proofs.Common.{◌<◌, ◌+◌, List, length, map, sym, ◌∙◌, ap, subst, arith}
 use Rattle.std.specs.Prelude.{IsSome, IfSome, IsSomeAnd}
 use Rattle.std.specs.Option.{ForSome}
-use Rattle.path_walk.specs.Outcomes.{acted, header_at}
-use Rattle.round_mix.specs.Among.{AreWithin, AreOutcomesAmong, HoldCandidates, picked}
+use Rattle.path_walk.specs.Outcomes.{action_outcome, header_at}
+use Rattle.round_mix.specs.Among.{ArePositionsBelow, AreOutcomesAmong, HoldCandidates, picked_marks}
 use Rattle.round_mix.specs.Found.{OutcomesState}
 use Rattle.round_mix.specs.Prepared.{MixedState, IsPrepared}
 use Rattle.round_mix.specs.Scan.{scan}
@@ -16,16 +16,16 @@ pub put_among-requires-clause-within : goal.put_among-requires-clause-within
 put_among-requires-clause-within c =
     let is_some = subst (λ (v : MixedState). IsSome v.prepared) (sym c.self.view_is) c.requires.prepared in
     let marks = c.self.inside.rules.items in
-    subst (λ (ms : List MarkedRule). AreWithin c.args.positions.now (length ms)) (sym c.deref.ensures.value)
-    (for_prepared c.self.inside.is_prepared marks (λ ms. AreWithin c.args.positions.now (length ms)) is_some
-    (subst (λ (v : MixedState). ForSome v.prepared (λ ms. AreWithin c.args.positions.now (length ms))) (sym c.self.view_is) c.requires.within))
+    subst (λ (ms : List MarkedRule). ArePositionsBelow c.args.positions.now (length ms)) (sym c.deref.ensures.value)
+    (for_prepared c.self.inside.is_prepared marks (λ ms. ArePositionsBelow c.args.positions.now (length ms)) is_some
+    (subst (λ (v : MixedState). ForSome v.prepared (λ ms. ArePositionsBelow c.args.positions.now (length ms))) (sym c.self.view_is) c.requires.within))
 
 pub put_among-requires-clause-room : goal.put_among-requires-clause-room
 put_among-requires-clause-room c =
     let is_some = subst (λ (v : MixedState). IsSome v.prepared) (sym c.self.view_is) c.requires.prepared in
     let marks = c.self.inside.rules.items in
-    let within = for_prepared c.self.inside.is_prepared marks (λ ms. AreWithin c.args.positions.now (length ms)) is_some
-    (subst (λ (v : MixedState). ForSome v.prepared (λ ms. AreWithin c.args.positions.now (length ms))) (sym c.self.view_is) c.requires.within) in
+    let within = for_prepared c.self.inside.is_prepared marks (λ ms. ArePositionsBelow c.args.positions.now (length ms)) is_some
+    (subst (λ (v : MixedState). ForSome v.prepared (λ ms. ArePositionsBelow c.args.positions.now (length ms))) (sym c.self.view_is) c.requires.within) in
     let few = ascending_few c.args.positions.now (length marks) c.requires.ascending within in
     let size = length c.args.out.now.list + c.args.out.now.spare in
     let room = for_prepared c.self.inside.is_prepared marks (λ ms. length ms < size) is_some
@@ -43,7 +43,7 @@ returns-clause-exact c table changes is_table prepared =
     subst (λ (v : MixedState). IfSome v.prepared (λ ms. AreOutcomesAmong net table changes ms c.args.positions.now c.args.place c.args.dst list)) c.self.view_is
     (if_prepared c.self.inside.is_prepared marks (λ ms. AreOutcomesAmong net table changes ms c.args.positions.now c.args.place c.args.dst list)
     (outcomes_among table changes marks c.args.positions.now is_table at net c.args.place c.args.dst list c.requires.ascending
-    (c.put_among.ensures.items ∙ ap (λ (ms : List MarkedRule). map (acted net c.args.place) (scan (header_at c.args.place c.args.dst) (picked ms c.args.positions.now))) c.deref.ensures.value)))
+    (c.put_among.ensures.items ∙ ap (λ (ms : List MarkedRule). map (action_outcome net c.args.place) (scan (header_at c.args.place c.args.dst) (picked_marks ms c.args.positions.now))) c.deref.ensures.value)))
 
 pub returns-clause-all : goal.returns-clause-all
 returns-clause-all c table changes is_table prepared hold =
@@ -55,4 +55,4 @@ returns-clause-all c table changes is_table prepared hold =
     let there : HoldCandidates marks c.args.dst c.args.positions.now = prepared_at c.self.inside.is_prepared marks (λ ms. HoldCandidates ms c.args.dst c.args.positions.now)
     (subst (λ (v : MixedState). IsSomeAnd v.prepared (λ ms. HoldCandidates ms c.args.dst c.args.positions.now)) (sym c.self.view_is) hold) in
     outcomes_of_all table changes marks c.args.positions.now is_table at net c.args.place c.args.dst list c.requires.ascending
-    (c.put_among.ensures.items ∙ ap (λ (ms : List MarkedRule). map (acted net c.args.place) (scan (header_at c.args.place c.args.dst) (picked ms c.args.positions.now))) c.deref.ensures.value) there
+    (c.put_among.ensures.items ∙ ap (λ (ms : List MarkedRule). map (action_outcome net c.args.place) (scan (header_at c.args.place c.args.dst) (picked_marks ms c.args.positions.now))) c.deref.ensures.value) there

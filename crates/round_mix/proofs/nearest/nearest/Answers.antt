@@ -3,7 +3,7 @@ use Rattle.std.proofs.lemmas.List.{take_more, take_all}
 use Rattle.net_base.specs.Members.{IsIn}
 use Rattle.net_base.proofs.MemberLaws.{in_append_cases}
 use Rattle.path_walk.specs.Outcomes.{header_at}
-use Rattle.flow_rules.specs.Tuples.{around, slot_of}
+use Rattle.flow_rules.specs.Tuples.{pattern_around, slot_of}
 use Rattle.flow_rules.specs.declared.rules.Pattern.{Pattern}
 use Rattle.round_mix.proofs.NearestLaws.{all_near}
 use Rattle.round_mix.proofs.nearest.nearest.Goals as goal
@@ -21,7 +21,7 @@ loop-kind-preserved c =
       met = c.nearest_of_kind-best.ensures.met;
       seen = λ q i j less e. elim (in_append_cases q (take n kinds) (k ∷ []) (subst (λ qs. IsIn q qs) more i)) [
         | inl l ↦ c.nearest_of_kind-best.ensures.kept (length c.args.rules.now - 1 - j) (c.loop-kind.invariant.seen q l j less e)
-        | inr l ↦ elim l [ inl is ↦ c.nearest_of_kind-best.ensures.slot j less (e ∙ ap (λ (x : Pattern). slot_of c.args.space.now.count (around x h)) is) | inr o ↦ absurd o ]
+        | inr l ↦ elim l [ inl is ↦ c.nearest_of_kind-best.ensures.slot j less (e ∙ ap (λ (x : Pattern). slot_of c.args.space.now.count (pattern_around x h)) is) | inr o ↦ absurd o ]
       ];
     }
 

@@ -2,7 +2,7 @@ use Rattle.std.proofs.Common.{◌≡◌, ◌+◌, ◌-◌, ◌<◌, ◌≤◌, �
 use Rattle.std.specs.Prelude.{Option}
 use Rattle.std.proofs.lemmas.Bool.{cases_lt, false≢true}
 use Rattle.path_walk.specs.Outcomes.{header_at}
-use Rattle.flow_rules.specs.Tuples.{around, slot_of, slots_of, link_number}
+use Rattle.flow_rules.specs.Tuples.{pattern_around, slot_of, slots_of, link_number}
 use Rattle.flow_rules.proofs.SearchLaws.{step_same}
 use Rattle.round_mix.specs.Nearest.{IsNear}
 use Rattle.round_mix.proofs.NearestLaws.{step_seen}
@@ -40,7 +40,7 @@ loop-at-preserved c =
     let rules = c.args.rules.now in
     let from = c.args.from in
     let slots = slots_of c.args.space.now in
-    let slot = slot_of c.args.space.now.count (around c.args.kind.now h) in
+    let slot = slot_of c.args.space.now.count (pattern_around c.args.kind.now h) in
     let i = c.in-Some.back in
     let held = c.loop-at.invariant in
     let same : get_or slots i 0 ≡ slot = held.same i c.in-Some.is in

@@ -3,7 +3,7 @@ use Rattle.std.specs.List.{AllByRecursion}
 use Rattle.net_base.proofs.MemberLaws.{each_append}
 use Rattle.update_model.specs.Changes.{tables_after_change}
 use Rattle.round_planner.specs.Failures.{HasStanding, IsOfUsers}
-use Rattle.round_planner.specs.declared.left.Left.{Left}
+use Rattle.round_planner.specs.declared.left.RemainingChange.{RemainingChange}
 use Rattle.round_planner.proofs.SearchingLaws.{take_more}
 use Rattle.round_planner.proofs.LeftLaws.{change_of, take_set, map_set, drop_set, drop_next, each_there}
 use Rattle.round_planner.proofs.left.forget_touched.Goals as goal
@@ -14,7 +14,7 @@ loop-one-preserved c =
     let i = c.loop-one.one-index in
     let old : Left = get_or left i c.one-item.result in
     let new : Left = c.forget.new.self in
-    let is : old ≡ get_or left i old = ap (λ (z : Left). get_or left i z) c.one-item.is in
+    let is : old ≡ get_or left i old = ap (λ (z : RemainingChange). get_or left i z) c.one-item.is in
     let (changes, rest, standing) = c.loop-one.invariant in
     let less : i < length left = omega (arith, c.loop-one-test.true, c.loop-one.auto.left) in
     let within : i < length (set left i new) = omega (arith, less, length-set left i new) in

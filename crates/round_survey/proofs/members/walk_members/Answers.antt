@@ -4,7 +4,7 @@ use Rattle.net_base.specs.Members.{IsIn}
 use Rattle.net_base.proofs.MemberLaws.{in_append_cases}
 use Rattle.net_base.proofs.ItemLaws.{in_at}
 use Rattle.dest_classes.specs.declared.NumberedClass.{NumberedClass}
-use Rattle.round_survey.specs.Rounds.{update_of}
+use Rattle.round_survey.specs.Rounds.{round_rollout}
 use Rattle.round_survey.proofs.MemberLaws.{no_class, together_for}
 use Rattle.round_survey.proofs.members.walk_members.Goals as goal
 
@@ -12,7 +12,7 @@ pub walk_more-requires-clause-round : goal.walk_more-requires-clause-round
 walk_more-requires-clause-round c =
     let m = get_or c.args.members.now c.loop-member.member-index no_class in
     let among = in_at c.args.members.now c.loop-member.member-index no_class c.loop-member-test.true in
-    (update_of c.args.round, c.args.round.number, c.requires.round.is, c.loop-member.invariant.together m among)
+    (round_rollout c.args.round, c.args.round.number, c.requires.round.is, c.loop-member.invariant.together m among)
 
 pub walk_more-requires-clause-entry : goal.walk_more-requires-clause-entry
 walk_more-requires-clause-entry c =
@@ -24,7 +24,7 @@ loop-member-preserved c =
     let i = c.loop-member.member-index in
     let member = get_or members i no_class in
     let here = in_at members i no_class c.loop-member-test.true in
-    let u = update_of c.args.round in
+    let u = round_rollout c.args.round in
     let k = c.args.round.number in
     record {
       together = λ m among.

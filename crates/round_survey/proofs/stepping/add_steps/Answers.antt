@@ -9,7 +9,7 @@ use Rattle.round_mix.specs.Prepared.{MixedState}
 use Rattle.round_mix.specs.declared.MarkedRule.{MarkedRule}
 use Rattle.check_reasons.specs.Loaded.{IsLoaded}
 use Rattle.mixed_walks.proofs.WalkedLaws.{loaded_at, all_possible}
-use Rattle.round_survey.specs.Rounds.{update_of}
+use Rattle.round_survey.specs.Rounds.{round_rollout}
 use Rattle.round_survey.proofs.stepping.add_steps.Goals as goal
 
 pub bounds-round-place : goal.bounds-round-place
@@ -21,7 +21,7 @@ bounds-round-place c =
 
 pub possible-requires-clause-prepared : goal.possible-requires-clause-prepared
 possible-requires-clause-prepared c =
-    let u = update_of c.args.round in
+    let u = round_rollout c.args.round in
     let k = c.args.round.number in
     let round = c.requires.round.is in
     let place = c.at-place.result in
@@ -35,7 +35,7 @@ possible-requires-clause-prepared c =
 
 pub possible-requires-clause-room : goal.possible-requires-clause-room
 possible-requires-clause-room c marks is =
-    let u = update_of c.args.round in
+    let u = round_rollout c.args.round in
     let k = c.args.round.number in
     let round = c.requires.round.is in
     let place = c.at-place.result in
@@ -55,7 +55,7 @@ possible-requires-clause-room c marks is =
 pub returns-clause-so_far : goal.returns-clause-so_far
 returns-clause-so_far c =
     let dst = c.args.class.first in
-    let u = update_of c.args.round in
+    let u = round_rollout c.args.round in
     let k = c.args.round.number in
     let round = c.requires.round.is in
     let place = c.at-place.result in

@@ -9,12 +9,12 @@ use Rattle.net_base.specs.declared.ids.Place.{Place}
 use Rattle.dest_classes.specs.declared.NumberedClass.{NumberedClass}
 use Rattle.breaking_walks.specs.Surveys.{NeverRepeats}
 use Rattle.breaking_walks.proofs.StepLaws.{notes_none}
-use Rattle.round_survey.specs.Rounds.{update_of}
+use Rattle.round_survey.specs.Rounds.{round_rollout}
 use Rattle.round_survey.proofs.stepping.come_once.Goals as goal
 
 pub returns : goal.returns
 returns c =
-    let u = update_of c.args.round in
+    let u = round_rollout c.args.round in
     let k = c.args.round.number in
     IfOk-weaker c.are_passed_once.result _ _ (λ once told on m i.
     subst (λ (dst : ℕ). NeverRepeats u k dst m.class.entry) (c.requires.alike m i).address
@@ -23,7 +23,7 @@ returns c =
 
 pub walk_on-requires-clause-so_far : goal.walk_on-requires-clause-so_far
 walk_on-requires-clause-so_far c =
-    notes_none (update_of c.args.round) c.args.round.number c.args.class.first c.put_entries.new.noted
+    notes_none (round_rollout c.args.round) c.args.round.number c.args.class.first c.put_entries.new.noted
     (λ p i.
     let (m, among, e) = c.in_ok-put_entries.ensures.each p i in
     subst (λ (x : Place). x.switch.0 < switch_count c.args.round.net.now) (sym e)

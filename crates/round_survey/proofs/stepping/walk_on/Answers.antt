@@ -1,6 +1,6 @@
 use Rattle.std.proofs.Common.{◌+◌, ◌-◌, ◌<◌, ◌≤◌, arith}
 use Rattle.breaking_walks.proofs.StepLaws.{notes_fewer}
-use Rattle.round_survey.specs.Rounds.{update_of}
+use Rattle.round_survey.specs.Rounds.{round_rollout}
 use Rattle.round_survey.proofs.stepping.walk_on.Goals as goal
 
 pub walking-init : goal.walking-init
@@ -22,5 +22,5 @@ walking-smaller c =
 
 pub returns-clause-whole : goal.returns-clause-whole
 returns-clause-whole c =
-    notes_fewer (update_of c.args.round) c.args.round.number c.args.class.first c.walking.next _ c.walking.noted
+    notes_fewer (round_rollout c.args.round) c.args.round.number c.args.class.first c.walking.next _ c.walking.noted
     (let none = c.walking-test.false in let count = c.count.ensures.count in omega arith) c.walking.invariant.notes

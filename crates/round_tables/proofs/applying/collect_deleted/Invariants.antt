@@ -1,7 +1,7 @@
 use Rattle.std.proofs.Common.{◌≡◌, ◌≤◌, take, vec_len, vec_capacity}
-use Rattle.round_tables.specs.ByKind.{deleted}
+use Rattle.round_tables.specs.ByKind.{deleted_rules}
 use Rattle.round_tables.proofs.applying.collect_deleted.Given as goal
 
 abbrev pub invariant-loop-change : goal.invariant-loop-change
 invariant-loop-change l =
-    (l.rules.items ≡ deleted (take l.change-index l.changes)) × (vec_len l.rules ≤ l.change-index) × (vec_capacity l.initial.rules ≤ vec_capacity l.rules)
+    (l.rules.items ≡ deleted_rules (take l.change-index l.changes)) × (vec_len l.rules ≤ l.change-index) × (vec_capacity l.initial.rules ≤ vec_capacity l.rules)

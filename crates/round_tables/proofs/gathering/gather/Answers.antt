@@ -5,7 +5,7 @@ use Rattle.net_base.proofs.MemberLaws.{each_append}
 use Rattle.update_model.specs.Changes.{switch_of, changes_at}
 use Rattle.update_model.specs.declared.Change.{Change}
 use Rattle.round_tables.specs.PreparedTables.{list_at}
-use Rattle.round_tables.specs.Loading.{AreWithin}
+use Rattle.round_tables.specs.Loading.{AreSwitchesBelow}
 use Rattle.round_tables.proofs.TableLaws.{switch_n}
 use Rattle.round_tables.proofs.GatherLaws.{gathered_here, gathered_there, more_come}
 use Rattle.round_tables.proofs.gathering.gather.Goals.{then-not-put_at, else-not-put_at}
@@ -45,10 +45,10 @@ loop-change-preserved c =
       within = λ on. elim c.if-not-put_at.branch [
         | then-not-put_at w ↦ absurd (let off = w.are_within-is in cc)
         | else-not-put_at w ↦ (
-            let were : AreWithin (length c.loop-change.lists) (take i round) = inv.within (sym w.are_within-is ∙ on) in
+            let were : AreSwitchesBelow (length c.loop-change.lists) (take i round) = inv.within (sym w.are_within-is ∙ on) in
             let here : (switch_of d).0 < length c.loop-change.lists = made.within.0 w.if-not-put_at.false in
-            subst (λ (cs : List Change). AreWithin (length new) cs) (sym more)
-            (subst (λ (n : ℕ). AreWithin n (take i round ++ d ∷ [])) (omega arith) (each_append (λ (x : Change). (switch_of x).0 < length c.loop-change.lists) (take i round) (d ∷ []) were (here, tt))))
+            subst (λ (cs : List Change). AreSwitchesBelow (length new) cs) (sym more)
+            (subst (λ (n : ℕ). AreSwitchesBelow n (take i round ++ d ∷ [])) (omega arith) (each_append (λ (x : Change). (switch_of x).0 < length c.loop-change.lists) (take i round) (d ∷ []) were (here, tt))))
       ];
       room = λ s. made.room s ∙ inv.room s;
     }

@@ -6,7 +6,7 @@ use Rattle.flow_rules.specs.Tables.{IsTable, TableState}
 use Rattle.flow_rules.specs.declared.rules.Rule.{Rule}
 use Rattle.flow_rules.proofs.TableLaws.{rules_get}
 use Rattle.update_model.specs.declared.Change.{Change}
-use Rattle.round_mix.specs.Faults.{IsRefusal, AreUnclear, IsFirstBad}
+use Rattle.round_mix.specs.Faults.{IsMixRefusal, AreUnclear, IsFirstBad}
 use Rattle.round_mix.specs.declared.MixRefusal.{MixRefusal}
 use Rattle.round_tables.specs.Loading.{IsLoadedTo}
 use Rattle.round_tables.specs.PreparedTables.{ChangesState, IsMixed, list_at, mix_at, rules_there}
@@ -43,8 +43,8 @@ returns-in-Err-Unclear-clause-ok c =
     let said = there tables lists s c.table.result.now c.index-lists-switch.result c.list-changes.result.now c.table.ensures c.list-changes.ensures c.index-lists-switch.is
     (omega (arith, c.requires.within, c.requires.lists)) in
     let here : AreUnclear (rules_there tables s) (list_at lists s).changes =
-    subst (λ (f : MixRefusal). IsRefusal (rules_there tables s) (list_at lists s).changes f) c.in-Err-Unclear.field-0-is
-    (said (λ rs cs. IsRefusal rs cs c.in-Err-Unclear.field-0) c.in-Err-Unclear.ensures.err) in
+    subst (λ (f : MixRefusal). IsMixRefusal (rules_there tables s) (list_at lists s).changes f) c.in-Err-Unclear.field-0-is
+    (said (λ rs cs. IsMixRefusal rs cs c.in-Err-Unclear.field-0) c.in-Err-Unclear.ensures.err) in
     subst (λ (w : SwitchId). IsLoadedTo tables lists (s.0 + 1) new (Some w)) (sym c.unwrap_or.ensures)
     (loaded_unclear tables lists s c.args.touched.now next c.args.mixes.now new c.in-Err-Unclear.ensures.others c.args.unclear c.requires.so_far
     (said (λ rs _. IsTable rs) c.in-Err-Unclear.ensures.table) here)
@@ -57,6 +57,6 @@ returns-in-Err-BadChange-clause-err c =
     let said = there tables lists s c.table.result.now c.index-lists-switch.result c.list-changes.result.now c.table.ensures c.list-changes.ensures c.index-lists-switch.is
     (omega (arith, c.requires.within, c.requires.lists)) in
     let first : IsFirstBad (rules_there tables s) (list_at lists s).changes c.in-Err-BadChange.nth =
-    subst (λ (f : MixRefusal). IsRefusal (rules_there tables s) (list_at lists s).changes f) c.in-Err-BadChange.field-0-is
-    (said (λ rs cs. IsRefusal rs cs c.in-Err-BadChange.field-0) c.in-Err-BadChange.ensures.err) in
+    subst (λ (f : MixRefusal). IsMixRefusal (rules_there tables s) (list_at lists s).changes f) c.in-Err-BadChange.field-0-is
+    (said (λ rs cs. IsMixRefusal rs cs c.in-Err-BadChange.field-0) c.in-Err-BadChange.ensures.err) in
     (c.requires.within, record { first = first; below = c.requires.so_far.good })

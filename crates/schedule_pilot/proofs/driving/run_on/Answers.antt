@@ -1,5 +1,5 @@
 use Rattle.std.proofs.Common.{List, ◌≡◌, ◌≢◌, length, arith, sym, ◌∙◌, ap, subst}
-use Rattle.schedule_pilot.specs.Driving.{update_of, ending_at}
+use Rattle.schedule_pilot.specs.Driving.{world_rollout, ending_at}
 use Rattle.update_model.specs.Worlds.{WorldState}
 use Rattle.schedule_pilot.specs.Ends.{AreEntries}
 use Rattle.schedule_pilot.specs.declared.Entry.{Entry}
@@ -19,7 +19,7 @@ returns-in-Some-clause-ends g c =
 pub make_event-requires-clause-may : goal.make_event-requires-clause-may
 make_event-requires-clause-may g c =
     let count : c.len-in-steps.result ≡ length c.in_ok-offered.offered.items = omega arith in
-    named_enabled (update_of c.steps.world) c.steps.world.state c.steps.rest.now c.in_ok-offered.offered.items c.ask-named.result c.len-in-steps.result c.index-event.result.now
+    named_enabled (world_rollout c.steps.world) c.steps.world.state c.steps.rest.now c.in_ok-offered.offered.items c.ask-named.result c.len-in-steps.result c.index-event.result.now
     c.in_ok-offered.ensures count c.ask-named.ensures.below c.index-event.ensures
 
 pub steps-preserved : goal.steps-preserved

@@ -1,6 +1,6 @@
 use Rattle.std.proofs.Common.{◌≡◌, ℕ, List, length, ap, ◌∙◌}
 use Rattle.topology.specs.Networks.{Network}
-use Rattle.two_way_driver.specs.Calls.{DriverView, silent}
+use Rattle.two_way_driver.specs.Calls.{DriverView, silent_view}
 use Rattle.two_way_driver.specs.declared.Said.{Said}
 use Rattle.serve_lines.specs.Lines.{line_in}
 use Rattle.serve_lines.specs.Blocks.{block_text}
@@ -22,4 +22,4 @@ returns-clause-block c =
 
 pub returns-clause-behind : goal.returns-clause-behind
 unfolding after_line
-returns-clause-behind c = c.forget.ensures.ok ∙ ap silent c.in_ok-outcome.ensures.ok
+returns-clause-behind c = c.forget.ensures.ok ∙ ap silent_view c.in_ok-outcome.ensures.ok

@@ -1,6 +1,6 @@
 use Rattle.std.proofs.Common.{◌≡◌, ℕ, List, length, take, sym, ap, ◌∙◌, arith}
 use Rattle.std.proofs.lemmas.List.{length-take-le}
-use Rattle.file_access.specs.Causes.{raised}
+use Rattle.file_access.specs.Causes.{raised_count}
 use Rattle.serve_command.proofs.ServeLaws.{ends_wanting, ends_piece}
 use Rattle.serve_command.proofs.input.serve_input.Goals as goal
 
@@ -12,7 +12,7 @@ returns-in-Err-serve_piece-clause-ends g c =
     let size : length (take count buf) ≡ count = length-take-le count buf (omega (arith, c.take.auto.buf, c.in-Ok.ensures.bound)) in
     rw c.status_of.ensures
     (ends_piece c.args.desk.now.driver _ _ (g.S.Source.left c.take.new.self) _ _ _ _ (g.S.Source.taken c.take.new.self) _ _ (take count buf) c.in-Err-serve_piece.stop t c.in-Ok.ensures.bytes
-    (c.in-Ok.ensures.taken_ok ∙ sym (ap (raised (g.S.Source.taken c.takes.source)) size))
+    (c.in-Ok.ensures.taken_ok ∙ sym (ap (raised_count (g.S.Source.taken c.takes.source)) size))
     (c.in-Err-serve_piece.ensures.stops c.args.desk.now.driver (g.K.Sink.written c.args.sink.now) t.taken t.served))
 
 pub returns-clause-ends : goal.returns-clause-ends

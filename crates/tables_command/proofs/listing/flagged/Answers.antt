@@ -1,5 +1,5 @@
 use Rattle.std.proofs.Common.{◌≡◌, [], ◌∷◌, ◌++◌, drop, sym, ap, ◌∙◌, append_assoc, add-one, slice_get, suc, Some, true}
-use Rattle.tables_command.specs.Listed.{flagged}
+use Rattle.tables_command.specs.Listed.{flagged_changes}
 use Rattle.tables_command.proofs.ListedLaws.{flagged_on, flagged_off}
 use Rattle.tables_command.proofs.listing.flagged.Goals as goal
 use Rattle.tables_command.proofs.listing.flagged.Goals.{then-is_on+in_ok-push, else-is_on}
@@ -9,13 +9,13 @@ loop-i-preserved c =
     let i = c.loop-i.i in
     let changes = c.args.changes.now in
     let flags = c.args.flags.now in
-    let rest = flagged (drop (suc i) changes) (drop (suc i) flags) in
+    let rest = flagged_changes (drop (suc i) changes) (drop (suc i) flags) in
     elim c.if-is_on.branch [
       | then-is_on+in_ok-push w ↦ (let x = c.index-changes-i.result in
           let before = c.loop-i.pending.items in
           let on : slice_get flags i ≡ Some true = c.is_on.ensures.0 w.if-is_on.true in
           let more : c.if-is_on.pending.items ≡ before ++ x ∷ [] = ap (λ v. v.items) w.pending-is ∙ w.in_ok-push.ensures.items in
-          let step : flagged (drop i changes) (drop i flags) ≡ x ∷ rest =
+          let step : flagged_changes (drop i changes) (drop i flags) ≡ x ∷ rest =
           flagged_on changes flags i x c.loop-i-test.true on ∙ ap (λ y. y ∷ rest) (sym c.index-changes-i.is) in
           rw add-one (ap (λ ys. ys ++ rest) more ∙ append_assoc before (x ∷ []) rest ∙ ap (λ ys. before ++ ys) (sym step) ∙ c.loop-i.invariant))
       | else-is_on w ↦ (let off : ¬ (slice_get flags i ≡ Some true) = λ e. (let on = c.is_on.ensures.1 e in let off = w.if-is_on.false in cc) in

@@ -1,6 +1,6 @@
 use Rattle.std.proofs.Common.{◌≡◌, List, ◌++◌, length, sym, ap, ◌∙◌, subst}
 use Rattle.round_messages.specs.Requests.{switches_changed}
-use Rattle.turned_rounds.specs.Batches.{xid_behind, change_messages, barrier_messages, batch_of, AreWithin}
+use Rattle.turned_rounds.specs.Batches.{xid_behind, change_messages, barrier_messages, batch_of, AreToSwitches}
 use Rattle.turned_rounds.specs.declared.outgoing.Outgoing.{Outgoing}
 use Rattle.turned_rounds.proofs.BatchLaws.{batch_within, batch_xid}
 use Rattle.turned_rounds.proofs.batches.round_batch.Goals as goal
@@ -15,7 +15,7 @@ returns-clause-within c =
     let list : c.put_barriers.new.self.list.items ≡ batch_of net c.args.xid round =
     barriers.list ∙ ap (λ (l : List Outgoing). l ++ barrier_messages c.put_changes.new.self.xid (switches_changed net round)) first
     ∙ ap (λ x. change_messages c.args.xid round ++ barrier_messages x (switches_changed net round)) changes.xid in
-    subst (AreWithin net) (sym list) (batch_within net c.args.xid round c.requires)
+    subst (AreToSwitches net) (sym list) (batch_within net c.args.xid round c.requires)
 
 pub returns-clause-xid : goal.returns-clause-xid
 returns-clause-xid c =

@@ -4,7 +4,7 @@ use Rattle.net_base.specs.declared.ids.SwitchId.{SwitchId}
 use Rattle.flow_rules.specs.declared.rules.Rule.{Rule}
 use Rattle.flow_rules.specs.Tables.{rules_of_all, rules_at}
 use Rattle.update_model.specs.Mixtures.{is_insert}
-use Rattle.update_model.specs.Remaining.{remaining}
+use Rattle.update_model.specs.Remaining.{remaining_changes}
 use Rattle.update_model.specs.declared.Change.{Change}
 use Rattle.update_model.specs.declared.Change.TheVariants.{Insert, Delete}
 use Rattle.two_phase.specs.TwoPhasePlan.{tagged_rules, ingress_rules, by_switch}
@@ -19,7 +19,7 @@ returns c =
     let new = rules_of_all c.args.new.now in
     let tagged : SwitchId → List Rule = λ s. tagged_rules net s (rules_at new s) in
     let ingress : SwitchId → List Rule = λ s. ingress_rules net s (rules_at new s) in
-    let exchange : List (List Change) = filter (λ c. not (is_insert c)) (remaining old new) ∷ filter is_insert (remaining old new) ∷ [] in
+    let exchange : List (List Change) = filter (λ c. not (is_insert c)) (remaining_changes old new) ∷ filter is_insert (remaining_changes old new) ∷ [] in
     subst (λ ranks. c.add_taking.new.rounds ≡ (by_switch net Insert tagged ∷ []) ++ map (by_rank net Insert ingress) (reverse ranks) ++ exchange ++ map (by_rank net Delete ingress) ranks ++ (by_switch net Delete tagged ∷ []))
     c.requires.ranks
     (rounds_joined (by_switch net Insert tagged) (by_switch net Delete tagged) exchange (by_rank net Insert ingress) (by_rank net Delete ingress) (reverse c.args.rising.now) c.args.rising.now

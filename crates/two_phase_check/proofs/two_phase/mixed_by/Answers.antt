@@ -1,7 +1,7 @@
 use Rattle.std.proofs.Common.{Option, sym, subst, IfSome, IfNone}
 use Rattle.net_base.specs.declared.ids.SwitchId.{SwitchId}
 use Rattle.check_reasons.specs.Least.{IsLeastSwitch}
-use Rattle.two_phase_check.specs.Agreements.{IsKept, MixesBy}
+use Rattle.two_phase_check.specs.Agreements.{IsVersionKept, MixesBy}
 use Rattle.two_phase_check.proofs.FollowLaws.{mixed_least, mixed_kept}
 use Rattle.two_phase_check.proofs.two_phase.mixed_by.Goals as goal
 
@@ -9,7 +9,7 @@ pub returns-clause-none : goal.returns-clause-none
 returns-clause-none c =
     let t = c.args.round.now.task in
     let k = c.args.round.now.number in
-    subst (λ (o : Option SwitchId). IfNone o (IsKept t k c.args.class c.args.round.now.labels c.args.found)) (sym c.least_of.ensures)
+    subst (λ (o : Option SwitchId). IfNone o (IsVersionKept t k c.args.class c.args.round.now.labels c.args.found)) (sym c.least_of.ensures)
     (mixed_kept t k c.args.class c.args.round.now.labels c.args.found c.follow_version-old.result c.follow_version-new.result c.follow_version-old.ensures.tells c.follow_version-new.ensures.tells)
 
 pub returns-clause-some : goal.returns-clause-some

@@ -7,7 +7,7 @@ use Rattle.update_model.specs.Changes.{tables_after}
 use Rattle.table_difference.specs.Targets.{Target}
 use Rattle.round_planner.specs.Failures.{HasStanding, AreOfUsers, AreLeft}
 use Rattle.round_planner.specs.Searching.{IsMadeAt, IsPlaced}
-use Rattle.round_planner.specs.declared.left.Left.{Left}
+use Rattle.round_planner.specs.declared.left.RemainingChange.{RemainingChange}
 use Rattle.round_planner.proofs.LeftLaws.{of_users, moved_on}
 use Rattle.round_planner.proofs.searching.Search.go_on.Goals as goal
 

@@ -3,7 +3,7 @@ use Rattle.topology.specs.Networks.{Network, IsNetwork}
 use Rattle.flow_rules.specs.Tables.{rules_of_all}
 use Rattle.dest_classes.specs.Classes.{ClassList, class_count}
 use Rattle.evidence_store.specs.State.{StoreState}
-use Rattle.round_tables.specs.Trials.{IsSettled}
+use Rattle.round_tables.specs.Trials.{IsBetweenTrials}
 use Rattle.table_difference.specs.Targets.{Target}
 use Rattle.round_judge.specs.Goals.{HasAtoms}
 use Rattle.round_judge.proofs.VisitLaws.{all_come}
@@ -16,7 +16,7 @@ returns-clause-at c =
     let first = c.in_ok-trial.ensures in
     let rooms = c.in_ok-looked.ensures in
     let classes_are = ap (λ (a : Target). a.classes) c.goal.view_is in
-    let settled = subst (λ (n : Network). IsSettled n c.in_ok-trial.trial) (ap (λ (a : Target). a.net) c.goal.view_is) first.settled in
+    let settled = subst (λ (n : Network). IsBetweenTrials n c.in_ok-trial.trial) (ap (λ (a : Target). a.net) c.goal.view_is) first.settled in
     let count = c.count-count.ensures.count ∙ ap (λ (a : Target). class_count a.classes) c.goal.view_is in
     let net = subst (λ (n : Network). IsNetwork n) (ap (λ (a : Target). a.net) c.goal.view_is) c.keeps_rules.ensures in
     let hosts = subst (λ (a : Target). a.classes.hosts ≡ a.net.hosts) c.goal.view_is c.goal.invariant.hosts in

@@ -3,7 +3,7 @@ use Rattle.std.specs.List.{AllByRecursion}
 use Rattle.topology.specs.Networks.{Network}
 use Rattle.path_walk.specs.UserConfigs.{IsUserConfig}
 use Rattle.dest_classes.specs.Classes.{class_count}
-use Rattle.round_tables.specs.Trials.{IsSettled}
+use Rattle.round_tables.specs.Trials.{IsBetweenTrials}
 use Rattle.round_judge.specs.declared.judging.Found.{Found as FoundOf}
 use Rattle.table_difference.specs.Targets.{Target}
 use Rattle.round_planner.specs.Search.{update_by}
@@ -48,7 +48,7 @@ returns c old changes user at safe first =
     let new_user = subst (λ (a : Target). IsUserConfig a.net a.new) c.goal.view_is c.goal.invariant.user in
     let here = subst (IsTryingAt to old changes c.args.change.now) (sym c.self.view_is) at in
     let safe_here = subst (λ (s : SearchState). AreSafeBelow to (update_by to old (changes ++ c.args.change.now ∷ [])) s.store.evidence (length changes) (class_count to.classes) c.args.found.items) (sym c.self.view_is) safe in
-    let settled = subst (λ (n : Network). IsSettled n c.keep_change.new.trial) (ap (λ (a : Target). a.net) c.goal.view_is) c.in_ok-keep_change.ensures.settled in
+    let settled = subst (λ (n : Network). IsBetweenTrials n c.keep_change.new.trial) (ap (λ (a : Target). a.net) c.goal.view_is) c.in_ok-keep_change.ensures.settled in
     let picked = c.in_ok-put_picks.ensures in
     made_at to old user new_user changes c.args.change.now _ _ c.args.found.items c.count-round.result _ here safe_here first refl c.in_ok-keep_change.ensures.rounds
     c.count-round.ensures c.in_ok-keep_change.ensures.tables settled picked.picks picked.classes picked.stored_before picked.stored refl refl

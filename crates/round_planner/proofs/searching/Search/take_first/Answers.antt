@@ -5,7 +5,7 @@ use Rattle.update_model.specs.Changes.{tables_after}
 use Rattle.round_planner.specs.Search.{Qualifies}
 use Rattle.round_planner.specs.Failures.{HasStanding, AreLeft}
 use Rattle.round_planner.specs.Searching.{IsLeftTried}
-use Rattle.round_planner.specs.declared.left.Left.{Left}
+use Rattle.round_planner.specs.declared.left.RemainingChange.{RemainingChange}
 use Rattle.round_planner.proofs.LeftLaws.{change_of, map_set, each_there, left_in, placed, unfit_more, unfit_all}
 use Rattle.round_planner.proofs.searching.Search.take_first.Goals as goal
 
@@ -19,7 +19,7 @@ try_left-requires c =
     let i = c.loop-place.place in
     let x : Left = get_or left i c.index-left-place.result in
     let less : i < length left = omega (arith, c.loop-place-test.true, c.loop-place.auto.left) in
-    let is : x ≡ get_or left i x = ap (λ (z : Left). get_or left i z) c.index-left-place.is in
+    let is : x ≡ get_or left i x = ap (λ (z : RemainingChange). get_or left i z) c.index-left-place.is in
     let left_are : AreLeft to (tables_after changes old) left = record { changes = same ∙ are.changes; standing = standing } in
     (old, changes, user, here, left_in to old changes left i x left_are less is, each_there (HasStanding to (tables_after changes old)) left left i x less is refl standing)
 
@@ -32,7 +32,7 @@ loop-place-preserved c =
     let x : Left = get_or left i c.index-left-place.result in
     let y : Left = c.try_left.new.left in
     let less : i < length left = omega (arith, c.loop-place-test.true, c.loop-place.auto.left) in
-    let is : x ≡ get_or left i x = ap (λ (z : Left). get_or left i z) c.index-left-place.is in
+    let is : x ≡ get_or left i x = ap (λ (z : RemainingChange). get_or left i z) c.index-left-place.is in
     let change : y.change ≡ x.change = c.in_ok-try_left.ensures.change in (
       map_set change_of left i x y less is change ∙ same,
       λ old changes user at are.
@@ -51,7 +51,7 @@ returns-then-branch-clause-changes c =
     let i = c.loop-place.place in
     let x : Left = get_or left i c.index-left-place.result in
     let less : i < length left = omega (arith, c.loop-place-test.true, c.loop-place.auto.left) in
-    map_set change_of left i x c.try_left.new.left less (ap (λ (z : Left). get_or left i z) c.index-left-place.is) c.in_ok-try_left.ensures.change ∙ same
+    map_set change_of left i x c.try_left.new.left less (ap (λ (z : RemainingChange). get_or left i z) c.index-left-place.is) c.in_ok-try_left.ensures.change ∙ same
 
 pub returns-then-branch-clause-placed : goal.returns-then-branch-clause-placed
 returns-then-branch-clause-placed c = λ old changes user at are.
@@ -63,7 +63,7 @@ returns-then-branch-clause-placed c = λ old changes user at are.
     let x : Left = get_or left i c.index-left-place.result in
     let y : Left = c.try_left.new.left in
     let less : i < length left = omega (arith, c.loop-place-test.true, c.loop-place.auto.left) in
-    let is : x ≡ get_or left i x = ap (λ (z : Left). get_or left i z) c.index-left-place.is in
+    let is : x ≡ get_or left i x = ap (λ (z : RemainingChange). get_or left i z) c.index-left-place.is in
     let left_are : AreLeft to (tables_after changes old) left = record { changes = same ∙ are.changes; standing = standing } in
     let (tried, stands) = c.in_ok-try_left.ensures.tried old changes user here (left_in to old changes left i x left_are less is)
     (each_there (HasStanding to (tables_after changes old)) left left i x less is refl standing) in (
@@ -78,6 +78,6 @@ returns-clause-placed c = λ old changes user at are.
     let (none, standing, here) = rest old changes user at are in
     let left = c.loop-place.left in
     let most : length left ≤ c.loop-place.place = omega (arith, c.loop-place-test.false, c.loop-place.auto.left) in (
-      (unfit_all to old changes left (same ∙ are.changes) (subst (AllByRecursion (λ (l : Left). ¬ Qualifies to (tables_after changes old) l.change)) (take_all c.loop-place.place left most) none), here),
+      (unfit_all to old changes left (same ∙ are.changes) (subst (AllByRecursion (λ (l : RemainingChange). ¬ Qualifies to (tables_after changes old) l.change)) (take_all c.loop-place.place left most) none), here),
       standing,
     )

@@ -8,7 +8,7 @@ use Rattle.dest_classes.specs.Classes.{ClassList}
 use Rattle.class_watch.specs.Classes.{AreClasses}
 use Rattle.round_mix.specs.Prepared.{MixedState}
 use Rattle.mixed_walks.specs.Walks.{IsRoundOf}
-use Rattle.round_tables.specs.Trials.{IsSettled, IsTrying, HasRoomAlone}
+use Rattle.round_tables.specs.Trials.{IsBetweenTrials, IsTrying, HasRoomAlone}
 use Rattle.table_difference.specs.Targets.{Target}
 use Rattle.round_planner.specs.Search.{update_by}
 use Rattle.round_judge.specs.Judged.{AreJudged}
@@ -101,7 +101,7 @@ returns-in-Unsafe c old changes user at i =
     let held = subst (λ v. HoldAfter to next (length changes) v c.judge_all.new.watch.came.items) c.in-Unsafe.is marked in (
       tried_fails to old user new_user changes c.args.change.now _ c.begin.new.self here i c.begin.ensures.rules trying c.in-Unsafe.failing unsafe,
       given_up to old changes _ c.give_up.new.self c.judge_all.new.watch.came.items c.look_at_touched.new.self here (c.give_up.ensures.rules ∙ c.begin.ensures.rules)
-          (subst (λ (n : Network). IsSettled n c.give_up.new.self) (ap (λ (a : Target). a.net) c.goal.view_is) c.give_up.ensures.settled)
+          (subst (λ (n : Network). IsBetweenTrials n c.give_up.new.self) (ap (λ (a : Target). a.net) c.goal.view_is) c.give_up.ensures.settled)
           (failed_came to old user new_user changes c.args.change.now _ c.begin.new.self here i c.begin.ensures.rules trying c.judge_all.new.watch.came.items held)
           c.look_at_touched.ensures.count,
     )
@@ -115,7 +115,7 @@ returns-then-not-branch c old changes user at i =
     let alone : ¬ HasRoomAlone to.net (tables_after changes old) c.args.change.now =
     subst (λ (ts : List (List Rule)). ¬ HasRoomAlone to.net ts c.args.change.now) here.tables (subst (λ (n : Network). ¬ HasRoomAlone n (rules_of_all c.self.inside.trial.tables) c.args.change.now) net none) in (
       no_room to.net c.self.inside.trial (tables_after changes old) c.args.change.now here.settled here.tables alone,
-      given_up to old changes _ c.begin.new.self _ _ here c.begin.ensures.rules (subst (λ (n : Network). IsSettled n c.begin.new.self) net (c.in_ok-begin.ensures.no c.if-not-branch.true)) here.came refl,
+      given_up to old changes _ c.begin.new.self _ _ here c.begin.ensures.rules (subst (λ (n : Network). IsBetweenTrials n c.begin.new.self) net (c.in_ok-begin.ensures.no c.if-not-branch.true)) here.came refl,
     )
 
 pub judge_all-requires-clause-came : goal.judge_all-requires-clause-came

@@ -5,7 +5,7 @@ use Rattle.std.proofs.lemmas.List.{with_items_is}
 use Rattle.dest_classes.specs.Classes.{ClassList}
 use Rattle.dest_classes.specs.declared.Class.{Class}
 use Rattle.class_watch.specs.Classes.{AreClasses}
-use Rattle.round_survey.specs.Rounds.{update_of, PassesOver}
+use Rattle.round_survey.specs.Rounds.{round_rollout, PassesOver}
 use Rattle.round_survey.proofs.SeenLaws.{missed_known}
 use Rattle.round_survey.proofs.MarkLaws.{good_known, on_ok_both}
 use Rattle.round_survey.proofs.survey.RoundSurvey.look.Goals as goal
@@ -35,12 +35,12 @@ settle-requires-clause-known c n class them at came_at good_at =
     let missed =
     c.mark_missed.ensures.each n class them (ap (λ (cs : List Class). slice_get cs n) c.deref-2.ensures.value ∙ at) (ap (λ (xs : List ℕ). slice_get xs n) c.deref-3.ensures.value ∙ came_at)
     (ap (λ (bs : List Bool). slice_get bs n) (sym good_is) ∙ good_at) in
-    missed_known (update_of c.args.round) round.good round.clear round.is.keeps_old c.args.round.number round.is.keeps round.within c.args.duties.now.demands class them missed.later missed.missed
+    missed_known (round_rollout c.args.round) round.good round.clear round.is.keeps_old c.args.round.number round.is.keeps round.within c.args.duties.now.demands class them missed.later missed.missed
     (c.requires.walks n class them at came_at) (λ j less. c.requires.before j less n class (c.requires.room.classes_are.each n class at))
 
 pub returns-clause-good : goal.returns-clause-good
 returns-clause-good c =
-    let u = update_of c.args.round in
+    let u = round_rollout c.args.round in
     let k = c.args.round.number in
     let new = c.look_at_rest.new.self in
     on_ok_both c.look_at_rest.result _ _ _

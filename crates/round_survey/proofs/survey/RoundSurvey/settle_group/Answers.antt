@@ -4,7 +4,7 @@ use Rattle.std.proofs.lemmas.List.{with_items_is}
 use Rattle.net_base.specs.Members.{IsIn}
 use Rattle.dest_classes.specs.declared.Class.{Class}
 use Rattle.dest_classes.specs.declared.NumberedClass.{NumberedClass}
-use Rattle.round_survey.specs.Rounds.{update_of}
+use Rattle.round_survey.specs.Rounds.{round_rollout}
 use Rattle.round_survey.specs.Surveys.{AreKnown, AreMembers}
 use Rattle.round_survey.proofs.MarkLaws.{host_used}
 use Rattle.round_survey.proofs.survey.RoundSurvey.settle_group.Goals as goal
@@ -35,7 +35,7 @@ see_members-requires-clause-alike c =
 
 pub returns-clause-known : goal.returns-clause-known
 returns-clause-known c =
-    let u = update_of c.args.round in
+    let u = round_rollout c.args.round in
     let k = c.args.round.number in
     let demands = c.args.duties.now.demands in
     let classes = c.args.self.now.classes.items in

@@ -1,7 +1,7 @@
 use Rattle.std.proofs.Common.{arith}
 use Rattle.dest_classes.specs.Classes.{IsClass}
 use Rattle.class_watch.proofs.ListLaws.{read_at}
-use Rattle.round_survey.specs.Rounds.{update_of}
+use Rattle.round_survey.specs.Rounds.{round_rollout}
 use Rattle.round_survey.proofs.SeenLaws.{covers_walked}
 use Rattle.round_survey.proofs.MarkLaws.{known_put, walked_put, host_within}
 use Rattle.round_survey.proofs.survey.RoundSurvey.walk_class.Goals as goal
@@ -15,7 +15,7 @@ walk-requires-clause-entry c =
     host_within c.args.duties.now.classes c.args.round.net.now c.keeps_rules.ensures c.requires.hosts n class (c.requires.room.classes_are.each n class at)
 
 pub see-requires : goal.see-requires
-see-requires c = (c.walk.ensures (update_of c.args.round) c.args.round.number c.requires.round.is).steps_within
+see-requires c = (c.walk.ensures (round_rollout c.args.round) c.args.round.number c.requires.round.is).steps_within
 
 pub keeps_duties-requires-clause-class : goal.keeps_duties-requires-clause-class
 keeps_duties-requires-clause-class c =
@@ -25,7 +25,7 @@ keeps_duties-requires-clause-class c =
 
 pub returns-clause-known : goal.returns-clause-known
 returns-clause-known c =
-    let u = update_of c.args.round in
+    let u = round_rollout c.args.round in
     let k = c.args.round.number in
     let classes = c.args.self.now.classes.items in
     let n = c.args.number in
@@ -38,7 +38,7 @@ returns-clause-known c =
 
 pub returns-clause-below : goal.returns-clause-below
 returns-clause-below c =
-    let u = update_of c.args.round in
+    let u = round_rollout c.args.round in
     let k = c.args.round.number in
     let classes = c.args.self.now.classes.items in
     let n = c.args.number in

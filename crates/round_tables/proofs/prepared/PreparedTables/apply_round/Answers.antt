@@ -11,7 +11,7 @@ use Rattle.update_model.specs.Mixtures.{Rollout, tables_before, need_of}
 use Rattle.update_model.specs.declared.Change.{Change}
 use Rattle.round_mix.specs.Prepared.{MixedState, AreGood}
 use Rattle.round_tables.specs.PreparedTables.{ChangesState, PreparedState, HoldsRounds, IsMixed, is_touched, limit_at, list_at, mix_at, rules_there}
-use Rattle.round_tables.specs.Loading.{ArePrepared, AreWithin}
+use Rattle.round_tables.specs.Loading.{ArePrepared, AreSwitchesBelow}
 use Rattle.round_tables.proofs.ApplyLaws.{all_made, stands_next}
 use Rattle.round_tables.proofs.LoadLaws.{filter_few, good_mixed}
 use Rattle.round_tables.proofs.prepared.PreparedTables.apply_round.Goals as goal
@@ -78,11 +78,11 @@ returns-clause-stands c =
       room = vec_capacity c.change_all.new.rules;
     } in
     let len : length (tables_before u k) ≡ n = ap length (sym prepared.tables) ∙ length-map inside.tables (λ (t : TableState). t.rules) ∙ holds.tables in
-    let within : AreWithin (length (tables_before u k)) round = subst (λ (m : ℕ). AreWithin m round) (sym len) prepared.within in
+    let within : AreSwitchesBelow (length (tables_before u k)) round = subst (λ (m : ℕ). AreSwitchesBelow m round) (sym len) prepared.within in
     let each : (s : SwitchId) → s.0 < length inside.tables → rules_there new s ≡ rules_after (changes_at s round) (rules_there inside.tables s) = λ s less.
     made.rules s less ∙ ap (λ (cs : List Change). rules_after cs (rules_there inside.tables s)) (listed u k p c.deref-3.result.now prepared c.deref-3.ensures.value s (omega (arith, holds.tables, less))) in
     let after : rules_of_all new ≡ tables_after round (tables_before u k) =
-    all_made inside.tables new round (subst (λ (ts : List (List Rule)). AreWithin (length ts) round) (sym prepared.tables) within) made.count each ∙ ap (tables_after round) prepared.tables in
+    all_made inside.tables new round (subst (λ (ts : List (List Rule)). AreSwitchesBelow (length ts) round) (sym prepared.tables) within) made.count each ∙ ap (tables_after round) prepared.tables in
     let fits : (s : SwitchId) → s.0 < n → need_of u k s ≤ limit_at q.limits s =
     subst (λ (v : PreparedState). (s : SwitchId) → s.0 < n → need_of u k s ≤ limit_at v.limits s) (sym c.self.view_is) c.requires.fits in
     stands_next u k c.requires.round within q after fits

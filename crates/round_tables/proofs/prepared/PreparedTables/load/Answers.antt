@@ -7,7 +7,7 @@ use Rattle.flow_rules.specs.Tables.{IsTable, rules_of_all}
 use Rattle.update_model.specs.Changes.{switch_of, Applies, AppliesTo}
 use Rattle.round_mix.specs.Prepared.{MixedState, IsPrepared, AreClear}
 use Rattle.round_mix.specs.declared.MarkedRule.{MarkedRule}
-use Rattle.round_tables.specs.Trials.{IsSettled}
+use Rattle.round_tables.specs.Trials.{IsBetweenTrials}
 use Rattle.round_tables.specs.PreparedTables.{PreparedState, mix_at, IsMixed, rules_there}
 use Rattle.round_tables.specs.Steps.{IsSettledBeside}
 use Rattle.round_tables.proofs.TrialLaws.{beside_lent, beside_settled, room_more, settled_last}
@@ -21,7 +21,7 @@ begin_at-requires-clause-room c =
     let net = c.args.net.now in
     let inside = c.self.inside in
     let p : PreparedState = record { tables = inside.tables; mixes = inside.mixes.items; touched = inside.touched.items; changes = inside.changes.items; limits = inside.limits.items; room = vec_capacity inside.rules } in
-    let settled : IsSettled net p = subst (IsSettled net) (sym c.self.view_is) c.requires.settled in
+    let settled : IsBetweenTrials net p = subst (IsBetweenTrials net) (sym c.self.view_is) c.requires.settled in
     let applies : Applies (rules_of_all p.tables) change = subst (λ (v : PreparedState). Applies (rules_of_all v.tables) change) (sym c.self.view_is) c.requires.applies in
     subst (λ (ms : List MixedState). IsSomeAnd (mix_at ms s).prepared (λ marks. length marks < (mix_at ms s).room)) (sym c.deref_mut.ensures.value)
     (subst (λ (t : SwitchId). IsSomeAnd (mix_at p.mixes t).prepared (λ marks. length marks < (mix_at p.mixes t).room)) (sym c.switch-switch.ensures)
@@ -34,7 +34,7 @@ returns-clause-beside c =
     let net = c.args.net.now in
     let inside = c.self.inside in
     let p : PreparedState = record { tables = inside.tables; mixes = inside.mixes.items; touched = inside.touched.items; changes = inside.changes.items; limits = inside.limits.items; room = vec_capacity inside.rules } in
-    let settled : IsSettled net p = subst (IsSettled net) (sym c.self.view_is) c.requires.settled in
+    let settled : IsBetweenTrials net p = subst (IsBetweenTrials net) (sym c.self.view_is) c.requires.settled in
     let applies : Applies (rules_of_all p.tables) change = subst (λ (v : PreparedState). Applies (rules_of_all v.tables) change) (sym c.self.view_is) c.requires.applies in
     let mixes = with_items inside.mixes c.begin_at.new.mixes in
     let q : PreparedState = record { tables = inside.tables; mixes = mixes.items; touched = inside.touched.items; changes = inside.changes.items; limits = inside.limits.items; room = vec_capacity inside.rules } in
@@ -51,7 +51,7 @@ returns-clause-yes c said =
     let net = c.args.net.now in
     let inside = c.self.inside in
     let p : PreparedState = record { tables = inside.tables; mixes = inside.mixes.items; touched = inside.touched.items; changes = inside.changes.items; limits = inside.limits.items; room = vec_capacity inside.rules } in
-    let settled : IsSettled net p = subst (IsSettled net) (sym c.self.view_is) c.requires.settled in
+    let settled : IsBetweenTrials net p = subst (IsBetweenTrials net) (sym c.self.view_is) c.requires.settled in
     let applies : Applies (rules_of_all p.tables) change = subst (λ (v : PreparedState). Applies (rules_of_all v.tables) change) (sym c.self.view_is) c.requires.applies in
     let mixes = with_items inside.mixes c.begin_at.new.mixes in
     let q : PreparedState = record { tables = inside.tables; mixes = mixes.items; touched = inside.touched.items; changes = inside.changes.items; limits = inside.limits.items; room = vec_capacity inside.rules } in
@@ -73,7 +73,7 @@ returns-clause-no c off =
     let net = c.args.net.now in
     let inside = c.self.inside in
     let p : PreparedState = record { tables = inside.tables; mixes = inside.mixes.items; touched = inside.touched.items; changes = inside.changes.items; limits = inside.limits.items; room = vec_capacity inside.rules } in
-    let settled : IsSettled net p = subst (IsSettled net) (sym c.self.view_is) c.requires.settled in
+    let settled : IsBetweenTrials net p = subst (IsBetweenTrials net) (sym c.self.view_is) c.requires.settled in
     let applies : Applies (rules_of_all p.tables) change = subst (λ (v : PreparedState). Applies (rules_of_all v.tables) change) (sym c.self.view_is) c.requires.applies in
     let rules = rules_there inside.tables s in
     let there : AppliesTo rules change = subst (λ (t : SwitchId). AppliesTo (rules_there inside.tables t) change) (sym c.switch-switch.ensures) applies.1 in
@@ -90,7 +90,7 @@ returns-clause-alone c off =
     let net = c.args.net.now in
     let inside = c.self.inside in
     let p : PreparedState = record { tables = inside.tables; mixes = inside.mixes.items; touched = inside.touched.items; changes = inside.changes.items; limits = inside.limits.items; room = vec_capacity inside.rules } in
-    let settled : IsSettled net p = subst (IsSettled net) (sym c.self.view_is) c.requires.settled in
+    let settled : IsBetweenTrials net p = subst (IsBetweenTrials net) (sym c.self.view_is) c.requires.settled in
     let applies : Applies (rules_of_all p.tables) change = subst (λ (v : PreparedState). Applies (rules_of_all v.tables) change) (sym c.self.view_is) c.requires.applies in
     let mixes = with_items inside.mixes c.begin_at.new.mixes in
     let q : PreparedState = record { tables = inside.tables; mixes = mixes.items; touched = inside.touched.items; changes = inside.changes.items; limits = inside.limits.items; room = vec_capacity inside.rules } in

@@ -6,7 +6,7 @@ use Rattle.flow_rules.specs.declared.rules.Rule.{Rule}
 use Rattle.flow_rules.proofs.TableLaws.{rules_get}
 use Rattle.round_mix.specs.Prepared.{MixedState}
 use Rattle.round_tables.specs.PreparedTables.{PreparedState, mix_at, IsMixed}
-use Rattle.round_tables.specs.Trials.{HaveRoom, IsSettled}
+use Rattle.round_tables.specs.Trials.{HaveRoom, IsBetweenTrials}
 use Rattle.round_tables.proofs.TrialLaws.{settled_wider}
 use Rattle.round_tables.proofs.prepared.PreparedTables.widen.Goals as goal
 
@@ -16,7 +16,7 @@ returns-clause-settled c =
     let net = c.args.net.now in
     let inside = c.self.inside in
     let p : PreparedState = record { tables = inside.tables; mixes = inside.mixes.items; touched = inside.touched.items; changes = inside.changes.items; limits = inside.limits.items; room = vec_capacity inside.rules } in
-    let settled : IsSettled net p = subst (IsSettled net) (sym c.self.view_is) c.requires.settled in
+    let settled : IsBetweenTrials net p = subst (IsBetweenTrials net) (sym c.self.view_is) c.requires.settled in
     let mixes = with_items inside.mixes c.widen_at.new.mixes in
     let limits = with_items inside.limits c.widen_at.new.rooms in
     let q : PreparedState = record { tables = inside.tables; mixes = mixes.items; touched = inside.touched.items; changes = inside.changes.items; limits = limits.items; room = vec_capacity inside.rules } in
